@@ -97,12 +97,7 @@ module _ (s : Plan) (st : State) (lane : ℕ) where
 
 code_of : (a : Step) → stage_code (stage_of a) ≡ step_code a
 code_of ByBegin = refl
-code_of ByGather = refl
-code_of ByStart = refl
-code_of ByPrepare = refl
-code_of BySnapshot = refl
-code_of ByComplete = refl
-code_of ByFailure = refl
+code_of _ = refl
 
 pub same_stage : (a b : Step) → is_stage (stage_of a) (stage_of b) ≡ is_step a b
 same_stage a b = ap (λ n. n == stage_code (stage_of b)) (code_of a) ∙ ap (λ n. step_code a == n) (code_of b)
@@ -129,8 +124,7 @@ either_stage a false = same_stage a ByStart
 
 pub writers_asked : (c : Context) (n : ℕ) → number_of c ≡ n → has_writers c ≡ ((n == 0) || (n == 9))
 writers_asked Backup n e = ap (λ k. (k == 0) || (k == 9)) e
-writers_asked AppRollback n e = ap (λ k. (k == 0) || (k == 9)) e
-writers_asked NasRollback n e = ap (λ k. (k == 0) || (k == 9)) e
+writers_asked _ n e = ap (λ k. (k == 0) || (k == 9)) e
 
 -- the table of stages, for a call of an order
 abbrev pub allowed_in : Bool → Stage → SessionCall → Bool
@@ -154,9 +148,8 @@ module _ (s : Plan) (st : State) where
       by_name false ih = ih
 
   name_of : (w : ℕ) (name : List ℕ) (named : List Pair) (o : Option (Option Meta)) → is_accepted (named_as (naming_of w name o named) st).0 ≡ can_name w named name o
-  name_of w name named None = refl
-  name_of w name named (Some None) = refl
   name_of w name named (Some (Some m)) = name_in w named name 0 m.parts
+  name_of w name named _ = refl
 
   component_wants : (w : ℕ) (name : List ℕ) (mode : Mode) (all : Bool) → mode ≡ mode_of all → is_accepted (component_in mode s w name st).0 ≡ (not all && can_name w st.explicit name (slice_get (known_metas s st) w))
   component_wants w name mode true e = ap (λ m. is_accepted (component_in m s w name st).0) e

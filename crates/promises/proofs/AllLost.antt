@@ -7,7 +7,7 @@ use Rattle.tick_limits.specs.Time.{answer_limit}
 use Rattle.set_agenda.specs.declared.group.Group.{Group}
 use Rattle.set_agenda.specs.declared.group.Group.TheVariants.{Orders, PreCommit, Flush, Hold, Cut, Commit, Release, PostCommit}
 use Rattle.set_agenda.specs.declared.kind.Kind.{Kind}
-use Rattle.set_agenda.specs.declared.kind.Kind.TheVariants.{Gather, Prepare, Snapshot, Complete}
+use Rattle.set_agenda.specs.declared.kind.Kind.TheVariants.{Gather}
 use Rattle.set_agenda.specs.declared.limit.Limit.TheVariants.{Freeze as FreezeLimit, Answer as AnswerLimit}
 use Rattle.set_agenda.specs.declared.place.Place.{Place}
 use Rattle.set_agenda.specs.Advance.{others, others_if, asks_unfailed, unasked, unasked_if, advance}
@@ -32,9 +32,7 @@ all_apart (p ∷ ps) = none_same p ps && all_apart ps
 
 kind_apart : (k : Kind) → all_apart (places k) ≡ true
 kind_apart Gather = refl
-kind_apart Prepare = refl
-kind_apart Snapshot = refl
-kind_apart Complete = refl
+kind_apart _ = refl
 
 abbrev Apart : Place → List Open → Type 0
 Apart p [] = Unit {0}

@@ -11,7 +11,7 @@ use Rattle.vss_names.specs.declared.vss_result.VssResult.TheVariants.{BadState, 
 use Rattle.writer_state.specs.declared.said.Said.{Said}
 use Rattle.writer_state.specs.WriterState.{is_ok}
 use Rattle.write_history.specs.declared.mark.Mark.{Mark}
-use Rattle.write_history.specs.declared.mark.Mark.TheVariants.{Clean, Fault, FaultAfter}
+use Rattle.write_history.specs.declared.mark.Mark.TheVariants.{Clean}
 use Rattle.write_history.specs.History.{Write, dropped}
 use Rattle.writer_calls.specs.declared.answer.Answer.{Answer}
 use Rattle.writer_calls.specs.Script.{said_of}
@@ -160,8 +160,7 @@ module _ (G : Agenda → Type 0) (k : IsKeptAlong G) where
 
   on_put : (so_far : List Deed) (v : ℕ) (w : Write) (mark : Mark) (x : State) → Stands so_far x → Stands so_far (put v w mark x)
   on_put so_far v w Clean x h = h
-  on_put so_far v w Fault x h = h
-  on_put so_far v w (FaultAfter n) x h = h
+  on_put so_far v w _ x h = h
 
   on_write : (so_far : List Deed) (s : Plan) (v : ℕ) (w : Write) (mark : Mark) (st : State) → Stands so_far st → Stands so_far (write s v w mark st).1
   unfolding write
@@ -169,8 +168,7 @@ module _ (G : Agenda → Type 0) (k : IsKeptAlong G) where
 
   on_reverts : (so_far : List Deed) (s : Plan) (v : ℕ) (x : Kept) (mark : Mark) (st : State) → Stands so_far st → Stands so_far (reverted_as s v x mark st).1
   on_reverts so_far s v x Clean st h = h
-  on_reverts so_far s v x Fault st h = h
-  on_reverts so_far s v x (FaultAfter n) st h = h
+  on_reverts so_far s v x _ st h = h
 
   on_closes : (so_far : List Deed) (q : Session) (st : State) → Stands so_far (closed q st)
   unfolding closed released

@@ -35,8 +35,7 @@ use Rattle.promises.proofs.Accepted.{line_reply}
 
 same_answer : (mark : Mark) → reply_of_mark mark ≡ answer_of mark
 same_answer Clean = refl
-same_answer Fault = refl
-same_answer (FaultAfter k) = refl
+same_answer _ = refl
 
 write_says : (s : Plan) (v : ℕ) (w : Write) (mark : Mark) (st : State) → (write s v w mark st).0 ≡ answer_of mark
 unfolding write

@@ -3,13 +3,13 @@ use Rattle.std.proofs.Common.{◌≡◌, ◌∙◌, ℕ, ◌+◌, ◌==◌, List
 use Rattle.std.specs.Prelude.{◌&&◌, ◌||◌, not, is_some, if◌then◌else◌}
 use Rattle.std.specs.List.{list_any}
 use Rattle.vss_names.specs.declared.order.Order.{Order}
-use Rattle.vss_names.specs.declared.order.Order.TheVariants.{Identify, PrepareBackup, PrepareSnapshot, Freeze, Thaw, PostSnapshot, BackupComplete}
+use Rattle.vss_names.specs.declared.order.Order.TheVariants.{Identify, PostSnapshot}
 use Rattle.vss_names.specs.declared.vss_result.VssResult.{VssResult}
 use Rattle.vss_names.specs.declared.vss_result.VssResult.TheVariants.{AsyncCancelled, InsufficientStorage}
 use Rattle.writer_state.specs.declared.said.Said.{Said}
 use Rattle.writer_state.specs.WriterRow.{row_gathered}
 use Rattle.write_history.specs.declared.mark.Mark.{Mark}
-use Rattle.write_history.specs.declared.mark.Mark.TheVariants.{Clean, Fault, FaultAfter}
+use Rattle.write_history.specs.declared.mark.Mark.TheVariants.{Clean}
 use Rattle.write_history.specs.History.{Write}
 use Rattle.writer_calls.specs.Script.{said_of}
 use Rattle.set_agenda.specs.declared.group.Group.{Group}
@@ -66,22 +66,15 @@ at_level_are ms l w e = filter_member (λ (m : Member). is_at l m.level) ms w (s
 
 -- those of a group of orders are members
 group_members : (a : Agenda) (o : Order) (l : Option _) (w : ℕ) → is_among w (members_of a (Orders o) l) ≡ true → is_member a.members w ≡ true
-group_members a Identify l w e = at_level_are a.members l w e
-group_members a PrepareBackup l w e = at_level_are a.members l w e
-group_members a PrepareSnapshot l w e = at_level_are a.members l w e
-group_members a Freeze l w e = at_level_are a.members l w e
-group_members a Thaw l w e = at_level_are a.members l w e
 group_members a PostSnapshot l w e = at_level_are a.members l w (among_filter (λ x. not (has_failed a.log x)) (writers_at a.members l) w e)
-group_members a BackupComplete l w e = at_level_are a.members l w e
+group_members a _ l w e = at_level_are a.members l w e
 
 -- ## the fact
 
 -- whom an agenda asks
 abbrev IsOfKind : Plan → Kind → Course → ℕ → Type 0
 IsOfKind s kind.Gather c w = list_any (λ x. class_of s x == class_of s w) c.disabled ≡ false
-IsOfKind s kind.Prepare c w = is_member c.members w ≡ true
-IsOfKind s kind.Snapshot c w = is_member c.members w ≡ true
-IsOfKind s kind.Complete c w = is_member c.members w ≡ true
+IsOfKind s _ c w = is_member c.members w ≡ true
 
 abbrev Asks : Plan → Option Agenda → Course → Type 0
 Asks s None c = Unit {0}
@@ -89,9 +82,7 @@ Asks s (Some a) c = (w : ℕ) → is_member a.members w ≡ true → IsOfKind s 
 
 of_kind : (s : Plan) (k : Kind) (c d : Course) (w : ℕ) → d.disabled ≡ c.disabled → d.members ≡ c.members → IsOfKind s k c w → IsOfKind s k d w
 of_kind s kind.Gather c d w e f h = ap (λ ds. list_any (λ x. class_of s x == class_of s w) ds) e ∙ h
-of_kind s kind.Prepare c d w e f h = ap (λ ms. is_member ms w) f ∙ h
-of_kind s kind.Snapshot c d w e f h = ap (λ ms. is_member ms w) f ∙ h
-of_kind s kind.Complete c d w e f h = ap (λ ms. is_member ms w) f ∙ h
+of_kind s _ c d w e f h = ap (λ ms. is_member ms w) f ∙ h
 
 asks_on : (s : Plan) (c d : Course) (a b : Option Agenda) → Follows a c.members c.outcome b d.members d.outcome → SameCourse c d → Asks s a c → Asks s b d
 asks_on s c d a None m same h = tt
@@ -133,8 +124,7 @@ module _ (s : Plan) where
 
   asks_put : (v : ℕ) (w : Write) (mark : Mark) (x : State) → AsksIn s x → AsksIn s (put v w mark x)
   asks_put v w Clean x h = h
-  asks_put v w Fault x h = h
-  asks_put v w (FaultAfter k) x h = h
+  asks_put v w _ x h = h
 
   module _ (st : State) (h : AsksIn s st) where
     abbrev Next : Event → Mark → Replied → Type 0
@@ -146,8 +136,7 @@ module _ (s : Plan) where
 
     on_revert : (v : ℕ) (k : Kept) (mark : Mark) → AsksIn s (reverted_as s v k mark st).1
     on_revert v k Clean = h
-    on_revert v k Fault = h
-    on_revert v k (FaultAfter n) = h
+    on_revert v k _ = h
 
     on_answer : (w : ℕ) (said : Said) → AsksIn s (answered w said st)
     unfolding answered
@@ -262,12 +251,7 @@ module _ (s : Plan) (so_far : List Act) (w : ℕ) (order : Order) where
 
   for_other : (o : Order) → (o ≡ Identify → ⊥) → is_member st.course.members w ≡ true → IsFor s so_far w o
   for_other Identify e f = absurd (e refl)
-  for_other PrepareBackup e f = f
-  for_other PrepareSnapshot e f = f
-  for_other Freeze e f = f
-  for_other Thaw e f = f
-  for_other PostSnapshot e f = f
-  for_other BackupComplete e f = f
+  for_other _ e f = f
 
   module _ (a : Agenda) (o : Open) (os : List Open) (runs_is : st.course.agenda ≡ Some a) (open_is : groups_left a ≡ o ∷ os) (order_is : order_of o.place.group ≡ Some order) where
     others : (k : Kind) → a.kind ≡ k → every (λ q. not (is_identify q.group)) (places k) ≡ true → is_member st.course.members w ≡ true → IsFor s so_far w order

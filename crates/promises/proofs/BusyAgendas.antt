@@ -4,7 +4,7 @@ use Rattle.std.specs.Prelude.{not, is_some}
 use Rattle.vss_names.specs.declared.order.Order.{Order}
 use Rattle.vss_names.specs.declared.set_outcome.SetOutcome.{SetOutcome}
 use Rattle.set_agenda.specs.declared.group.Group.{Group}
-use Rattle.set_agenda.specs.declared.group.Group.TheVariants.{Orders, PreCommit, Flush, Hold, Cut, Commit, Release, PostCommit}
+use Rattle.set_agenda.specs.declared.group.Group.TheVariants.{Orders}
 use Rattle.set_agenda.specs.declared.kind.Kind.{Kind}
 use Rattle.set_agenda.specs.declared.kind.Kind.TheVariants.{Gather, Prepare, Snapshot, Complete}
 use Rattle.set_agenda.specs.declared.limit.Limit.TheVariants.{Hold as HoldLimit, Freeze as FreezeLimit, Answer as AnswerLimit}
@@ -18,22 +18,20 @@ use Rattle.promises.proofs.Limits.{limit_found, none_and_some}
 use Rattle.promises.proofs.OpenGroup.{every, in_kind}
 use Rattle.requestor.specs.Session.{Session, has_writers, makes_set}
 use Rattle.vss_model.specs.State.{State, SetRow}
-use Rattle.vss_model.specs.Ending.{Ending, NothingEnds, AgendaEnds, SetFails, ending, concluded, followed}
+use Rattle.vss_model.specs.Ending.{Ending, NothingEnds, ending, concluded, followed}
 
 -- ## agendas that fail sets
 
 abbrev pub makes_a_set : Kind → Bool
-makes_a_set Gather = false
 makes_a_set Prepare = true
 makes_a_set Snapshot = true
-makes_a_set Complete = false
+makes_a_set _ = false
 
 -- a group that no agenda beside those of a set has
 pub of_kind : (test : Group → Bool) (k : Kind) (a : Agenda) (o : Open) (os : List Open) → a.kind ≡ k → every (λ q. not (test q.group)) (places Gather) ≡ true → every (λ q. not (test q.group)) (places Complete) ≡ true → groups_left a ≡ o ∷ os → test o.place.group ≡ true → makes_a_set k ≡ true
 of_kind test Gather a o os e f g h i = absurd (not_itself (test o.place.group) i (in_kind (λ q. not (test q.group)) Gather a o os e f h))
-of_kind test Prepare a o os e f g h i = refl
-of_kind test Snapshot a o os e f g h i = refl
 of_kind test Complete a o os e f g h i = absurd (not_itself (test o.place.group) i (in_kind (λ q. not (test q.group)) Complete a o os e g h))
+of_kind test _ a o os e f g h i = refl
 
 abbrev pub IsBusy : Option Agenda → Type 0
 IsBusy None = ⊥
@@ -58,13 +56,7 @@ busy_step (Some a) e = at_list (groups_left a) refl e
 
 pub held_frozen : (g : Group) → freeze_runs g ≡ false → hold_runs g ≡ false
 held_frozen (Orders o) e = refl
-held_frozen PreCommit e = absurd cc
-held_frozen Flush e = absurd cc
-held_frozen Hold e = absurd cc
-held_frozen Cut e = absurd cc
-held_frozen Commit e = absurd cc
-held_frozen Release e = absurd cc
-held_frozen PostCommit e = absurd cc
+held_frozen _ e = absurd cc
 
 pub none_held : (g : Group) (t : Option ℕ) → hold_runs g ≡ false → hold_running g t ≡ []
 none_held g None e = refl
@@ -95,14 +87,13 @@ busy_limit now f (Some a) l e k = at_list (groups_left a) refl e
 -- ## while an agenda makes a set, one is in progress
 
 pub made_stage : (k : Kind) (q : Session) → makes_a_set k ≡ true → WaitsFor k q.context q.stage → makes_set q.stage ≡ true
-made_stage Gather q e h = absurd cc
 made_stage Prepare q e h = ap makes_set h.0
 made_stage Snapshot q e h = ap makes_set h ∙ either (has_writers q.context)
   where
     either : (b : Bool) → makes_set (snapshot_stage b) ≡ true
     either true = refl
     either false = refl
-made_stage Complete q e h = absurd cc
+made_stage _ q e h = absurd cc
 
 pub busy_set : (x : Option Agenda) (q : Option Session) (o : SetOutcome) (found : Option SetRow) → IsBusy x → IsAgendaOf x q → IsOfSession q o found → is_some found ≡ true
 busy_set None q o found b h i = absurd b
@@ -112,8 +103,7 @@ busy_set (Some a) (Some q) o (Some r) b h i = refl
 
 pub course_ended : (e : Ending) (x : State) → (concluded e x).course ≡ x.course
 course_ended NothingEnds x = refl
-course_ended AgendaEnds x = refl
-course_ended (SetFails why) x = refl
+course_ended _ x = refl
 
 pub course_followed : (ran : Bool) (c : Course) (x : State) → (followed ran c x).course ≡ c
 unfolding followed

@@ -9,7 +9,7 @@ use Rattle.vss_names.specs.declared.vss_result.VssResult.TheVariants.{AsyncCance
 use Rattle.writer_state.specs.declared.said.Said.{Said}
 use Rattle.writer_state.specs.WriterRow.{row_gathered}
 use Rattle.write_history.specs.declared.mark.Mark.{Mark}
-use Rattle.write_history.specs.declared.mark.Mark.TheVariants.{Clean, Fault, FaultAfter}
+use Rattle.write_history.specs.declared.mark.Mark.TheVariants.{Clean}
 use Rattle.write_history.specs.History.{Write}
 use Rattle.set_agenda.specs.declared.group.Group.{Group}
 use Rattle.set_agenda.specs.declared.kind.Kind.TheVariants.{Gather, Prepare, Snapshot, Complete}
@@ -188,13 +188,11 @@ calm_kept = record {
 
 calm_put : (v : ℕ) (w : Write) (mark : Mark) (x : State) → IsCalm x → IsCalm (put v w mark x)
 calm_put v w Clean x h = h
-calm_put v w Fault x h = h
-calm_put v w (FaultAfter n) x h = h
+calm_put v w _ x h = h
 
 calm_revert : (s : Plan) (v : ℕ) (k : Kept) (mark : Mark) (st : State) → IsCalm st → IsCalm (reverted_as s v k mark st).1
 calm_revert s v k Clean st h = h
-calm_revert s v k Fault st h = h
-calm_revert s v k (FaultAfter n) st h = h
+calm_revert s v k _ st h = h
 
 calm_writes : (st : State) → IsKeptByWrites IsCalmOrderly st
 calm_writes st =

@@ -5,7 +5,7 @@ use Rattle.vss_names.specs.declared.vss_result.VssResult.{VssResult}
 use Rattle.vss_names.specs.declared.vss_result.VssResult.TheVariants.{InsufficientStorage, AsyncCancelled}
 use Rattle.writer_state.specs.declared.said.Said.{Said}
 use Rattle.write_history.specs.declared.mark.Mark.{Mark}
-use Rattle.write_history.specs.declared.mark.Mark.TheVariants.{Clean, Fault, FaultAfter}
+use Rattle.write_history.specs.declared.mark.Mark.TheVariants.{Clean}
 use Rattle.write_history.specs.History.{Write}
 use Rattle.writer_calls.specs.Script.{said_of}
 use Rattle.set_agenda.specs.declared.group.Group.{Group}
@@ -19,7 +19,7 @@ use Rattle.scenario.specs.Calls.{Target, target_of}
 use Rattle.scenario.specs.Plan.{Plan}
 use Rattle.vss_model.specs.declared.event.Event.{Event}
 use Rattle.vss_model.specs.State.{State, SetRow, Kept, in_progress, left_now}
-use Rattle.vss_model.specs.Ending.{Ending, NothingEnds, AgendaEnds, SetFails, ending, concluded, followed, runs, failed_in, failed}
+use Rattle.vss_model.specs.Ending.{Ending, NothingEnds, ending, concluded, followed, runs, failed_in, failed}
 use Rattle.vss_model.specs.Images.{Replied, cleared, set_loses_image, with_room_if, put, write, reverted_as}
 use Rattle.vss_model.specs.Sessions.{has_no_volume, closed}
 use Rattle.vss_model.specs.Steps.{answered, cut_set, step_made, is_flush, is_failed_step, stepped_as, stepped, ticked, later}
@@ -30,8 +30,7 @@ use Rattle.vss_model.proofs.ByEvent.{Covers, covered, after_enabled, after_not_e
 
 clock-concluded : (e : Ending) (st : State) → (concluded e st).clock ≡ st.clock
 clock-concluded NothingEnds st = refl
-clock-concluded AgendaEnds st = refl
-clock-concluded (SetFails why) st = refl
+clock-concluded _ st = refl
 
 pub clock-followed : (ran : Bool) (c : Course) (st : State) → (followed ran c st).clock ≡ st.clock
 unfolding followed
@@ -47,8 +46,7 @@ clock-room false x = refl
 
 clock-put : (v : ℕ) (w : Write) (mark : Mark) (x : State) → (put v w mark x).clock ≡ x.clock
 clock-put v w Clean x = refl
-clock-put v w Fault x = refl
-clock-put v w (FaultAfter k) x = refl
+clock-put v w _ x = refl
 
 clock-write : (s : Plan) (v : ℕ) (w : Write) (mark : Mark) (st : State) → (write s v w mark st).1.clock ≡ st.clock
 unfolding write
@@ -56,8 +54,7 @@ clock-write s v w mark st = clock-put v w mark _ ∙ clock-room (set_loses_image
 
 clock-reverted : (s : Plan) (v : ℕ) (k : Kept) (mark : Mark) (st : State) → (reverted_as s v k mark st).1.clock ≡ st.clock
 clock-reverted s v k Clean st = refl
-clock-reverted s v k Fault st = refl
-clock-reverted s v k (FaultAfter n) st = refl
+clock-reverted s v k _ st = refl
 
 clock-cut : (o : Option SetRow) (st : State) → (cut_set o st).clock ≡ st.clock
 clock-cut None st = refl

@@ -12,7 +12,7 @@ use Rattle.writer_state.specs.declared.said.Said.{Said}
 use Rattle.writer_state.specs.declared.said.Said.TheVariants as said
 use Rattle.writer_state.specs.WriterState.{is_ok}
 use Rattle.write_history.specs.declared.mark.Mark.{Mark}
-use Rattle.write_history.specs.declared.mark.Mark.TheVariants.{Clean, Fault, FaultAfter}
+use Rattle.write_history.specs.declared.mark.Mark.TheVariants.{Clean}
 use Rattle.write_history.specs.History.{Write}
 use Rattle.writer_calls.specs.declared.answer.Answer.{Answer}
 use Rattle.writer_calls.specs.declared.answer.Answer.TheVariants.{Ok, Veto}
@@ -216,8 +216,7 @@ module _ (s : Plan) (so_far : List Act) (why : VssResult) where
 
   course_put : (v : ℕ) (w : Write) (mark : Mark) (x : State) → (put v w mark x).course ≡ x.course
   course_put v w Clean x = refl
-  course_put v w Fault x = refl
-  course_put v w (FaultAfter k) x = refl
+  course_put v w _ x = refl
 
   room_reason : (b : Bool) (v block : ℕ) → has_failed st.course.outcome ≡ false → (with_room_if b (cleared s v block st)).course.outcome ≡ FailedSet why → why ≡ InsufficientStorage
   unfolding course_failed
@@ -289,8 +288,7 @@ module _ (s : Plan) (so_far : List Act) (why : VssResult) where
 
   revert_course : (v : ℕ) (k : _) (mark : Mark) → (reverted_as s v k mark st).1.course.outcome ≡ st.course.outcome
   revert_course v k Clean = refl
-  revert_course v k Fault = refl
-  revert_course v k (FaultAfter n) = refl
+  revert_course v k _ = refl
 
   codes : Covers Next s st
   codes = record {

@@ -6,14 +6,14 @@ use Rattle.vss_names.specs.declared.order.Order.TheVariants.{BackupComplete}
 use Rattle.vss_names.specs.declared.vss_result.VssResult.{VssResult}
 use Rattle.vss_names.specs.declared.vss_result.VssResult.TheVariants.{InsufficientStorage, AsyncCancelled}
 use Rattle.vss_names.specs.declared.writer_state.WriterState.{WriterState}
-use Rattle.vss_names.specs.declared.writer_state.WriterState.TheVariants.{Unknown, Stable, WaitingForFreeze, WaitingForThaw, WaitingForPostSnapshot, WaitingForBackupComplete, FailedAtIdentify, FailedAtPrepareBackup, FailedAtPrepareSnapshot, FailedAtFreeze, FailedAtThaw, FailedAtPostSnapshot, FailedAtBackupComplete, FailedAtPreRestore, FailedAtPostRestore, FailedAtBackupShutdown}
+use Rattle.vss_names.specs.declared.writer_state.WriterState.TheVariants.{Unknown, Stable, WaitingForFreeze, WaitingForThaw, WaitingForPostSnapshot, WaitingForBackupComplete}
 use Rattle.writer_state.specs.declared.said.Said.{Said}
 use Rattle.writer_state.specs.declared.said.Said.TheVariants.{Ok, Lost}
 use Rattle.writer_state.specs.declared.writer_row.WriterRow.{WriterRow}
 use Rattle.writer_state.specs.WriterState.{is_ok, is_failed}
 use Rattle.writer_state.specs.WriterRow.{row_after}
 use Rattle.write_history.specs.declared.mark.Mark.{Mark}
-use Rattle.write_history.specs.declared.mark.Mark.TheVariants.{Clean, Fault, FaultAfter}
+use Rattle.write_history.specs.declared.mark.Mark.TheVariants.{Clean}
 use Rattle.write_history.specs.History.{Write}
 use Rattle.writer_calls.specs.Script.{said_of}
 use Rattle.set_agenda.specs.declared.group.Group.{Group}
@@ -29,7 +29,7 @@ use Rattle.requestor.specs.Session.{Session}
 use Rattle.scenario.specs.Plan.{Plan}
 use Rattle.vss_model.specs.declared.event.Event.{Event}
 use Rattle.vss_model.specs.State.{State, SetRow, Kept, start, in_progress, left_now}
-use Rattle.vss_model.specs.Ending.{Ending, NothingEnds, AgendaEnds, SetFails, ending, concluded, followed, runs, failed_in, failed}
+use Rattle.vss_model.specs.Ending.{Ending, NothingEnds, ending, concluded, followed, runs, failed_in, failed}
 use Rattle.vss_model.specs.Images.{Replied, cleared, set_loses_image, with_room_if, put, write, reverted_as}
 use Rattle.vss_model.specs.Sessions.{has_no_volume, closed}
 use Rattle.vss_model.specs.Steps.{answered, step_made, is_flush, is_failed_step, stepped_as, stepped, ticked, later}
@@ -183,8 +183,7 @@ WellNow st = Well st.course
 
 well_ended : (e : Ending) (x : State) → WellNow x → WellNow (concluded e x)
 well_ended NothingEnds x h = h
-well_ended AgendaEnds x h = h
-well_ended (SetFails why) x h = h
+well_ended _ x h = h
 
 well_followed : (ran : Bool) (c : Course) (x : State) → Well c → WellNow (followed ran c x)
 unfolding followed
@@ -200,8 +199,7 @@ well_room false x h = h
 
 well_put : (v : ℕ) (w : Write) (mark : Mark) (x : State) → WellNow x → WellNow (put v w mark x)
 well_put v w Clean x h = h
-well_put v w Fault x h = h
-well_put v w (FaultAfter k) x h = h
+well_put v w _ x h = h
 
 module _ (s : Plan) (st : State) (h : WellNow st) where
   on_write : (v : ℕ) (w : Write) (mark : Mark) → WellNow (write s v w mark st).1
@@ -210,8 +208,7 @@ module _ (s : Plan) (st : State) (h : WellNow st) where
 
   on_revert : (v : ℕ) (k : Kept) (mark : Mark) → WellNow (reverted_as s v k mark st).1
   on_revert v k Clean = h
-  on_revert v k Fault = h
-  on_revert v k (FaultAfter n) = h
+  on_revert v k _ = h
 
   on_close : (q : Session) (x : State) → WellNow (closed q x)
   unfolding closed released
@@ -279,16 +276,7 @@ stands_well WaitingForFreeze e = tt
 stands_well WaitingForThaw e = tt
 stands_well WaitingForPostSnapshot e = tt
 stands_well WaitingForBackupComplete e = tt
-stands_well FailedAtIdentify e = absurd cc
-stands_well FailedAtPrepareBackup e = absurd cc
-stands_well FailedAtPrepareSnapshot e = absurd cc
-stands_well FailedAtFreeze e = absurd cc
-stands_well FailedAtThaw e = absurd cc
-stands_well FailedAtPostSnapshot e = absurd cc
-stands_well FailedAtBackupComplete e = absurd cc
-stands_well FailedAtPreRestore e = absurd cc
-stands_well FailedAtPostRestore e = absurd cc
-stands_well FailedAtBackupShutdown e = absurd cc
+stands_well _ e = absurd cc
 
 pub completes_unfailed : (s : Plan) (so_far : List Act) → CompletesUnfailed s so_far
 completes_unfailed s so_far w row e f = stands_well row.state (ap row_failed (sym f) ∙ well_from s (start s) so_far (nobody (start s).course.rows) w e)

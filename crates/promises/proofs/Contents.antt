@@ -28,7 +28,7 @@ use Rattle.scenario.specs.Plan.{Plan, blocks_of, group_of}
 use Rattle.vss_model.specs.declared.event.Event.{Event}
 use Rattle.vss_model.specs.declared.event.Event.TheVariants.{Line}
 use Rattle.vss_model.specs.State.{State, SetRow, Kept, in_progress, left_now, history_of, kept_image}
-use Rattle.vss_model.specs.Ending.{Ending, NothingEnds, AgendaEnds, SetFails, ending, images_dropped, concluded, followed, runs, failed_in, failed}
+use Rattle.vss_model.specs.Ending.{Ending, SetFails, ending, images_dropped, concluded, followed, runs, failed_in, failed}
 use Rattle.vss_model.specs.Images.{Replied, cleared, going_up_to, set_loses_image, with_room_if, put, write, revert_refusal, reverted_as, revert_to, revert}
 use Rattle.vss_model.specs.Sessions.{has_no_volume, images_released, closed}
 use Rattle.vss_model.specs.Steps.{answered, cut_if, cut_each, cut_set, step_made, is_flush, is_failed_step, stepped_as, stepped, ticked, later}
@@ -117,9 +117,8 @@ module _ (s : Plan) (st : State) (v b : ℕ) where
   by_writes hs ks e = ap (λ ws. content ws (length ws) b) (e v)
 
   stay_ended : (e : Ending) (x : State) → Stays x.volumes → Stays (concluded e x).volumes
-  stay_ended NothingEnds x h = h
-  stay_ended AgendaEnds x h = h
   stay_ended (SetFails why) x h = by_writes x.volumes _ (same_dropped (in_progress x) x.volumes) ∙ h
+  stay_ended _ x h = h
 
   stay_followed : (ran : Bool) (c : Course) (x : State) → Stays x.volumes → Stays (followed ran c x).volumes
   unfolding followed

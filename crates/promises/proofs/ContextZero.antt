@@ -2,12 +2,12 @@
 use Rattle.std.proofs.Common.{◌≡◌, ◌∙◌, ℕ, ◌+◌, ◌==◌, List, [], ◌∷◌, ◌++◌, Option, Some, None, refl, Bool, true, false, ap, sym, subst, fold}
 use Rattle.std.specs.Prelude.{◌&&◌, option_map, if◌then◌else◌}
 use Rattle.vss_names.specs.declared.context.Context.{Context}
-use Rattle.vss_names.specs.declared.context.Context.TheVariants.{Backup, AppRollback, NasRollback}
+use Rattle.vss_names.specs.declared.context.Context.TheVariants.{Backup}
 use Rattle.vss_names.specs.declared.vss_result.VssResult.{VssResult}
 use Rattle.vss_names.specs.declared.vss_result.VssResult.TheVariants.{AsyncCancelled}
 use Rattle.writer_state.specs.declared.said.Said.{Said}
 use Rattle.write_history.specs.declared.mark.Mark.{Mark}
-use Rattle.write_history.specs.declared.mark.Mark.TheVariants.{Clean, Fault, FaultAfter}
+use Rattle.write_history.specs.declared.mark.Mark.TheVariants.{Clean}
 use Rattle.write_history.specs.History.{Write, dropped}
 use Rattle.writer_calls.specs.Script.{said_of}
 use Rattle.set_agenda.specs.Agenda.{open_group}
@@ -101,8 +101,7 @@ module _ (s : Plan) (st : State) (num : NumberedFrom 1 st.sets) (h : Owned st) w
 
   related_revert : (v : ℕ) (k : Kept) (mark : Mark) → Relates st.sets st.session (reverted_as s v k mark st).1
   related_revert v k Clean = relates_same st.sets _ (λ n. refl)
-  related_revert v k Fault = relates_same st.sets _ (λ n. refl)
-  related_revert v k (FaultAfter n) = relates_same st.sets _ (λ n. refl)
+  related_revert v k _ = relates_same st.sets _ (λ n. refl)
 
   related_answer : (w : ℕ) (said : Said) → Relates st.sets st.session (answered w said st)
   unfolding answered
@@ -257,8 +256,7 @@ backups_end s so_far n v r e b g =
   where
     backup : (c : Context) → is_backup c ≡ true → c ≡ Backup
     backup Backup e = refl
-    backup AppRollback e = absurd cc
-    backup NasRollback e = absurd cc
+    backup _ e = absurd cc
 
     some_context : (x y : Context) → Some x ≡ Some y → y ≡ x
     some_context x y e = cc

@@ -7,7 +7,7 @@ use Rattle.vss_names.specs.declared.set_outcome.SetOutcome.{SetOutcome}
 use Rattle.vss_names.specs.declared.vss_result.VssResult.{VssResult}
 use Rattle.vss_names.specs.declared.vss_result.VssResult.TheVariants.{InsufficientStorage}
 use Rattle.write_history.specs.declared.mark.Mark.{Mark}
-use Rattle.write_history.specs.declared.mark.Mark.TheVariants.{Clean, Fault, FaultAfter}
+use Rattle.write_history.specs.declared.mark.Mark.TheVariants.{Clean}
 use Rattle.write_history.specs.History.{Write, Image, History, point_in}
 use Rattle.set_agenda.specs.Agenda.{is_among}
 use Rattle.set_agenda.specs.Course.{Course}
@@ -185,8 +185,7 @@ relates_room false x = relates_same x.sets x (λ n. refl)
 
 pub relates_put : (v : ℕ) (w : Write) (mark : Mark) (rows : List SetRow) (session : Option Session) (x : State) → Relates rows session x → Relates rows session (put v w mark x)
 relates_put v w Clean rows session x h = record { change = h.change; keeps = h.keeps; contexts = h.contexts; is = h.is }
-relates_put v w Fault rows session x h = h
-relates_put v w (FaultAfter k) rows session x h = h
+relates_put v w _ rows session x h = h
 
 pub owned_by : (x next : State) → Relates x.sets x.session next → NoMore x next → Owned x → Owned next
 owned_by x next r img h = owned_still r.change r.keeps x next r.contexts r.is img h

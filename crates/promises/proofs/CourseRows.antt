@@ -10,7 +10,7 @@ use Rattle.writer_state.specs.WriterState.{is_ok}
 use Rattle.writer_state.specs.WriterRow.{row_after, row_aborted}
 use Rattle.tick_limits.specs.Time.{answer_limit, hold_limit}
 use Rattle.set_agenda.specs.declared.group.Group.{Group}
-use Rattle.set_agenda.specs.declared.group.Group.TheVariants.{Orders, PreCommit, Flush, Hold, Cut, Commit, Release, PostCommit}
+use Rattle.set_agenda.specs.declared.group.Group.TheVariants.{Orders}
 use Rattle.set_agenda.specs.declared.kind.Kind.{Kind}
 use Rattle.set_agenda.specs.declared.limit.Limit.{Limit}
 use Rattle.set_agenda.specs.declared.limit.Limit.TheVariants.{Hold as HoldLimit, Freeze as FreezeLimit, Answer as AnswerLimit}
@@ -197,13 +197,7 @@ holds_work now f a o os l e k =
 
 steps_ask_nobody : (g : Group) (o : Order) → hold_runs g ≡ true → order_of g ≡ Some o → ⊥
 steps_ask_nobody (Orders p) o e f = cc
-steps_ask_nobody PreCommit o e f = cc
-steps_ask_nobody Flush o e f = cc
-steps_ask_nobody Hold o e f = cc
-steps_ask_nobody Cut o e f = cc
-steps_ask_nobody Commit o e f = cc
-steps_ask_nobody Release o e f = cc
-steps_ask_nobody PostCommit o e f = cc
+steps_ask_nobody _ o e f = cc
 
 no_hold_asks : (now f : ℕ) (x : Option Agenda) (l : RunningLimit) (o : Order) → spent_of now (running_limits f x) ≡ Some l → l.limit ≡ HoldLimit → order_now (left x) ≡ Some o → ⊥
 no_hold_asks now f None l o e k i = none_and_some None l refl e

@@ -5,7 +5,7 @@ use Rattle.vss_names.specs.declared.set_outcome.SetOutcome.{SetOutcome}
 use Rattle.vss_names.specs.declared.vss_result.VssResult.{VssResult}
 use Rattle.vss_names.specs.declared.vss_result.VssResult.TheVariants.{InsufficientStorage, AsyncCancelled}
 use Rattle.write_history.specs.declared.mark.Mark.{Mark}
-use Rattle.write_history.specs.declared.mark.Mark.TheVariants.{Clean, Fault, FaultAfter}
+use Rattle.write_history.specs.declared.mark.Mark.TheVariants.{Clean}
 use Rattle.write_history.specs.History.{Write}
 use Rattle.writer_state.specs.declared.said.Said.{Said}
 use Rattle.writer_calls.specs.Script.{said_of}
@@ -19,7 +19,7 @@ use Rattle.scenario.specs.Plan.{Plan}
 use Rattle.vss_model.specs.declared.event.Event.{Event}
 use Rattle.vss_model.specs.declared.event.Event.TheVariants.{Line}
 use Rattle.vss_model.specs.State.{State, SetRow, Kept, in_progress, row_changed, left_now}
-use Rattle.vss_model.specs.Ending.{Ending, NothingEnds, AgendaEnds, SetFails, ending, row_settled, concluded, followed, runs, failed_in, failed}
+use Rattle.vss_model.specs.Ending.{Ending, NothingEnds, ending, row_settled, concluded, followed, runs, failed_in, failed}
 use Rattle.vss_model.specs.Images.{Replied, cleared, set_loses_image, with_room_if, put, write, reverted_as}
 use Rattle.vss_model.specs.Sessions.{has_no_volume, new_set, new_number, with_volume, closed}
 use Rattle.vss_model.specs.Steps.{answered, with_cut, row_cut, cut_set, step_made, is_flush, is_failed_step, stepped_as, stepped, ticked, later}
@@ -115,8 +115,7 @@ times_settled o rows n = time_map (row_settled o) (settled_number o) n (λ r e. 
 
 times_ended : (e : Ending) (x : State) → SameTimes x (concluded e x)
 times_ended NothingEnds x n = refl
-times_ended AgendaEnds x n = times_settled x.course.outcome x.sets n
-times_ended (SetFails why) x n = times_settled x.course.outcome x.sets n
+times_ended _ x n = times_settled x.course.outcome x.sets n
 
 times_followed : (ran : Bool) (c : Course) (x : State) → SameTimes x (followed ran c x)
 unfolding followed
@@ -132,8 +131,7 @@ times_room false x n = refl
 
 times_put : (v : ℕ) (w : Write) (mark : Mark) (x : State) → SameTimes x (put v w mark x)
 times_put v w Clean x n = refl
-times_put v w Fault x n = refl
-times_put v w (FaultAfter k) x n = refl
+times_put v w _ x n = refl
 
 times_closed : (q : Session) (x : State) → SameTimes x (closed q x)
 unfolding closed
@@ -150,8 +148,7 @@ module _ (s : Plan) (st : State) (n : ℕ) (t : Option ℕ) where
 
   on_revert : (v : ℕ) (k : Kept) (mark : Mark) → time_in (reverted_as s v k mark st).1.sets n ≡ time_in st.sets n
   on_revert v k Clean = refl
-  on_revert v k Fault = refl
-  on_revert v k (FaultAfter j) = refl
+  on_revert v k _ = refl
 
   on_answer : (w : ℕ) (said : Said) → time_in (answered w said st).sets n ≡ time_in st.sets n
   unfolding answered

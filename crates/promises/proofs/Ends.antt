@@ -103,9 +103,8 @@ runs_found k n (q ∷ p ∷ rows) r h e f = by_head (q.number == n) e (runs_foun
 -- ## a calm set completes
 
 complete_over : (o : SetOutcome) → is_complete o ≡ true → is_running o ≡ false
-complete_over RunningSet e = absurd cc
 complete_over CompleteSet e = refl
-complete_over (FailedSet why) e = absurd cc
+complete_over _ e = absurd cc
 
 stays_complete : (st : State) (r q : SetRow) → is_complete q.result ≡ true → q.number ≡ r.number → IsLaterRow r q → HasLaterRow st q → HasCompleted st r
 stays_complete st r q e num h k = record {

@@ -16,7 +16,7 @@ use Rattle.scenario.specs.declared.op.Op.TheVariants as op
 use Rattle.scenario.specs.Calls.{Target, target_of}
 use Rattle.scenario.specs.Plan.{Plan}
 use Rattle.vss_model.specs.declared.event.Event.{Event}
-use Rattle.vss_model.specs.declared.event.Event.TheVariants.{Line, Answer as AnswerEvent, Provider, Idle}
+use Rattle.vss_model.specs.declared.event.Event.TheVariants.{Line}
 use Rattle.vss_model.specs.State.{State, SetRow, is_complete, in_progress, has_image, is_kept_set}
 use Rattle.vss_model.specs.Images.{cleared, set_loses_image, with_room, put, write}
 use Rattle.vss_model.specs.Facts.{NumberedFrom}
@@ -271,9 +271,7 @@ ordered_at s st (Some t) num = rows_in_order st.volumes (cleared s t.volume t.bl
 
 ordered : (s : Plan) (st : State) (event : Event) → NumberedFrom 1 st.sets → are_in_order (evicted s st event) ≡ true
 ordered s st (Line lane o) num = ordered_at s st (target_of o) num
-ordered s st (AnswerEvent w answer) num = refl
-ordered s st Provider num = refl
-ordered s st Idle num = refl
+ordered s st _ num = refl
 
 none_at : (s : Plan) (st : State) (t : Option Target) → is_some t ≡ false → evicted_at s st t ≡ []
 none_at s st None e = refl
@@ -281,9 +279,7 @@ none_at s st (Some t) e = absurd cc
 
 none_other : (s : Plan) (st : State) (event : Event) → is_write event ≡ false → evicted s st event ≡ []
 none_other s st (Line lane o) e = none_at s st (target_of o) e
-none_other s st (AnswerEvent w answer) e = refl
-none_other s st Provider e = refl
-none_other s st Idle e = refl
+none_other s st _ e = refl
 
 pub tells_evicted : (s : Plan) (so_far : List Act) (act : Act) → TellsEvicted s so_far act
 tells_evicted s so_far act =

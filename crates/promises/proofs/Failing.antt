@@ -4,7 +4,7 @@ use Rattle.std.specs.Prelude.{◌&&◌, not}
 use Rattle.block_data.specs.declared.payload.Payload.TheVariants.{Fill, Stamp}
 use Rattle.block_data.specs.PayloadBytes.{payload_bytes}
 use Rattle.vss_names.specs.declared.order.Order.{Order}
-use Rattle.vss_names.specs.declared.order.Order.TheVariants.{Identify, PrepareBackup, PrepareSnapshot, Freeze, Thaw, PostSnapshot, BackupComplete}
+use Rattle.vss_names.specs.declared.order.Order.TheVariants.{Identify}
 use Rattle.vss_names.specs.declared.set_outcome.SetOutcome.{SetOutcome}
 use Rattle.vss_names.specs.declared.set_outcome.SetOutcome.TheVariants.{Running as RunningSet, Complete as CompleteSet, Failed as FailedSet}
 use Rattle.vss_names.specs.declared.vss_result.VssResult.{VssResult}
@@ -12,7 +12,7 @@ use Rattle.vss_names.specs.declared.vss_result.VssResult.TheVariants.{Insufficie
 use Rattle.writer_state.specs.declared.said.Said.{Said}
 use Rattle.writer_state.specs.WriterState.{is_ok}
 use Rattle.write_history.specs.declared.mark.Mark.{Mark}
-use Rattle.write_history.specs.declared.mark.Mark.TheVariants.{Clean, Fault, FaultAfter}
+use Rattle.write_history.specs.declared.mark.Mark.TheVariants.{Clean, Fault}
 use Rattle.write_history.specs.History.{Write}
 use Rattle.writer_calls.specs.Script.{said_of}
 use Rattle.writer_calls.specs.declared.answer.Answer.{Answer}
@@ -59,12 +59,7 @@ decided_fails false said c e = absurd cc
 
 pub same_consent : (o : Order) → needs_consent o ≡ is_decisive o
 same_consent Identify = refl
-same_consent PrepareBackup = refl
-same_consent PrepareSnapshot = refl
-same_consent Freeze = refl
-same_consent Thaw = refl
-same_consent PostSnapshot = refl
-same_consent BackupComplete = refl
+same_consent _ = refl
 
 pub same_veto : (answer : Answer) → is_veto answer ≡ not (is_ok (said_of answer))
 same_veto AnswerOk = refl
@@ -124,8 +119,7 @@ module _ (s : Plan) (st : State) (r : SetRow) (e : in_progress st ≡ Some r) (n
 
   put_sets : (v : ℕ) (w : Write) (mark : Mark) (x : State) → (put v w mark x).sets ≡ x.sets
   put_sets v w Clean x = refl
-  put_sets v w Fault x = refl
-  put_sets v w (FaultAfter k) x = refl
+  put_sets v w _ x = refl
 
   room_sets : (b : Bool) (x : State) → x.sets ≡ st.sets → b ≡ true → (with_room_if b x).sets ≡ map (row_settled (FailedSet InsufficientStorage)) st.sets
   room_sets false x f g = absurd cc
@@ -200,9 +194,8 @@ flush_group (Some Release) e = absurd cc
 flush_group (Some PostCommit) e = absurd cc
 
 fault_mark : (m : Mark) → is_fault m ≡ true → m ≡ Fault
-fault_mark Clean e = absurd cc
 fault_mark Fault e = refl
-fault_mark (FaultAfter k) e = absurd cc
+fault_mark _ e = absurd cc
 
 happens_fails : (event : Event) (s : Plan) (so_far : List Act) (act : Act) (r : SetRow) → act.event ≡ event → in_progress (state s so_far) ≡ Some r → enabled s (state s so_far) act.event ≡ true → gives_cause s (state s so_far) event act.mark ≡ true
     → IsFailed (after s (state s so_far) act) r.number

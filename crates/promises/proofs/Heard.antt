@@ -177,24 +177,13 @@ unsaid a (p ∷ ps) x e = at_group (waited_for a p) (left_from a ps) (λ f. unsa
 -- ## members
 
 pub order_member : (o : Order) (a : Agenda) (l : Option Level) (w : ℕ) → is_among w (members_of a (Orders o) l) ≡ true → is_member a.members w ≡ true
-order_member Identify a l w h = among_members (λ m. is_at l m.level) w a.members h
-order_member PrepareBackup a l w h = among_members (λ m. is_at l m.level) w a.members h
-order_member PrepareSnapshot a l w h = among_members (λ m. is_at l m.level) w a.members h
-order_member Freeze a l w h = among_members (λ m. is_at l m.level) w a.members h
-order_member Thaw a l w h = among_members (λ m. is_at l m.level) w a.members h
 order_member PostSnapshot a l w h = among_members (λ m. is_at l m.level) w a.members (among_filter (λ x. not (has_failed a.log x)) w (writers_at a.members l) h)
-order_member BackupComplete a l w h = among_members (λ m. is_at l m.level) w a.members h
+order_member _ a l w h = among_members (λ m. is_at l m.level) w a.members h
 
 -- the writer of a deed that was heard, and its group
 pub heard_writer : (order : Order) (w : ℕ) (g : Group) (a : Agenda) (l : Option Level) (u : ℕ) (said : Said) (now : ℕ) → is_among u (members_of a g l) ≡ true → is_heard order w (deed_at g u said now) ≡ true → is_member a.members w ≡ true
 heard_writer order w (Orders o) a l u said now h e = subst (λ x. is_member a.members x ≡ true) (equal u w (both_parts (same_order o order) (u == w) e).1) (order_member o a l u h)
-heard_writer order w PreCommit a l u said now h e = absurd cc
-heard_writer order w Flush a l u said now h e = absurd cc
-heard_writer order w Hold a l u said now h e = absurd cc
-heard_writer order w Cut a l u said now h e = absurd cc
-heard_writer order w Commit a l u said now h e = absurd cc
-heard_writer order w Release a l u said now h e = absurd cc
-heard_writer order w PostCommit a l u said now h e = absurd cc
+heard_writer order w _ a l u said now h e = absurd cc
 
 pub made_volume : (g : Group) (v : ℕ) (h : Group) (a : Agenda) (l : Option Level) (u : ℕ) (said : Said) (now : ℕ) → is_among u (members_of a h l) ≡ true → is_made g (Some v) (deed_at h u said now) ≡ true → is_among v a.volumes ≡ true
 made_volume g v (Orders o) a l u said now i e = absurd cc

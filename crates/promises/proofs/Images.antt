@@ -65,14 +65,12 @@ module _ (s : Plan) (st : State) (num : NumberedFrom 1 st.sets) (n v : ℕ) wher
 
   pub volumes_put : (u : ℕ) (w : Write) (mark : Mark) (x : State) → FewerIn x.volumes (put u w mark x).volumes
   volumes_put u w Clean x = fewer_in_change (written w) (fewer_written w) u x.volumes
-  volumes_put u w Fault x = fewer_in_same x.volumes
-  volumes_put u w (FaultAfter k) x = fewer_in_same x.volumes
+  volumes_put u w _ x = fewer_in_same x.volumes
 
   -- a write takes no image beside those that go for want of a slot
   pub put_keeps : (u : ℕ) (w : Write) (mark : Mark) (x : State) → stands x n v ≡ true → stands (put u w mark x) n v ≡ false → ⊥
   put_keeps u w Clean x h g = true_not_false (has_image n (at x.volumes v)) h (gone_change (written w) n u x.volumes v h g).1
-  put_keeps u w Fault x h g = true_not_false (stands x n v) h g
-  put_keeps u w (FaultAfter k) x h g = true_not_false (stands x n v) h g
+  put_keeps u w _ x h g = true_not_false (stands x n v) h g
 
   pub volumes_room : (b : Bool) (x : State) → FewerIn x.volumes (with_room_if b x).volumes
   volumes_room true x = by_set (in_progress x)
@@ -84,8 +82,7 @@ module _ (s : Plan) (st : State) (num : NumberedFrom 1 st.sets) (n v : ℕ) wher
 
   sets_put : (u : ℕ) (w : Write) (mark : Mark) (x : State) → (put u w mark x).sets ≡ x.sets
   sets_put u w Clean x = refl
-  sets_put u w Fault x = refl
-  sets_put u w (FaultAfter k) x = refl
+  sets_put u w _ x = refl
 
   module _ (u : ℕ) (w : Write) (mark : Mark) where
     abbrev pub roomy : State

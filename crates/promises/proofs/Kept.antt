@@ -3,7 +3,7 @@ use Rattle.std.proofs.Common.{◌≡◌, ◌∙◌, ℕ, ◌+◌, ◌==◌, ◌<
 use Rattle.std.specs.Prelude.{◌&&◌, ◌||◌, nat_lt, is_some, if◌then◌else◌}
 use Rattle.vss_names.specs.declared.vss_result.VssResult.TheVariants.{ObjectNotFound, UnsupportedContext, SnapshotSetInProgress}
 use Rattle.write_history.specs.declared.mark.Mark.{Mark}
-use Rattle.write_history.specs.declared.mark.Mark.TheVariants.{Clean, Fault, FaultAfter}
+use Rattle.write_history.specs.declared.mark.Mark.TheVariants.{Clean}
 use Rattle.write_history.specs.History.{History, dropped, point_in}
 use Rattle.scenario.specs.declared.op.Op.TheVariants.{Revert, DeleteSet, DeleteImage}
 use Rattle.scenario.specs.Plan.{Plan}
@@ -75,8 +75,7 @@ module _ (s : Plan) (so_far : List Act) where
 
   revert_told : (v : ℕ) (k : Kept) (mark : Mark) → (reverted_as s v k mark st).0 ≡ answer_of mark
   revert_told v k Clean = refl
-  revert_told v k Fault = refl
-  revert_told v k (FaultAfter j) = refl
+  revert_told v k _ = refl
 
   busy_is : (v : ℕ) (o : Option SetRow) → is_in_set v o ≡ has_in_it v o
   busy_is v None = refl

@@ -12,7 +12,7 @@ use Rattle.writer_state.specs.declared.writer_row.WriterRow.{WriterRow}
 use Rattle.writer_state.specs.WriterState.{is_failed, is_ok, stable_again}
 use Rattle.writer_state.specs.WriterRow.{one_more, row_after, row_aborted, row_gathered, row_ended}
 use Rattle.write_history.specs.declared.mark.Mark.{Mark}
-use Rattle.write_history.specs.declared.mark.Mark.TheVariants.{Clean, Fault, FaultAfter}
+use Rattle.write_history.specs.declared.mark.Mark.TheVariants.{Clean}
 use Rattle.write_history.specs.History.{Write}
 use Rattle.set_agenda.specs.declared.group.Group.{Group}
 use Rattle.set_agenda.specs.declared.kind.Kind.{Kind}
@@ -26,7 +26,7 @@ use Rattle.set_agenda.specs.Course.{Course, posted, rows_where, row_if, member_i
 use Rattle.requestor.specs.Session.{Session}
 use Rattle.scenario.specs.Plan.{Plan, WriterPlan}
 use Rattle.vss_model.specs.State.{State, SetRow, Kept, start, row_of_writer, in_progress, left_now}
-use Rattle.vss_model.specs.Ending.{Ending, NothingEnds, AgendaEnds, SetFails, ending, concluded, followed, runs, failed_in, failed}
+use Rattle.vss_model.specs.Ending.{Ending, NothingEnds, ending, concluded, followed, runs, failed_in, failed}
 use Rattle.vss_model.specs.Images.{Replied, put, reverted_as}
 use Rattle.vss_model.specs.Sessions.{begin_in, has_no_volume, closed}
 use Rattle.vss_model.specs.Steps.{answered, step_made, is_flush, is_failed_step, stepped_as, stepped, ticked, later}
@@ -188,8 +188,7 @@ module _ (l : ℕ → Level) (limit : ℕ → ℕ) where
 
   on_concluded : (e : Ending) (st : State) → Holds st → Holds (concluded e st)
   on_concluded NothingEnds st h = h
-  on_concluded AgendaEnds st h = h
-  on_concluded (SetFails why) st h = h
+  on_concluded _ st h = h
 
   on_followed : (ran : Bool) (c : Course) (st : State) → Leveled c → Holds (followed ran c st)
   unfolding followed
@@ -250,13 +249,11 @@ module _ (l : ℕ → Level) (limit : ℕ → ℕ) where
 
   on_puts : (v : ℕ) (w : Write) (mark : Mark) (x : State) → Holds x → Holds (put v w mark x)
   on_puts v w Clean x h = h
-  on_puts v w Fault x h = h
-  on_puts v w (FaultAfter n) x h = h
+  on_puts v w _ x h = h
 
   on_reverts : (s : Plan) (v : ℕ) (x : Kept) (mark : Mark) (st : State) → Holds st → Holds (reverted_as s v x mark st).1
   on_reverts s v x Clean st h = h
-  on_reverts s v x Fault st h = h
-  on_reverts s v x (FaultAfter n) st h = h
+  on_reverts s v x _ st h = h
 
   kept_by_writes : (st : State) → IsKeptByWrites Holds st
   kept_by_writes st = record {

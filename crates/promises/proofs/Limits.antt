@@ -46,34 +46,21 @@ posted_fails before c e = e
 
 treated_fails : (x : Limit) (now : ℕ) (c : Course) → Decides x (order_now (left c.agenda)) → has_failed (treated_as x now c).outcome ≡ true
 unfolding course_failed
-treated_fails HoldLimit now c d = refl
-treated_fails FreezeLimit now c d = refl
 treated_fails AnswerLimit now c d = by_order (decides (order_now (left c.agenda))) d
   where
     by_order : (b : Bool) → b ≡ true → has_failed (lost_decided b (lost now c)).outcome ≡ true
     by_order true e = refl
     by_order false e = absurd cc
+treated_fails _ now c d = refl
 
 -- the tables of the causes
 pub same_hold : (g : Group) → holds_volumes g ≡ hold_runs g
 same_hold (Orders o) = refl
-same_hold PreCommit = refl
-same_hold Flush = refl
-same_hold Hold = refl
-same_hold Cut = refl
-same_hold Commit = refl
-same_hold Release = refl
-same_hold PostCommit = refl
+same_hold _ = refl
 
 same_step : (g : Group) → is_hold_step g ≡ is_hold g
 same_step (Orders o) = refl
-same_step PreCommit = refl
-same_step Flush = refl
-same_step Hold = refl
-same_step Cut = refl
-same_step Commit = refl
-same_step Release = refl
-same_step PostCommit = refl
+same_step _ = refl
 
 same_freeze : (g : Group) → freezes_writers g ≡ freeze_runs g
 same_freeze (Orders Identify) = refl

@@ -2,7 +2,7 @@
 use Rattle.std.proofs.Common.{◌≡◌, ◌∙◌, ℕ, ◌+◌, ◌≤◌, List, [], ◌∷◌, ◌++◌, Option, Some, None, refl, Bool, true, false, arith}
 use Rattle.std.specs.Prelude.{not, nat_lt, ◌-◌, if◌then◌else◌}
 use Rattle.vss_names.specs.declared.level.Level.{Level}
-use Rattle.vss_names.specs.declared.level.Level.TheVariants.{System, BackEnd, FrontEnd}
+use Rattle.vss_names.specs.declared.level.Level.TheVariants.{System}
 use Rattle.vss_names.specs.declared.order.Order.{Order}
 use Rattle.vss_names.specs.declared.order.Order.TheVariants.{Identify, PrepareBackup, PrepareSnapshot, Freeze, Thaw, PostSnapshot, BackupComplete}
 use Rattle.tick_limits.specs.Time.{hold_limit, is_spent}
@@ -86,25 +86,20 @@ is_mild Release = false
 is_mild PostCommit = false
 
 pub mild_order : (o : Order) → is_decisive o ≡ false → is_mild (Orders o) ≡ true
-mild_order Identify e = refl
 mild_order PrepareBackup e = absurd cc
 mild_order PrepareSnapshot e = absurd cc
 mild_order Freeze e = absurd cc
-mild_order Thaw e = refl
-mild_order PostSnapshot e = refl
-mild_order BackupComplete e = refl
+mild_order _ e = refl
 
 -- ## stages
 
 pub freeze_low : (x : Level) → group_stage (Orders Freeze) (Some x) ≤ 5
 freeze_low System = omega arith
-freeze_low BackEnd = omega arith
-freeze_low FrontEnd = omega arith
+freeze_low _ = omega arith
 
 pub thaw_high : (x : Level) → 11 ≤ group_stage (Orders Thaw) (Some x)
 thaw_high System = omega arith
-thaw_high BackEnd = omega arith
-thaw_high FrontEnd = omega arith
+thaw_high _ = omega arith
 
 pub freeze_at : (l : Option Level) → group_stage (Orders Freeze) l ≤ 5
 freeze_at None = omega arith
@@ -122,14 +117,11 @@ hold_six Hold l e = omega arith
 hold_six g l e = absurd cc
 
 pub hold_nine : (g : Group) (l : Option Level) → hold_runs g ≡ true → group_stage g l ≤ 9
-hold_nine (Orders o) l e = absurd cc
-hold_nine PreCommit l e = absurd cc
-hold_nine Flush l e = absurd cc
 hold_nine Hold l e = omega arith
 hold_nine Cut l e = omega arith
 hold_nine Commit l e = omega arith
 hold_nine Release l e = omega arith
-hold_nine PostCommit l e = absurd cc
+hold_nine _ l e = absurd cc
 
 pub hold_between : (g : Group) (l : Option Level) → 6 ≤ group_stage g l → group_stage g l ≤ 9 → hold_runs g ≡ true
 hold_between (Orders Identify) l h i = absurd (apart 15 9 15 i (omega arith) (omega arith))
@@ -141,11 +133,8 @@ hold_between (Orders PostSnapshot) l h i = absurd (apart 14 9 14 i (omega arith)
 hold_between (Orders BackupComplete) l h i = absurd (apart 15 9 15 i (omega arith) (omega arith))
 hold_between PreCommit l h i = absurd (apart 4 5 6 (omega arith) (omega arith) h)
 hold_between Flush l h i = absurd (apart 5 5 6 (omega arith) (omega arith) h)
-hold_between Hold l h i = refl
-hold_between Cut l h i = refl
-hold_between Commit l h i = refl
-hold_between Release l h i = refl
 hold_between PostCommit l h i = absurd (apart 10 9 10 i (omega arith) (omega arith))
+hold_between _ l h i = refl
 
 pub freeze_ten : (g : Group) (l : Option Level) → freeze_runs g ≡ true → group_stage g l ≤ 10
 freeze_ten (Orders Identify) l e = absurd cc
@@ -155,29 +144,16 @@ freeze_ten (Orders Freeze) l e = chain (group_stage (Orders Freeze) l) 5 10 (fre
 freeze_ten (Orders Thaw) l e = absurd cc
 freeze_ten (Orders PostSnapshot) l e = absurd cc
 freeze_ten (Orders BackupComplete) l e = absurd cc
-freeze_ten PreCommit l e = omega arith
-freeze_ten Flush l e = omega arith
-freeze_ten Hold l e = omega arith
-freeze_ten Cut l e = omega arith
-freeze_ten Commit l e = omega arith
-freeze_ten Release l e = omega arith
-freeze_ten PostCommit l e = omega arith
+freeze_ten _ l e = omega arith
 
 pub freeze_between : (g : Group) (l : Option Level) → is_prepare_snapshot g ≡ false → group_stage g l ≤ 10 → freeze_runs g ≡ true
 freeze_between (Orders Identify) l h i = absurd (apart 15 10 15 i (omega arith) (omega arith))
 freeze_between (Orders PrepareBackup) l h i = absurd (apart 15 10 15 i (omega arith) (omega arith))
 freeze_between (Orders PrepareSnapshot) l h i = absurd cc
-freeze_between (Orders Freeze) l h i = refl
 freeze_between (Orders Thaw) l h i = absurd (apart (group_stage (Orders Thaw) l) 10 11 i (omega arith) (thaw_at l))
 freeze_between (Orders PostSnapshot) l h i = absurd (apart 14 10 14 i (omega arith) (omega arith))
 freeze_between (Orders BackupComplete) l h i = absurd (apart 15 10 15 i (omega arith) (omega arith))
-freeze_between PreCommit l h i = refl
-freeze_between Flush l h i = refl
-freeze_between Hold l h i = refl
-freeze_between Cut l h i = refl
-freeze_between Commit l h i = refl
-freeze_between Release l h i = refl
-freeze_between PostCommit l h i = refl
+freeze_between _ l h i = refl
 
 pub mild_high : (g : Group) (l : Option Level) → is_mild g ≡ true → 11 ≤ group_stage g l
 mild_high (Orders Identify) l e = omega arith

@@ -16,7 +16,7 @@ use Rattle.writer_state.specs.WriterState.{is_ok}
 use Rattle.writer_state.specs.WriterRow.{row_gathered}
 use Rattle.writer_state.specs.declared.writer_row.WriterRow.{WriterRow}
 use Rattle.write_history.specs.declared.mark.Mark.{Mark}
-use Rattle.write_history.specs.declared.mark.Mark.TheVariants.{Clean, Fault, FaultAfter}
+use Rattle.write_history.specs.declared.mark.Mark.TheVariants.{Clean, Fault}
 use Rattle.write_history.specs.History.{Write}
 use Rattle.component_doc.specs.Selection.{takers}
 use Rattle.writer_calls.specs.declared.answer.Answer.{Answer}
@@ -89,8 +89,7 @@ kind_for AtCompletion = Complete
 
 single : (i : Asking) → places (kind_for i) ≡ p0 i ∷ []
 single ToIdentify = refl
-single ForConsent = refl
-single AtCompletion = refl
+single _ = refl
 
 -- those of its one group that are not heard
 abbrev waiting : Asking → Agenda → List ℕ
@@ -98,8 +97,7 @@ waiting i a = filter (λ who. not (has_said a.log (p0 i) who)) (writers_at a.mem
 
 waiting_is : (i : Asking) (a : Agenda) → waited_for a (p0 i) ≡ waiting i a
 waiting_is ToIdentify a = refl
-waiting_is ForConsent a = refl
-waiting_is AtCompletion a = refl
+waiting_is _ a = refl
 
 -- ## the agenda
 
@@ -149,9 +147,8 @@ both b e f = absurd cc
 
 -- what is said at the open place counts, where it fails no set
 counts_at : (i : Asking) (g : Group) (said : Said) → g ≡ Orders (order_for i) → (fails_set (order_of g) && not (is_ok said)) ≡ false → counts i said ≡ true
-counts_at ToIdentify g said e f = refl
 counts_at ForConsent g said e f = not_false (is_ok said) (ap (λ x. fails_set (order_of x) && not (is_ok said)) (sym e) ∙ f)
-counts_at AtCompletion g said e f = refl
+counts_at _ g said e f = refl
 
 own_reply : (i : Asking) (g : Group) (said : Said) (now u w : ℕ) → g ≡ Orders (order_for i) → (fails_set (order_of g) && not (is_ok said)) ≡ false → (u == w) ≡ true
     → is_reply i w (deed_at g u said now) ≡ true
@@ -332,53 +329,43 @@ waits_for i k c t h e = only i k (sym (leads k c t h) ∙ e)
 
 not_failed : (i : Asking) → Failed ≡ stage_for i → ⊥
 not_failed ToIdentify e = cc
-not_failed ForConsent e = cc
-not_failed AtCompletion e = cc
+not_failed _ e = cc
 
 not_opened : (i : Asking) → Opened ≡ stage_for i → ⊥
 not_opened ToIdentify e = cc
-not_opened ForConsent e = cc
-not_opened AtCompletion e = cc
+not_opened _ e = cc
 
 not_started : (i : Asking) → Started ≡ stage_for i → ⊥
 not_started ToIdentify e = cc
-not_started ForConsent e = cc
-not_started AtCompletion e = cc
+not_started _ e = cc
 
 not_done : (i : Asking) → Done ≡ stage_for i → ⊥
 not_done ToIdentify e = cc
-not_done ForConsent e = cc
-not_done AtCompletion e = cc
+not_done _ e = cc
 
 gather_is : (i : Asking) → asks op.Gather i ≡ true → i ≡ ToIdentify
 gather_is ToIdentify e = refl
-gather_is ForConsent e = absurd cc
-gather_is AtCompletion e = absurd cc
+gather_is _ e = absurd cc
 
 gather_not : (i : Asking) → asks op.Gather i ≡ false → (Gather ≡ kind_for i → ⊥) × (Gathered ≡ stage_for i → ⊥)
 gather_not ToIdentify e = absurd cc
-gather_not ForConsent e = (λ f. cc, λ f. cc)
-gather_not AtCompletion e = (λ f. cc, λ f. cc)
+gather_not _ e = (λ f. cc, λ f. cc)
 
 prepare_is : (i : Asking) → asks op.Prepare i ≡ true → i ≡ ForConsent
-prepare_is ToIdentify e = absurd cc
 prepare_is ForConsent e = refl
-prepare_is AtCompletion e = absurd cc
+prepare_is _ e = absurd cc
 
 prepare_not : (i : Asking) → asks op.Prepare i ≡ false → (Prepare ≡ kind_for i → ⊥) × (Prepared ≡ stage_for i → ⊥)
-prepare_not ToIdentify e = (λ f. cc, λ f. cc)
 prepare_not ForConsent e = absurd cc
-prepare_not AtCompletion e = (λ f. cc, λ f. cc)
+prepare_not _ e = (λ f. cc, λ f. cc)
 
 complete_is : (i : Asking) → asks op.Complete i ≡ true → i ≡ AtCompletion
-complete_is ToIdentify e = absurd cc
-complete_is ForConsent e = absurd cc
 complete_is AtCompletion e = refl
+complete_is _ e = absurd cc
 
 complete_not : (i : Asking) → asks op.Complete i ≡ false → (Complete ≡ kind_for i → ⊥) × (Finished ≡ stage_for i → ⊥)
-complete_not ToIdentify e = (λ f. cc, λ f. cc)
-complete_not ForConsent e = (λ f. cc, λ f. cc)
 complete_not AtCompletion e = absurd cc
+complete_not _ e = (λ f. cc, λ f. cc)
 
 opened_now : (q : Session) → (is_stage q.stage Opened && has_writers q.context) ≡ true → q.stage ≡ Opened
 opened_now q e = is_opened q.stage (both_parts (is_stage q.stage Opened) (has_writers q.context) e).0
@@ -391,8 +378,7 @@ done_now q e = is_done_stage q.stage (both_parts (is_stage q.stage Done) (has_wr
 
 not_snapshot : (i : Asking) → Snapshot ≡ kind_for i → ⊥
 not_snapshot ToIdentify e = cc
-not_snapshot ForConsent e = cc
-not_snapshot AtCompletion e = cc
+not_snapshot _ e = cc
 
 failed_stage : {X : Type 0} (i : Asking) (why : VssResult) (o : Option Session) (q : Session) → option_map (set_failed why) o ≡ Some q → q.stage ≡ stage_for i → X
 failed_stage i why None q e f = absurd cc
@@ -443,17 +429,15 @@ module _ (s : Plan) (so_far : List Act) (i : Asking) (w : ℕ) where
 
     on_put : (v : ℕ) (b : Write) (mark : Mark) (x : State) → Stands i w x c → Stands i w (put v b mark x) c
     on_put v b Clean x k = record { running = k.running; done = k.done }
-    on_put v b Fault x k = k
-    on_put v b (FaultAfter n) x k = k
+    on_put v b _ x k = k
 
     on_write : (v : ℕ) (b : Write) (mark : Mark) → Stands i w (write s v b mark st).1 c
     unfolding write
     on_write v b mark = on_put v b mark _ (on_room (set_loses_image (in_progress st) st.volumes (cleared s v b.block st).volumes) (cleared s v b.block st) refl refl)
 
     on_reverts : (v : ℕ) (k : Kept) (mark : Mark) → Stands i w (reverted_as s v k mark st).1 c
-    on_reverts v k Clean = same _ refl refl
     on_reverts v k Fault = h
-    on_reverts v k (FaultAfter n) = same _ refl refl
+    on_reverts v k _ = same _ refl refl
 
     on_close : (q : Session) (x : State) → Stands i w (closed q x) c
     unfolding closed released

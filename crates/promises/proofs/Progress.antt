@@ -4,7 +4,7 @@ use Rattle.std.specs.Prelude.{is_some, option_map, option_and_then, if◌then◌
 use Rattle.vss_names.specs.declared.context.Context.{Context}
 use Rattle.vss_names.specs.declared.context.Context.TheVariants.{Backup, AppRollback, NasRollback}
 use Rattle.vss_names.specs.declared.set_outcome.SetOutcome.{SetOutcome}
-use Rattle.vss_names.specs.declared.set_outcome.SetOutcome.TheVariants.{Running, Complete as CompleteSet, Failed as FailedSet}
+use Rattle.vss_names.specs.declared.set_outcome.SetOutcome.TheVariants.{Running}
 use Rattle.vss_names.specs.declared.vss_result.VssResult.{VssResult}
 use Rattle.vss_names.specs.declared.vss_result.VssResult.TheVariants.{AsyncPending, AsyncCancelled, BadState}
 use Rattle.vss_names.specs.Context.{number_of, context_of_number}
@@ -72,8 +72,7 @@ pub record StandsAt (q : Session) (busy : Bool) (p : Progress) : Type 0 where
 
 fails_so : (o : SetOutcome) → has_failed o ≡ is_some (failure_of o)
 fails_so Running = refl
-fails_so CompleteSet = refl
-fails_so (FailedSet why) = refl
+fails_so _ = refl
 
 row_so : (o : Option SetRow) → row_fails o ≡ is_some (failure_in o)
 row_so None = refl
@@ -130,9 +129,8 @@ is_done Done e = refl
 is_done t e = absurd cc
 
 prepares : (c : Context) → has_writers c ≡ true → stage_after c Started ≡ Prepared
-prepares Backup e = refl
-prepares AppRollback e = refl
 prepares NasRollback e = absurd cc
+prepares _ e = refl
 
 pub snapshots : (c : Context) (t : Stage) → (if has_writers c then is_stage t Prepared else is_stage t Started) ≡ true → stage_after c t ≡ Done
 snapshots Backup t e = ap (stage_after Backup) (is_prepared t e)

@@ -58,9 +58,8 @@ module _ (s : Plan) (st : State) where
 
   name_of : (w : ℕ) (name : List ℕ) (m : Option (Option Meta)) → is_accepted (named_as (naming_of w name m st.explicit) st).0 ≡ false
       → (named_as (naming_of w name m st.explicit) st).0 ≡ name_refusal name m
-  name_of w name None e = refl
-  name_of w name (Some None) e = refl
   name_of w name (Some (Some m)) e = name_in w st.explicit name 0 m.parts e
+  name_of w name _ e = refl
 
   component_refused : (w : ℕ) (name : List ℕ) (mode : Mode) (all : Bool) → mode ≡ mode_of all → is_accepted (component_in mode s w name st).0 ≡ false
       → (component_in mode s w name st).0 ≡ (if all then Coded BadState else name_refusal name (slice_get (known_metas s st) w))

@@ -2,7 +2,7 @@
 use Rattle.std.proofs.Common.{◌≡◌, ◌∙◌, ℕ, List, Option, Some, None, refl, Bool, true, false}
 use Rattle.std.specs.Prelude.{if◌then◌else◌}
 use Rattle.write_history.specs.declared.mark.Mark.{Mark}
-use Rattle.write_history.specs.declared.mark.Mark.TheVariants.{Clean, Fault, FaultAfter}
+use Rattle.write_history.specs.declared.mark.Mark.TheVariants.{Clean}
 use Rattle.write_history.specs.History.{Write}
 use Rattle.writer_calls.specs.declared.answer.Answer.{Answer}
 use Rattle.vss_names.specs.declared.order.Order.{Order}
@@ -24,13 +24,11 @@ module _ (s : Plan) (st : State) where
   in_write : (v : ℕ) (w : Write) (mark : Mark) → leaves_all (write s v w mark st).0 ≡ true → (write s v w mark st).1 ≡ st
   unfolding write
   in_write v w Clean e = absurd cc
-  in_write v w Fault e = absurd cc
-  in_write v w (FaultAfter k) e = absurd cc
+  in_write v w _ e = absurd cc
 
   in_revert : (v : ℕ) (k : Kept) (mark : Mark) → leaves_all (reverted_as s v k mark st).0 ≡ true → (reverted_as s v k mark st).1 ≡ st
   in_revert v k Clean e = absurd cc
-  in_revert v k Fault e = absurd cc
-  in_revert v k (FaultAfter n) e = absurd cc
+  in_revert v k _ e = absurd cc
 
   in_answer : (o : Option Order) (answer : Answer) (x : State) → leaves_all (answer_reply o answer) ≡ true → x ≡ st
   in_answer None answer x e = absurd cc

@@ -2,14 +2,14 @@
 use Rattle.std.proofs.Common.{◌≡◌, ◌∙◌, ℕ, ◌+◌, List, [], ◌∷◌, Option, Some, None, refl, Bool, true, false, ap, sym, subst, inl, inr, map}
 use Rattle.std.specs.Prelude.{◌&&◌, not, is_some, find, ◌==◌, if◌then◌else◌, slice_get}
 use Rattle.vss_names.specs.declared.set_outcome.SetOutcome.{SetOutcome}
-use Rattle.vss_names.specs.declared.set_outcome.SetOutcome.TheVariants.{Running as RunningSet, Complete as CompleteSet, Failed as FailedSet}
+use Rattle.vss_names.specs.declared.set_outcome.SetOutcome.TheVariants.{Running as RunningSet}
 use Rattle.vss_names.specs.declared.vss_result.VssResult.{VssResult}
 use Rattle.vss_names.specs.declared.vss_result.VssResult.TheVariants.{InsufficientStorage, AsyncCancelled, AsyncPending, BadState}
 use Rattle.vss_names.specs.declared.writer_error.WriterError.TheVariants.{Timeout}
 use Rattle.vss_names.specs.declared.writer_state.WriterState.{WriterState}
-use Rattle.vss_names.specs.declared.writer_state.WriterState.TheVariants.{Unknown, Stable, WaitingForFreeze, WaitingForThaw, WaitingForPostSnapshot, WaitingForBackupComplete, FailedAtIdentify, FailedAtPrepareBackup, FailedAtPrepareSnapshot, FailedAtFreeze, FailedAtThaw, FailedAtPostSnapshot, FailedAtBackupComplete, FailedAtPreRestore, FailedAtPostRestore, FailedAtBackupShutdown}
+use Rattle.vss_names.specs.declared.writer_state.WriterState.TheVariants.{Unknown}
 use Rattle.vss_names.specs.declared.order.Order.{Order}
-use Rattle.vss_names.specs.declared.order.Order.TheVariants.{Identify, PrepareBackup, PrepareSnapshot, Freeze, Thaw, PostSnapshot, BackupComplete}
+use Rattle.vss_names.specs.declared.order.Order.TheVariants.{Identify}
 use Rattle.writer_state.specs.declared.said.Said.{Said}
 use Rattle.writer_state.specs.declared.said.Said.TheVariants.{Ok, Veto, Lost}
 use Rattle.writer_state.specs.declared.writer_row.WriterRow.{WriterRow}
@@ -105,8 +105,7 @@ module _ (s : Plan) (so_far : List Act) where
 
   running_calm : (o : SetOutcome) → is_running o ≡ true → has_failed o ≡ false
   running_calm RunningSet e = refl
-  running_calm CompleteSet e = absurd cc
-  running_calm (FailedSet why) e = absurd cc
+  running_calm _ e = absurd cc
 
   calm_at : (x : State) (o : Option SetRow) → in_progress st ≡ o → x.sets ≡ st.sets → set_fails o x ≡ false
   calm_at x None e f = refl
@@ -168,13 +167,11 @@ module _ (s : Plan) (so_far : List Act) where
 
   course_put : (v : ℕ) (w : Write) (mark : Mark) (x : State) → (put v w mark x).course ≡ x.course
   course_put v w Clean x = refl
-  course_put v w Fault x = refl
-  course_put v w (FaultAfter k) x = refl
+  course_put v w _ x = refl
 
   sets_put : (v : ℕ) (w : Write) (mark : Mark) (x : State) → (put v w mark x).sets ≡ x.sets
   sets_put v w Clean x = refl
-  sets_put v w Fault x = refl
-  sets_put v w (FaultAfter k) x = refl
+  sets_put v w _ x = refl
 
   write_falls : (v : ℕ) (w : Write) (mark : Mark) (r : SetRow) (e : in_progress st ≡ Some r) (num : NumberedFrom 1 st.sets) (run : st.course.outcome ≡ RunningSet) → loses_own_image s st v w.block ≡ true
       → IsFailed (put v w mark (with_room_if (loses_own_image s st v w.block) (cleared s v w.block st))) r.number
@@ -301,21 +298,7 @@ module _ (s : Plan) (so_far : List Act) where
 
   rests : (x : WriterState) → stable_again x ≡ at_rest x
   rests Unknown = refl
-  rests Stable = refl
-  rests WaitingForFreeze = refl
-  rests WaitingForThaw = refl
-  rests WaitingForPostSnapshot = refl
-  rests WaitingForBackupComplete = refl
-  rests FailedAtIdentify = refl
-  rests FailedAtPrepareBackup = refl
-  rests FailedAtPrepareSnapshot = refl
-  rests FailedAtFreeze = refl
-  rests FailedAtThaw = refl
-  rests FailedAtPostSnapshot = refl
-  rests FailedAtBackupComplete = refl
-  rests FailedAtPreRestore = refl
-  rests FailedAtPostRestore = refl
-  rests FailedAtBackupShutdown = refl
+  rests _ = refl
 
   over_is : (r : WriterRow) → row_ended r ≡ row_over r
   over_is r = ap (λ x. record r { state = x }) (rests r.state)
@@ -329,21 +312,11 @@ module _ (s : Plan) (so_far : List Act) where
 
   at_ok : (o : Order) → after_ok o ≡ state_at_ok o
   at_ok Identify = refl
-  at_ok PrepareBackup = refl
-  at_ok PrepareSnapshot = refl
-  at_ok Freeze = refl
-  at_ok Thaw = refl
-  at_ok PostSnapshot = refl
-  at_ok BackupComplete = refl
+  at_ok _ = refl
 
   at_failure : (o : Order) → failed_at o ≡ state_at_failure o
   at_failure Identify = refl
-  at_failure PrepareBackup = refl
-  at_failure PrepareSnapshot = refl
-  at_failure Freeze = refl
-  at_failure Thaw = refl
-  at_failure PostSnapshot = refl
-  at_failure BackupComplete = refl
+  at_failure _ = refl
 
   said_is : (o : Order) (said : Said) (r : WriterRow) → row_after o said r ≡ row_said (Some o) said r
   said_is o Ok r = ap (λ x. record r { state = x; code = None }) (at_ok o)
@@ -369,13 +342,7 @@ module _ (s : Plan) (so_far : List Act) where
 
       by_group : (g : Group) (ws : List ℕ) → say_to (order_of g) Lost ws w r ≡ row_by (is_among w (lost_at (Some l) (order_of g) ws)) (row_said (order_if (is_orders g && is_among w ws) (order_of g)) Lost) r
       by_group (Orders p) ws = by_test p (is_among w ws)
-      by_group PreCommit ws = refl
-      by_group Flush ws = refl
-      by_group Hold ws = refl
-      by_group Cut ws = refl
-      by_group Commit ws = refl
-      by_group Release ws = refl
-      by_group PostCommit ws = refl
+      by_group _ ws = refl
 
       by_list : (os : List Open) → say_to (order_now os) Lost (waits_now os) w r ≡ row_by (is_among w (lost_at (Some l) (order_now os) (waits_now os))) (row_said (open_order os w) Lost) r
       by_list [] = refl

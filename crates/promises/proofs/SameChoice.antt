@@ -6,7 +6,7 @@ use Rattle.vss_names.specs.declared.order.Order.{Order}
 use Rattle.vss_names.specs.declared.vss_result.VssResult.{VssResult}
 use Rattle.vss_names.specs.declared.vss_result.VssResult.TheVariants.{InsufficientStorage}
 use Rattle.write_history.specs.declared.mark.Mark.{Mark}
-use Rattle.write_history.specs.declared.mark.Mark.TheVariants.{Clean, Fault, FaultAfter}
+use Rattle.write_history.specs.declared.mark.Mark.TheVariants.{Clean, Fault}
 use Rattle.write_history.specs.History.{Write}
 use Rattle.writer_state.specs.declared.said.Said.{Said}
 use Rattle.writer_state.specs.declared.said.Said.TheVariants.{Lost}
@@ -214,17 +214,15 @@ on_room false st x h = h
 
 on_put : (v : ℕ) (w : Write) (mark : Mark) (st x : State) → SameChoice st x → SameChoice st (put v w mark x)
 on_put v w Clean st x h = record { explicit = h.explicit; course = h.course; mode = h.mode }
-on_put v w Fault st x h = h
-on_put v w (FaultAfter k) st x h = h
+on_put v w _ st x h = h
 
 pub on_write : (s : Plan) (v : ℕ) (w : Write) (mark : Mark) (st : State) → SameChoice st (write s v w mark st).1
 unfolding write
 on_write s v w mark st = on_put v w mark st _ (on_room (set_loses_image (in_progress st) st.volumes (cleared s v w.block st).volumes) st (cleared s v w.block st) (record { explicit = refl; course = same_course st.course; mode = refl }))
 
 pub on_revert : (s : Plan) (v : ℕ) (k : Kept) (mark : Mark) (st : State) → SameChoice st (reverted_as s v k mark st).1
-on_revert s v k Clean st = record { explicit = refl; course = same_course st.course; mode = refl }
 on_revert s v k Fault st = same_choice st
-on_revert s v k (FaultAfter n) st = record { explicit = refl; course = same_course st.course; mode = refl }
+on_revert s v k _ st = record { explicit = refl; course = same_course st.course; mode = refl }
 
 -- a change of sets, volumes and the clock
 pub same_beside : (st x : State) → x.explicit ≡ st.explicit → x.course ≡ st.course → mode_in x.session ≡ mode_in st.session → SameChoice st x

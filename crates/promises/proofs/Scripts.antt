@@ -12,7 +12,7 @@ use Rattle.writer_state.specs.declared.said.Said.{Said}
 use Rattle.writer_state.specs.WriterState.{is_ok}
 use Rattle.writer_state.specs.WriterRow.{row_gathered}
 use Rattle.write_history.specs.declared.mark.Mark.{Mark}
-use Rattle.write_history.specs.declared.mark.Mark.TheVariants.{Clean, Fault, FaultAfter}
+use Rattle.write_history.specs.declared.mark.Mark.TheVariants.{Clean}
 use Rattle.write_history.specs.declared.actor.Actor.TheVariants.{Writer}
 use Rattle.write_history.specs.declared.move_item.Move.{Move}
 use Rattle.write_history.specs.History.{Write}
@@ -119,9 +119,7 @@ are_apart (p ∷ ps) = not (list_any (same_place p) ps) && are_apart ps
 
 kinds_apart : (k : Kind) → are_apart (places k) ≡ true
 kinds_apart kind.Gather = refl
-kinds_apart kind.Prepare = refl
-kinds_apart kind.Snapshot = refl
-kinds_apart kind.Complete = refl
+kinds_apart _ = refl
 
 -- whoever is waited for at the same place was waited for there
 abbrev Shrinks : ℕ → List Open → List Open → Type 0
@@ -189,13 +187,7 @@ module _ (w : ℕ) (o : Order) where
       by_among : (b c : Bool) → (same_order x o && b) ≡ (is_owed o (order_if b (Some x)) && true)
       by_among true c = refl
       by_among false c = and-false (same_order x o)
-  new_group gs PreCommit ws = no_group gs
-  new_group gs Flush ws = no_group gs
-  new_group gs Hold ws = no_group gs
-  new_group gs Cut ws = no_group gs
-  new_group gs Commit ws = no_group gs
-  new_group gs Release ws = no_group gs
-  new_group gs PostCommit ws = no_group gs
+  new_group gs _ ws = no_group gs
 
   -- at the same place nobody is asked anew
   same_owed : (x p : Open) (xs ps : List Open) → same_place x.place p.place ≡ true → Shrinks w (x ∷ xs) (p ∷ ps) → is_owed o (open_order (p ∷ ps) w) ≡ true
@@ -415,8 +407,7 @@ module _ (s : Plan) (w : ℕ) (o : Order) (st : State) where
 
   on_put : (v : ℕ) (b : Write) (mark : Mark) (x : State) → To x.course → To (put v b mark x).course
   on_put v b Clean x h = h
-  on_put v b Fault x h = h
-  on_put v b (FaultAfter n) x h = h
+  on_put v b _ x h = h
 
   on_write : (v : ℕ) (b : Write) (mark : Mark) → To (write s v b mark st).1.course
   unfolding write
@@ -424,8 +415,7 @@ module _ (s : Plan) (w : ℕ) (o : Order) (st : State) where
 
   on_reverts : (v : ℕ) (k : _) (mark : Mark) → To (reverted_as s v k mark st).1.course
   on_reverts v k Clean = as_it_was
-  on_reverts v k Fault = as_it_was
-  on_reverts v k (FaultAfter n) = as_it_was
+  on_reverts v k _ = as_it_was
 
   on_end : (q : Session) → To (closed q (failed AsyncCancelled st)).course
   on_end q =

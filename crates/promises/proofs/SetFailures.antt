@@ -2,7 +2,7 @@
 use Rattle.std.proofs.Common.{◌≡◌, ◌∙◌, ℕ, ◌==◌, List, [], ◌∷◌, Option, Some, None, refl, Bool, true, false, ap, sym, map, find}
 use Rattle.std.specs.Prelude.{if◌then◌else◌}
 use Rattle.vss_names.specs.declared.set_outcome.SetOutcome.{SetOutcome}
-use Rattle.vss_names.specs.declared.set_outcome.SetOutcome.TheVariants.{Running as RunningSet, Complete as CompleteSet, Failed as FailedSet}
+use Rattle.vss_names.specs.declared.set_outcome.SetOutcome.TheVariants.{Running as RunningSet}
 use Rattle.vss_names.specs.declared.vss_result.VssResult.{VssResult}
 use Rattle.set_agenda.specs.declared.group.Group.{Group}
 use Rattle.set_agenda.specs.declared.group.Group.TheVariants.{Orders, PreCommit, Flush, Hold, Cut, Commit, Release, PostCommit}
@@ -28,8 +28,7 @@ failure_map f num res (r ∷ rows) n = by_head (r.number == n) ((f r).number == 
 
 pub running_calm : (o : SetOutcome) → is_running o ≡ true → failure_of o ≡ None
 running_calm RunningSet e = refl
-running_calm CompleteSet e = absurd cc
-running_calm (FailedSet why) e = absurd cc
+running_calm _ e = absurd cc
 
 pub settled_calm : (p : SetOutcome) → failure_of p ≡ None → (r : SetRow) → failure_of (row_settled p r).result ≡ failure_of r.result
 settled_calm p e r = by_running (is_running r.result) refl

@@ -8,7 +8,7 @@ use Rattle.vss_names.specs.declared.vss_result.VssResult.{VssResult}
 use Rattle.vss_names.specs.declared.vss_result.VssResult.TheVariants.{InsufficientStorage, AsyncCancelled}
 use Rattle.writer_state.specs.declared.said.Said.{Said}
 use Rattle.write_history.specs.declared.mark.Mark.{Mark}
-use Rattle.write_history.specs.declared.mark.Mark.TheVariants.{Clean, Fault, FaultAfter}
+use Rattle.write_history.specs.declared.mark.Mark.TheVariants.{Clean}
 use Rattle.write_history.specs.History.{Write}
 use Rattle.writer_calls.specs.Script.{said_of}
 use Rattle.set_agenda.specs.declared.group.Group.{Group}
@@ -19,7 +19,7 @@ use Rattle.requestor.specs.Session.{Session}
 use Rattle.scenario.specs.Plan.{Plan}
 use Rattle.vss_model.specs.declared.event.Event.{Event}
 use Rattle.vss_model.specs.State.{State, SetRow, Kept, is_running, in_progress, row_changed, left_now}
-use Rattle.vss_model.specs.Ending.{Ending, NothingEnds, AgendaEnds, SetFails, ending, row_settled, concluded, followed, runs, failed_in, failed}
+use Rattle.vss_model.specs.Ending.{Ending, NothingEnds, ending, row_settled, concluded, followed, runs, failed_in, failed}
 use Rattle.vss_model.specs.Images.{Replied, cleared, set_loses_image, with_room_if, put, write, reverted_as}
 use Rattle.vss_model.specs.Sessions.{new_set, new_number, with_volume, has_no_volume, closed}
 use Rattle.vss_model.specs.Steps.{answered, with_cut, cut_set, step_made, is_flush, is_failed_step, stepped_as, stepped, ticked, later}
@@ -147,8 +147,7 @@ changed_in_progress k f (q ∷ rows) r num e h = by_head (is_running q.result) r
 module _ (s : Plan) (st : State) (num : NumberedFrom 1 st.sets) where
   in_concluded : (e : Ending) (x : State) → GoOn st.sets x.sets → GoOn st.sets (concluded e x).sets
   in_concluded NothingEnds x g = g
-  in_concluded AgendaEnds x g = go_on_again st.sets x.sets _ g (go_on_settled x.course.outcome x.sets)
-  in_concluded (SetFails why) x g = go_on_again st.sets x.sets _ g (go_on_settled x.course.outcome x.sets)
+  in_concluded _ x g = go_on_again st.sets x.sets _ g (go_on_settled x.course.outcome x.sets)
 
   in_followed : (ran : Bool) (c : Course) (x : State) → GoOn st.sets x.sets → GoOn st.sets (followed ran c x).sets
   unfolding followed
@@ -164,8 +163,7 @@ module _ (s : Plan) (st : State) (num : NumberedFrom 1 st.sets) where
 
   in_put : (v : ℕ) (w : Write) (mark : Mark) (x : State) → GoOn st.sets x.sets → GoOn st.sets (put v w mark x).sets
   in_put v w Clean x g = g
-  in_put v w Fault x g = g
-  in_put v w (FaultAfter k) x g = g
+  in_put v w _ x g = g
 
   in_write : (v : ℕ) (w : Write) (mark : Mark) → GoOn st.sets (write s v w mark st).1.sets
   unfolding write
@@ -173,8 +171,7 @@ module _ (s : Plan) (st : State) (num : NumberedFrom 1 st.sets) where
 
   in_revert : (v : ℕ) (k : Kept) (mark : Mark) → GoOn st.sets (reverted_as s v k mark st).1.sets
   in_revert v k Clean = go_on_same st.sets
-  in_revert v k Fault = go_on_same st.sets
-  in_revert v k (FaultAfter n) = go_on_same st.sets
+  in_revert v k _ = go_on_same st.sets
 
   in_closed : (q : Session) (x : State) → GoOn st.sets x.sets → GoOn st.sets (closed q x).sets
   unfolding closed

@@ -7,7 +7,7 @@ use Rattle.vss_names.specs.declared.vss_result.VssResult.{VssResult}
 use Rattle.vss_names.specs.declared.vss_result.VssResult.TheVariants.{InsufficientStorage, AsyncCancelled, ObjectAlreadyExists, MaximumNumberOfVolumesReached, MaximumNumberOfSnapshotsReached}
 use Rattle.writer_state.specs.declared.said.Said.{Said}
 use Rattle.write_history.specs.declared.mark.Mark.{Mark}
-use Rattle.write_history.specs.declared.mark.Mark.TheVariants.{Clean, Fault, FaultAfter}
+use Rattle.write_history.specs.declared.mark.Mark.TheVariants.{Clean}
 use Rattle.write_history.specs.History.{Write}
 use Rattle.writer_calls.specs.Script.{said_of}
 use Rattle.set_agenda.specs.declared.group.Group.{Group}
@@ -19,7 +19,7 @@ use Rattle.requestor.specs.Session.{Session}
 use Rattle.scenario.specs.Plan.{Plan}
 use Rattle.vss_model.specs.declared.event.Event.{Event}
 use Rattle.vss_model.specs.State.{State, SetRow, Kept, is_running, in_progress, row_changed, left_now, history_of}
-use Rattle.vss_model.specs.Ending.{Ending, NothingEnds, AgendaEnds, SetFails, ending, row_settled, concluded, followed, runs, failed_in, failed}
+use Rattle.vss_model.specs.Ending.{Ending, NothingEnds, ending, row_settled, concluded, followed, runs, failed_in, failed}
 use Rattle.vss_model.specs.Images.{Replied, cleared, set_loses_image, with_room_if, put, write, reverted_as, is_in_set}
 use Rattle.vss_model.specs.Sessions.{most_volumes, most_images, new_set, new_number, with_volume, add_refusal, has_no_volume, closed}
 use Rattle.vss_model.specs.Steps.{answered, with_cut, row_cut, cut_set, step_made, is_flush, is_failed_step, stepped_as, stepped, ticked, later}
@@ -130,8 +130,7 @@ cut_volumes n now r = by_number (r.number == n)
 module _ (s : Plan) (st : State) (num : NumberedFrom 1 st.sets) (h : AllDistinct st.sets) where
   in_ended : (e : Ending) (x : State) → AllDistinct x.sets → AllDistinct (concluded e x).sets
   in_ended NothingEnds x d = d
-  in_ended AgendaEnds x d = distinct_map (row_settled x.course.outcome) (settled_volumes x.course.outcome) x.sets d
-  in_ended (SetFails why) x d = distinct_map (row_settled x.course.outcome) (settled_volumes x.course.outcome) x.sets d
+  in_ended _ x d = distinct_map (row_settled x.course.outcome) (settled_volumes x.course.outcome) x.sets d
 
   in_followed : (ran : Bool) (c : Course) (x : State) → AllDistinct x.sets → AllDistinct (followed ran c x).sets
   unfolding followed
@@ -147,8 +146,7 @@ module _ (s : Plan) (st : State) (num : NumberedFrom 1 st.sets) (h : AllDistinct
 
   in_put : (v : ℕ) (w : Write) (mark : Mark) (x : State) → AllDistinct x.sets → AllDistinct (put v w mark x).sets
   in_put v w Clean x d = d
-  in_put v w Fault x d = d
-  in_put v w (FaultAfter k) x d = d
+  in_put v w _ x d = d
 
   in_write : (v : ℕ) (w : Write) (mark : Mark) → AllDistinct (write s v w mark st).1.sets
   unfolding write
@@ -156,8 +154,7 @@ module _ (s : Plan) (st : State) (num : NumberedFrom 1 st.sets) (h : AllDistinct
 
   in_revert : (v : ℕ) (k : Kept) (mark : Mark) → AllDistinct (reverted_as s v k mark st).1.sets
   in_revert v k Clean = h
-  in_revert v k Fault = h
-  in_revert v k (FaultAfter n) = h
+  in_revert v k _ = h
 
   in_closed : (q : Session) (x : State) → AllDistinct x.sets → AllDistinct (closed q x).sets
   unfolding closed

@@ -20,7 +20,7 @@ use Rattle.scenario.specs.Bounds.{IsPlan, group_slots}
 use Rattle.scenario.specs.Plan.{Plan, slots_in, slots_of, placed, placed_in, group_of, blocks_of}
 use Rattle.vss_model.specs.declared.event.Event.{Event}
 use Rattle.vss_model.specs.State.{State, SetRow, Kept, in_progress, row_of, left_now, history_of, kept_image}
-use Rattle.vss_model.specs.Ending.{Ending, NothingEnds, AgendaEnds, SetFails, ending, concluded, followed, runs, failed_in, failed}
+use Rattle.vss_model.specs.Ending.{Ending, SetFails, ending, concluded, followed, runs, failed_in, failed}
 use Rattle.vss_model.specs.Images.{Replied, going_up_to, cleared, set_loses_image, with_room_if, put, write, reverted_as}
 use Rattle.vss_model.specs.Sessions.{has_no_volume, closed}
 use Rattle.vss_model.specs.Steps.{answered, cut_set, step_made, is_flush, is_failed_step, stepped_as, stepped, ticked, later}
@@ -74,9 +74,8 @@ module _ (s : Plan) (plan : IsPlan s) (st : State) (time : (v : ℕ) → AreInTi
     -- ## what ends
 
     less_ended : (e : Ending) (x : State) → LessIn x.volumes (concluded e x).volumes
-    less_ended NothingEnds x = less_in_same x.volumes
-    less_ended AgendaEnds x = less_in_same x.volumes
     less_ended (SetFails why) x = less_images_dropped (in_progress x) x.volumes
+    less_ended _ x = less_in_same x.volumes
 
     less_followed : (ran : Bool) (c : Course) (x : State) → LessIn x.volumes (followed ran c x).volumes
     unfolding followed
@@ -162,8 +161,7 @@ module _ (s : Plan) (plan : IsPlan s) (st : State) (time : (v : ℕ) → AreInTi
 
       fit_put : (b : Bool) (mark : Mark) → Fit (put v w mark (with_room_if b roomy)).volumes
       fit_put b Clean x = fit_put_at b x (slice_get s.volumes x) (slice_get s.volumes v) refl refl
-      fit_put b Fault x = fit_room b x
-      fit_put b (FaultAfter k) x = fit_room b x
+      fit_put b _ x = fit_room b x
 
     fit_write : (v : ℕ) (w : Write) (mark : Mark) → Fit (write s v w mark st).1.volumes
     unfolding write

@@ -113,13 +113,7 @@ along a c d news e h = subst (λ x. Grows x c.outcome d.agenda d.outcome news) (
 
 group_of_order : (g : Group) (o : Order) → order_of g ≡ Some o → g ≡ Orders o
 group_of_order (Orders x) o e = cc
-group_of_order PreCommit o e = absurd cc
-group_of_order Flush o e = absurd cc
-group_of_order Hold o e = absurd cc
-group_of_order Cut o e = absurd cc
-group_of_order Commit o e = absurd cc
-group_of_order Release o e = absurd cc
-group_of_order PostCommit o e = absurd cc
+group_of_order _ o e = absurd cc
 
 pub now_group : (os : List Open) (o : Order) → order_now os ≡ Some o → (open_place os).group ≡ Orders o
 now_group [] o e = absurd cc
@@ -178,13 +172,7 @@ made_now os now (Some g) = Made g (next_volume os) now ∷ []
 
 made_at : (g : Group) (who now : ℕ) → not (is_orders g) ≡ true → Made g (volume_if (is_over_volumes g) who) now ≡ deed_at g who Ok now
 made_at (Orders o) who now e = absurd cc
-made_at PreCommit who now e = refl
-made_at Flush who now e = refl
-made_at Hold who now e = refl
-made_at Cut who now e = refl
-made_at Commit who now e = refl
-made_at Release who now e = refl
-made_at PostCommit who now e = refl
+made_at _ who now e = refl
 
 step_told : (os : List Open) (now : ℕ) → is_working os ≡ true → made_now os now (open_group os) ≡ map deed_in (said_at os Ok now (next_member os ∷ []))
 step_told [] now e = absurd cc

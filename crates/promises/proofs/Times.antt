@@ -6,7 +6,7 @@ use Rattle.vss_names.specs.declared.order.Order.{Order}
 use Rattle.vss_names.specs.declared.order.Order.TheVariants.{Identify, PrepareBackup, BackupComplete}
 use Rattle.tick_limits.specs.Time.{hold_limit}
 use Rattle.set_agenda.specs.declared.group.Group.{Group}
-use Rattle.set_agenda.specs.declared.group.Group.TheVariants.{Orders, PreCommit, Flush, Hold, Cut, Commit, Release, PostCommit}
+use Rattle.set_agenda.specs.declared.group.Group.TheVariants.{Orders}
 use Rattle.set_agenda.specs.declared.kind.Kind.{Kind}
 use Rattle.set_agenda.specs.declared.kind.Kind.TheVariants.{Gather, Prepare, Snapshot, Complete}
 use Rattle.set_agenda.specs.declared.place.Place.{Place}
@@ -38,13 +38,7 @@ time_of (Made g v now) = now
 
 entry_time : (g : Group) (e : Entry) → time_of (deed_at g e.who e.said e.time) ≡ e.time
 entry_time (Orders o) e = refl
-entry_time PreCommit e = refl
-entry_time Flush e = refl
-entry_time Hold e = refl
-entry_time Cut e = refl
-entry_time Commit e = refl
-entry_time Release e = refl
-entry_time PostCommit e = refl
+entry_time _ e = refl
 
 -- ## what one act tells
 

@@ -190,9 +190,8 @@ module _ (s : Plan) (so_far : List Act) where
   write_turn v w mark = put_turn v w mark _ (room_turn v w.block (set_loses_image (in_progress st) st.volumes (cleared s v w.block st).volumes))
 
   pub revert_turn : (v : ℕ) (k : Kept) (mark : Mark) → Turn st (reverted_as s v k mark st).1 (runs st)
-  revert_turn v k Clean = quiet_turn _ refl (λ m. refl) refl
   revert_turn v k Fault = quiet_turn st refl (λ m. refl) refl
-  revert_turn v k (FaultAfter j) = quiet_turn _ refl (λ m. refl) refl
+  revert_turn v k _ = quiet_turn _ refl (λ m. refl) refl
 
   -- ## agendas
 

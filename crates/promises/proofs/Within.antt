@@ -11,11 +11,11 @@ use Rattle.writer_state.specs.WriterState.{is_ok}
 use Rattle.writer_state.specs.WriterRow.{row_after}
 use Rattle.tick_limits.specs.Time.{answer_limit, default_freeze}
 use Rattle.write_history.specs.declared.mark.Mark.{Mark}
-use Rattle.write_history.specs.declared.mark.Mark.TheVariants.{Clean, Fault, FaultAfter}
+use Rattle.write_history.specs.declared.mark.Mark.TheVariants.{Clean}
 use Rattle.write_history.specs.History.{Write}
 use Rattle.writer_calls.specs.Script.{said_of}
 use Rattle.set_agenda.specs.declared.group.Group.{Group}
-use Rattle.set_agenda.specs.declared.group.Group.TheVariants.{Orders, PreCommit, Flush, Hold, Cut, Commit, Release, PostCommit}
+use Rattle.set_agenda.specs.declared.group.Group.TheVariants.{Orders}
 use Rattle.set_agenda.specs.declared.kind.Kind.{Kind}
 use Rattle.set_agenda.specs.declared.limit.Limit.{Limit}
 use Rattle.set_agenda.specs.declared.limit.Limit.TheVariants.{Hold as HoldLimit, Freeze as FreezeLimit, Answer as AnswerLimit}
@@ -27,7 +27,7 @@ use Rattle.requestor.specs.Session.{Session}
 use Rattle.scenario.specs.Plan.{Plan}
 use Rattle.vss_model.specs.declared.event.Event.{Event}
 use Rattle.vss_model.specs.State.{State, SetRow, Kept, start, in_progress, left_now}
-use Rattle.vss_model.specs.Ending.{Ending, NothingEnds, AgendaEnds, SetFails, ending, concluded, followed, runs, failed_in, failed}
+use Rattle.vss_model.specs.Ending.{Ending, NothingEnds, ending, concluded, followed, runs, failed_in, failed}
 use Rattle.vss_model.specs.Images.{Replied, cleared, set_loses_image, with_room_if, put, write, reverted_as}
 use Rattle.vss_model.specs.Sessions.{has_no_volume, closed}
 use Rattle.vss_model.specs.Steps.{answered, step_made, is_flush, is_failed_step, stepped_as, stepped, ticked, later}
@@ -180,13 +180,7 @@ module _ (now f : ℕ) (a : Agenda) (o : Open) where
 
 answers_order : (g : Group) → answer_runs g ≡ true → order_of g ≡ None → ⊥
 answers_order (Orders o) e f = cc
-answers_order PreCommit e f = cc
-answers_order Flush e f = cc
-answers_order Hold e f = cc
-answers_order Cut e f = cc
-answers_order Commit e f = cc
-answers_order Release e f = cc
-answers_order PostCommit e f = cc
+answers_order _ e f = cc
 
 nobody_asked : (now f : ℕ) (x : Option Agenda) (l : RunningLimit) → spent_of now (running_limits f x) ≡ Some l → l.limit ≡ AnswerLimit → order_now (left x) ≡ None → ⊥
 nobody_asked now f None l e k i = none_and_some None l refl e
@@ -244,8 +238,7 @@ InTimeNow st = Keeps st.clock st.course
 
 ended_in_time : (e : Ending) (x : State) → InTimeNow x → InTimeNow (concluded e x)
 ended_in_time NothingEnds x h = h
-ended_in_time AgendaEnds x h = h
-ended_in_time (SetFails why) x h = h
+ended_in_time _ x h = h
 
 followed_in_time : (ran : Bool) (c : Course) (x : State) → Keeps x.clock c → InTimeNow (followed ran c x)
 unfolding followed
@@ -261,8 +254,7 @@ room_in_time false x h = h
 
 put_in_time : (v : ℕ) (w : Write) (mark : Mark) (x : State) → InTimeNow x → InTimeNow (put v w mark x)
 put_in_time v w Clean x h = h
-put_in_time v w Fault x h = h
-put_in_time v w (FaultAfter k) x h = h
+put_in_time v w _ x h = h
 
 module _ (s : Plan) (st : State) (h : InTimeNow st) where
   on_write : (v : ℕ) (w : Write) (mark : Mark) → InTimeNow (write s v w mark st).1
@@ -271,8 +263,7 @@ module _ (s : Plan) (st : State) (h : InTimeNow st) where
 
   on_revert : (v : ℕ) (k : Kept) (mark : Mark) → InTimeNow (reverted_as s v k mark st).1
   on_revert v k Clean = h
-  on_revert v k Fault = h
-  on_revert v k (FaultAfter n) = h
+  on_revert v k _ = h
 
   on_close : (q : Session) (x : State) → InTimeNow (closed q x)
   unfolding closed released

@@ -236,8 +236,7 @@ said_is_ok (x ∷ log) l w e f =
 
 is_at_own : (l : Level) → is_at (Some l) l ≡ true
 is_at_own System = refl
-is_at_own BackEnd = refl
-is_at_own FrontEnd = refl
+is_at_own _ = refl
 
 among_head : (b c : Bool) (m : Member) (w : ℕ) (ms : List Member) → b ≡ true → (m.writer == w) ≡ true → is_among w (map (λ x. x.writer) (if b then m ∷ ms else ms)) ≡ true
 among_head true c m w ms e f = rw f refl

@@ -27,7 +27,7 @@ use Rattle.requestor.specs.Session.{Session}
 use Rattle.scenario.specs.Plan.{Plan, blocks_of}
 use Rattle.writer_calls.specs.Script.{said_of}
 use Rattle.vss_model.specs.State.{State, SetRow, Kept, is_complete, in_progress, row_of, row_changed, history_of, left_now, has_image, kept_if, kept_of, kept_image}
-use Rattle.vss_model.specs.Ending.{Ending, NothingEnds, AgendaEnds, SetFails, ending, concluded, followed, runs, failed_in, failed}
+use Rattle.vss_model.specs.Ending.{Ending, NothingEnds, ending, concluded, followed, runs, failed_in, failed}
 use Rattle.vss_model.specs.Images.{Replied, cleared, has_lost_image, set_loses_image, with_room_if, put, write, reverted_as, is_in_set}
 use Rattle.vss_model.specs.Sessions.{begin_in, new_set, new_number, start_set, change_set, with_volume, has_no_volume, closed}
 use Rattle.vss_model.specs.Steps.{answered, cut_if as image_cut_if, cut_each, with_cut, row_cut, cut_set, is_flush, is_failed_step, stepped_as, stepped, ticked, later}
@@ -96,9 +96,7 @@ done_made a e =
 -- an agenda that completes the set is a snapshot's
 completes_snapshot : (k : Kind) (o p : SetOutcome) → o ≡ RunningSet → p ≡ outcome_after k o → is_complete p ≡ true → k ≡ Snapshot
 completes_snapshot Snapshot o p e f g = refl
-completes_snapshot Gather o p e f g = absurd (true_not_false (is_complete p) g (ap is_complete (f ∙ e)))
-completes_snapshot Prepare o p e f g = absurd (true_not_false (is_complete p) g (ap is_complete (f ∙ e)))
-completes_snapshot Complete o p e f g = absurd (true_not_false (is_complete p) g (ap is_complete (f ∙ e)))
+completes_snapshot _ o p e f g = absurd (true_not_false (is_complete p) g (ap is_complete (f ∙ e)))
 
 running_made : (done : Bool) (a : Agenda) (o : SetOutcome) (b : Option Agenda) (p : SetOutcome) → (done ≡ true → is_done (groups_left a) ≡ true) → o ≡ RunningSet → is_complete p ≡ true → Settles done a o b p → is_cut_made a.log ≡ true
 running_made false a o b p d e f s = absurd (true_not_false (is_complete p) f (ap is_complete (s.1 ∙ e)))
@@ -107,9 +105,8 @@ running_made true a o b p d e f s =
     done_made a (subst (λ x. is_done (left_from a (places x)) ≡ true) k (d refl))
 
 pub not_complete : (o : SetOutcome) → has_failed o ≡ true → is_complete o ≡ false
-not_complete RunningSet e = absurd cc
-not_complete CompleteSet e = absurd cc
 not_complete (FailedSet why) e = refl
+not_complete _ e = absurd cc
 
 -- the provider's Cut step is another matter
 abbrev NoCut : Bool → List Open → Type 0
@@ -341,8 +338,7 @@ imaged_put : (v : ℕ) (w : Write) (mark : Mark) (x : State) → IsImaged x → 
 imaged_put v w Clean x h = λ r e m.
     imaged_along r.number r.volumes x.volumes (change_at v (written w) x.volumes) (as_many_change (written w) v x.volumes)
     (each_change (KeepsImage r.number) (keeps_same r.number) (written w) (λ y f. f) v x.volumes) (h r e m)
-imaged_put v w Fault x h = h
-imaged_put v w (FaultAfter k) x h = h
+imaged_put v w _ x h = h
 
 imaged_write : (s : Plan) (v : ℕ) (w : Write) (mark : Mark) (st : State) → IsImaged st → IsImaged (write s v w mark st).1
 unfolding write
@@ -467,8 +463,7 @@ volumes_ended (FailedSet why) CompleteSet false a x e = refl
 
 incomplete_ended : (e : Ending) (n : ℕ) (x : State) → is_complete x.course.outcome ≡ false → has_complete x.sets n ≡ false → has_complete (concluded e x).sets n ≡ false
 incomplete_ended NothingEnds n x e h = h
-incomplete_ended AgendaEnds n x e h = incomplete_settled x.course.outcome n x.sets e h
-incomplete_ended (SetFails why) n x e h = incomplete_settled x.course.outcome n x.sets e h
+incomplete_ended _ n x e h = incomplete_settled x.course.outcome n x.sets e h
 
 module _ (n : ℕ) (vs : List ℕ) where
   done_if : (b : Bool) (ran : Bool) (c : Course) (x : State) → is_complete c.outcome ≡ b → has_complete x.sets n ≡ false → (b ≡ true → Imaged n vs x.volumes) → Done n vs (concluded (ending x.course.outcome c.outcome ran c.agenda) (record x { course = c }))
@@ -490,8 +485,7 @@ module _ (n : ℕ) (vs : List ℕ) where
 
   done_put : (v : ℕ) (w : Write) (mark : Mark) (x : State) → has_complete x.sets n ≡ false → has_complete (put v w mark x).sets n ≡ false
   done_put v w Clean x h = h
-  done_put v w Fault x h = h
-  done_put v w (FaultAfter k) x h = h
+  done_put v w _ x h = h
 
   done_write : (s : Plan) (v : ℕ) (w : Write) (mark : Mark) (st : State) → has_complete st.sets n ≡ false → Done n vs (write s v w mark st).1
   unfolding write
@@ -499,8 +493,7 @@ module _ (n : ℕ) (vs : List ℕ) where
 
   done_revert : (s : Plan) (v : ℕ) (k : Kept) (mark : Mark) (st : State) → has_complete st.sets n ≡ false → Done n vs (reverted_as s v k mark st).1
   done_revert s v k Clean st h = inl h
-  done_revert s v k Fault st h = inl h
-  done_revert s v k (FaultAfter m) st h = inl h
+  done_revert s v k _ st h = inl h
 
   done_begin : (lane : ℕ) (all : Bool) (c : Option Context) (st : State) → has_complete st.sets n ≡ false → Done n vs (begin_in lane all c st).1
   done_begin lane all None st h = inl h

@@ -12,7 +12,7 @@ use Rattle.writer_state.specs.declared.said.Said.{Said}
 use Rattle.writer_state.specs.declared.writer_row.WriterRow.{WriterRow}
 use Rattle.writer_state.specs.WriterRow.{row_after, row_aborted, row_gathered, row_ended}
 use Rattle.write_history.specs.declared.mark.Mark.{Mark}
-use Rattle.write_history.specs.declared.mark.Mark.TheVariants.{Clean, Fault, FaultAfter}
+use Rattle.write_history.specs.declared.mark.Mark.TheVariants.{Clean}
 use Rattle.write_history.specs.History.{Write}
 use Rattle.set_agenda.specs.declared.group.Group.{Group}
 use Rattle.set_agenda.specs.declared.group.Group.TheVariants.{Orders, PreCommit, Flush, Hold, Cut, Commit, Release, PostCommit}
@@ -25,7 +25,7 @@ use Rattle.requestor.specs.Session.{Session}
 use Rattle.scenario.specs.Bounds.{IsPlan}
 use Rattle.scenario.specs.Plan.{Plan}
 use Rattle.vss_model.specs.State.{State, SetRow, Kept, start, in_progress, is_running, row_changed, row_of_writer}
-use Rattle.vss_model.specs.Ending.{Ending, NothingEnds, AgendaEnds, SetFails, ending, row_settled, concluded, followed, runs, failed_in, failed}
+use Rattle.vss_model.specs.Ending.{Ending, NothingEnds, SetFails, ending, row_settled, concluded, followed, runs, failed_in, failed}
 use Rattle.vss_model.specs.Images.{Replied, is_in_set, put, reverted_as}
 use Rattle.vss_model.specs.Sessions.{begin_in, new_set, new_number, with_volume, add_refusal, has_no_volume, closed}
 use Rattle.vss_model.specs.Steps.{with_cut, row_cut, cut_set, step_made, answered, stepped_as, stepped, ticked, later}
@@ -193,8 +193,7 @@ pub record IsFew (st : State) : Type 0 where
 
 few_concluded : (e : Ending) (st : State) → IsFew st → IsFew (concluded e st)
 few_concluded NothingEnds st h = h
-few_concluded AgendaEnds st h = record { writers = h.writers; volumes = few_row_settled st.course.outcome st.sets h.volumes }
-few_concluded (SetFails why) st h = record { writers = h.writers; volumes = few_row_settled st.course.outcome st.sets h.volumes }
+few_concluded _ st h = record { writers = h.writers; volumes = few_row_settled st.course.outcome st.sets h.volumes }
 
 few_followed : (ran : Bool) (c : Course) (st : State) → FewWriters c → FewVolumes (in_progress st) → IsFew (followed ran c st)
 unfolding followed
@@ -272,13 +271,11 @@ kept_by_changes = record {
 
 on_puts : (v : ℕ) (w : Write) (mark : Mark) (x : State) → IsFew x → IsFew (put v w mark x)
 on_puts v w Clean x h = record { writers = h.writers; volumes = h.volumes }
-on_puts v w Fault x h = h
-on_puts v w (FaultAfter k) x h = h
+on_puts v w _ x h = h
 
 on_reverts : (s : Plan) (v : ℕ) (k : Kept) (mark : Mark) (st : State) → IsFew st → IsFew (reverted_as s v k mark st).1
 on_reverts s v k Clean st h = record { writers = h.writers; volumes = h.volumes }
-on_reverts s v k Fault st h = record { writers = h.writers; volumes = h.volumes }
-on_reverts s v k (FaultAfter n) st h = record { writers = h.writers; volumes = h.volumes }
+on_reverts s v k _ st h = record { writers = h.writers; volumes = h.volumes }
 
 kept_by_writes : (st : State) → IsKeptByWrites IsFew st
 kept_by_writes st = record {

@@ -16,7 +16,7 @@ use Rattle.requestor.specs.Session.{Session}
 use Rattle.scenario.specs.Plan.{Plan, blocks_of}
 use Rattle.scenario.specs.declared.volume_row.VolumeRow.{VolumeRow}
 use Rattle.vss_model.specs.State.{State, SetRow, Kept, start, in_progress, left_now}
-use Rattle.vss_model.specs.Ending.{Ending, NothingEnds, AgendaEnds, SetFails, ending, images_dropped, concluded, followed, runs, failed_in, failed}
+use Rattle.vss_model.specs.Ending.{Ending, SetFails, ending, images_dropped, concluded, followed, runs, failed_in, failed}
 use Rattle.vss_model.specs.Images.{Replied, put, reverted_as}
 use Rattle.vss_model.specs.Sessions.{begin_in, has_no_volume, images_released, closed}
 use Rattle.vss_model.specs.Steps.{answered, cut_set, is_flush, is_failed_step, stepped_as, stepped, ticked, later}
@@ -46,9 +46,8 @@ module _ (hs : List History) where
   over ks ls h g = fewer_in_over hs ks ls h g
 
   on_concluded : (e : Ending) (st : State) → Has st → Has (concluded e st)
-  on_concluded NothingEnds st h = h
-  on_concluded AgendaEnds st h = h
   on_concluded (SetFails why) st h = over st.volumes _ h (fewer_images_dropped (in_progress st) st.volumes)
+  on_concluded _ st h = h
 
   on_followed : (ran : Bool) (c : Course) (st : State) → Has st → Has (followed ran c st)
   unfolding followed
@@ -107,8 +106,7 @@ module _ (hs : List History) where
 
   on_puts : (v : ℕ) (w : Write) (mark : Mark) (x : State) → Has x → Has (put v w mark x)
   on_puts v w Clean x h = over x.volumes _ h (fewer_in_change (written w) (fewer_written w) v x.volumes)
-  on_puts v w Fault x h = h
-  on_puts v w (FaultAfter n) x h = h
+  on_puts v w _ x h = h
 
   on_reverts : (s : Plan) (v : ℕ) (k : Kept) (mark : Mark) (st : State) → Has st → Has (reverted_as s v k mark st).1
   on_reverts s v k Clean st h = over st.volumes _ h (fewer_in_change (reverted k.row.number k.point) (fewer_reverted k.row.number k.point) v st.volumes)

@@ -63,12 +63,7 @@ record IsBare (st : State) : Type 0 where
 
 abbrev pub is_late : Stage → Bool
 is_late Opened = false
-is_late Gathered = true
-is_late Started = true
-is_late Prepared = true
-is_late Done = true
-is_late Finished = true
-is_late Failed = true
+is_late _ = true
 
 abbrev LateIn : Option Session → Type 0
 LateIn None = ⊥
@@ -84,13 +79,11 @@ record IsGathered (s : Plan) (st : State) : Type 0 where
 
 explicit-concluded : (e : Ending) (st : State) → (concluded e st).explicit ≡ st.explicit
 explicit-concluded NothingEnds st = refl
-explicit-concluded AgendaEnds st = refl
-explicit-concluded (SetFails why) st = refl
+explicit-concluded _ st = refl
 
 course-concluded : (e : Ending) (st : State) → (concluded e st).course ≡ st.course
 course-concluded NothingEnds st = refl
-course-concluded AgendaEnds st = refl
-course-concluded (SetFails why) st = refl
+course-concluded _ st = refl
 
 late_ended : (c : Context) (x : Stage) → is_late x ≡ true → is_late (stage_after c x) ≡ true
 late_ended c Opened e = absurd cc
@@ -445,8 +438,7 @@ on_room s false x h = h
 
 on_put : (s : Plan) (v : ℕ) (w : Write) (mark : Mark) (x : State) → NamesKnown s x → NamesKnown s (put v w mark x)
 on_put s v w Clean x h = same s x (put v w Clean x) refl refl (λ l. l) h
-on_put s v w Fault x h = h
-on_put s v w (FaultAfter n) x h = h
+on_put s v w _ x h = h
 
 on_write : (s : Plan) (v : ℕ) (w : Write) (mark : Mark) (st : State) → NamesKnown s st → NamesKnown s (write s v w mark st).1
 unfolding write
@@ -465,30 +457,15 @@ late_at q x e h = subst LateIn e h
 
 opened_not_late : (x : Stage) (b : Bool) → (is_stage x Opened && b) ≡ true → is_late x ≡ true → ⊥
 opened_not_late Opened b e h = cc
-opened_not_late Gathered b e h = cc
-opened_not_late Started b e h = cc
-opened_not_late Prepared b e h = cc
-opened_not_late Done b e h = cc
-opened_not_late Finished b e h = cc
-opened_not_late Failed b e h = cc
+opened_not_late _ b e h = cc
 
 names_late : (x : Stage) (b : Bool) → ((is_stage x Gathered || is_stage x Started) && b) ≡ true → is_late x ≡ true
 names_late Opened b e = absurd cc
-names_late Gathered b e = refl
-names_late Started b e = refl
-names_late Prepared b e = refl
-names_late Done b e = refl
-names_late Finished b e = refl
-names_late Failed b e = refl
+names_late _ b e = refl
 
 prepares_late : (x : Stage) (b : Bool) → (is_stage x Started && b) ≡ true → is_late x ≡ true
 prepares_late Opened b e = absurd cc
-prepares_late Gathered b e = refl
-prepares_late Started b e = refl
-prepares_late Prepared b e = refl
-prepares_late Done b e = refl
-prepares_late Finished b e = refl
-prepares_late Failed b e = refl
+prepares_late _ b e = refl
 
 nobody : (ms : List Member) (w : ℕ) → ms ≡ [] → is_member ms w ≡ true → ⊥
 nobody [] w e f = cc
@@ -674,8 +651,7 @@ module _ (s : Plan) (st : State) where
 
   knows_put : (v : ℕ) (w : Write) (mark : Mark) (x : State) → KnowsStill x → KnowsStill (put v w mark x)
   knows_put v w Clean x h = λ p e. known_same s x (put v w Clean x) refl (λ u. refl) ∙ h p e
-  knows_put v w Fault x h = h
-  knows_put v w (FaultAfter n) x h = h
+  knows_put v w _ x h = h
 
   knows_write : (v : ℕ) (w : Write) (mark : Mark) → KnowsStill (write s v w mark st).1
   unfolding write
@@ -729,12 +705,7 @@ module _ (s : Plan) (st : State) where
 
 late_stage : (x : Stage) → is_stage x Opened ≡ false → is_late x ≡ true
 late_stage Opened e = absurd cc
-late_stage Gathered e = refl
-late_stage Started e = refl
-late_stage Prepared e = refl
-late_stage Done e = refl
-late_stage Finished e = refl
-late_stage Failed e = refl
+late_stage _ e = refl
 
 pub known_stay : (s : Plan) (acts : List Act) (act : Act) (q p : Session) → (state s acts).session ≡ Some q → is_stage q.stage Opened ≡ false → (after s (state s acts) act).session ≡ Some p
     → known_metas s (after s (state s acts) act) ≡ known_metas s (state s acts)

@@ -11,7 +11,7 @@ use Rattle.writer_state.specs.declared.said.Said.{Said}
 use Rattle.write_history.specs.declared.actor.Actor.{Actor}
 use Rattle.write_history.specs.declared.actor.Actor.TheVariants.{Lane, Writer, Advance, Idle as IdleActor}
 use Rattle.write_history.specs.declared.mark.Mark.{Mark}
-use Rattle.write_history.specs.declared.mark.Mark.TheVariants.{Clean, Fault, FaultAfter}
+use Rattle.write_history.specs.declared.mark.Mark.TheVariants.{Clean}
 use Rattle.write_history.specs.declared.move_item.Move.{Move}
 use Rattle.write_history.specs.History.{Write}
 use Rattle.set_agenda.specs.declared.group.Group.{Group}
@@ -32,7 +32,7 @@ use Rattle.scenario.specs.Plan.{Plan, LaneLine, lines_of, acts_as}
 use Rattle.vss_model.specs.declared.event.Event.{Event}
 use Rattle.vss_model.specs.declared.event.Event.TheVariants.{Line, Answer as AnswerEvent, Provider, Idle}
 use Rattle.vss_model.specs.State.{State, SetRow, Kept, in_progress, left_now, is_held}
-use Rattle.vss_model.specs.Ending.{Ending, NothingEnds, AgendaEnds, SetFails, ending, concluded, followed, runs, failed_in, failed}
+use Rattle.vss_model.specs.Ending.{Ending, NothingEnds, SetFails, ending, concluded, followed, runs, failed_in, failed}
 use Rattle.vss_model.specs.Images.{Replied, put, reverted_as}
 use Rattle.vss_model.specs.Sessions.{begin_in, has_no_volume, closed, line_in, judged}
 use Rattle.vss_model.specs.Lines.{called, line}
@@ -71,8 +71,7 @@ owned_map o f same (Some q) h = same q ∙ h
 
 owned_concluded : (o : ℕ) (e : Ending) (st : State) → Owned o st → Owned o (concluded e st)
 owned_concluded o NothingEnds st h = h
-owned_concluded o AgendaEnds st h = owned_map o _ (λ q. refl) st.session h
-owned_concluded o (SetFails why) st h = owned_map o _ (λ q. refl) st.session h
+owned_concluded o _ st h = owned_map o _ (λ q. refl) st.session h
 
 owned_followed : (o : ℕ) (ran : Bool) (c : Course) (st : State) → Owned o st → Owned o (followed ran c st)
 unfolding followed
@@ -145,13 +144,11 @@ owned_changes o = record {
 
 owned_puts : (o v : ℕ) (w : Write) (mark : Mark) (x : State) → Owned o x → Owned o (put v w mark x)
 owned_puts o v w Clean x h = h
-owned_puts o v w Fault x h = h
-owned_puts o v w (FaultAfter n) x h = h
+owned_puts o v w _ x h = h
 
 owned_reverts : (o : ℕ) (s : Plan) (v : ℕ) (k : Kept) (mark : Mark) (st : State) → Owned o st → Owned o (reverted_as s v k mark st).1
 owned_reverts o s v k Clean st h = h
-owned_reverts o s v k Fault st h = h
-owned_reverts o s v k (FaultAfter n) st h = h
+owned_reverts o s v k _ st h = h
 
 owned_writes : (o : ℕ) (st : State) → IsKeptByWrites (Owned o) st
 owned_writes o st = record { puts = λ v e w mark x h. owned_puts o v w mark x h; reverts = λ s n v k mark e f h. owned_reverts o s v k mark st h }
@@ -247,10 +244,8 @@ own_end s q mark st e =
 -- ## a legal move keeps it
 
 may_can : (s : Plan) (r : Run) (a : Actor) → may_move s r a ≡ true → can_act s r a ≡ true
-may_can s r (Lane i) e = e
-may_can s r (Writer w) e = e
-may_can s r Advance e = e
 may_can s r IdleActor e = (and_parts (can_act s r IdleActor) (none_can_act s r) e).0
+may_can s r _ e = e
 
 -- the moves of others leave what a lane has left
 left_same : (s : Plan) (moves : List Move) (m : Move) (i : ℕ) → is_lane i m.actor ≡ false → has_end (rest_of s moves i) ≡ true → has_end (rest_of s (moves ++ m ∷ []) i) ≡ true

@@ -391,8 +391,7 @@ on_put false v u w st x e free h =
 
 on_puts : (m : Bool) (v u : ℕ) (w : Write) (mark : Mark) (st x : State) → is_held st v ≡ m → is_held st u ≡ false → Unused m v x → Unused m v (put u w mark x)
 on_puts m v u w Clean st x e free h = on_put m v u w st x e free h
-on_puts m v u w Fault st x e free h = h
-on_puts m v u w (FaultAfter n) st x e free h = h
+on_puts m v u w _ st x e free h = h
 
 on_reverted : (m : Bool) (v u : ℕ) (f : History → History) (st : State) → ((h : History) → Fewer false h (f h)) → is_in_set u (in_progress st) ≡ false → Unused m v st → Unused m v (record st { volumes = change_at u f st.volumes })
 on_reverted m v u f st less e h = by_cases (u == v) refl

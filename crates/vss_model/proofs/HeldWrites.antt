@@ -18,7 +18,7 @@ use Rattle.set_agenda.specs.Course.{Course, change_at, released}
 use Rattle.requestor.specs.Session.{Session}
 use Rattle.scenario.specs.Plan.{Plan, blocks_of}
 use Rattle.vss_model.specs.State.{State, SetRow, Kept, in_progress, history_in, history_of, left_now, is_held}
-use Rattle.vss_model.specs.Ending.{Ending, NothingEnds, AgendaEnds, SetFails, ending, images_dropped, concluded, followed, runs, failed_in, failed}
+use Rattle.vss_model.specs.Ending.{Ending, SetFails, ending, images_dropped, concluded, followed, runs, failed_in, failed}
 use Rattle.vss_model.specs.Images.{Replied, put, is_in_set, reverted_as}
 use Rattle.vss_model.specs.Sessions.{begin_in, has_no_volume, images_released, closed}
 use Rattle.vss_model.specs.Steps.{answered, cut_if, cut_each, cut_set, step_made, is_flush, is_failed_step, stepped_as, stepped, ticked, later}
@@ -81,9 +81,8 @@ writes-images_dropped None hs v = refl
 writes-images_dropped (Some r) hs v = writes-map (dropped r.number) (λ h. refl) hs v
 
 writes-concluded : (e : Ending) (st : State) (v : ℕ) → writes_in (concluded e st).volumes v ≡ writes_in st.volumes v
-writes-concluded NothingEnds st v = refl
-writes-concluded AgendaEnds st v = refl
 writes-concluded (SetFails why) st v = writes-images_dropped (in_progress st) st.volumes v
+writes-concluded _ st v = refl
 
 writes-followed : (ran : Bool) (c : Course) (st : State) (v : ℕ) → writes_in (followed ran c st).volumes v ≡ writes_in st.volumes v
 unfolding followed
@@ -171,8 +170,7 @@ kept_by_changes v ws = record {
 
 on_puts : (v : ℕ) (ws : List Write) (u : ℕ) (w : Write) (mark : Mark) (x : State) → (u == v) ≡ false → HasWrites v ws x → HasWrites v ws (put u w mark x)
 on_puts v ws u w Clean x e h = writes-other (written w) u x.volumes v e ∙ h
-on_puts v ws u w Fault x e h = h
-on_puts v ws u w (FaultAfter n) x e h = h
+on_puts v ws u w _ x e h = h
 
 on_reverts : (v : ℕ) (ws : List Write) (s : Plan) (u : ℕ) (k : Kept) (mark : Mark) (st : State) → (u == v) ≡ false → HasWrites v ws st → HasWrites v ws (reverted_as s u k mark st).1
 on_reverts v ws s u k Clean st e h = writes-other (reverted k.row.number k.point) u st.volumes v e ∙ h

@@ -23,23 +23,11 @@ use Rattle.vss_model.proofs.ByEvent.{some_same}
 
 same_hold : (g : Group) → hold_runs g ≡ holds_volumes g
 same_hold (Orders o) = refl
-same_hold PreCommit = refl
-same_hold Flush = refl
-same_hold Hold = refl
-same_hold Cut = refl
-same_hold Commit = refl
-same_hold Release = refl
-same_hold PostCommit = refl
+same_hold _ = refl
 
 same_hold_step : (g : Group) → is_hold g ≡ is_hold_step g
 same_hold_step (Orders o) = refl
-same_hold_step PreCommit = refl
-same_hold_step Flush = refl
-same_hold_step Hold = refl
-same_hold_step Cut = refl
-same_hold_step Commit = refl
-same_hold_step Release = refl
-same_hold_step PostCommit = refl
+same_hold_step _ = refl
 
 same_freeze : (g : Group) → freeze_runs g ≡ freezes_writers g
 same_freeze (Orders Identify) = refl
@@ -223,9 +211,8 @@ or_third false false c e = e
 
 -- a spent limit that is not the answers', or whose loss fails the set
 abbrev pub Decides : Limit → Option Order → Type 0
-Decides HoldLimit o = Unit {0}
-Decides FreezeLimit o = Unit {0}
 Decides AnswerLimit o = fails_set o ≡ true
+Decides _ o = Unit {0}
 
 late_open : (now : ℕ) (c : Course) (a : Agenda) (o : Open) (os : List Open) (l : Running) → spent_of now (running_at (freeze_limit c) a (o ∷ os)) ≡ Some l → Decides l.limit (order_of o.place.group)
     → is_late_at now c a (o ∷ os) ≡ true

@@ -9,7 +9,7 @@ use Rattle.vss_names.specs.declared.vss_result.VssResult.TheVariants.{AsyncCance
 use Rattle.writer_state.specs.declared.said.Said.{Said}
 use Rattle.writer_state.specs.WriterState.{is_ok}
 use Rattle.write_history.specs.declared.mark.Mark.{Mark}
-use Rattle.write_history.specs.declared.mark.Mark.TheVariants.{Clean, Fault, FaultAfter}
+use Rattle.write_history.specs.declared.mark.Mark.TheVariants.{Clean}
 use Rattle.write_history.specs.History.{Write}
 use Rattle.set_agenda.specs.declared.group.Group.{Group}
 use Rattle.set_agenda.specs.declared.group.Group.TheVariants.{Orders, PreCommit, Flush, Hold, Cut, Commit, Release, PostCommit}
@@ -21,7 +21,7 @@ use Rattle.set_agenda.specs.Course.{Course, posted, failed as course_failed, set
 use Rattle.requestor.specs.Session.{Session}
 use Rattle.scenario.specs.Plan.{Plan}
 use Rattle.vss_model.specs.State.{State, SetRow, Kept, start, in_progress, left_now}
-use Rattle.vss_model.specs.Ending.{Ending, NothingEnds, AgendaEnds, SetFails, ending, concluded, followed, runs, failed_in, failed}
+use Rattle.vss_model.specs.Ending.{Ending, NothingEnds, ending, concluded, followed, runs, failed_in, failed}
 use Rattle.vss_model.specs.Images.{Replied, put, reverted_as}
 use Rattle.vss_model.specs.Sessions.{begin_in, has_no_volume, closed}
 use Rattle.vss_model.specs.Steps.{answered, cut_set, step_made, is_flush, is_failed_step, stepped_as, stepped, ticked, later}
@@ -88,8 +88,7 @@ module _ (P : Agenda → Type 0) (k : IsKeptInLog P) where
 
   on_concluded : (e : Ending) (st : State) → Holds st → Holds (concluded e st)
   on_concluded NothingEnds st h = h
-  on_concluded AgendaEnds st h = h
-  on_concluded (SetFails why) st h = h
+  on_concluded _ st h = h
 
   on_followed : (ran : Bool) (c : Course) (st : State) → Running P c.agenda → Holds (followed ran c st)
   unfolding followed
@@ -151,13 +150,11 @@ module _ (P : Agenda → Type 0) (k : IsKeptInLog P) where
 
   on_puts : (v : ℕ) (w : Write) (mark : Mark) (x : State) → Holds x → Holds (put v w mark x)
   on_puts v w Clean x h = h
-  on_puts v w Fault x h = h
-  on_puts v w (FaultAfter n) x h = h
+  on_puts v w _ x h = h
 
   on_reverts : (s : Plan) (v : ℕ) (x : Kept) (mark : Mark) (st : State) → Holds st → Holds (reverted_as s v x mark st).1
   on_reverts s v x Clean st h = h
-  on_reverts s v x Fault st h = h
-  on_reverts s v x (FaultAfter n) st h = h
+  on_reverts s v x _ st h = h
 
   kept_by_writes : (st : State) → IsKeptByWrites Holds st
   kept_by_writes st = record {

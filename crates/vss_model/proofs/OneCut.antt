@@ -27,7 +27,7 @@ use Rattle.requestor.specs.Session.{Session}
 use Rattle.scenario.specs.Plan.{Plan, blocks_of}
 use Rattle.scenario.specs.declared.volume_row.VolumeRow.{VolumeRow}
 use Rattle.vss_model.specs.State.{State, SetRow, Kept, start, is_running, in_progress, row_of, row_changed, history_in, history_of, left_now, is_complete, kept_at, kept_if, kept_of, kept_image}
-use Rattle.vss_model.specs.Ending.{Ending, NothingEnds, AgendaEnds, SetFails, ending, row_settled, images_dropped, concluded, followed, runs, failed_in, failed}
+use Rattle.vss_model.specs.Ending.{Ending, NothingEnds, SetFails, ending, row_settled, images_dropped, concluded, followed, runs, failed_in, failed}
 use Rattle.vss_model.specs.Images.{Replied, put, reverted_as}
 use Rattle.vss_model.specs.Sessions.{begin_in, has_no_volume, start_set, new_set, with_volume, change_set, images_released, closed}
 use Rattle.vss_model.specs.Steps.{answered, cut_if as history_cut_if, cut_each, row_cut, cut_set, is_flush, is_failed_step, stepped_as, stepped, ticked, later}
@@ -105,8 +105,7 @@ uncut_settled_at k (FailedSet why) rows h = subst (Uncut k) (sym (find-settled_o
 
 uncut_concluded : (k : Known) (e : Ending) (st : State) → Uncut k (in_progress st) → Uncut k (in_progress (concluded e st))
 uncut_concluded k NothingEnds st h = h
-uncut_concluded k AgendaEnds st h = uncut_settled_at k st.course.outcome st.sets h
-uncut_concluded k (SetFails why) st h = uncut_settled_at k st.course.outcome st.sets h
+uncut_concluded k _ st h = uncut_settled_at k st.course.outcome st.sets h
 
 length-map : (f : SetRow → SetRow) (rows : List SetRow) → length (map f rows) ≡ length rows
 length-map f [] = refl
@@ -117,17 +116,15 @@ fresh_length k m n e h i l = h i (subst (λ x. x < i) e l)
 
 fresh_concluded : (k : Known) (e : Ending) (st : State) → ((n : ℕ) → length st.sets < n → k n ≡ None) → (n : ℕ) → length (concluded e st).sets < n → k n ≡ None
 fresh_concluded k NothingEnds st h = h
-fresh_concluded k AgendaEnds st h = fresh_length k (length (map (row_settled st.course.outcome) st.sets)) (length st.sets) (length-map (row_settled st.course.outcome) st.sets) h
-fresh_concluded k (SetFails why) st h = fresh_length k (length (map (row_settled st.course.outcome) st.sets)) (length st.sets) (length-map (row_settled st.course.outcome) st.sets) h
+fresh_concluded k _ st h = fresh_length k (length (map (row_settled st.course.outcome) st.sets)) (length st.sets) (length-map (row_settled st.course.outcome) st.sets) h
 
 shown_images : (k : Known) (o : Option SetRow) (hs : List History) → AllShown k 0 hs → AllShown k 0 (images_dropped o hs)
 shown_images k None hs h = h
 shown_images k (Some r) hs h = all-map k (dropped r.number) (shown-dropped r.number k) 0 hs h
 
 shown_concluded : (k : Known) (e : Ending) (st : State) → AllShown k 0 st.volumes → AllShown k 0 (concluded e st).volumes
-shown_concluded k NothingEnds st h = h
-shown_concluded k AgendaEnds st h = h
 shown_concluded k (SetFails why) st h = shown_images k (in_progress st) st.volumes h
+shown_concluded k _ st h = h
 
 -- ## the course goes on
 
@@ -192,8 +189,7 @@ cut_followed k c st m i g u shown fresh =
   where
     agenda-concluded : (e : Ending) (x : State) → (concluded e x).course.agenda ≡ x.course.agenda
     agenda-concluded NothingEnds x = refl
-    agenda-concluded AgendaEnds x = refl
-    agenda-concluded (SetFails why) x = refl
+    agenda-concluded _ x = refl
 
 idle_progress : (k : Known) (a : Option Agenda) (o : Option SetRow) → Progress k a o → IdleProgress k a o
 idle_progress k None o h = h
@@ -328,8 +324,7 @@ on_closed k q x e h = record {
 
 on_puts : (k : Known) (v : ℕ) (w : Write) (mark : Mark) (x : State) → IsCut k x → IsCut k (put v w mark x)
 on_puts k v w Clean x h = with_volumes k _ x (all-change_at k (written w) v 0 x.volumes (λ u y e g. shown-written w k u y g) h.shown) h
-on_puts k v w Fault x h = h
-on_puts k v w (FaultAfter m) x h = h
+on_puts k v w _ x h = h
 
 -- a kept image has the point of its set
 kept_at_parts : (r : SetRow) (o : Option ℕ) (x : Kept) → kept_at r o ≡ Some x → (r ≡ x.row) × (o ≡ Some x.point)

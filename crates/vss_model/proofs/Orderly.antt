@@ -3,7 +3,7 @@ use Rattle.std.proofs.Common.{◌≡◌, ℕ, ◌+◌, ◌==◌, zero, suc, List
 use Rattle.std.specs.Prelude.{option_map, ◌&&◌, ◌||◌, not, if◌then◌else◌}
 use Rattle.std.proofs.lemmas.Bool.{or_right}
 use Rattle.vss_names.specs.declared.set_outcome.SetOutcome.{SetOutcome}
-use Rattle.vss_names.specs.declared.set_outcome.SetOutcome.TheVariants.{Running, Complete as CompleteSet, Failed as FailedSet}
+use Rattle.vss_names.specs.declared.set_outcome.SetOutcome.TheVariants.{Running}
 use Rattle.write_history.specs.History.{Image, History, dropped, without_set}
 use Rattle.set_agenda.specs.Course.{change_at}
 use Rattle.vss_model.specs.State.{SetRow, is_running}
@@ -239,8 +239,7 @@ all_live-append rows r hs h = all_live_along rows (rows ++ r ∷ []) (λ n g. li
 -- the set in progress is live
 pub running_is_live : (o : SetOutcome) → is_running o ≡ true → has_failed o ≡ false
 running_is_live Running e = refl
-running_is_live CompleteSet e = absurd cc
-running_is_live (FailedSet why) e = absurd cc
+running_is_live _ e = absurd cc
 
 live_found_if : (b : Bool) (q r : SetRow) (rows : List SetRow) → is_running q.result ≡ b → (if b then Some q else find (λ x. is_running x.result) rows) ≡ Some r → (find (λ x. is_running x.result) rows ≡ Some r → is_live rows r.number ≡ true) → ((q.number == r.number && not (has_failed q.result)) || is_live rows r.number) ≡ true
 live_found_if true q r rows f e ih =

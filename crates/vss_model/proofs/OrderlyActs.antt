@@ -23,7 +23,7 @@ use Rattle.set_agenda.specs.declared.member.Member.{Member}
 use Rattle.set_agenda.specs.Agenda.{Agenda, groups_left, left, all_say, is_done, is_working, is_among, open_group, next_member}
 use Rattle.set_agenda.specs.Course.{Course, posted, failed as course_failed, outcome_after, settled_if, settled, begun, told, answered as course_answered, worked, stepped as course_stepped, timed as course_timed, released}
 use Rattle.requestor.specs.declared.stage.Stage.{Stage}
-use Rattle.requestor.specs.declared.stage.Stage.TheVariants.{Opened, Gathered, Started, Prepared, Done, Finished, Failed}
+use Rattle.requestor.specs.declared.stage.Stage.TheVariants.{Opened, Gathered, Started, Prepared, Done}
 use Rattle.requestor.specs.declared.session_call.SessionCall.TheVariants as call
 use Rattle.requestor.specs.Session.{Session, has_writers, makes_set, stage_after, agenda_ended, set_failed}
 use Rattle.requestor.specs.Check.{is_stage}
@@ -124,8 +124,7 @@ agenda_none (Some a) q e = absurd cc
 
 pub over_failed : (o : SetOutcome) → has_failed o ≡ true → is_running o ≡ false
 over_failed Running e = absurd cc
-over_failed CompleteSet e = refl
-over_failed (FailedSet why) e = refl
+over_failed _ e = refl
 
 fails : (why : VssResult) (c : Course) (st : State) (q : Session) → st.session ≡ Some q → c.agenda ≡ None → has_failed c.outcome ≡ true → IsOrderly st → IsOrderly (concluded (SetFails why) (record st { course = c }))
 fails why c st q e f g h =
@@ -143,16 +142,12 @@ fails why c st q e f g h =
 
 -- the set in progress once the rows have the outcome of a session whose set was still running
 abbrev found_after : Kind → Option SetRow → Option SetRow
-found_after Gather found = option_map (λ (r : SetRow). record r { result = Running }) found
-found_after Prepare found = option_map (λ (r : SetRow). record r { result = Running }) found
 found_after Snapshot found = None
-found_after Complete found = option_map (λ (r : SetRow). record r { result = Running }) found
+found_after _ found = option_map (λ (r : SetRow). record r { result = Running }) found
 
 find-after : (k : Kind) (rows : List SetRow) → find (λ r. is_running r.result) (map (row_settled (outcome_after k Running)) rows) ≡ found_after k (find (λ r. is_running r.result) rows)
-find-after Gather rows = find-settled_running rows
-find-after Prepare rows = find-settled_running rows
 find-after Snapshot rows = find-settled_over CompleteSet refl rows
-find-after Complete rows = find-settled_running rows
+find-after _ rows = find-settled_running rows
 
 gather_ends : (c : Context) (set : Option ℕ) (found : Option SetRow) → IsOfStage Opened set Running found → IsOfStage (stage_after c Opened) set Running (found_after Gather found)
 gather_ends c set None h = (refl, λ e. refl)
@@ -166,8 +161,7 @@ prepare_ends NasRollback set (Some r) w h = absurd (true_not_false false w refl)
 
 snapshot_ends : (c : Context) (set : Option ℕ) → IsOfStage (stage_after c (snapshot_stage (has_writers c))) set CompleteSet None
 snapshot_ends Backup set = (refl, λ e. absurd (true_not_false false e refl))
-snapshot_ends AppRollback set = (refl, λ e. absurd (true_not_false false e refl))
-snapshot_ends NasRollback set = (refl, λ e. absurd (true_not_false false e refl))
+snapshot_ends _ set = (refl, λ e. absurd (true_not_false false e refl))
 
 complete_ends : (c : Context) (set : Option ℕ) (found : Option SetRow) → IsOfStage Done set Running found → IsOfStage (stage_after c Done) set Running (found_after Complete found)
 complete_ends c set None h = (refl, λ e. refl)
@@ -189,9 +183,7 @@ stage_ends Complete c s set found w h =
 
 not_failed_after : (k : Kind) → has_failed (outcome_after k Running) ≡ false
 not_failed_after Gather = refl
-not_failed_after Prepare = refl
-not_failed_after Snapshot = refl
-not_failed_after Complete = refl
+not_failed_after _ = refl
 
 session_along : (q : Option Session) (s : Session) (o : SetOutcome) (found : Option SetRow) → q ≡ Some s → IsOfSession q o found → IsOfStage s.stage s.set o found
 session_along q s o found e h = let Q : Option Session → Type 0 = λ x. IsOfSession x o found in subst Q e h
@@ -230,8 +222,7 @@ early_over o e f = true_not_false (is_running o) (ap is_running f) e
 
 snapshot_waits : (c : Context) → makes_set (snapshot_stage (has_writers c)) ≡ true
 snapshot_waits Backup = refl
-snapshot_waits AppRollback = refl
-snapshot_waits NasRollback = refl
+snapshot_waits _ = refl
 
 stage_over : (k : Kind) (c : Context) (s : Stage) (set : Option ℕ) (o p : SetOutcome) → is_running o ≡ false → WaitsFor k c s → IsOfStage s set o None → IsOfStage (stage_after c s) set p None
 stage_over Gather c s set o p e w h = absurd (early_over o e (h.1 (ap is_early w)))
@@ -263,9 +254,7 @@ outcome_over k o p e (inr f) = over_failed p f
 
 ending_regular : (k : Kind) → ending Running (outcome_after k Running) true None ≡ AgendaEnds
 ending_regular Gather = refl
-ending_regular Prepare = refl
-ending_regular Snapshot = refl
-ending_regular Complete = refl
+ending_regular _ = refl
 
 -- by how the set stood, and by what ended the agenda
 fails_at : (p : SetOutcome) (c : Course) (st : State) (q : Session) → c.outcome ≡ p → has_failed p ≡ true → st.session ≡ Some q → c.agenda ≡ None → IsOrderly st → IsOrderly (concluded (ending Running p true None) (record st { course = c }))
@@ -356,52 +345,27 @@ begun_well k ms vs now c st q f g w h =
 
 is_opened : (s : Stage) → is_stage s Opened ≡ true → s ≡ Opened
 is_opened Opened e = refl
-is_opened Gathered e = absurd cc
-is_opened Started e = absurd cc
-is_opened Prepared e = absurd cc
-is_opened Done e = absurd cc
-is_opened Finished e = absurd cc
-is_opened Failed e = absurd cc
+is_opened _ e = absurd cc
 
 is_started : (s : Stage) → is_stage s Started ≡ true → s ≡ Started
-is_started Opened e = absurd cc
-is_started Gathered e = absurd cc
 is_started Started e = refl
-is_started Prepared e = absurd cc
-is_started Done e = absurd cc
-is_started Finished e = absurd cc
-is_started Failed e = absurd cc
+is_started _ e = absurd cc
 
 is_prepared : (s : Stage) → is_stage s Prepared ≡ true → s ≡ Prepared
-is_prepared Opened e = absurd cc
-is_prepared Gathered e = absurd cc
-is_prepared Started e = absurd cc
 is_prepared Prepared e = refl
-is_prepared Done e = absurd cc
-is_prepared Finished e = absurd cc
-is_prepared Failed e = absurd cc
+is_prepared _ e = absurd cc
 
 is_done_stage : (s : Stage) → is_stage s Done ≡ true → s ≡ Done
-is_done_stage Opened e = absurd cc
-is_done_stage Gathered e = absurd cc
-is_done_stage Started e = absurd cc
-is_done_stage Prepared e = absurd cc
 is_done_stage Done e = refl
-is_done_stage Finished e = absurd cc
-is_done_stage Failed e = absurd cc
+is_done_stage _ e = absurd cc
 
 snapshot_allowed : (w : Bool) (s : Stage) → (if w then is_stage s Prepared else is_stage s Started) ≡ true → s ≡ snapshot_stage w
 snapshot_allowed true s e = is_prepared s e
 snapshot_allowed false s e = is_started s e
 
 early_gathered : (s : Stage) → is_stage s Gathered ≡ true → is_early s ≡ true
-early_gathered Opened e = absurd cc
 early_gathered Gathered e = refl
-early_gathered Started e = absurd cc
-early_gathered Prepared e = absurd cc
-early_gathered Done e = absurd cc
-early_gathered Finished e = absurd cc
-early_gathered Failed e = absurd cc
+early_gathered _ e = absurd cc
 
 start_allowed : (w : Bool) (s : Stage) → (if w then is_stage s Gathered else is_stage s Opened) ≡ true → is_early s ≡ true
 start_allowed true s e = early_gathered s e
@@ -527,8 +491,7 @@ live_dropped n rows x h = live-filter (λ i. not (i.set == n)) rows x.images h
 
 on_puts : (v : ℕ) (w : Write) (mark : Mark) (x : State) → IsOrderly x → IsOrderly (put v w mark x)
 on_puts v w Clean x h = volumes_orderly _ x (all_live-change_at (written w) x.sets (λ y g. g) v x.volumes h.live) h
-on_puts v w Fault x h = h
-on_puts v w (FaultAfter k) x h = h
+on_puts v w _ x h = h
 
 on_reverts : (s : Plan) (v : ℕ) (k : Kept) (mark : Mark) (st : State) → IsOrderly st → IsOrderly (reverted_as s v k mark st).1
 on_reverts s v k Clean st h = volumes_orderly _ st (all_live-change_at (reverted k.row.number k.point) st.sets (λ y g. live-filter (λ i. not (nat_lt k.row.number i.set)) st.sets y.images g) v st.volumes h.live) h

@@ -195,8 +195,7 @@ module _ (k : Cuts) where
 
   on_puts : (v : ℕ) (w : Write) (mark : Mark) (x : State) → HasRoom k x → HasRoom k (put v w mark x)
   on_puts v w Clean x h = fewer x _ (fewer_in_change (written w) (fewer_written w) v x.volumes) h
-  on_puts v w Fault x h = h
-  on_puts v w (FaultAfter n) x h = h
+  on_puts v w _ x h = h
 
   on_reverts : (s : Plan) (v : ℕ) (x : Kept) (mark : Mark) (st : State) → HasRoom k st → HasRoom k (reverted_as s v x mark st).1
   on_reverts s v x Clean st h = fewer st _ (fewer_in_change (reverted x.row.number x.point) (fewer_reverted x.row.number x.point) v st.volumes) h

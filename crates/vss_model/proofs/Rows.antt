@@ -4,11 +4,11 @@ use Rattle.std.specs.Prelude.{option_map, ◌&&◌, ◌||◌, not, is_some, if�
 use Rattle.std.specs.List.{list_any}
 use Rattle.std.proofs.lemmas.Bool.{and_left, and_right, or_left, or_parts, or_from, ne_eqb, eq-eqb, cond-true, cond-false}
 use Rattle.vss_names.specs.declared.set_outcome.SetOutcome.{SetOutcome}
-use Rattle.vss_names.specs.declared.set_outcome.SetOutcome.TheVariants.{Running, Complete, Failed}
+use Rattle.vss_names.specs.declared.set_outcome.SetOutcome.TheVariants.{Complete}
 use Rattle.vss_model.specs.State.{SetRow, is_running, is_complete}
 use Rattle.vss_model.specs.Ending.{row_settled}
 use Rattle.set_agenda.specs.declared.kind.Kind.{Kind}
-use Rattle.set_agenda.specs.declared.kind.Kind.TheVariants.{Gather, Prepare, Snapshot, Complete as CompleteKind}
+use Rattle.set_agenda.specs.declared.kind.Kind.TheVariants.{Snapshot}
 use Rattle.set_agenda.specs.Agenda.{Agenda, is_snapshot}
 use Rattle.vss_model.specs.Effects.{ended_of}
 use Rattle.vss_model.specs.Facts.{NumberedFrom}
@@ -84,9 +84,8 @@ none_below k n (r ∷ rows) h l =
     or_from ((r.number == n) && is_complete r.result) (has_complete rows n) (and_left (r.number == n) (is_complete r.result) (apart_back n r.number (let e = h.0 in omega (arith, e, l)))) (none_below (k + 1) n rows h.1 (omega (arith, l)))
 
 running_not_complete : (o : SetOutcome) → is_running o ≡ true → is_complete o ≡ false
-running_not_complete Running e = refl
 running_not_complete Complete e = absurd cc
-running_not_complete (Failed why) e = refl
+running_not_complete _ e = refl
 
 -- a set whose row is not complete is not complete
 row_not_complete : (k n : ℕ) (rows : List SetRow) (r : SetRow) → NumberedFrom k rows → find (λ q. q.number == n) rows ≡ Some r → is_complete r.result ≡ false → has_complete rows n ≡ false
@@ -207,10 +206,8 @@ number-cut true now r = refl
 number-cut false now r = refl
 
 pub kind_is : (k : Kind) → is_snapshot k ≡ true → k ≡ Snapshot
-kind_is Gather e = absurd cc
-kind_is Prepare e = absurd cc
 kind_is Snapshot e = refl
-kind_is CompleteKind e = absurd cc
+kind_is _ e = absurd cc
 
 pub none_runs : (a : Option Agenda) → is_some a ≡ false → a ≡ None
 none_runs None e = refl

@@ -83,12 +83,9 @@ hold_members (Orders Thaw) k m a l v e h = absurd cc
 hold_members (Orders PostSnapshot) k m a l v e h = absurd cc
 hold_members (Orders BackupComplete) k m a l v e h = absurd cc
 hold_members PreCommit k m a l v e h = absurd cc
-hold_members Flush k m a l v e h = h
-hold_members Hold k m a l v e h = h
 hold_members Cut k m a l v e h = absurd cc
-hold_members Commit k m a l v e h = h
-hold_members Release k m a l v e h = h
 hold_members PostCommit k m a l v e h = absurd cc
+hold_members _ k m a l v e h = h
 
 -- only volumes of the agenda were held
 abbrev pub HoldsOwn : Agenda → Type 0

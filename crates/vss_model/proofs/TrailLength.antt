@@ -8,7 +8,7 @@ use Rattle.vss_names.specs.declared.vss_result.VssResult.TheVariants.{AsyncCance
 use Rattle.write_history.specs.declared.actor.Actor.{Actor}
 use Rattle.write_history.specs.declared.actor.Actor.TheVariants.{Lane, Writer, Advance, Idle}
 use Rattle.write_history.specs.declared.mark.Mark.{Mark}
-use Rattle.write_history.specs.declared.mark.Mark.TheVariants.{Clean, Fault, FaultAfter}
+use Rattle.write_history.specs.declared.mark.Mark.TheVariants.{Clean}
 use Rattle.write_history.specs.declared.move_item.Move.{Move}
 use Rattle.write_history.specs.History.{Write}
 use Rattle.writer_calls.specs.Script.{said_of}
@@ -25,7 +25,7 @@ use Rattle.scenario.specs.Plan.{Plan, LaneLine, LanePlan, lines_in, lines_of}
 use Rattle.vss_model.specs.declared.event.Event.{Event}
 use Rattle.vss_model.specs.declared.event.Event.TheVariants.{Line, Answer as AnswerEvent, Provider, Idle as IdleEvent}
 use Rattle.vss_model.specs.State.{State, SetRow, Kept, in_progress, left_now}
-use Rattle.vss_model.specs.Ending.{Ending, NothingEnds, AgendaEnds, SetFails, ending, concluded, followed, runs, failed_in, failed}
+use Rattle.vss_model.specs.Ending.{Ending, NothingEnds, SetFails, ending, concluded, followed, runs, failed_in, failed}
 use Rattle.vss_model.specs.Images.{Replied, cleared, set_loses_image, with_room_if, put, write, reverted_as}
 use Rattle.component_doc.specs.Selection.{takers}
 use Rattle.vss_names.specs.declared.order.Order.{Order}
@@ -51,8 +51,7 @@ waits_at st = waiting (left_now st)
 
 same_concluded : (e : Ending) (st : State) → waits_at (concluded e st) ≡ waits_at st
 same_concluded NothingEnds st = refl
-same_concluded AgendaEnds st = refl
-same_concluded (SetFails why) st = refl
+same_concluded _ st = refl
 
 same_followed : (ran : Bool) (c : Course) (st : State) → waits_at (followed ran c st) ≡ waits_in c
 unfolding followed
@@ -94,8 +93,7 @@ few_room false x = omega arith
 
 same_put : (v : ℕ) (w : Write) (mark : Mark) (x : State) → waits_at (put v w mark x) ≡ waits_at x
 same_put v w Clean x = refl
-same_put v w Fault x = refl
-same_put v w (FaultAfter n) x = refl
+same_put v w _ x = refl
 
 few_write : (s : Plan) (v : ℕ) (w : Write) (mark : Mark) (st : State) → waits_at (write s v w mark st).1 ≤ waits_at st
 unfolding write
@@ -107,8 +105,7 @@ few_write s v w mark st =
 
 same_revert : (s : Plan) (v : ℕ) (kept : Kept) (mark : Mark) (st : State) → waits_at (reverted_as s v kept mark st).1 ≡ waits_at st
 same_revert s v kept Clean st = refl
-same_revert s v kept Fault st = refl
-same_revert s v kept (FaultAfter n) st = refl
+same_revert s v kept _ st = refl
 
 few_of_set : (o : Option SetRow) → FewVolumes o → length (volumes_of o) ≤ 64
 few_of_set None h = omega arith
@@ -117,9 +114,7 @@ few_of_set (Some r) h = h
 -- the turns that an event takes of those of its lane
 abbrev turns_of_event : Event → ℕ
 turns_of_event (Line lane op) = 1 + turns_of_agenda (begins_agenda op)
-turns_of_event (AnswerEvent w answer) = 0
-turns_of_event Provider = 0
-turns_of_event IdleEvent = 0
+turns_of_event _ = 0
 
 abbrev Takes : State → Event → Mark → Replied → Type 0
 Takes st event mark r = suc (waits_at r.1) ≤ waits_at st + turns_of_event event
@@ -240,10 +235,8 @@ after_at s r act p h e = subst (λ st. suc (waits_at (after s st act)) ≤ waits
 
 -- a move's act is enabled
 event_of_legal : (s : Plan) (r : Run) (actor : Actor) → may_move s r actor ≡ true → event_enabled s r (event_of s r actor) ≡ true
-event_of_legal s r (Lane i) e = e
-event_of_legal s r (Writer w) e = e
-event_of_legal s r Advance e = e
 event_of_legal s r Idle e = (and_parts (event_enabled s r (event_of s r Idle)) (none_can_act s r) e).0
+event_of_legal s r _ e = e
 
 -- an answer takes none of the lanes' turns
 no_turns_of_answer : (a : Option Answer) (w : ℕ) (event : Event) → answer_event w a ≡ Some event → turns_of_event event ≡ 0

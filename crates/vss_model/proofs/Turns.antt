@@ -16,7 +16,7 @@ use Rattle.writer_state.specs.WriterState.{is_ok}
 use Rattle.set_agenda.specs.declared.group.Group.{Group}
 use Rattle.set_agenda.specs.declared.group.Group.TheVariants.{Orders, PreCommit, Flush, Hold, Cut, Commit, Release, PostCommit}
 use Rattle.set_agenda.specs.declared.kind.Kind.{Kind}
-use Rattle.set_agenda.specs.declared.kind.Kind.TheVariants.{Gather, Prepare, Snapshot, Complete}
+use Rattle.set_agenda.specs.declared.kind.Kind.TheVariants.{Gather, Snapshot}
 use Rattle.set_agenda.specs.declared.limit.Limit.{Limit}
 use Rattle.set_agenda.specs.declared.limit.Limit.TheVariants.{Hold as HoldLimit, Freeze as FreezeLimit, Answer as AnswerLimit}
 use Rattle.set_agenda.specs.declared.member.Member.{Member}
@@ -300,13 +300,12 @@ most_of writers volumes = 4 * writers + 4 * volumes + 3
 
 few_in : (k : Kind) (a : Agenda) → a.kind ≡ k → members_at a (places k) ≤ most_of (length a.members) (length a.volumes)
 few_in Gather a e = let h = short_writers a.members None in omega arith
-few_in Prepare a e = let h = short_writers a.members None in omega arith
-few_in Complete a e = let h = short_writers a.members None in omega arith
 few_in Snapshot a e =
     let h = short_writers a.members None in
     let f = levels_of a.members in
     let g = short_filter (λ w. not (has_failed a.log w)) (writers_at a.members None) in
     omega arith
+few_in _ a e = let h = short_writers a.members None in omega arith
 
 waiting_begun : (a : Agenda) → waiting (groups_left a) ≤ most_of (length a.members) (length a.volumes)
 waiting_begun a = let h = waiting-left_from a (places a.kind) in let e = few_in a.kind a refl in omega arith

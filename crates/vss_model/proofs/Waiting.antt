@@ -11,7 +11,7 @@ use Rattle.vss_names.specs.declared.vss_result.VssResult.TheVariants.{AsyncCance
 use Rattle.writer_state.specs.declared.said.Said.{Said}
 use Rattle.writer_state.specs.WriterState.{is_ok}
 use Rattle.write_history.specs.declared.mark.Mark.{Mark}
-use Rattle.write_history.specs.declared.mark.Mark.TheVariants.{Clean, Fault, FaultAfter}
+use Rattle.write_history.specs.declared.mark.Mark.TheVariants.{Clean}
 use Rattle.write_history.specs.History.{Write}
 use Rattle.set_agenda.specs.declared.group.Group.{Group}
 use Rattle.set_agenda.specs.declared.group.Group.TheVariants.{Orders, PreCommit, Flush, Hold, Cut, Commit, Release, PostCommit}
@@ -28,7 +28,7 @@ use Rattle.tick_limits.specs.Time.{answer_limit, is_spent, ticks_until}
 use Rattle.requestor.specs.Session.{Session}
 use Rattle.scenario.specs.Plan.{Plan}
 use Rattle.vss_model.specs.State.{State, SetRow, Kept, start, in_progress, left_now}
-use Rattle.vss_model.specs.Ending.{Ending, NothingEnds, AgendaEnds, SetFails, ending, concluded, followed, runs, failed_in, failed}
+use Rattle.vss_model.specs.Ending.{Ending, NothingEnds, ending, concluded, followed, runs, failed_in, failed}
 use Rattle.vss_model.specs.Images.{Replied, put, reverted_as}
 use Rattle.vss_model.specs.Sessions.{begin_in, has_no_volume, closed}
 use Rattle.vss_model.specs.Steps.{answered, step_made, stepped_as, stepped, ticked, later}
@@ -109,8 +109,7 @@ IsOpenState st = IsOpen st.course.agenda
 
 open_concluded : (e : Ending) (st : State) → IsOpenState st → IsOpenState (concluded e st)
 open_concluded NothingEnds st h = h
-open_concluded AgendaEnds st h = h
-open_concluded (SetFails why) st h = h
+open_concluded _ st h = h
 
 open_followed : (ran : Bool) (c : Course) (st : State) → IsOpen c.agenda → IsOpenState (followed ran c st)
 unfolding followed
@@ -171,13 +170,11 @@ kept_by_changes = record {
 
 on_puts : (v : ℕ) (w : Write) (mark : Mark) (x : State) → IsOpenState x → IsOpenState (put v w mark x)
 on_puts v w Clean x h = h
-on_puts v w Fault x h = h
-on_puts v w (FaultAfter k) x h = h
+on_puts v w _ x h = h
 
 on_reverts : (s : Plan) (v : ℕ) (k : Kept) (mark : Mark) (st : State) → IsOpenState st → IsOpenState (reverted_as s v k mark st).1
 on_reverts s v k Clean st h = h
-on_reverts s v k Fault st h = h
-on_reverts s v k (FaultAfter n) st h = h
+on_reverts s v k _ st h = h
 
 kept_by_writes : (st : State) → IsKeptByWrites IsOpenState st
 kept_by_writes st = record {
@@ -229,13 +226,7 @@ goes_in (o ∷ os) e h = by_group o.place.group refl
 
     by_group : (g : Group) → o.place.group ≡ g → (is_working (o ∷ os) ≡ true) ⊎ (is_some (open_order (o ∷ os) (next_member (o ∷ os))) ≡ true)
     by_group (Orders x) f = inr (as_order (is_asked (next_member (o ∷ os)) (o ∷ os)) (order_of o.place.group) (answer o.place.group (is_among (next_member (o ∷ os)) o.waits) (ap is_orders f) h))
-    by_group PreCommit f = inl (ap (λ g. not (is_orders g)) f)
-    by_group Flush f = inl (ap (λ g. not (is_orders g)) f)
-    by_group Hold f = inl (ap (λ g. not (is_orders g)) f)
-    by_group Cut f = inl (ap (λ g. not (is_orders g)) f)
-    by_group Commit f = inl (ap (λ g. not (is_orders g)) f)
-    by_group Release f = inl (ap (λ g. not (is_orders g)) f)
-    by_group PostCommit f = inl (ap (λ g. not (is_orders g)) f)
+    by_group _ f = inl (ap (λ g. not (is_orders g)) f)
 
 goes_at : (x : Option Agenda) → is_some x ≡ true → IsOpen x → (is_working (left x) ≡ true) ⊎ (is_some (open_order (left x) (next_member (left x))) ≡ true)
 goes_at None e h = absurd cc
