@@ -14,11 +14,11 @@ use Rattle.set_agenda.specs.declared.member.Member.{Member}
 use Rattle.set_agenda.specs.Agenda.{Agenda, Entry, Open, left, groups_left, order_of, order_now, same_place}
 use Rattle.set_agenda.specs.Limits.{Running, last_time, opened_at, is_prepare_snapshot, freeze_opened_at, is_hold, first_time, first_hold, hold_runs, freeze_runs, answer_runs, runs_if, hold_running, running_at, running_limits, spent_of}
 use Rattle.set_agenda.specs.Course.{Course, posted, failed as course_failed, limit_of, freeze_limit, limits_now, fails_set as decides, lost, lost_decided, treated_as, treated, timed as course_timed}
+use Rattle.set_agenda.proofs.SpentLimits.{same_running, first_found, later_found, none_and_some, limit_found, hold_found, held_here, frozen_here, asked_here}
 use Rattle.vss_model.specs.Facts.{has_failed}
 use Rattle.vss_model.specs.Causes.{has_passed, last_of, holds_volumes, is_hold_step, freezes_writers, prepares_snapshot, prepares_writers, is_elsewhere, frozen_too_long, unanswered_too_long}
 use Rattle.vss_model.proofs.Late.{Decides, same_prepare}
 use Rattle.promises.proofs.Truth.{both_parts}
-use Rattle.vss_model.proofs.ByEvent.{some_same}
 
 -- ## a limit has gone by
 
@@ -158,38 +158,13 @@ finds_one : (now : ℕ) (b : Bool) (x : Limit) (since ticks : ℕ) → b ≡ tru
 finds_one now false x since ticks e f = absurd cc
 finds_one now true x since ticks e f = record { one = record { limit = x; since = since; ticks = ticks }; is = rw f refl; limit = refl }
 
--- the first limit of the list that is spent is one of these
-pub first_found : (now : ℕ) (xs ys : List Running) (l : Running) → spent_of now xs ≡ Some l → spent_of now (xs ++ ys) ≡ Some l
-first_found now [] ys l e = absurd cc
-first_found now (x ∷ xs) ys l e = by_test (is_spent now x.since x.ticks) e (first_found now xs ys l)
-  where
-    by_test : (b : Bool) → (if b then Some x else spent_of now xs) ≡ Some l → (spent_of now xs ≡ Some l → spent_of now (xs ++ ys) ≡ Some l) → (if b then Some x else spent_of now (xs ++ ys)) ≡ Some l
-    by_test true e ih = e
-    by_test false e ih = ih e
+pub spent_runs : (now : ℕ) (b : Bool) (x : Limit) (since ticks : ℕ) (l : Running) → spent_of now (runs_if b x since ticks) ≡ Some l → b ≡ true
+spent_runs now true x since ticks l e = refl
+spent_runs now false x since ticks l e = absurd cc
 
-pub later_found : (now : ℕ) (xs ys : List Running) → spent_of now xs ≡ None → spent_of now (xs ++ ys) ≡ spent_of now ys
-later_found now [] ys e = refl
-later_found now (x ∷ xs) ys e = by_test (is_spent now x.since x.ticks) e (later_found now xs ys)
-  where
-    by_test : (b : Bool) → (if b then Some x else spent_of now xs) ≡ None → (spent_of now xs ≡ None → spent_of now (xs ++ ys) ≡ spent_of now ys) → (if b then Some x else spent_of now (xs ++ ys)) ≡ spent_of now ys
-    by_test true e ih = absurd cc
-    by_test false e ih = ih e
-
-pub none_and_some : {X : Type 0} (o : Option Running) (l : Running) → o ≡ None → o ≡ Some l → X
-none_and_some None l e f = absurd cc
-none_and_some (Some x) l e f = absurd cc
-
-pub limit_found : (now : ℕ) (b : Bool) (x : Limit) (since ticks : ℕ) (l : Running) → spent_of now (runs_if b x since ticks) ≡ Some l → l.limit ≡ x
-limit_found now false x since ticks l e = absurd cc
-limit_found now true x since ticks l e = by_test (is_spent now since ticks) e
-  where
-    by_test : (b : Bool) → (if b then Some (record { limit = x; since = since; ticks = ticks }) else None) ≡ Some l → l.limit ≡ x
-    by_test true f = ap (λ (y : Running). y.limit) (sym (some_same (record { limit = x; since = since; ticks = ticks }) l f))
-    by_test false f = absurd cc
-
-pub hold_found : (now : ℕ) (g : Group) (o : Option ℕ) (l : Running) → spent_of now (hold_running g o) ≡ Some l → l.limit ≡ HoldLimit
-hold_found now g None l e = absurd cc
-hold_found now g (Some since) l e = limit_found now (hold_runs g) HoldLimit since hold_limit l e
+pub spent_holds : (now : ℕ) (g : Group) (t : Option ℕ) (l : Running) → spent_of now (hold_running g t) ≡ Some l → hold_runs g ≡ true
+spent_holds now g None l e = absurd cc
+spent_holds now g (Some t) l e = spent_runs now (hold_runs g) HoldLimit t hold_limit l e
 
 -- ## held
 
@@ -265,36 +240,27 @@ pub none_found : (now : ℕ) (ls : List Running) (x : Limit) → spent_of now ls
 none_found now ls x e f = none_and_some (spent_of now ls) f.one e f.is
 
 module _ (now : ℕ) (c : Course) (a : Agenda) (o : Open) where
-  abbrev H : List Running
-  H = hold_running o.place.group (first_hold a.log)
-
-  abbrev F : List Running
-  F = runs_if (freeze_runs o.place.group) FreezeLimit (freeze_opened_at a) (freeze_limit c)
-
-  abbrev A : List Running
-  A = runs_if (answer_runs o.place.group) AnswerLimit (opened_at a o) answer_limit
-
-  by_limits : (h f : Option Running) → spent_of now H ≡ h → spent_of now F ≡ f → (b d u : Bool) → (holds_volumes o.place.group && held_since_first now a) ≡ b → frozen_too_long now o.place.group c a ≡ d → unanswered_too_long now o.place a ≡ u
-      → (b || d || u) ≡ true → Spends now (H ++ F ++ A) (order_of o.place.group)
-  by_limits (Some l) f e g b d u i j k due = spends_hold now (H ++ F ++ A) (order_of o.place.group) l (first_found now (H ++ F) A l (first_found now H F l e)) (hold_found now o.place.group (first_hold a.log) l e)
+  by_limits : (h f : Option Running) → spent_of now (held_here a o) ≡ h → spent_of now (frozen_here (freeze_limit c) a o) ≡ f → (b d u : Bool) → (holds_volumes o.place.group && held_since_first now a) ≡ b → frozen_too_long now o.place.group c a ≡ d → unanswered_too_long now o.place a ≡ u
+      → (b || d || u) ≡ true → Spends now (held_here a o ++ frozen_here (freeze_limit c) a o ++ asked_here a o) (order_of o.place.group)
+  by_limits (Some l) f e g b d u i j k due = spends_hold now (held_here a o ++ frozen_here (freeze_limit c) a o ++ asked_here a o) (order_of o.place.group) l (first_found now (held_here a o ++ frozen_here (freeze_limit c) a o) (asked_here a o) l (first_found now (held_here a o) (frozen_here (freeze_limit c) a o) l e)) (hold_found now o.place.group (first_hold a.log) l e)
   by_limits None (Some l) e g b d u i j k due =
-      spends_freeze now (H ++ F ++ A) (order_of o.place.group) l (first_found now (H ++ F) A l (later_found now H F e ∙ g)) (limit_found now (freeze_runs o.place.group) FreezeLimit (freeze_opened_at a) (freeze_limit c) l g)
+      spends_freeze now (held_here a o ++ frozen_here (freeze_limit c) a o ++ asked_here a o) (order_of o.place.group) l (first_found now (held_here a o ++ frozen_here (freeze_limit c) a o) (asked_here a o) l (later_found now (held_here a o) (frozen_here (freeze_limit c) a o) e ∙ g)) (limit_found now (freeze_runs o.place.group) FreezeLimit (freeze_opened_at a) (freeze_limit c) l g)
   by_limits None None e g true d u i j k due =
       let parts = both_parts (holds_volumes o.place.group) (held_since_first now a) i in
-      absurd (none_found now H HoldLimit e (held_finds now o.place.group a parts.0 parts.1))
-  by_limits None None e g false true u i j k due = absurd (none_found now F FreezeLimit g (frozen_finds now o.place.group c a j))
+      absurd (none_found now (held_here a o) HoldLimit e (held_finds now o.place.group a parts.0 parts.1))
+  by_limits None None e g false true u i j k due = absurd (none_found now (frozen_here (freeze_limit c) a o) FreezeLimit g (frozen_finds now o.place.group c a j))
   by_limits None None e g false false true i j k due =
       let found = answer_finds now a o k in
       record {
         one = found.one;
-        is = later_found now (H ++ F) A (later_found now H F e ∙ g) ∙ found.is;
+        is = later_found now (held_here a o ++ frozen_here (freeze_limit c) a o) (asked_here a o) (later_found now (held_here a o) (frozen_here (freeze_limit c) a o) e ∙ g) ∙ found.is;
         fails = subst (λ x. Decides x (order_of o.place.group)) (sym found.limit) (consent_decides o.place.group (both_parts (prepares_writers o.place.group) _ k).0);
       }
   by_limits None None e g false false false i j k due = absurd cc
 
   due_open : (os : List Open) → is_due_at now c a (o ∷ os) ≡ true → Spends now (running_at (freeze_limit c) a (o ∷ os)) (order_of o.place.group)
   due_open os e =
-      by_limits (spent_of now H) (spent_of now F) refl refl (holds_volumes o.place.group && held_since_first now a) (frozen_too_long now o.place.group c a) (unanswered_too_long now o.place a) refl refl refl e
+      by_limits (spent_of now (held_here a o)) (spent_of now (frozen_here (freeze_limit c) a o)) refl refl (holds_volumes o.place.group && held_since_first now a) (frozen_too_long now o.place.group c a) (unanswered_too_long now o.place a) refl refl refl e
 
 due_left : (now : ℕ) (c : Course) (a : Agenda) (os : List Open) → is_due_at now c a os ≡ true → Spends now (running_at (freeze_limit c) a os) (order_now os)
 due_left now c a [] e = absurd cc
@@ -306,7 +272,7 @@ due_in now c (Some a) e = due_left now c a (groups_left a) e
 
 treats : (o : Option Running) (l : Running) (now : ℕ) (c : Course) → o ≡ Some l → Decides l.limit (order_now (left c.agenda)) → has_failed (treated o now c).outcome ≡ true
 treats None l now c e d = absurd cc
-treats (Some x) l now c e d = treated_fails x.limit now c (subst (λ (y : Running). Decides y.limit (order_now (left c.agenda))) (sym (some_same x l e)) d)
+treats (Some x) l now c e d = treated_fails x.limit now c (subst (λ (y : Running). Decides y.limit (order_now (left c.agenda))) (sym (same_running x l e)) d)
 
 pub timed_fails : (now : ℕ) (c : Course) → is_due_in now c c.agenda ≡ true → has_failed (course_timed now c).outcome ≡ true
 timed_fails now c e =

@@ -13,7 +13,7 @@ use Rattle.set_agenda.specs.declared.limit.Limit.TheVariants.{Hold as HoldLimit}
 use Rattle.set_agenda.specs.Limits.{Running as RunningLimit, is_prepare_snapshot, is_hold, hold_runs, freeze_runs, runs_if, hold_running, spent_of}
 use Rattle.set_agenda.specs.Course.{is_decisive}
 use Rattle.promises.proofs.Truth.{chain}
-use Rattle.promises.proofs.Limits.{later_found}
+use Rattle.set_agenda.proofs.SpentLimits.{later_found}
 use Rattle.promises.proofs.Stages.{group_stage}
 
 -- ## limits that are not spent

@@ -21,8 +21,9 @@ use Rattle.set_agenda.specs.declared.limit.Limit.{Limit}
 use Rattle.set_agenda.specs.declared.limit.Limit.TheVariants.{Hold as HoldLimit, Freeze as FreezeLimit, Answer as AnswerLimit}
 use Rattle.set_agenda.specs.declared.member.Member.{Member}
 use Rattle.set_agenda.specs.Agenda.{Agenda, Open, places, order_of, is_orders, groups_left, left, open_group, waits_now, order_now, is_among, is_asked, open_order, is_working, next_member, is_done, all_say}
-use Rattle.set_agenda.specs.Limits.{Running as RunningLimit, opened_at, freeze_opened_at, first_hold, freeze_runs, answer_runs, runs_if, hold_running, running_at, running_limits, spent_of}
+use Rattle.set_agenda.specs.Limits.{Running as RunningLimit, opened_at, freeze_runs, answer_runs, runs_if, running_at, running_limits, spent_of}
 use Rattle.set_agenda.specs.Course.{Course, posted, failed as course_failed, rows_where, row_if, limit_of, freeze_limit, limits_now, settled_if, settled_in, settled, begun, told, is_decisive, decided, answered_to, answered as course_answered, worked, stepped as course_stepped, lost_to, lost, fails_set, lost_decided, treated_as, treated, timed as course_timed, released}
+use Rattle.set_agenda.proofs.SpentLimits.{none_and_some, IsSpentHere, spent_here}
 use Rattle.requestor.specs.Session.{Session}
 use Rattle.scenario.specs.Plan.{Plan}
 use Rattle.vss_model.specs.declared.event.Event.{Event}
@@ -39,7 +40,7 @@ use Rattle.promises.specs.Within.{StandsWithinLimits}
 use Rattle.promises.proofs.Truth.{false_of}
 use Rattle.vss_model.proofs.ByEvent.{Covers, covered, after_enabled, after_not_enabled}
 use Rattle.promises.proofs.Clock.{clock-made}
-use Rattle.promises.proofs.Limits.{is_due_in, due_in, later_found, first_found, hold_found, limit_found, none_and_some}
+use Rattle.promises.proofs.Limits.{is_due_in, due_in, spent_runs}
 use Rattle.promises.proofs.Speaks.{Speaks, now_group, head_waits}
 use Rattle.promises.proofs.Times.{late_is_due}
 use Rattle.promises.proofs.NotSpent.{at_once, none_both, unspent_if, is_mild, mild_order}
@@ -142,41 +143,8 @@ goes_by now f None e h = tt
 goes_by now f (Some a) e h = record { unspent = e; ordered = h }
 
 -- where the answer limit is spent, writers are asked
-module _ (now f : ℕ) (a : Agenda) (o : Open) where
-  abbrev hold_now : List RunningLimit
-  hold_now = hold_running o.place.group (first_hold a.log)
-
-  abbrev freeze_now : List RunningLimit
-  freeze_now = runs_if (freeze_runs o.place.group) FreezeLimit (freeze_opened_at a) f
-
-  abbrev answer_now : List RunningLimit
-  answer_now = runs_if (answer_runs o.place.group) AnswerLimit (opened_at a o) answer_limit
-
-  some_limit : (x y : RunningLimit) → Some x ≡ Some y → x ≡ y
-  some_limit x y e = cc
-
-  not_hold : HoldLimit ≡ AnswerLimit → ⊥
-  not_hold e = cc
-
-  not_freeze : FreezeLimit ≡ AnswerLimit → ⊥
-  not_freeze e = cc
-
-  runs_it : (b : Bool) (x : Limit) (since ticks : ℕ) (l : RunningLimit) → spent_of now (runs_if b x since ticks) ≡ Some l → b ≡ true
-  runs_it true x since ticks l e = refl
-  runs_it false x since ticks l e = absurd cc
-
-  by_limits : (l : RunningLimit) → spent_of now (hold_now ++ freeze_now ++ answer_now) ≡ Some l → l.limit ≡ AnswerLimit → (h g : Option RunningLimit) → spent_of now hold_now ≡ h → spent_of now freeze_now ≡ g → answer_runs o.place.group ≡ true
-  by_limits l e k (Some x) g i j =
-      let same = some_limit x l (sym (first_found now (hold_now ++ freeze_now) answer_now x (first_found now hold_now freeze_now x i)) ∙ e) in
-      absurd (not_hold (sym (hold_found now o.place.group (first_hold a.log) x i) ∙ ap (λ (y : RunningLimit). y.limit) same ∙ k))
-  by_limits l e k None (Some x) i j =
-      let same = some_limit x l (sym (first_found now (hold_now ++ freeze_now) answer_now x (later_found now hold_now freeze_now i ∙ j)) ∙ e) in
-      absurd (not_freeze (sym (limit_found now (freeze_runs o.place.group) FreezeLimit (freeze_opened_at a) f x j) ∙ ap (λ (y : RunningLimit). y.limit) same ∙ k))
-  by_limits l e k None None i j =
-      runs_it (answer_runs o.place.group) AnswerLimit (opened_at a o) answer_limit l (sym (later_found now (hold_now ++ freeze_now) answer_now (later_found now hold_now freeze_now i ∙ j)) ∙ e)
-
-  asks : (os : List Open) (l : RunningLimit) → spent_of now (running_at f a (o ∷ os)) ≡ Some l → l.limit ≡ AnswerLimit → answer_runs o.place.group ≡ true
-  asks os l e k = by_limits l e k (spent_of now hold_now) (spent_of now freeze_now) refl refl
+asks : (now f : ℕ) (a : Agenda) (o : Open) (os : List Open) (l : RunningLimit) → spent_of now (running_at f a (o ∷ os)) ≡ Some l → l.limit ≡ AnswerLimit → answer_runs o.place.group ≡ true
+asks now f a o os l e k = spent_runs now (answer_runs o.place.group) AnswerLimit (opened_at a o) answer_limit l (subst (λ x. IsSpentHere now f a o l x) k (spent_here now f a o os l e)).2
 
 answers_order : (g : Group) → answer_runs g ≡ true → order_of g ≡ None → ⊥
 answers_order (Orders o) e f = cc
