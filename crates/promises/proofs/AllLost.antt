@@ -90,20 +90,11 @@ left_after : (failed : Bool) (o : Open) (os : List Open) → advance o.waits fai
 left_after failed o os = ap (λ ws. with_group o.place ws (unasked_if (is_orders o.place.group && failed) o.waits os)) (others_none o.waits)
 
 mild_alone : (g : Group) → is_mild g ≡ true → (hold_runs g ≡ false) × (freeze_runs g ≡ false)
-mild_alone (Orders Identify) e = (refl, refl)
 mild_alone (Orders PrepareBackup) e = absurd cc
 mild_alone (Orders PrepareSnapshot) e = absurd cc
 mild_alone (Orders Freeze) e = absurd cc
-mild_alone (Orders Thaw) e = (refl, refl)
-mild_alone (Orders PostSnapshot) e = (refl, refl)
-mild_alone (Orders BackupComplete) e = (refl, refl)
-mild_alone PreCommit e = absurd cc
-mild_alone Flush e = absurd cc
-mild_alone Hold e = absurd cc
-mild_alone Cut e = absurd cc
-mild_alone Commit e = absurd cc
-mild_alone Release e = absurd cc
-mild_alone PostCommit e = absurd cc
+mild_alone (Orders _) e = (refl, refl)
+mild_alone _ e = absurd cc
 
 module _ (now : ℕ) (a : Agenda) (asks : is_orders (open_place (groups_left a)).group ≡ true) (order : Ordered a) (mild : is_mild (open_place (groups_left a)).group ≡ true) where
   abbrev ws : List ℕ

@@ -9,8 +9,9 @@ use Rattle.set_agenda.specs.declared.member.Member.{Member}
 use Rattle.set_agenda.specs.Agenda.{left, is_asked, is_working, open_order, order_now}
 use Rattle.set_agenda.specs.Course.{Course, posted, begun, is_decisive, told, decided, answered_to, answered as course_answered, stepped as course_stepped, timed as course_timed}
 use Rattle.vss_model.specs.Facts.{has_failed}
+use Rattle.vss_model.proofs.Causes.{none_settled as calm_settled}
 use Rattle.promises.proofs.Truth.{both_parts}
-use Rattle.promises.proofs.CourseRows.{PassesOrFails, over_timed, calm_settled}
+use Rattle.promises.proofs.CourseRows.{PassesOrFails, over_timed}
 use Rattle.promises.proofs.BusyAgendas.{IsBusy, busy_order, busy_step}
 use Rattle.set_agenda.proofs.CourseRule.{now_if}
 

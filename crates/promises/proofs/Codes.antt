@@ -49,8 +49,8 @@ use Rattle.promises.specs.Codes.{late_code_at, late_code_in, late_code, IsAnswer
 use Rattle.promises.proofs.Truth.{false_of}
 use Rattle.promises.proofs.BusyAgendas.{course_followed}
 use Rattle.vss_model.proofs.ByEvent.{Covers, covered, after_enabled, some_same}
+use Rattle.vss_model.proofs.Causes.{none_settled as calm_settled}
 use Rattle.promises.proofs.CalmCourses.{calm_begun}
-use Rattle.promises.proofs.CourseRows.{calm_settled}
 use Rattle.promises.proofs.GoneImages.{none_stepped}
 use Rattle.promises.proofs.Limits.{held_since_first, none_found, held_finds, frozen_finds}
 use Rattle.promises.proofs.SetFailures.{failure_at}

@@ -8,9 +8,9 @@ use Rattle.vss_names.specs.declared.vss_result.VssResult.TheVariants.{Insufficie
 use Rattle.vss_names.specs.declared.writer_state.WriterState.{WriterState}
 use Rattle.vss_names.specs.declared.writer_state.WriterState.TheVariants.{Unknown, Stable, WaitingForFreeze, WaitingForThaw, WaitingForPostSnapshot, WaitingForBackupComplete}
 use Rattle.writer_state.specs.declared.said.Said.{Said}
-use Rattle.writer_state.specs.declared.said.Said.TheVariants.{Ok, Lost}
+use Rattle.writer_state.specs.declared.said.Said.TheVariants.{Ok}
 use Rattle.writer_state.specs.declared.writer_row.WriterRow.{WriterRow}
-use Rattle.writer_state.specs.WriterState.{is_ok, is_failed}
+use Rattle.writer_state.specs.WriterState.{is_failed}
 use Rattle.writer_state.specs.WriterRow.{row_after}
 use Rattle.write_history.specs.declared.mark.Mark.{Mark}
 use Rattle.write_history.specs.declared.mark.Mark.TheVariants.{Clean}
@@ -19,12 +19,10 @@ use Rattle.writer_calls.specs.Script.{said_of}
 use Rattle.set_agenda.specs.declared.group.Group.{Group}
 use Rattle.set_agenda.specs.declared.kind.Kind.{Kind}
 use Rattle.set_agenda.specs.declared.kind.Kind.TheVariants.{Gather, Prepare, Snapshot, Complete}
-use Rattle.set_agenda.specs.declared.limit.Limit.{Limit}
-use Rattle.set_agenda.specs.declared.limit.Limit.TheVariants.{Hold as HoldLimit, Freeze as FreezeLimit, Answer as AnswerLimit}
 use Rattle.set_agenda.specs.declared.member.Member.{Member}
-use Rattle.set_agenda.specs.Agenda.{Agenda, open_group, places, has_said, waited_for, with_group, groups_left, left, is_asked, is_among, order_now, open_order, next_member, is_done, all_say, writers_at}
-use Rattle.set_agenda.specs.Limits.{Running as RunningLimit, spent_of}
-use Rattle.set_agenda.specs.Course.{Course, posted, failed as course_failed, rows_where, row_if, has_row_failed, row_failed, settled_if, settled_in, settled, begun, told, is_decisive, decided, answered_to, answered as course_answered, worked, stepped as course_stepped, lost_to, lost, fails_set, lost_decided, treated_as, treated, timed as course_timed, limits_now, released}
+use Rattle.set_agenda.specs.Agenda.{Agenda, open_group, places, has_said, waited_for, with_group, groups_left, left, is_asked, is_among, order_now, open_order, next_member, all_say, writers_at}
+use Rattle.set_agenda.specs.Course.{Course, posted, failed as course_failed, rows_where, row_if, has_row_failed, row_failed, begun, told, answered as course_answered, worked, stepped as course_stepped, timed as course_timed, released}
+use Rattle.set_agenda.proofs.CourseRule.{IsKeptInCourse, course_answered as kept_answered, course_stepped as kept_stepped, course_timed as kept_timed, course_begun as kept_begun}
 use Rattle.requestor.specs.Session.{Session}
 use Rattle.scenario.specs.Plan.{Plan}
 use Rattle.vss_model.specs.declared.event.Event.{Event}
@@ -62,18 +60,6 @@ well_posted : (prior c : Course) → Well c → Well (posted prior c)
 unfolding posted
 well_posted prior c h = h
 
-well_settled_if : (b : Bool) (k : Kind) (c : Course) → Well c → Well (settled_if b k c)
-well_settled_if true k c h = nobody c.rows
-well_settled_if false k c h = h
-
-well_settled_in : (x : Option Agenda) (c : Course) → Well c → Well (settled_in x c)
-well_settled_in None c h = h
-well_settled_in (Some a) c h = well_settled_if (is_done (groups_left a)) a.kind c h
-
-well_settled : (c : Course) → Well c → Well (settled c)
-unfolding settled
-well_settled c h = well_settled_in c.agenda c h
-
 -- a row that is not of these
 row_stays : (f : WriterRow → WriterRow) (test : ℕ → Bool) (k : ℕ) (rows : List WriterRow) (w : ℕ) → test (k + w) ≡ false → slice_get (rows_where f test k rows) w ≡ slice_get rows w
 row_stays f test k [] w e = refl
@@ -96,17 +82,6 @@ well_told : (o : Order) (said : Said) (now : ℕ) (ws : List ℕ) (c : Course) �
 unfolding told
 well_told o said now ws c h = well_said o said now ws c.rows c.agenda h
 
-well_decided : (b : Bool) (said : Said) (c : Course) → Well c → Well (decided b said c)
-well_decided true said c h = well_failed _ c
-well_decided false said c h = well_settled c h
-
-well_answered_to : (x : Option Order) (w : ℕ) (said : Said) (now : ℕ) (c : Course) → Well c → Well (answered_to x w said now c)
-well_answered_to None w said now c h = h
-well_answered_to (Some o) w said now c h = well_decided (is_decisive o && not (is_ok said)) said (told o said now (w ∷ []) c) (well_told o said now (w ∷ []) c h)
-
-well_answered : (w : ℕ) (said : Said) (now : ℕ) (c : Course) → Well c → Well (course_answered w said now c)
-well_answered w said now c h = well_posted c _ (well_answered_to (open_order (left c.agenda) w) w said now c h)
-
 well_made : (now : ℕ) (ws : List ℕ) (rows : List WriterRow) (x : Option Agenda) → Unfailed rows x → Unfailed rows (option_map (all_say Ok now ws) x)
 well_made now ws rows None h w e = nobody rows w e
 well_made now ws rows (Some a) h w e = h w (still_open a.kind Ok now ws a w refl e).0
@@ -115,35 +90,13 @@ well_worked : (now : ℕ) (c : Course) → Well c → Well (worked now c)
 unfolding worked
 well_worked now c h = well_made now (next_member (left c.agenda) ∷ []) c.rows c.agenda h
 
-well_stepped : (ok : Bool) (now : ℕ) (c : Course) → Well c → Well (course_stepped ok now c)
-well_stepped true now c h = well_posted c _ (well_settled (worked now c) (well_worked now c h))
-well_stepped false now c h = well_posted c _ (well_failed _ c)
-
-well_lost_to : (x : Option Order) (now : ℕ) (c : Course) → Well c → Well (lost_to x now c)
-well_lost_to None now c h = h
-well_lost_to (Some o) now c h = well_told o Lost now _ c h
-
-well_lost_decided : (b : Bool) (c : Course) → Well c → Well (lost_decided b c)
-well_lost_decided true c h = well_failed _ c
-well_lost_decided false c h = well_settled c h
-
-well_treated_as : (l : Limit) (now : ℕ) (c : Course) → Well c → Well (treated_as l now c)
-well_treated_as HoldLimit now c h = well_failed _ c
-well_treated_as FreezeLimit now c h = well_failed _ (lost now c)
-well_treated_as AnswerLimit now c h = well_lost_decided (fails_set (order_now (left c.agenda))) (lost now c) (well_lost_to (order_now (left c.agenda)) now c h)
-
-well_treated : (x : Option RunningLimit) (now : ℕ) (c : Course) → Well c → Well (treated x now c)
-well_treated None now c h = h
-well_treated (Some l) now c h = well_treated_as l.limit now c h
-
-well_timed : (now : ℕ) (c : Course) → Well c → Well (course_timed now c)
-well_timed now c h = well_posted c _ (well_treated (spent_of now (limits_now c)) now c h)
+well_kept : IsKeptInCourse Well
+well_kept = record { posts = well_posted; says = well_told; works = well_worked; fails = λ why c h. well_failed why c; closes = λ k c h. nobody c.rows }
 
 -- ## an agenda begins
 
 well_begun_as : (k : Kind) (ms : List Member) (vs : List ℕ) (now : ℕ) (c : Course) → Unfailed c.rows (Some (unspoken k ms vs now)) → Well (begun k ms vs now c)
-unfolding begun
-well_begun_as k ms vs now c h = well_posted c _ (well_settled (record c { agenda = Some (unspoken k ms vs now) }) h)
+well_begun_as k ms vs now c h = kept_begun Well well_kept k ms vs now c h
 
 well_begun : (k : Kind) (ms : List Member) (vs : List ℕ) (now : ℕ) (c : Course) → every (λ q. not (is_last_order q.group)) (places k) ≡ true → Well (begun k ms vs now c)
 well_begun k ms vs now c h = well_begun_as k ms vs now c (λ w e. absurd (not_in_kind k (unspoken k ms vs now) w refl h e))
@@ -216,15 +169,15 @@ module _ (s : Plan) (st : State) (h : WellNow st) where
 
   on_answer : (w : ℕ) (said : Said) → WellNow (answered w said st)
   unfolding answered
-  on_answer w said = well_followed (runs st) (course_answered w said st.clock st.course) st (well_answered w said st.clock st.course h)
+  on_answer w said = well_followed (runs st) (course_answered w said st.clock st.course) st (kept_answered Well well_kept w said st.clock st.course h)
 
   on_tick : (n : ℕ) → WellNow (ticked n st)
   unfolding ticked
-  on_tick n = well_followed (runs st) (course_timed (st.clock + n) st.course) (later n st) (well_timed (st.clock + n) st.course h)
+  on_tick n = well_followed (runs st) (course_timed (st.clock + n) st.course) (later n st) (kept_timed Well well_kept (st.clock + n) st.course h)
 
   on_step_as : (b : Bool) (g : Option Group) → WellNow (stepped_as b g st)
-  on_step_as true g = well_followed (runs st) (course_stepped false st.clock st.course) st (well_stepped false st.clock st.course h)
-  on_step_as false g = well_followed (runs st) (course_stepped true st.clock st.course) (step_made g st) (well_stepped true st.clock st.course h)
+  on_step_as true g = well_followed (runs st) (course_stepped false st.clock st.course) st (kept_stepped Well well_kept false st.clock st.course h)
+  on_step_as false g = well_followed (runs st) (course_stepped true st.clock st.course) (step_made g st) (kept_stepped Well well_kept true st.clock st.course h)
 
   on_step : (mark : Mark) → WellNow (stepped mark st)
   unfolding stepped

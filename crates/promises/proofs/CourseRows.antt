@@ -21,7 +21,7 @@ use Rattle.set_agenda.proofs.SpentLimits.{none_and_some, IsSpentHere, spent_here
 use Rattle.vss_model.specs.Facts.{has_failed}
 use Rattle.promises.proofs.BusyAgendas.{IsBusy, busy_order, busy_limit}
 use Rattle.promises.proofs.Limits.{spent_holds}
-use Rattle.vss_model.proofs.Causes.{none_outcome}
+use Rattle.vss_model.proofs.Causes.{none_settled as calm_settled}
 use Rattle.vss_model.proofs.ByEvent.{some_same}
 use Rattle.promises.proofs.Members.{one_on}
 
@@ -179,18 +179,6 @@ no_hold_asks now f (Some a) l o e k i = at_list (groups_left a) e i
     at_list : (os : List Open) → spent_of now (running_at f a os) ≡ Some l → order_now os ≡ Some o → ⊥
     at_list [] e i = none_and_some None l refl e
     at_list (x ∷ os) e i = steps_ask_nobody x.place.group o (holds_work now f a x os l e k) i
-
-calm_settled_if : (b : Bool) (k : Kind) (d : Course) → has_failed d.outcome ≡ false → has_failed (settled_if b k d).outcome ≡ false
-calm_settled_if true k d e = none_outcome k d.outcome e
-calm_settled_if false k d e = e
-
-calm_settled_in : (x : Option Agenda) (d : Course) → has_failed d.outcome ≡ false → has_failed (settled_in x d).outcome ≡ false
-calm_settled_in None d e = e
-calm_settled_in (Some a) d e = calm_settled_if (is_done (groups_left a)) a.kind d e
-
-pub calm_settled : (d : Course) → has_failed d.outcome ≡ false → has_failed (settled d).outcome ≡ false
-unfolding settled
-calm_settled d e = calm_settled_in d.agenda d e
 
 stay_lost_to : (x : Option Order) (now : ℕ) (c : Course) → Becomes (say_to x Lost (waits_now (left c.agenda))) c.rows (lost_to x now c).rows
 stay_lost_to None now c = same_rows c.rows

@@ -55,19 +55,8 @@ decode n =
 pub decoded : (g : Group) → decode (group_code g) ≡ g
 unfolding decode
 decoded (Orders Identify) = refl
-decoded (Orders PrepareBackup) = refl
-decoded (Orders PrepareSnapshot) = refl
-decoded (Orders Freeze) = refl
-decoded (Orders Thaw) = refl
-decoded (Orders PostSnapshot) = refl
-decoded (Orders BackupComplete) = refl
-decoded PreCommit = refl
-decoded Flush = refl
-decoded Hold = refl
-decoded Cut = refl
-decoded Commit = refl
-decoded Release = refl
-decoded PostCommit = refl
+decoded (Orders _) = refl
+decoded _ = refl
 
 pub same_group : (g h : Group) → (group_code g == group_code h) ≡ true → g ≡ h
 same_group g h e = sym (decoded g) ∙ ap decode (equal (group_code g) (group_code h) e) ∙ decoded h

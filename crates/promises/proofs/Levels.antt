@@ -1,15 +1,14 @@
 -- The levels and the freeze time-outs of the writers' rows, and the levels of the participants, are those that the scenario gives the writers.
 use Rattle.std.proofs.Common.{◌≡◌, ◌∙◌, ℕ, ◌+◌, ◌≤◌, zero, suc, sym, List, [], ◌∷◌, ◌++◌, Option, Some, None, refl, Bool, true, false, ap, map, fold, arith}
-use Rattle.std.specs.Prelude.{◌&&◌, not, if◌then◌else◌, slice_get}
+use Rattle.std.specs.Prelude.{◌&&◌, if◌then◌else◌, slice_get}
 use Rattle.vss_names.specs.declared.context.Context.{Context}
 use Rattle.vss_names.specs.declared.level.Level.{Level}
 use Rattle.vss_names.specs.declared.order.Order.{Order}
 use Rattle.vss_names.specs.declared.vss_result.VssResult.{VssResult}
 use Rattle.vss_names.specs.declared.vss_result.VssResult.TheVariants.{AsyncCancelled}
 use Rattle.writer_state.specs.declared.said.Said.{Said}
-use Rattle.writer_state.specs.declared.said.Said.TheVariants.{Lost}
 use Rattle.writer_state.specs.declared.writer_row.WriterRow.{WriterRow}
-use Rattle.writer_state.specs.WriterState.{is_failed, is_ok, stable_again}
+use Rattle.writer_state.specs.WriterState.{is_failed, stable_again}
 use Rattle.writer_state.specs.WriterRow.{one_more, row_after, row_aborted, row_gathered, row_ended}
 use Rattle.write_history.specs.declared.mark.Mark.{Mark}
 use Rattle.write_history.specs.declared.mark.Mark.TheVariants.{Clean}
@@ -17,12 +16,10 @@ use Rattle.write_history.specs.History.{Write}
 use Rattle.set_agenda.specs.declared.group.Group.{Group}
 use Rattle.set_agenda.specs.declared.kind.Kind.{Kind}
 use Rattle.set_agenda.specs.declared.kind.Kind.TheVariants.{Gather, Prepare, Snapshot, Complete}
-use Rattle.set_agenda.specs.declared.limit.Limit.{Limit}
-use Rattle.set_agenda.specs.declared.limit.Limit.TheVariants.{Hold as HoldLimit, Freeze as FreezeLimit, Answer as AnswerLimit}
 use Rattle.set_agenda.specs.declared.member.Member.{Member}
-use Rattle.set_agenda.specs.Agenda.{Agenda, groups_left, left, open_group, open_order, order_now, waits_now, is_done, is_among}
-use Rattle.set_agenda.specs.Limits.{Running as RunningLimit, spent_of}
-use Rattle.set_agenda.specs.Course.{Course, posted, rows_where, row_if, member_if, members_from, is_member, failed as course_failed, settled_if, settled_in, settled, begun, is_decisive, told, decided, answered_to, answered as course_answered, worked, stepped_as as course_stepped_as, stepped as course_stepped, limits_now, lost_to, lost, fails_set, lost_decided, treated_as, treated, timed as course_timed, released}
+use Rattle.set_agenda.specs.Agenda.{open_group, is_among}
+use Rattle.set_agenda.specs.Course.{Course, posted, rows_where, row_if, member_if, members_from, is_member, failed as course_failed, begun, told, worked, released}
+use Rattle.set_agenda.proofs.CourseRule.{IsKeptInCourse, course_answered as kept_answered, course_stepped as kept_stepped, course_timed as kept_timed, course_begun as kept_begun}
 use Rattle.requestor.specs.Session.{Session}
 use Rattle.scenario.specs.Plan.{Plan, WriterPlan}
 use Rattle.vss_model.specs.State.{State, SetRow, Kept, start, row_of_writer, in_progress, left_now}
@@ -114,18 +111,6 @@ module _ (l : ℕ → Level) (limit : ℕ → ℕ) where
   unfolding course_failed
   lev_failed why c h = record { rows = rows_some row_aborted aborted_same (is_member c.members) 0 0 c.rows h.rows; members = h.members; distinct = h.distinct }
 
-  lev_settled_if : (b : Bool) (k : Kind) (c : Course) → Leveled c → Leveled (settled_if b k c)
-  lev_settled_if true k c h = record { rows = h.rows; members = h.members; distinct = h.distinct }
-  lev_settled_if false k c h = h
-
-  lev_settled_in : (a : Option Agenda) (c : Course) → Leveled c → Leveled (settled_in a c)
-  lev_settled_in None c h = h
-  lev_settled_in (Some a) c h = lev_settled_if (is_done (groups_left a)) a.kind c h
-
-  lev_settled : (c : Course) → Leveled c → Leveled (settled c)
-  unfolding settled
-  lev_settled c h = lev_settled_in c.agenda c h
-
   lev_told : (o : Order) (said : Said) (now : ℕ) (ws : List ℕ) (c : Course) → Leveled c → Leveled (told o said now ws c)
   unfolding told
   lev_told o said now ws c h = record { rows = rows_some (row_after o said) (λ r. (refl, refl)) (λ w. is_among w ws) 0 0 c.rows h.rows; members = h.members; distinct = h.distinct }
@@ -134,48 +119,17 @@ module _ (l : ℕ → Level) (limit : ℕ → ℕ) where
   unfolding worked
   lev_worked now c h = record { rows = h.rows; members = h.members; distinct = h.distinct }
 
+  lev_kept : IsKeptInCourse Leveled
+  lev_kept = record {
+    posts = lev_posted;
+    says = lev_told;
+    works = lev_worked;
+    fails = lev_failed;
+    closes = λ k c h. record { rows = h.rows; members = h.members; distinct = h.distinct };
+  }
+
   lev_begun : (k : Kind) (ms : List Member) (vs : List ℕ) (now : ℕ) (c : Course) → Leveled c → Leveled (begun k ms vs now c)
-  unfolding begun
-  lev_begun k ms vs now c h =
-      lev_posted c _ (lev_settled (record c { agenda = Some (record { kind = k; members = ms; volumes = vs; begun = now; log = [] }) }) (record { rows = h.rows; members = h.members; distinct = h.distinct }))
-
-  lev_decided : (b : Bool) (said : Said) (c : Course) → Leveled c → Leveled (decided b said c)
-  lev_decided true said c h = lev_failed _ c h
-  lev_decided false said c h = lev_settled c h
-
-  lev_answered_to : (o : Option Order) (w : ℕ) (said : Said) (now : ℕ) (c : Course) → Leveled c → Leveled (answered_to o w said now c)
-  lev_answered_to None w said now c h = h
-  lev_answered_to (Some o) w said now c h = lev_decided (is_decisive o && not (is_ok said)) said (told o said now (w ∷ []) c) (lev_told o said now (w ∷ []) c h)
-
-  lev_answered : (w : ℕ) (said : Said) (now : ℕ) (c : Course) → Leveled c → Leveled (course_answered w said now c)
-  lev_answered w said now c h = lev_posted c _ (lev_answered_to (open_order (left c.agenda) w) w said now c h)
-
-  lev_stepped_as : (ok : Bool) (now : ℕ) (c : Course) → Leveled c → Leveled (course_stepped_as ok now c)
-  lev_stepped_as true now c h = lev_settled (worked now c) (lev_worked now c h)
-  lev_stepped_as false now c h = lev_failed _ c h
-
-  lev_stepped : (ok : Bool) (now : ℕ) (c : Course) → Leveled c → Leveled (course_stepped ok now c)
-  lev_stepped ok now c h = lev_posted c _ (lev_stepped_as ok now c h)
-
-  lev_lost_to : (o : Option Order) (now : ℕ) (c : Course) → Leveled c → Leveled (lost_to o now c)
-  lev_lost_to None now c h = h
-  lev_lost_to (Some o) now c h = lev_told o Lost now (waits_now (left c.agenda)) c h
-
-  lev_lost_decided : (b : Bool) (c : Course) → Leveled c → Leveled (lost_decided b c)
-  lev_lost_decided true c h = lev_failed _ c h
-  lev_lost_decided false c h = lev_settled c h
-
-  lev_treated_as : (x : Limit) (now : ℕ) (c : Course) → Leveled c → Leveled (treated_as x now c)
-  lev_treated_as HoldLimit now c h = lev_failed _ c h
-  lev_treated_as FreezeLimit now c h = lev_failed _ (lost now c) (lev_lost_to (order_now (left c.agenda)) now c h)
-  lev_treated_as AnswerLimit now c h = lev_lost_decided (fails_set (order_now (left c.agenda))) (lost now c) (lev_lost_to (order_now (left c.agenda)) now c h)
-
-  lev_treated : (o : Option RunningLimit) (now : ℕ) (c : Course) → Leveled c → Leveled (treated o now c)
-  lev_treated None now c h = h
-  lev_treated (Some x) now c h = lev_treated_as x.limit now c h
-
-  lev_timed : (now : ℕ) (c : Course) → Leveled c → Leveled (course_timed now c)
-  lev_timed now c h = lev_posted c _ (lev_treated (spent_of now (limits_now c)) now c h)
+  lev_begun k ms vs now c h = kept_begun Leveled lev_kept k ms vs now c (record { rows = h.rows; members = h.members; distinct = h.distinct })
 
   lev_released : (c : Course) → Leveled c → Leveled (released c)
   unfolding released
@@ -196,11 +150,11 @@ module _ (l : ℕ → Level) (limit : ℕ → ℕ) where
 
   on_answers : (w : ℕ) (said : Said) (st : State) → Holds st → Holds (answered w said st)
   unfolding answered
-  on_answers w said st h = on_followed (runs st) _ st (lev_answered w said st.clock st.course h)
+  on_answers w said st h = on_followed (runs st) _ st (kept_answered Leveled lev_kept w said st.clock st.course h)
 
   on_stepped_as : (fails : Bool) (g : Option Group) (st : State) → Holds st → Holds (stepped_as fails g st)
-  on_stepped_as true g st h = on_followed (runs st) _ st (lev_stepped false st.clock st.course h)
-  on_stepped_as false g st h = on_followed (runs st) _ (step_made g st) (lev_stepped true st.clock st.course h)
+  on_stepped_as true g st h = on_followed (runs st) _ st (kept_stepped Leveled lev_kept false st.clock st.course h)
+  on_stepped_as false g st h = on_followed (runs st) _ (step_made g st) (kept_stepped Leveled lev_kept true st.clock st.course h)
 
   on_steps : (mark : Mark) (st : State) → Holds st → Holds (stepped mark st)
   unfolding stepped
@@ -208,7 +162,7 @@ module _ (l : ℕ → Level) (limit : ℕ → ℕ) where
 
   on_ticks : (n : ℕ) (st : State) → Holds st → Holds (ticked n st)
   unfolding ticked
-  on_ticks n st h = on_followed (runs st) _ (later n st) (lev_timed (st.clock + n) st.course h)
+  on_ticks n st h = on_followed (runs st) _ (later n st) (kept_timed Leveled lev_kept (st.clock + n) st.course h)
 
   on_failed_in : (o : Option SetRow) (why : VssResult) (st : State) → Holds st → Holds (failed_in o why st)
   on_failed_in None why st h = h

@@ -1,23 +1,23 @@
 -- Where more than a limit has gone by that fails the set, time fails it. The limit of held writes is said of the first Hold step.
-use Rattle.std.proofs.Common.{◌≡◌, ◌∙◌, ℕ, ◌+◌, List, [], ◌∷◌, ◌++◌, Option, Some, None, refl, Bool, true, false, ap, sym, subst, filter, find, fold, min, arith}
-use Rattle.std.specs.Prelude.{◌&&◌, ◌||◌, not, nat_lt, ◌-◌, option_map, if◌then◌else◌, slice_get}
+use Rattle.std.proofs.Common.{◌≡◌, ◌∙◌, ℕ, ◌+◌, List, [], ◌∷◌, ◌++◌, Option, Some, None, refl, Bool, true, false, sym, subst, filter, find, fold, min, arith}
+use Rattle.std.specs.Prelude.{◌&&◌, ◌||◌, nat_lt, ◌-◌, option_map, if◌then◌else◌, slice_get}
 use Rattle.std.specs.List.{list_any}
 use Rattle.vss_names.specs.declared.order.Order.{Order}
-use Rattle.vss_names.specs.declared.order.Order.TheVariants.{Identify, PrepareBackup, PrepareSnapshot, Freeze, Thaw, PostSnapshot, BackupComplete}
+use Rattle.vss_names.specs.declared.order.Order.TheVariants.{PrepareBackup, PrepareSnapshot}
 use Rattle.writer_state.specs.declared.writer_row.WriterRow.{WriterRow}
 use Rattle.tick_limits.specs.Time.{answer_limit, hold_limit, default_freeze, is_spent}
 use Rattle.set_agenda.specs.declared.group.Group.{Group}
-use Rattle.set_agenda.specs.declared.group.Group.TheVariants.{Orders, PreCommit, Flush, Hold, Cut, Commit, Release, PostCommit}
+use Rattle.set_agenda.specs.declared.group.Group.TheVariants.{Orders}
 use Rattle.set_agenda.specs.declared.limit.Limit.{Limit}
 use Rattle.set_agenda.specs.declared.limit.Limit.TheVariants.{Hold as HoldLimit, Freeze as FreezeLimit, Answer as AnswerLimit}
 use Rattle.set_agenda.specs.declared.member.Member.{Member}
-use Rattle.set_agenda.specs.Agenda.{Agenda, Entry, Open, left, groups_left, order_of, order_now, same_place}
-use Rattle.set_agenda.specs.Limits.{Running, last_time, opened_at, is_prepare_snapshot, freeze_opened_at, is_hold, first_time, first_hold, hold_runs, freeze_runs, answer_runs, runs_if, hold_running, running_at, running_limits, spent_of}
+use Rattle.set_agenda.specs.Agenda.{Agenda, Entry, Open, left, groups_left, order_of, order_now}
+use Rattle.set_agenda.specs.Limits.{Running, opened_at, freeze_opened_at, is_hold, first_time, first_hold, hold_runs, freeze_runs, answer_runs, runs_if, hold_running, running_at, running_limits, spent_of}
 use Rattle.set_agenda.specs.Course.{Course, posted, failed as course_failed, limit_of, freeze_limit, limits_now, fails_set as decides, lost, lost_decided, treated_as, treated, timed as course_timed}
 use Rattle.set_agenda.proofs.SpentLimits.{same_running, first_found, later_found, none_and_some, limit_found, hold_found, held_here, frozen_here, asked_here}
 use Rattle.vss_model.specs.Facts.{has_failed}
-use Rattle.vss_model.specs.Causes.{has_passed, last_of, holds_volumes, is_hold_step, freezes_writers, prepares_snapshot, prepares_writers, is_elsewhere, frozen_too_long, unanswered_too_long}
-use Rattle.vss_model.proofs.Late.{Decides, same_prepare}
+use Rattle.vss_model.specs.Causes.{has_passed, last_of, holds_volumes, is_hold_step, freezes_writers, prepares_snapshot, prepares_writers, frozen_too_long, unanswered_too_long}
+use Rattle.vss_model.proofs.Late.{Decides, same_hold, same_hold_step, same_freeze, freeze_since, answer_since}
 use Rattle.promises.proofs.Truth.{both_parts}
 
 -- ## a limit has gone by
@@ -53,91 +53,17 @@ treated_fails AnswerLimit now c d = by_order (decides (order_now (left c.agenda)
     by_order false e = absurd cc
 treated_fails _ now c d = refl
 
--- the tables of the causes
-pub same_hold : (g : Group) → holds_volumes g ≡ hold_runs g
-same_hold (Orders o) = refl
-same_hold _ = refl
-
-same_step : (g : Group) → is_hold_step g ≡ is_hold g
-same_step (Orders o) = refl
-same_step _ = refl
-
-same_freeze : (g : Group) → freezes_writers g ≡ freeze_runs g
-same_freeze (Orders Identify) = refl
-same_freeze (Orders PrepareBackup) = refl
-same_freeze (Orders PrepareSnapshot) = refl
-same_freeze (Orders Freeze) = refl
-same_freeze (Orders Thaw) = refl
-same_freeze (Orders PostSnapshot) = refl
-same_freeze (Orders BackupComplete) = refl
-same_freeze PreCommit = refl
-same_freeze Flush = refl
-same_freeze Hold = refl
-same_freeze Cut = refl
-same_freeze Commit = refl
-same_freeze Release = refl
-same_freeze PostCommit = refl
-
 consent_runs : (g : Group) → prepares_writers g ≡ true → answer_runs g ≡ true
-consent_runs (Orders Identify) e = absurd cc
 consent_runs (Orders PrepareBackup) e = refl
 consent_runs (Orders PrepareSnapshot) e = refl
-consent_runs (Orders Freeze) e = absurd cc
-consent_runs (Orders Thaw) e = absurd cc
-consent_runs (Orders PostSnapshot) e = absurd cc
-consent_runs (Orders BackupComplete) e = absurd cc
-consent_runs PreCommit e = absurd cc
-consent_runs Flush e = absurd cc
-consent_runs Hold e = absurd cc
-consent_runs Cut e = absurd cc
-consent_runs Commit e = absurd cc
-consent_runs Release e = absurd cc
-consent_runs PostCommit e = absurd cc
+consent_runs (Orders _) e = absurd cc
+consent_runs _ e = absurd cc
 
 consent_decides : (g : Group) → prepares_writers g ≡ true → decides (order_of g) ≡ true
-consent_decides (Orders Identify) e = absurd cc
 consent_decides (Orders PrepareBackup) e = refl
 consent_decides (Orders PrepareSnapshot) e = refl
-consent_decides (Orders Freeze) e = absurd cc
-consent_decides (Orders Thaw) e = absurd cc
-consent_decides (Orders PostSnapshot) e = absurd cc
-consent_decides (Orders BackupComplete) e = absurd cc
-consent_decides PreCommit e = absurd cc
-consent_decides Flush e = absurd cc
-consent_decides Hold e = absurd cc
-consent_decides Cut e = absurd cc
-consent_decides Commit e = absurd cc
-consent_decides Release e = absurd cc
-consent_decides PostCommit e = absurd cc
-
--- since when
-last_time_is : (test : Entry → Bool) (t : ℕ) (log : List Entry) → last_time t (filter test log) ≡ fold (λ t (e : Entry). if test e then e.time else t) t log
-last_time_is test t [] = refl
-last_time_is test t (e ∷ log) = by_test (test e) (last_time_is test e.time log) (last_time_is test t log)
-  where
-    by_test : (b : Bool) → last_time e.time (filter test log) ≡ fold (λ t (x : Entry). if test x then x.time else t) e.time log → last_time t (filter test log) ≡ fold (λ t (x : Entry). if test x then x.time else t) t log
-        → last_time t (if b then e ∷ filter test log else filter test log) ≡ fold (λ t (x : Entry). if test x then x.time else t) (if b then e.time else t) log
-    by_test true f g = f
-    by_test false f g = g
-
-fold_along : (f g : Entry → Bool) → ((e : Entry) → f e ≡ g e) → (t : ℕ) (log : List Entry) → fold (λ t (e : Entry). if f e then e.time else t) t log ≡ fold (λ t (e : Entry). if g e then e.time else t) t log
-fold_along f g same t [] = refl
-fold_along f g same t (e ∷ log) =
-    fold_along f g same (if f e then e.time else t) log ∙ ap (λ b. fold (λ t (x : Entry). if g x then x.time else t) (if b then e.time else t) log) (same e)
-
-not_is : (b : Bool) → not b ≡ (if b then false else true)
-not_is true = refl
-not_is false = refl
-
-pub freeze_since : (a : Agenda) → last_of (λ e. prepares_snapshot e.place.group) a ≡ freeze_opened_at a
-freeze_since a =
-    sym (last_time_is (λ e. is_prepare_snapshot e.place.group) a.begun a.log
-    ∙ fold_along (λ e. is_prepare_snapshot e.place.group) (λ e. prepares_snapshot e.place.group) (λ e. same_prepare e.place.group) a.begun a.log)
-
-pub answer_since : (a : Agenda) (o : Open) → last_of (is_elsewhere o.place) a ≡ opened_at a o
-answer_since a o =
-    sym (last_time_is (λ e. not (same_place e.place o.place)) a.begun a.log
-    ∙ fold_along (λ e. not (same_place e.place o.place)) (is_elsewhere o.place) (λ e. not_is (same_place e.place o.place)) a.begun a.log)
+consent_decides (Orders _) e = absurd cc
+consent_decides _ e = absurd cc
 
 pub passed_spent : (now since limit : ℕ) → has_passed limit since now ≡ true → is_spent now since limit ≡ true
 passed_spent now since limit e = over (nat_lt (since + limit) now) limit now since refl e
@@ -170,7 +96,7 @@ spent_holds now g (Some t) l e = spent_runs now (hold_runs g) HoldLimit t hold_l
 
 first_is : (log : List Entry) → first_time (filter (λ e. is_hold e.place.group) log) ≡ option_map (λ (e : Entry). e.time) (find (λ (e : Entry). is_hold_step e.place.group) log)
 first_is [] = refl
-first_is (x ∷ log) = by_test (is_hold x.place.group) (is_hold_step x.place.group) (sym (same_step x.place.group)) (first_is log)
+first_is (x ∷ log) = by_test (is_hold x.place.group) (is_hold_step x.place.group) (same_hold_step x.place.group) (first_is log)
   where
     by_test : (b c : Bool) → b ≡ c → first_time (filter (λ e. is_hold e.place.group) log) ≡ option_map (λ (e : Entry). e.time) (find (λ (e : Entry). is_hold_step e.place.group) log)
         → first_time (if b then x ∷ filter (λ e. is_hold e.place.group) log else filter (λ e. is_hold e.place.group) log) ≡ option_map (λ (e : Entry). e.time) (if c then Some x else find (λ (e : Entry). is_hold_step e.place.group) log)
@@ -184,7 +110,7 @@ held_finds now g a e f = subst (λ o. Finds now (hold_running g o) HoldLimit) (s
   where
     by_first : (o : Option Entry) → passed_since now o ≡ true → Finds now (hold_running g (option_map (λ (x : Entry). x.time) o)) HoldLimit
     by_first None h = absurd cc
-    by_first (Some x) h = finds_one now (hold_runs g) HoldLimit x.time hold_limit (sym (same_hold g) ∙ e) (passed_spent now x.time hold_limit h)
+    by_first (Some x) h = finds_one now (hold_runs g) HoldLimit x.time hold_limit (same_hold g ∙ e) (passed_spent now x.time hold_limit h)
 
 -- ## frozen
 
@@ -212,8 +138,8 @@ least_spent now since least rows (m ∷ ms) e =
 pub frozen_finds : (now : ℕ) (g : Group) (c : Course) (a : Agenda) → frozen_too_long now g c a ≡ true → Finds now (runs_if (freeze_runs g) FreezeLimit (freeze_opened_at a) (freeze_limit c)) FreezeLimit
 frozen_finds now g c a e =
     let parts = both_parts (freezes_writers g) _ e in
-    finds_one now (freeze_runs g) FreezeLimit (freeze_opened_at a) (freeze_limit c) (sym (same_freeze g) ∙ parts.0)
-    (subst (λ t. is_spent now t (freeze_limit c) ≡ true) (freeze_since a) (least_spent now (last_of (λ x. prepares_snapshot x.place.group) a) default_freeze c.rows c.members parts.1))
+    finds_one now (freeze_runs g) FreezeLimit (freeze_opened_at a) (freeze_limit c) (same_freeze g ∙ parts.0)
+    (subst (λ t. is_spent now t (freeze_limit c) ≡ true) (sym (freeze_since a)) (least_spent now (last_of (λ x. prepares_snapshot x.place.group) a) default_freeze c.rows c.members parts.1))
 
 -- ## unanswered
 
@@ -221,7 +147,7 @@ answer_finds : (now : ℕ) (a : Agenda) (o : Open) → unanswered_too_long now o
 answer_finds now a o e =
     let parts = both_parts (prepares_writers o.place.group) _ e in
     finds_one now (answer_runs o.place.group) AnswerLimit (opened_at a o) answer_limit (consent_runs o.place.group parts.0)
-    (passed_spent now (opened_at a o) answer_limit (subst (λ t. has_passed answer_limit t now ≡ true) (answer_since a o) parts.1))
+    (passed_spent now (opened_at a o) answer_limit (subst (λ t. has_passed answer_limit t now ≡ true) (sym (answer_since a o)) parts.1))
 
 -- ## the spent limit fails the set
 

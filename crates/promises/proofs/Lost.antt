@@ -22,7 +22,7 @@ use Rattle.vss_model.specs.Effects.{ticks_of, lost_after, lost_order_if}
 use Rattle.promises.specs.Lost.{is_over, is_over_at, is_over_in, is_over_after, LosesTheLate}
 use Rattle.promises.proofs.Truth.{first_both}
 use Rattle.promises.proofs.BusyAgendas.{none_held}
-use Rattle.promises.proofs.Limits.{freeze_since, answer_since}
+use Rattle.vss_model.proofs.Late.{freeze_since, answer_since}
 use Rattle.promises.proofs.Participants.{off}
 
 -- ## the limit of the open order is spent
@@ -79,10 +79,10 @@ module _ (now : ℕ) (c : Course) (a : Agenda) (o : Open) where
       ∙ one_spent now FreezeLimit (freeze_opened_at a) (freeze_limit c)
       ∙ spent_is now (freeze_opened_at a) (freeze_limit c)
       ∙ least_is now (freeze_opened_at a) default_freeze c.rows c.members
-      ∙ ap (λ t. has_passed default_freeze t now || list_any (λ (m : Member). has_passed (limit_of (slice_get c.rows m.writer)) t now) c.members) (sym (freeze_since a))
+      ∙ ap (λ t. has_passed default_freeze t now || list_any (λ (m : Member). has_passed (limit_of (slice_get c.rows m.writer)) t now) c.members) (freeze_since a)
 
   answer_spent : is_some (spent_of now (runs_if true AnswerLimit (opened_at a o) answer_limit)) ≡ has_passed answer_limit (last_of (is_elsewhere o.place) a) now
-  answer_spent = one_spent now AnswerLimit (opened_at a o) answer_limit ∙ spent_is now (opened_at a o) answer_limit ∙ ap (λ t. has_passed answer_limit t now) (sym (answer_since a o))
+  answer_spent = one_spent now AnswerLimit (opened_at a o) answer_limit ∙ spent_is now (opened_at a o) answer_limit ∙ ap (λ t. has_passed answer_limit t now) (answer_since a o)
 
   order_spent : (x : Order) → is_some (spent_of now (running_of (freeze_limit c) a o (Orders x))) ≡ is_over now c a o (Some x)
   order_spent Identify = asking Identify ∙ answer_spent

@@ -70,20 +70,11 @@ unspent_hold now g (Some since) h = unspent_if (hold_runs g) HoldLimit since hol
 
 -- a limit of these loses the writers, and the set goes on
 abbrev pub is_mild : Group → Bool
-is_mild (Orders Identify) = true
 is_mild (Orders PrepareBackup) = false
 is_mild (Orders PrepareSnapshot) = false
 is_mild (Orders Freeze) = false
-is_mild (Orders Thaw) = true
-is_mild (Orders PostSnapshot) = true
-is_mild (Orders BackupComplete) = true
-is_mild PreCommit = false
-is_mild Flush = false
-is_mild Hold = false
-is_mild Cut = false
-is_mild Commit = false
-is_mild Release = false
-is_mild PostCommit = false
+is_mild (Orders _) = true
+is_mild _ = false
 
 pub mild_order : (o : Order) → is_decisive o ≡ false → is_mild (Orders o) ≡ true
 mild_order PrepareBackup e = absurd cc
@@ -124,65 +115,46 @@ hold_nine Release l e = omega arith
 hold_nine _ l e = absurd cc
 
 pub hold_between : (g : Group) (l : Option Level) → 6 ≤ group_stage g l → group_stage g l ≤ 9 → hold_runs g ≡ true
-hold_between (Orders Identify) l h i = absurd (apart 15 9 15 i (omega arith) (omega arith))
-hold_between (Orders PrepareBackup) l h i = absurd (apart 15 9 15 i (omega arith) (omega arith))
 hold_between (Orders PrepareSnapshot) l h i = absurd (apart 0 5 6 (omega arith) (omega arith) h)
 hold_between (Orders Freeze) l h i = absurd (apart (group_stage (Orders Freeze) l) 5 6 (freeze_at l) (omega arith) h)
 hold_between (Orders Thaw) l h i = absurd (apart (group_stage (Orders Thaw) l) 9 11 i (omega arith) (thaw_at l))
 hold_between (Orders PostSnapshot) l h i = absurd (apart 14 9 14 i (omega arith) (omega arith))
-hold_between (Orders BackupComplete) l h i = absurd (apart 15 9 15 i (omega arith) (omega arith))
+hold_between (Orders _) l h i = absurd (apart 15 9 15 i (omega arith) (omega arith))
 hold_between PreCommit l h i = absurd (apart 4 5 6 (omega arith) (omega arith) h)
 hold_between Flush l h i = absurd (apart 5 5 6 (omega arith) (omega arith) h)
 hold_between PostCommit l h i = absurd (apart 10 9 10 i (omega arith) (omega arith))
 hold_between _ l h i = refl
 
 pub freeze_ten : (g : Group) (l : Option Level) → freeze_runs g ≡ true → group_stage g l ≤ 10
-freeze_ten (Orders Identify) l e = absurd cc
-freeze_ten (Orders PrepareBackup) l e = absurd cc
-freeze_ten (Orders PrepareSnapshot) l e = absurd cc
 freeze_ten (Orders Freeze) l e = chain (group_stage (Orders Freeze) l) 5 10 (freeze_at l) (omega arith)
-freeze_ten (Orders Thaw) l e = absurd cc
-freeze_ten (Orders PostSnapshot) l e = absurd cc
-freeze_ten (Orders BackupComplete) l e = absurd cc
+freeze_ten (Orders _) l e = absurd cc
 freeze_ten _ l e = omega arith
 
 pub freeze_between : (g : Group) (l : Option Level) → is_prepare_snapshot g ≡ false → group_stage g l ≤ 10 → freeze_runs g ≡ true
-freeze_between (Orders Identify) l h i = absurd (apart 15 10 15 i (omega arith) (omega arith))
-freeze_between (Orders PrepareBackup) l h i = absurd (apart 15 10 15 i (omega arith) (omega arith))
 freeze_between (Orders PrepareSnapshot) l h i = absurd cc
 freeze_between (Orders Thaw) l h i = absurd (apart (group_stage (Orders Thaw) l) 10 11 i (omega arith) (thaw_at l))
 freeze_between (Orders PostSnapshot) l h i = absurd (apart 14 10 14 i (omega arith) (omega arith))
-freeze_between (Orders BackupComplete) l h i = absurd (apart 15 10 15 i (omega arith) (omega arith))
+freeze_between (Orders Freeze) l h i = refl
+freeze_between (Orders _) l h i = absurd (apart 15 10 15 i (omega arith) (omega arith))
 freeze_between _ l h i = refl
 
 pub mild_high : (g : Group) (l : Option Level) → is_mild g ≡ true → 11 ≤ group_stage g l
-mild_high (Orders Identify) l e = omega arith
 mild_high (Orders PrepareBackup) l e = absurd cc
 mild_high (Orders PrepareSnapshot) l e = absurd cc
 mild_high (Orders Freeze) l e = absurd cc
 mild_high (Orders Thaw) l e = thaw_at l
-mild_high (Orders PostSnapshot) l e = omega arith
-mild_high (Orders BackupComplete) l e = omega arith
-mild_high PreCommit l e = absurd cc
-mild_high Flush l e = absurd cc
-mild_high Hold l e = absurd cc
-mild_high Cut l e = absurd cc
-mild_high Commit l e = absurd cc
-mild_high Release l e = absurd cc
-mild_high PostCommit l e = absurd cc
+mild_high (Orders _) l e = omega arith
+mild_high _ l e = absurd cc
 
 abbrev pub is_backup_order : Group → Bool
 is_backup_order (Orders PrepareBackup) = true
 is_backup_order _ = false
 
 pub high_mild : (g : Group) (l : Option Level) → not (is_backup_order g) ≡ true → 11 ≤ group_stage g l → is_mild g ≡ true
-high_mild (Orders Identify) l h i = refl
 high_mild (Orders PrepareBackup) l h i = absurd cc
 high_mild (Orders PrepareSnapshot) l h i = absurd (apart 0 10 11 (omega arith) (omega arith) i)
 high_mild (Orders Freeze) l h i = absurd (apart (group_stage (Orders Freeze) l) 5 11 (freeze_at l) (omega arith) i)
-high_mild (Orders Thaw) l h i = refl
-high_mild (Orders PostSnapshot) l h i = refl
-high_mild (Orders BackupComplete) l h i = refl
+high_mild (Orders _) l h i = refl
 high_mild PreCommit l h i = absurd (apart 4 10 11 (omega arith) (omega arith) i)
 high_mild Flush l h i = absurd (apart 5 10 11 (omega arith) (omega arith) i)
 high_mild Hold l h i = absurd (apart 6 10 11 (omega arith) (omega arith) i)

@@ -68,40 +68,20 @@ place_stage p = group_stage p.group p.level
 
 -- the groups that go by levels
 abbrev pub leveled : Group → Bool
-leveled (Orders Identify) = false
-leveled (Orders PrepareBackup) = false
-leveled (Orders PrepareSnapshot) = false
 leveled (Orders Freeze) = true
 leveled (Orders Thaw) = true
-leveled (Orders PostSnapshot) = false
-leveled (Orders BackupComplete) = false
-leveled PreCommit = false
-leveled Flush = false
-leveled Hold = false
-leveled Cut = false
-leveled Commit = false
-leveled Release = false
-leveled PostCommit = false
+leveled (Orders _) = false
+leveled _ = false
 
 -- in a group that goes by levels the writer is of the group's level
 abbrev pub IsOfLevel : Plan → Place → ℕ → Type 0
 IsOfLevel s p w = leveled p.group ≡ true → level_of s w ≡ level_or p.level
 
 pub stage_at : (s : Plan) (g : Group) (l : Option Level) (who : ℕ) (said : Said) (now : ℕ) → (leveled g ≡ true → level_of s who ≡ level_or l) → stage s (deed_at g who said now) ≡ group_stage g l
-stage_at s (Orders Identify) l who said now h = refl
-stage_at s (Orders PrepareBackup) l who said now h = refl
-stage_at s (Orders PrepareSnapshot) l who said now h = refl
 stage_at s (Orders Freeze) l who said now h = ap (order_stage Freeze) (h refl)
 stage_at s (Orders Thaw) l who said now h = ap (order_stage Thaw) (h refl)
-stage_at s (Orders PostSnapshot) l who said now h = refl
-stage_at s (Orders BackupComplete) l who said now h = refl
-stage_at s PreCommit l who said now h = refl
-stage_at s Flush l who said now h = refl
-stage_at s Hold l who said now h = refl
-stage_at s Cut l who said now h = refl
-stage_at s Commit l who said now h = refl
-stage_at s Release l who said now h = refl
-stage_at s PostCommit l who said now h = refl
+stage_at s (Orders _) l who said now h = refl
+stage_at s _ l who said now h = refl
 
 abbrev pub open_stage : List Open → ℕ
 open_stage [] = 15

@@ -124,35 +124,14 @@ all_said log p (x ∷ xs) who e f = said_if (has_said log p x) log p x who xs _ 
 
 release_undoes : (g : Group) → (group_code g == 12) ≡ true → undoes g ≡ true
 release_undoes (Orders Identify) e = absurd cc
-release_undoes (Orders PrepareBackup) e = absurd cc
-release_undoes (Orders PrepareSnapshot) e = absurd cc
-release_undoes (Orders Freeze) e = absurd cc
-release_undoes (Orders Thaw) e = absurd cc
-release_undoes (Orders PostSnapshot) e = absurd cc
-release_undoes (Orders BackupComplete) e = absurd cc
-release_undoes PreCommit e = absurd cc
-release_undoes Flush e = absurd cc
-release_undoes Hold e = absurd cc
-release_undoes Cut e = absurd cc
-release_undoes Commit e = absurd cc
+release_undoes (Orders _) e = absurd cc
 release_undoes Release e = refl
-release_undoes PostCommit e = absurd cc
+release_undoes _ e = absurd cc
 
 thaw_undoes : (g : Group) → is_thaw g ≡ true → undoes g ≡ true
-thaw_undoes (Orders Identify) e = absurd cc
-thaw_undoes (Orders PrepareBackup) e = absurd cc
-thaw_undoes (Orders PrepareSnapshot) e = absurd cc
-thaw_undoes (Orders Freeze) e = absurd cc
 thaw_undoes (Orders Thaw) e = refl
-thaw_undoes (Orders PostSnapshot) e = absurd cc
-thaw_undoes (Orders BackupComplete) e = absurd cc
-thaw_undoes PreCommit e = absurd cc
-thaw_undoes Flush e = absurd cc
-thaw_undoes Hold e = absurd cc
-thaw_undoes Cut e = absurd cc
-thaw_undoes Commit e = absurd cc
-thaw_undoes Release e = absurd cc
-thaw_undoes PostCommit e = absurd cc
+thaw_undoes (Orders _) e = absurd cc
+thaw_undoes _ e = absurd cc
 
 -- one test follows from another, so where the other finds nothing, neither does it
 none_found : (test wider : Entry → Bool) → ((x : Entry) → test x ≡ true → wider x ≡ true) → (log : List Entry) → list_any wider log ≡ false → list_any test log ≡ false
@@ -195,20 +174,9 @@ held_in a v k c h e =
 -- ## frozen
 
 freeze_coded : (g : Group) → (group_code g == 3) ≡ true → is_freeze g ≡ true
-freeze_coded (Orders Identify) e = absurd cc
-freeze_coded (Orders PrepareBackup) e = absurd cc
-freeze_coded (Orders PrepareSnapshot) e = absurd cc
 freeze_coded (Orders Freeze) e = refl
-freeze_coded (Orders Thaw) e = absurd cc
-freeze_coded (Orders PostSnapshot) e = absurd cc
-freeze_coded (Orders BackupComplete) e = absurd cc
-freeze_coded PreCommit e = absurd cc
-freeze_coded Flush e = absurd cc
-freeze_coded Hold e = absurd cc
-freeze_coded Cut e = absurd cc
-freeze_coded Commit e = absurd cc
-freeze_coded Release e = absurd cc
-freeze_coded PostCommit e = absurd cc
+freeze_coded (Orders _) e = absurd cc
+freeze_coded _ e = absurd cc
 
 -- what was said at Freeze was ok
 ok_head : (coded level freeze ok who more said : Bool) → (coded ≡ true → freeze ≡ true) → (freeze && not ok) ≡ false → (((coded && level) && who) || said) ≡ true → (said ≡ true → more ≡ true) → ((freeze && ok && who) || more) ≡ true

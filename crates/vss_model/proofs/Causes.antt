@@ -75,7 +75,7 @@ none_settled_in : (o : Option Agenda) (c : Course) → Fails c ≡ false → Fai
 none_settled_in None c h = h
 none_settled_in (Some a) c h = none_settled_if (is_done (groups_left a)) a.kind c h
 
-none_settled : (c : Course) → Fails c ≡ false → Fails (settled c) ≡ false
+pub none_settled : (c : Course) → Fails c ≡ false → Fails (settled c) ≡ false
 unfolding settled
 none_settled c h = none_settled_in c.agenda c h
 

@@ -6,11 +6,11 @@ use Rattle.std.specs.List.{list_any}
 use Rattle.std.proofs.lemmas.List.Folds.{list_any-append}
 use Rattle.std.proofs.lemmas.Bool.{or_from, or_left}
 use Rattle.vss_names.specs.declared.level.Level.TheVariants.{System, BackEnd, FrontEnd}
-use Rattle.vss_names.specs.declared.order.Order.TheVariants.{Identify, PrepareBackup, PrepareSnapshot, Freeze, PostSnapshot, BackupComplete}
+use Rattle.vss_names.specs.declared.order.Order.TheVariants.{Identify, PrepareBackup, PrepareSnapshot, Freeze, BackupComplete, Thaw}
 use Rattle.writer_state.specs.declared.said.Said.{Said}
 use Rattle.writer_state.specs.WriterState.{is_ok}
 use Rattle.set_agenda.specs.declared.group.Group.{Group}
-use Rattle.set_agenda.specs.declared.group.Group.TheVariants.{Orders, PreCommit, Flush, Hold, Cut, Commit, PostCommit}
+use Rattle.set_agenda.specs.declared.group.Group.TheVariants.{Orders, PreCommit, Flush, Hold, Cut, Release}
 use Rattle.set_agenda.specs.declared.kind.Kind.{Kind}
 use Rattle.set_agenda.specs.declared.kind.Kind.TheVariants.{Gather, Prepare, Snapshot, Complete}
 use Rattle.set_agenda.specs.declared.place.Place.{Place}
@@ -24,19 +24,10 @@ use Rattle.vss_model.proofs.LogRule.{IsKeptInLog, Running, in_log}
 
 -- the groups that release a volume or thaw a writer
 abbrev pub undoes : Group → Bool
-undoes (Orders Identify) = false
-undoes (Orders PrepareBackup) = false
-undoes (Orders PrepareSnapshot) = false
-undoes (Orders Freeze) = false
-undoes (Orders PostSnapshot) = false
-undoes (Orders BackupComplete) = false
-undoes PreCommit = false
-undoes Flush = false
-undoes Hold = false
-undoes Cut = false
-undoes Commit = false
-undoes PostCommit = false
-undoes _ = true
+undoes (Orders Thaw) = true
+undoes (Orders _) = false
+undoes Release = true
+undoes _ = false
 
 abbrev pub is_refusal : Entry → Bool
 is_refusal e = is_freeze e.place.group && not (is_ok e.said)

@@ -145,13 +145,8 @@ later_in Snapshot a e =
     (later_pass (plain (Orders PostSnapshot)) (waited_for a (plain (Orders PostSnapshot))) [] (later_order PostSnapshot refl) no_order))))))))))))))
 
 order_members : (g : Group) (a : Agenda) (l : Option Level) (w : ℕ) → is_orders g ≡ true → is_among w (members_of a g l) ≡ true → is_member a.members w ≡ true
-order_members (Orders Identify) a l w e h = among_members (λ m. is_at l m.level) w a.members h
-order_members (Orders PrepareBackup) a l w e h = among_members (λ m. is_at l m.level) w a.members h
-order_members (Orders PrepareSnapshot) a l w e h = among_members (λ m. is_at l m.level) w a.members h
-order_members (Orders Freeze) a l w e h = among_members (λ m. is_at l m.level) w a.members h
-order_members (Orders Thaw) a l w e h = among_members (λ m. is_at l m.level) w a.members h
 order_members (Orders PostSnapshot) a l w e h = among_members (λ m. is_at l m.level) w a.members (among_filter _ w (writers_at a.members l) h)
-order_members (Orders BackupComplete) a l w e h = among_members (λ m. is_at l m.level) w a.members h
+order_members (Orders _) a l w e h = among_members (λ m. is_at l m.level) w a.members h
 order_members _ a l w e h = absurd cc
 
 -- ## calls on an agenda that gathers no more

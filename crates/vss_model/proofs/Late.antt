@@ -21,62 +21,30 @@ use Rattle.vss_model.proofs.ByEvent.{some_same}
 
 -- ## tables
 
-same_hold : (g : Group) → hold_runs g ≡ holds_volumes g
+pub same_hold : (g : Group) → hold_runs g ≡ holds_volumes g
 same_hold (Orders o) = refl
 same_hold _ = refl
 
-same_hold_step : (g : Group) → is_hold g ≡ is_hold_step g
+pub same_hold_step : (g : Group) → is_hold g ≡ is_hold_step g
 same_hold_step (Orders o) = refl
 same_hold_step _ = refl
 
-same_freeze : (g : Group) → freeze_runs g ≡ freezes_writers g
+pub same_freeze : (g : Group) → freeze_runs g ≡ freezes_writers g
 same_freeze (Orders Identify) = refl
-same_freeze (Orders PrepareBackup) = refl
-same_freeze (Orders PrepareSnapshot) = refl
-same_freeze (Orders Freeze) = refl
-same_freeze (Orders Thaw) = refl
-same_freeze (Orders PostSnapshot) = refl
-same_freeze (Orders BackupComplete) = refl
-same_freeze PreCommit = refl
-same_freeze Flush = refl
-same_freeze Hold = refl
-same_freeze Cut = refl
-same_freeze Commit = refl
-same_freeze Release = refl
-same_freeze PostCommit = refl
+same_freeze (Orders _) = refl
+same_freeze _ = refl
 
 pub same_prepare : (g : Group) → is_prepare_snapshot g ≡ prepares_snapshot g
 same_prepare (Orders Identify) = refl
-same_prepare (Orders PrepareBackup) = refl
-same_prepare (Orders PrepareSnapshot) = refl
-same_prepare (Orders Freeze) = refl
-same_prepare (Orders Thaw) = refl
-same_prepare (Orders PostSnapshot) = refl
-same_prepare (Orders BackupComplete) = refl
-same_prepare PreCommit = refl
-same_prepare Flush = refl
-same_prepare Hold = refl
-same_prepare Cut = refl
-same_prepare Commit = refl
-same_prepare Release = refl
-same_prepare PostCommit = refl
+same_prepare (Orders _) = refl
+same_prepare _ = refl
 
 -- where the answer limit runs and its loss fails the set, consent is asked for
 consent : (g : Group) → answer_runs g ≡ true → fails_set (order_of g) ≡ true → prepares_writers g ≡ true
-consent (Orders Identify) e f = absurd cc
 consent (Orders PrepareBackup) e f = refl
 consent (Orders PrepareSnapshot) e f = refl
-consent (Orders Freeze) e f = absurd cc
-consent (Orders Thaw) e f = absurd cc
-consent (Orders PostSnapshot) e f = absurd cc
-consent (Orders BackupComplete) e f = absurd cc
-consent PreCommit e f = absurd cc
-consent Flush e f = absurd cc
-consent Hold e f = absurd cc
-consent Cut e f = absurd cc
-consent Commit e f = absurd cc
-consent Release e f = absurd cc
-consent PostCommit e f = absurd cc
+consent (Orders _) e f = absurd cc
+consent _ e f = absurd cc
 
 -- ## since when
 
@@ -99,12 +67,12 @@ not_is : (b : Bool) → not b ≡ (if b then false else true)
 not_is true = refl
 not_is false = refl
 
-freeze_since : (a : Agenda) → freeze_opened_at a ≡ last_of (λ e. prepares_snapshot e.place.group) a
+pub freeze_since : (a : Agenda) → freeze_opened_at a ≡ last_of (λ e. prepares_snapshot e.place.group) a
 freeze_since a =
     last_time_is (λ e. is_prepare_snapshot e.place.group) a.begun a.log
     ∙ fold_along (λ e. is_prepare_snapshot e.place.group) (λ e. prepares_snapshot e.place.group) (λ e. same_prepare e.place.group) a.begun a.log
 
-answer_since : (a : Agenda) (o : Open) → opened_at a o ≡ last_of (is_elsewhere o.place) a
+pub answer_since : (a : Agenda) (o : Open) → opened_at a o ≡ last_of (is_elsewhere o.place) a
 answer_since a o =
     last_time_is (λ e. not (same_place e.place o.place)) a.begun a.log
     ∙ fold_along (λ e. not (same_place e.place o.place)) (is_elsewhere o.place) (λ e. not_is (same_place e.place o.place)) a.begun a.log

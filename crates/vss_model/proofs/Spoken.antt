@@ -76,12 +76,7 @@ waits_members a (p ∷ ps) x e = at_group (waited_for a p) (left_from a ps) (λ 
 
 hold_members : (g : Group) (k m : ℕ) (a : Agenda) (l : Option Level) (v : ℕ) → ((group_code g == group_code Hold) && (k == m)) ≡ true → is_among v (members_of a g l) ≡ true → is_among v a.volumes ≡ true
 hold_members (Orders Identify) k m a l v e h = absurd cc
-hold_members (Orders PrepareBackup) k m a l v e h = absurd cc
-hold_members (Orders PrepareSnapshot) k m a l v e h = absurd cc
-hold_members (Orders Freeze) k m a l v e h = absurd cc
-hold_members (Orders Thaw) k m a l v e h = absurd cc
-hold_members (Orders PostSnapshot) k m a l v e h = absurd cc
-hold_members (Orders BackupComplete) k m a l v e h = absurd cc
+hold_members (Orders _) k m a l v e h = absurd cc
 hold_members PreCommit k m a l v e h = absurd cc
 hold_members Cut k m a l v e h = absurd cc
 hold_members PostCommit k m a l v e h = absurd cc
@@ -122,19 +117,8 @@ among_members test w (m ∷ ms) e = by_test (test m) e (among_members test w ms)
 
 freeze_members : (g : Group) (a : Agenda) (l : Option Level) (w : ℕ) → is_freeze g ≡ true → is_among w (members_of a g l) ≡ true → is_member a.members w ≡ true
 freeze_members (Orders Freeze) a l w e h = among_members (λ m. is_at l m.level) w a.members h
-freeze_members (Orders Identify) a l w e h = absurd cc
-freeze_members (Orders PrepareBackup) a l w e h = absurd cc
-freeze_members (Orders PrepareSnapshot) a l w e h = absurd cc
-freeze_members (Orders Thaw) a l w e h = absurd cc
-freeze_members (Orders PostSnapshot) a l w e h = absurd cc
-freeze_members (Orders BackupComplete) a l w e h = absurd cc
-freeze_members PreCommit a l w e h = absurd cc
-freeze_members Flush a l w e h = absurd cc
-freeze_members Hold a l w e h = absurd cc
-freeze_members Cut a l w e h = absurd cc
-freeze_members Commit a l w e h = absurd cc
-freeze_members Release a l w e h = absurd cc
-freeze_members PostCommit a l w e h = absurd cc
+freeze_members (Orders _) a l w e h = absurd cc
+freeze_members _ a l w e h = absurd cc
 
 -- only members of the agenda froze
 abbrev pub FreezesOwn : Agenda → Type 0
@@ -171,19 +155,9 @@ fewer_wait log new p (x ∷ xs) e = by_head (has_said log p x) (has_said (log ++
 
 cut_code : (g : Group) (k m : ℕ) → ((group_code g == group_code Cut) && (k == m)) ≡ true → is_cut_group (Some g) ≡ true
 cut_code (Orders Identify) k m e = absurd cc
-cut_code (Orders PrepareBackup) k m e = absurd cc
-cut_code (Orders PrepareSnapshot) k m e = absurd cc
-cut_code (Orders Freeze) k m e = absurd cc
-cut_code (Orders Thaw) k m e = absurd cc
-cut_code (Orders PostSnapshot) k m e = absurd cc
-cut_code (Orders BackupComplete) k m e = absurd cc
-cut_code PreCommit k m e = absurd cc
-cut_code Flush k m e = absurd cc
-cut_code Hold k m e = absurd cc
+cut_code (Orders _) k m e = absurd cc
 cut_code Cut k m e = refl
-cut_code Commit k m e = absurd cc
-cut_code Release k m e = absurd cc
-cut_code PostCommit k m e = absurd cc
+cut_code _ k m e = absurd cc
 
 pub cut_open : (os : List Open) → same_place (open_place os) (plain Cut) ≡ true → is_cut_group (open_group os) ≡ true
 cut_open [] e = absurd cc
