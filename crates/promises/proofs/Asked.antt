@@ -36,7 +36,7 @@ use Rattle.promises.specs.Asked.{IsFor, AsksItsOwn}
 use Rattle.promises.specs.Participants.{choosing}
 use Rattle.promises.proofs.Truth.{not_true, second_both}
 use Rattle.promises.proofs.BusyAgendas.{course_followed}
-use Rattle.vss_model.proofs.ByEvent.{Covers, covered, after_enabled, after_not_enabled}
+use Rattle.vss_model.proofs.ByEvent.{Covers, covered, after_enabled, after_not_enabled, by_if}
 use Rattle.promises.proofs.OpenGroup.{every, in_kind}
 use Rattle.promises.proofs.Participants.{ChosenIn, StandsChosen, follows_all}
 use Rattle.promises.proofs.SameChoice.{SameCourse, mode_in, on_course_answered, on_course_stepped, on_course_timed}
@@ -154,10 +154,6 @@ module _ (s : Plan) where
     unfolding stepped
     on_step mark = step_as (is_failed_step (is_flush (open_group (left_now st))) mark) (open_group (left_now st))
 
-    either : (b : Bool) (x y : Replied) → AsksIn s x.1 → AsksIn s y.1 → AsksIn s (if b then x else y).1
-    either true x y h i = h
-    either false x y h i = i
-
     asks_all : Covers Next s st
     asks_all = record {
       stays = λ lane o mark told e f. h;
@@ -172,8 +168,8 @@ module _ (s : Plan) where
       names = λ lane w full q explicit mark g named. h;
       starts = λ lane q mark g e. h;
       adds = λ lane v r q mark g e f. h;
-      prepares = λ lane q mark g. either (has_no_volume (in_progress st)) _ _ h (asks_followed true _ st (asks_begun kind.Prepare _ [] st.clock _ (λ w e. e)));
-      snapshots = λ lane q mark g. either (has_no_volume (in_progress st)) _ _ h (asks_followed true _ st (asks_begun kind.Snapshot st.course.members _ st.clock st.course (λ w e. e)));
+      prepares = λ lane q mark g. by_if (λ r. AsksIn s r.1) (has_no_volume (in_progress st)) _ _ h (asks_followed true _ st (asks_begun kind.Prepare _ [] st.clock _ (λ w e. e)));
+      snapshots = λ lane q mark g. by_if (λ r. AsksIn s r.1) (has_no_volume (in_progress st)) _ _ h (asks_followed true _ st (asks_begun kind.Snapshot st.course.members _ st.clock st.course (λ w e. e)));
       completes = λ lane q mark g. asks_followed true _ st (asks_begun kind.Complete _ [] st.clock st.course (λ w e. filter_member (λ (m : Member). not (has_row_failed st.course.rows m.writer)) st.course.members w e));
       aborts = λ lane q mark e. asks_failed (in_progress st) AsyncCancelled st h;
       ends = λ lane q mark e. asks_closed q (failed AsyncCancelled st);

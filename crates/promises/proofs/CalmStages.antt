@@ -20,7 +20,7 @@ use Rattle.requestor.specs.Session.{Session, stage_after, agenda_ended, set_fail
 use Rattle.scenario.specs.Plan.{Plan}
 use Rattle.vss_model.specs.State.{State, SetRow, Kept, start, in_progress, left_now}
 use Rattle.vss_model.specs.Ending.{ending, concluded, followed, failed_in, failed, runs}
-use Rattle.vss_model.specs.Images.{Replied, put, reverted_as}
+use Rattle.vss_model.specs.Images.{put, reverted_as}
 use Rattle.vss_model.specs.Sessions.{begin_in, closed, has_no_volume, start_set}
 use Rattle.vss_model.specs.Steps.{answered, step_made, is_flush, is_failed_step, stepped_as, stepped, ticked, later}
 use Rattle.vss_model.specs.Facts.{has_failed, IsOfStage, IsOfSession, IsOrderly}
@@ -33,7 +33,7 @@ use Rattle.promises.proofs.Truth.{not_both}
 use Rattle.promises.proofs.BusyAgendas.{IsBusy, busy_set}
 use Rattle.promises.proofs.CalmCourses.{CalmOrBusy, calm_begun, calm_answered, calm_stepped, calm_timed}
 use Rattle.promises.proofs.SetFailures.{session_made}
-use Rattle.vss_model.proofs.ByEvent.{some_same}
+use Rattle.vss_model.proofs.ByEvent.{some_same, by_if}
 
 abbrev pub IsCalm : State → Type 0
 IsCalm x = (q : Session) → x.session ≡ Some q → (q.stage ≡ Failed → ⊥) → has_failed x.course.outcome ≡ false
@@ -161,10 +161,6 @@ on_started x q h e f = λ p g k. ap has_failed
         differ e = cc
     by_set (Some r) i = i.2
 
-either : (b : Bool) (x y : Replied) → IsCalm x.1 → IsCalm y.1 → IsCalm (if b then x else y).1
-either true x y h i = h
-either false x y h i = i
-
 pub calm_kept : IsKeptByChanges IsCalmOrderly
 calm_kept = record {
   answers = λ w said st e h. (orderly_kept.answers w said st e h.0, on_answers st h w said);
@@ -172,8 +168,8 @@ calm_kept = record {
   ticks = λ n st h. (orderly_kept.ticks n st h.0, on_ticks st h n);
   fails = λ why st h. (orderly_kept.fails why st h.0, on_failed st h (in_progress st) why);
   gathers = λ s q st g h. (orderly_kept.gathers s q st g h.0, on_begun st h _ (calm_begun Gather _ [] st.clock (record st.course { rows = map row_gathered st.course.rows })));
-  prepares = λ s q st g h. (orderly_kept.prepares s q st g h.0, either (has_no_volume (in_progress st)) _ _ h.1 (on_begun st h _ (calm_begun Prepare _ [] st.clock _)));
-  snapshots = λ q st g h. (orderly_kept.snapshots q st g h.0, either (has_no_volume (in_progress st)) _ _ h.1 (on_begun st h _ (calm_begun Snapshot st.course.members _ st.clock st.course)));
+  prepares = λ s q st g h. (orderly_kept.prepares s q st g h.0, by_if (λ r. IsCalm r.1) (has_no_volume (in_progress st)) _ _ h.1 (on_begun st h _ (calm_begun Prepare _ [] st.clock _)));
+  snapshots = λ q st g h. (orderly_kept.snapshots q st g h.0, by_if (λ r. IsCalm r.1) (has_no_volume (in_progress st)) _ _ h.1 (on_begun st h _ (calm_begun Snapshot st.course.members _ st.clock st.course)));
   completes = λ q st g h. (orderly_kept.completes q st g h.0, on_begun st h _ (calm_begun Complete _ [] st.clock st.course));
   clears = λ s v b st h. (orderly_kept.clears s v b st h.0, h.1);
   deletes_set = λ n st h. (orderly_kept.deletes_set n st h.0, h.1);

@@ -26,7 +26,7 @@ use Rattle.vss_model.specs.Steps.{answered, cut_set, step_made, is_flush, is_fai
 use Rattle.vss_model.specs.Effects.{line_ticks, ticks_of}
 use Rattle.vss_model.specs.Acts.{Act, enabled, idle_now, after, state}
 use Rattle.promises.specs.Clock.{ticks_if, ClockMoves}
-use Rattle.vss_model.proofs.ByEvent.{Covers, covered, after_enabled, after_not_enabled}
+use Rattle.vss_model.proofs.ByEvent.{Covers, covered, after_enabled, after_not_enabled, by_if}
 
 clock-concluded : (e : Ending) (st : State) → (concluded e st).clock ≡ st.clock
 clock-concluded NothingEnds st = refl
@@ -107,9 +107,6 @@ stands_still : (st : State) (now : ℕ) (o : Option ℕ) → now ≡ st.clock �
 stands_still st now o e f = e ∙ no_ticks st.clock ∙ ap (λ p. st.clock + unwrap_or p 0) (sym f)
 
 module _ (s : Plan) (st : State) where
-  either : (b : Bool) (x y : Replied) → x.1.clock ≡ st.clock → y.1.clock ≡ st.clock → (if b then x else y).1.clock ≡ st.clock
-  either true x y e f = e
-  either false x y e f = f
 
   moves : Covers (Moves st) s st
   moves = record {
@@ -125,8 +122,8 @@ module _ (s : Plan) (st : State) where
     names = λ lane w full q explicit mark g named. no_ticks st.clock;
     starts = λ lane q mark g e. no_ticks st.clock;
     adds = λ lane v r q mark g e f. no_ticks st.clock;
-    prepares = λ lane q mark g. stands_still st _ None (either (has_no_volume (in_progress st)) _ _ refl (clock-followed true _ st)) refl;
-    snapshots = λ lane q mark g. stands_still st _ None (either (has_no_volume (in_progress st)) _ _ refl (clock-followed true _ st)) refl;
+    prepares = λ lane q mark g. stands_still st _ None (by_if (λ r. r.1.clock ≡ st.clock) (has_no_volume (in_progress st)) _ _ refl (clock-followed true _ st)) refl;
+    snapshots = λ lane q mark g. stands_still st _ None (by_if (λ r. r.1.clock ≡ st.clock) (has_no_volume (in_progress st)) _ _ refl (clock-followed true _ st)) refl;
     completes = λ lane q mark g. stands_still st _ None (clock-followed true _ st) refl;
     aborts = λ lane q mark e. stands_still st _ None (clock-failed_in (in_progress st) AsyncCancelled st) refl;
     ends = λ lane q mark e. stands_still st _ None (clock-closed q (failed AsyncCancelled st) ∙ clock-failed_in (in_progress st) AsyncCancelled st) refl;

@@ -48,7 +48,7 @@ use Rattle.promises.specs.Way.{Rising}
 use Rattle.promises.specs.Codes.{late_code_at, late_code_in, late_code, IsAnswerCode, IsLineCode, IsCode, FailsByCode}
 use Rattle.promises.proofs.Truth.{false_of}
 use Rattle.promises.proofs.BusyAgendas.{course_followed}
-use Rattle.vss_model.proofs.ByEvent.{Covers, covered, after_enabled, some_same}
+use Rattle.vss_model.proofs.ByEvent.{Covers, covered, after_enabled, some_same, by_if}
 use Rattle.vss_model.proofs.Causes.{none_settled as calm_settled}
 use Rattle.promises.proofs.CalmCourses.{calm_begun}
 use Rattle.promises.proofs.GoneImages.{none_stepped}
@@ -260,10 +260,6 @@ module _ (s : Plan) (so_far : List Act) (why : VssResult) where
       by_set None = refl
       by_set (Some r) = refl
 
-  either : (event : Event) (mark : Mark) (b : Bool) (x y : Replied) → Next event mark x → Next event mark y → Next event mark (if b then x else y)
-  either event mark true x y h i = h
-  either event mark false x y h i = i
-
   unchanged : (event : Event) → set_failure (in_progress st) st ≡ Some why → IsCode st event why
   unchanged event e = same_sets event st (λ n. refl) e
 
@@ -285,8 +281,8 @@ module _ (s : Plan) (so_far : List Act) (why : VssResult) where
     names = λ lane w full q explicit mark g named. same_sets (Line lane (op.Component w full)) _ (λ m. refl);
     starts = λ lane q mark g e f. not_none (set_failure (in_progress st) (start_set q st).1) (none_started s so_far q (start_set q st).1 g.stands e) f;
     adds = λ lane v r q mark g e f i. calm_reason st.course.outcome why (was_running _ i) (of_turn _ (runs st) (add_turn s so_far v r) i);
-    prepares = λ lane q mark g. either (Line lane op.Prepare) mark (has_no_volume (in_progress st)) (refused BadState st) _ (unchanged (Line lane op.Prepare)) (begun_code (Line lane op.Prepare) _ (calm_begun kind.Prepare _ [] st.clock _));
-    snapshots = λ lane q mark g. either (Line lane op.Snapshot) mark (has_no_volume (in_progress st)) (refused BadState st) _ (unchanged (Line lane op.Snapshot)) (begun_code (Line lane op.Snapshot) _ (calm_begun kind.Snapshot st.course.members _ st.clock st.course));
+    prepares = λ lane q mark g. by_if (Next (Line lane op.Prepare) mark) (has_no_volume (in_progress st)) (refused BadState st) _ (unchanged (Line lane op.Prepare)) (begun_code (Line lane op.Prepare) _ (calm_begun kind.Prepare _ [] st.clock _));
+    snapshots = λ lane q mark g. by_if (Next (Line lane op.Snapshot) mark) (has_no_volume (in_progress st)) (refused BadState st) _ (unchanged (Line lane op.Snapshot)) (begun_code (Line lane op.Snapshot) _ (calm_begun kind.Snapshot st.course.members _ st.clock st.course));
     completes = λ lane q mark g. begun_code (Line lane op.Complete) _ (calm_begun kind.Complete _ [] st.clock st.course);
     aborts = λ lane q mark e. abort_code;
     ends = λ lane q mark e f. abort_code (sym (closed_failure q (failed AsyncCancelled st)) ∙ f);

@@ -36,7 +36,7 @@ use Rattle.vss_model.proofs.CourseCalls.{asked_if}
 use Rattle.vss_model.proofs.LogRule.{unspoken}
 use Rattle.promises.specs.Completing.{StandsWell, CompletesUnfailed}
 use Rattle.promises.proofs.Truth.{equal}
-use Rattle.vss_model.proofs.ByEvent.{Covers, covered, after_enabled, after_not_enabled}
+use Rattle.vss_model.proofs.ByEvent.{Covers, covered, after_enabled, after_not_enabled, by_if}
 use Rattle.promises.proofs.LastOrder.{is_last_order, among_all, last_place, not_in_kind, still_open}
 use Rattle.promises.proofs.OpenGroup.{every}
 use Rattle.promises.proofs.Members.{one_on}
@@ -186,10 +186,6 @@ module _ (s : Plan) (st : State) (h : WellNow st) where
   abbrev Next : Event → Mark → Replied → Type 0
   Next event mark x = WellNow x.1
 
-  either : (b : Bool) (x y : Replied) → WellNow x.1 → WellNow y.1 → WellNow (if b then x else y).1
-  either true x y d e = d
-  either false x y d e = e
-
   well : Covers Next s st
   well = record {
     stays = λ lane o mark told e f. h;
@@ -204,8 +200,8 @@ module _ (s : Plan) (st : State) (h : WellNow st) where
     names = λ lane w full q explicit mark g named. h;
     starts = λ lane q mark g e. h;
     adds = λ lane v r q mark g e f. h;
-    prepares = λ lane q mark g. either (has_no_volume (in_progress st)) _ _ h (well_followed true _ st (well_begun Prepare _ _ st.clock _ refl));
-    snapshots = λ lane q mark g. either (has_no_volume (in_progress st)) _ _ h (well_followed true _ st (well_begun Snapshot _ _ st.clock _ refl));
+    prepares = λ lane q mark g. by_if (λ r. WellNow r.1) (has_no_volume (in_progress st)) _ _ h (well_followed true _ st (well_begun Prepare _ _ st.clock _ refl));
+    snapshots = λ lane q mark g. by_if (λ r. WellNow r.1) (has_no_volume (in_progress st)) _ _ h (well_followed true _ st (well_begun Snapshot _ _ st.clock _ refl));
     completes = λ lane q mark g. well_followed true _ st (well_completing st.course.members st.clock st.course);
     aborts = λ lane q mark e. well_failed_in (in_progress st) AsyncCancelled st h;
     ends = λ lane q mark e. on_close q (failed AsyncCancelled st);

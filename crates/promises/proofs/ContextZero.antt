@@ -41,7 +41,7 @@ use Rattle.vss_model.proofs.Volumes.{at}
 use Rattle.promises.specs.Gone.{stands}
 use Rattle.promises.specs.ContextZero.{BackupsEnd}
 use Rattle.promises.proofs.Truth.{both_parts, equal}
-use Rattle.vss_model.proofs.ByEvent.{Covers, covered, after_enabled, after_not_enabled, some_same}
+use Rattle.vss_model.proofs.ByEvent.{Covers, covered, after_enabled, after_not_enabled, some_same, by_if}
 use Rattle.promises.proofs.Done.{kept_map, dropped_gone}
 use Rattle.promises.proofs.Contexts.{context_in, context_map, changed_number, changed_context, context_other, context_new, HasMade, Owned, NoMore, Relates, relates_same, relates_over, relates_followed, relates_failed, relates_room, relates_put, owned_by, cut_contexts, owned_cut}
 
@@ -194,10 +194,6 @@ module _ (s : Plan) (st : State) (num : NumberedFrom 1 st.sets) (h : Owned st) w
       none_set : {X : Type 0} (p : Session) (n : ℕ) → p.set ≡ None → p.set ≡ Some n → X
       none_set p n e f = absurd cc
 
-  either : (event : Event) (mark : Mark) (b : Bool) (x y : Replied) → Next event mark x → Next event mark y → Next event mark (if b then x else y)
-  either event mark true x y d e = d
-  either event mark false x y d e = e
-
   owned_next : Covers Next s st
   owned_next = record {
     stays = λ lane o mark told e f img. h;
@@ -212,8 +208,8 @@ module _ (s : Plan) (st : State) (num : NumberedFrom 1 st.sets) (h : Owned st) w
     names = λ lane w full q explicit mark g named. by _ (relates_same st.sets _ (λ m. refl));
     starts = λ lane q mark g e img. owned_start q st g num h;
     adds = λ lane v r q mark g e f. by _ (relates_same st.sets _ (context_map (row_changed r.number (with_volume v)) (λ x. changed_number r.number (with_volume v) x refl) (λ x. changed_context r.number (with_volume v) x refl) st.sets));
-    prepares = λ lane q mark g. either (Line lane op.Prepare) mark (has_no_volume (in_progress st)) _ _ (λ img. h) (by _ (relates_followed true _ st));
-    snapshots = λ lane q mark g. either (Line lane op.Snapshot) mark (has_no_volume (in_progress st)) _ _ (λ img. h) (by _ (relates_followed true _ st));
+    prepares = λ lane q mark g. by_if (Next (Line lane op.Prepare) mark) (has_no_volume (in_progress st)) _ _ (λ img. h) (by _ (relates_followed true _ st));
+    snapshots = λ lane q mark g. by_if (Next (Line lane op.Snapshot) mark) (has_no_volume (in_progress st)) _ _ (λ img. h) (by _ (relates_followed true _ st));
     completes = λ lane q mark g. by _ (relates_followed true _ st);
     aborts = λ lane q mark e. by _ (relates_failed (in_progress st) AsyncCancelled st);
     ends = λ lane q mark e. on_end q AsyncCancelled e;

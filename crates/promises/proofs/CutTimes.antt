@@ -33,7 +33,7 @@ use Rattle.vss_model.proofs.OneCut.{not_cut_yet}
 use Rattle.vss_model.proofs.OrderlyActs.{orderly}
 use Rattle.vss_model.proofs.Rows.{row_running}
 use Rattle.promises.proofs.Truth.{equal, not_both}
-use Rattle.vss_model.proofs.ByEvent.{Covers, covered, after_enabled, after_not_enabled}
+use Rattle.vss_model.proofs.ByEvent.{Covers, covered, after_enabled, after_not_enabled, by_if}
 use Rattle.promises.proofs.Contexts.{settled_number, changed_number}
 
 -- ## the time of a set
@@ -181,10 +181,6 @@ module _ (s : Plan) (st : State) (n : ℕ) (t : Option ℕ) where
   unfolding stepped
   on_step mark e = on_step_as (is_failed_step (is_flush (open_group (left_now st))) mark) (open_group (left_now st)) e
 
-  either : (event : Event) (mark : Mark) (b : Bool) (x y : Replied) → Next event mark x → Next event mark y → Next event mark (if b then x else y)
-  either event mark true x y h i = h
-  either event mark false x y h i = i
-
   keeps_time : Covers Next s st
   keeps_time = record {
     stays = λ lane o mark told e f c h. h;
@@ -199,8 +195,8 @@ module _ (s : Plan) (st : State) (n : ℕ) (t : Option ℕ) where
     names = λ lane w full q explicit mark g named c h. h;
     starts = λ lane q mark g e c h. time_more st.sets (new_set (new_number st) q.context) n t h;
     adds = λ lane v r q mark g e f c h. time_map (row_changed r.number (with_volume v)) (λ x. changed_number r.number (with_volume v) x refl) n (λ x i. added_time r.number v x) st.sets ∙ h;
-    prepares = λ lane q mark g. either (Line lane op.Prepare) mark (has_no_volume (in_progress st)) _ _ (λ c h. h) (λ c h. times_followed true _ st n ∙ h);
-    snapshots = λ lane q mark g. either (Line lane op.Snapshot) mark (has_no_volume (in_progress st)) _ _ (λ c h. h) (λ c h. times_followed true _ st n ∙ h);
+    prepares = λ lane q mark g. by_if (Next (Line lane op.Prepare) mark) (has_no_volume (in_progress st)) _ _ (λ c h. h) (λ c h. times_followed true _ st n ∙ h);
+    snapshots = λ lane q mark g. by_if (Next (Line lane op.Snapshot) mark) (has_no_volume (in_progress st)) _ _ (λ c h. h) (λ c h. times_followed true _ st n ∙ h);
     completes = λ lane q mark g c h. times_followed true _ st n ∙ h;
     aborts = λ lane q mark e c h. times_failed (in_progress st) AsyncCancelled st n ∙ h;
     ends = λ lane q mark e c h. times_closed q (failed AsyncCancelled st) n ∙ times_failed (in_progress st) AsyncCancelled st n ∙ h;

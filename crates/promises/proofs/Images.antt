@@ -37,7 +37,7 @@ use Rattle.vss_model.proofs.Volumes.{at, FewerIn, fewer_written, fewer_in_same, 
 use Rattle.vss_model.proofs.FewerImages.{fewer_images_dropped}
 use Rattle.promises.specs.Gone.{stands, Fails, IsWanted, IsOfSession, Takes, TakesBy, ImagesGoForCause}
 use Rattle.promises.proofs.Truth.{false_of}
-use Rattle.vss_model.proofs.ByEvent.{Covers, covered, after_enabled, after_not_enabled}
+use Rattle.vss_model.proofs.ByEvent.{Covers, covered, after_enabled, after_not_enabled, by_if}
 use Rattle.promises.proofs.GoneImages.{gone_dropped, gone_reverted, gone_map, gone_change, gone_group, left_in_group, least_sets, fails_as, gone_followed, gone_failed_in, none_stepped, course-made, made_keeps}
 
 -- ## every act
@@ -204,10 +204,6 @@ module _ (s : Plan) (st : State) (num : NumberedFrom 1 st.sets) (n v : ℕ) wher
   unfolding stepped
   on_steps mark h g = on_step_as (is_failed_step (is_flush (open_group (left_now st))) mark) (open_group (left_now st)) h g
 
-  either : (event : Event) (mark : Mark) (b : Bool) (x y : Replied) → Goes event mark x → Goes event mark y → Goes event mark (if b then x else y)
-  either event mark true x y e f = e
-  either event mark false x y e f = f
-
   goes : Covers Goes s st
   goes = record {
     stays = λ lane o mark told e f h g. absurd (true_not_false (stands st n v) h g);
@@ -222,8 +218,8 @@ module _ (s : Plan) (st : State) (num : NumberedFrom 1 st.sets) (n v : ℕ) wher
     names = λ lane w full q explicit mark i named h g. absurd (true_not_false (stands st n v) h g);
     starts = λ lane q mark i e h g. absurd (true_not_false (stands st n v) h g);
     adds = λ lane u r q mark i e f h g. absurd (true_not_false (stands st n v) h g);
-    prepares = λ lane q mark i. either (Line lane op.Prepare) mark (has_no_volume (in_progress st)) _ _ (λ h g. absurd (true_not_false (stands st n v) h g)) (λ h g. by_course (Line lane op.Prepare) true _ st refl refl h g);
-    snapshots = λ lane q mark i. either (Line lane op.Snapshot) mark (has_no_volume (in_progress st)) _ _ (λ h g. absurd (true_not_false (stands st n v) h g)) (λ h g. by_course (Line lane op.Snapshot) true _ st refl refl h g);
+    prepares = λ lane q mark i. by_if (Goes (Line lane op.Prepare) mark) (has_no_volume (in_progress st)) _ _ (λ h g. absurd (true_not_false (stands st n v) h g)) (λ h g. by_course (Line lane op.Prepare) true _ st refl refl h g);
+    snapshots = λ lane q mark i. by_if (Goes (Line lane op.Snapshot) mark) (has_no_volume (in_progress st)) _ _ (λ h g. absurd (true_not_false (stands st n v) h g)) (λ h g. by_course (Line lane op.Snapshot) true _ st refl refl h g);
     completes = λ lane q mark i h g. by_course (Line lane op.Complete) true _ st refl refl h g;
     aborts = λ lane q mark e. by_failure (Line lane op.Abort) AsyncCancelled;
     ends = λ lane q mark e. on_close lane q AsyncCancelled e;

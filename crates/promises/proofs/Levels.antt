@@ -24,7 +24,7 @@ use Rattle.requestor.specs.Session.{Session}
 use Rattle.scenario.specs.Plan.{Plan, WriterPlan}
 use Rattle.vss_model.specs.State.{State, SetRow, Kept, start, row_of_writer, in_progress, left_now}
 use Rattle.vss_model.specs.Ending.{Ending, NothingEnds, ending, concluded, followed, runs, failed_in, failed}
-use Rattle.vss_model.specs.Images.{Replied, put, reverted_as}
+use Rattle.vss_model.specs.Images.{put, reverted_as}
 use Rattle.vss_model.specs.Sessions.{begin_in, has_no_volume, closed}
 use Rattle.vss_model.specs.Steps.{answered, step_made, is_flush, is_failed_step, stepped_as, stepped, ticked, later}
 use Rattle.vss_model.specs.Acts.{Act, after, state}
@@ -34,6 +34,7 @@ use Rattle.promises.specs.Numbers.{timeout_in, timeout_of, HasItsNumbers}
 use Rattle.promises.specs.Way.{level_in, level_of}
 use Rattle.promises.proofs.Truth.{no_less}
 use Rattle.promises.proofs.Members.{one_on}
+use Rattle.vss_model.proofs.ByEvent.{by_if}
 
 -- members in the order of their writers, from w on, each once
 abbrev pub Ascends : ℕ → List Member → Type 0
@@ -172,10 +173,6 @@ module _ (l : ℕ → Level) (limit : ℕ → ℕ) where
   on_begin lane all None st h = h
   on_begin lane all (Some c) st h = h
 
-  either : (b : Bool) (x y : Replied) → Holds x.1 → Holds y.1 → Holds (if b then x else y).1
-  either true x y h i = h
-  either false x y h i = i
-
   on_closes : (q : Session) (st : State) → Holds st → Holds (closed q st)
   unfolding closed
   on_closes q st h = lev_released st.course h
@@ -187,8 +184,8 @@ module _ (l : ℕ → Level) (limit : ℕ → ℕ) where
     ticks = on_ticks;
     fails = λ why st h. on_failed_in (in_progress st) why st h;
     gathers = λ s q st e h. on_followed true _ st (lev_begun Gather _ [] st.clock _ (record { rows = rows_map row_gathered (λ r. (refl, refl)) 0 st.course.rows h.rows; members = h.members; distinct = h.distinct }));
-    prepares = λ s q st e h. either (has_no_volume (in_progress st)) _ _ h (on_followed true _ st (lev_begun Prepare _ [] st.clock _ (record { rows = h.rows; members = members_of_rows _ 0 st.course.rows h.rows; distinct = ascend_of_rows _ 0 st.course.rows })));
-    snapshots = λ q st e h. either (has_no_volume (in_progress st)) _ _ h (on_followed true _ st (lev_begun Snapshot st.course.members _ st.clock st.course h));
+    prepares = λ s q st e h. by_if (λ r. Holds r.1) (has_no_volume (in_progress st)) _ _ h (on_followed true _ st (lev_begun Prepare _ [] st.clock _ (record { rows = h.rows; members = members_of_rows _ 0 st.course.rows h.rows; distinct = ascend_of_rows _ 0 st.course.rows })));
+    snapshots = λ q st e h. by_if (λ r. Holds r.1) (has_no_volume (in_progress st)) _ _ h (on_followed true _ st (lev_begun Snapshot st.course.members _ st.clock st.course h));
     completes = λ q st e h. on_followed true _ st (lev_begun Complete _ [] st.clock st.course h);
     clears = λ s v b st h. h;
     deletes_set = λ n st h. h;

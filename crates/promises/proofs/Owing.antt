@@ -69,7 +69,7 @@ use Rattle.promises.proofs.Truth.{and_true, both_are, both_parts, equal, false_o
 use Rattle.promises.proofs.Scripts.{kept_test, kept_among}
 use Rattle.promises.proofs.Speaks.{deed_at, deed_in, said_at, Grows, made_now, lost_told, grows_answered, grows_stepped, grows_timed}
 use Rattle.promises.proofs.BusyAgendas.{course_followed}
-use Rattle.vss_model.proofs.ByEvent.{Covers, covered, after_enabled, after_not_enabled, some_same}
+use Rattle.vss_model.proofs.ByEvent.{Covers, covered, after_enabled, after_not_enabled, some_same, by_if}
 use Rattle.promises.proofs.CalmCourses.{calm_begun}
 use Rattle.promises.proofs.Clock.{write_ticks}
 use Rattle.promises.proofs.Progress.{stage_of, StandsAt, stands_all, is_opened, is_started, is_done as is_done_stage, snapshots}
@@ -561,10 +561,6 @@ module _ (s : Plan) (so_far : List Act) (i : Asking) (w : ℕ) where
         done_by q g stage (inr (inl t)) = own.1 (ap (λ (z : Course). z.agenda) (sym is) ∙ quiet_none x t.quiet)
         done_by q g stage (inr (inr t)) = absurd (never q (sym t.session ∙ g) stage)
 
-    either : (event : Event) (mark : Mark) (b : Bool) (x y : Replied) → Next event mark x → Next event mark y → Next event mark (if b then x else y)
-    either event mark true x y k j = k
-    either event mark false x y k j = j
-
     -- the session's stage
     at_stage : (q : Session) (t : Stage) → st.session ≡ Some q → q.stage ≡ t → (t ≡ stage_for i → ⊥) → (p : Session) → st.session ≡ Some p → p.stage ≡ stage_for i → ⊥
     at_stage q t e f never p g k = never (sym f ∙ ap (λ (z : Session). z.stage) (some_same q p (sym e ∙ g)) ∙ k)
@@ -678,9 +674,9 @@ module _ (s : Plan) (so_far : List Act) (i : Asking) (w : ℕ) where
       starts = λ lane q mark g e. tells_none lane op.Start mark (start_set q st).0 (start_set q st).1 refl refl
           (beside (start_set q st).1 refl (λ p f k. in_stage (session_started (new_number st) q) p Started f refl (not_started i) k));
       adds = λ lane v r q mark g e f. tells_none lane (op.Add v) mark Fine _ refl refl (same _ refl refl);
-      prepares = λ lane q mark g. either (Line lane op.Prepare) mark (has_no_volume (in_progress st)) (refused BadState st) _
+      prepares = λ lane q mark g. by_if (Next (Line lane op.Prepare) mark) (has_no_volume (in_progress st)) (refused BadState st) _
           (tells_none lane op.Prepare mark (Coded BadState) st refl (not_asked op.Prepare (Coded BadState) (λ e. refl)) h) (on_prepares lane q mark g (asks op.Prepare i) refl);
-      snapshots = λ lane q mark g. either (Line lane op.Snapshot) mark (has_no_volume (in_progress st)) (refused BadState st) _ (tells_none lane op.Snapshot mark (Coded BadState) st refl refl h)
+      snapshots = λ lane q mark g. by_if (Next (Line lane op.Snapshot) mark) (has_no_volume (in_progress st)) (refused BadState st) _ (tells_none lane op.Snapshot mark (Coded BadState) st refl refl h)
           (begins_other lane op.Snapshot mark Snapshot st.course.members _ st.course refl refl (λ e. not_snapshot i e)
           (begun_turn s so_far _ (calm_begun Snapshot st.course.members _ st.clock st.course))
           (to_stage q Done g.stands (snapshots q.context q.stage g.allowed) (not_done i)));

@@ -51,7 +51,7 @@ use Rattle.promises.specs.Rows.{row_fails, set_fails, row_said, at_rest, row_tol
 use Rattle.promises.proofs.Truth.{both_parts, equal, false_of, not_both, or_false}
 use Rattle.promises.proofs.CourseRows.{Becomes, as_it_is, and_told, same_rows, rows_map_are, rise_failed, stay_begun, say_to, refuses, comes_answered, Comes, stay_stepped, rise_stepped, lost_by, PassesOrFails, over_timed}
 use Rattle.promises.proofs.BusyAgendas.{IsBusy, busy_order, busy_step, busy_set, course_followed}
-use Rattle.vss_model.proofs.ByEvent.{Covers, ChangesNothing, covered, after_enabled}
+use Rattle.vss_model.proofs.ByEvent.{Covers, ChangesNothing, covered, after_enabled, by_if}
 use Rattle.promises.proofs.Failing.{fails_for_cause, same_consent, same_veto, refused_fails, falls, followed_sets, failed_fails, write_fails}
 use Rattle.promises.proofs.Limits.{timed_fails}
 use Rattle.promises.proofs.Times.{late_is_due}
@@ -415,10 +415,6 @@ module _ (s : Plan) (so_far : List Act) where
       by_end q (failed AsyncCancelled st) (by_abort (in_progress st) AsyncCancelled refl) w r f
       ∙ ap Some (over_by (falls_in (closed q (failed AsyncCancelled st)) && is_member st.course.members w) true r)
 
-  either : (event : Event) (mark : Mark) (b : Bool) (x y : Replied) → Next event mark x → Next event mark y → Next event mark (if b then x else y)
-  either event mark true x y h i = h
-  either event mark false x y h i = i
-
   changes : Covers Next s st
   changes = record {
     stays = λ lane o mark told e f i. same_line lane o told st e (asks_none lane o told f) (ends_none lane o told f) refl refl;
@@ -434,9 +430,9 @@ module _ (s : Plan) (so_far : List Act) where
     names = λ lane w full q explicit mark g named i. same_line lane (op.Component w full) Fine _ refl refl refl refl refl;
     starts = λ lane q mark g e i. by_line lane op.Start (start_set q st).0 _ refl refl refl (told_none as_it_is _ (no_cause (Line lane op.Start) mark _ i refl) (same_rows rows));
     adds = λ lane v r q mark g e f i. by_line lane (op.Add v) Fine _ refl refl refl (told_none as_it_is _ (no_cause (Line lane (op.Add v)) mark _ i refl) (same_rows rows));
-    prepares = λ lane q mark g. either (Line lane op.Prepare) mark (has_no_volume (in_progress st)) (refused BadState st) _ (λ i. same_line lane op.Prepare (Coded BadState) st refl refl refl refl refl)
+    prepares = λ lane q mark g. by_if (Next (Line lane op.Prepare) mark) (has_no_volume (in_progress st)) (refused BadState st) _ (λ i. same_line lane op.Prepare (Coded BadState) st refl refl refl refl refl)
         (λ i. by_line lane op.Prepare (Coded AsyncPending) _ refl refl refl (quiet_course as_it_is (Line lane op.Prepare) mark true _ st refl (stay_begun as_it_is Prepare _ _ st.clock st.course _ (same_rows rows)) i));
-    snapshots = λ lane q mark g. either (Line lane op.Snapshot) mark (has_no_volume (in_progress st)) (refused BadState st) _ (λ i. same_line lane op.Snapshot (Coded BadState) st refl refl refl refl refl)
+    snapshots = λ lane q mark g. by_if (Next (Line lane op.Snapshot) mark) (has_no_volume (in_progress st)) (refused BadState st) _ (λ i. same_line lane op.Snapshot (Coded BadState) st refl refl refl refl refl)
         (λ i. by_line lane op.Snapshot (Coded AsyncPending) _ refl refl refl (quiet_course as_it_is (Line lane op.Snapshot) mark true _ st refl (stay_begun as_it_is Snapshot _ _ st.clock st.course _ (same_rows rows)) i));
     completes = λ lane q mark g i. by_line lane op.Complete (Coded AsyncPending) _ refl refl refl (quiet_course as_it_is (Line lane op.Complete) mark true _ st refl (stay_begun as_it_is Complete _ _ st.clock st.course _ (same_rows rows)) i);
     aborts = λ lane q mark e i. by_line lane op.Abort Fine _ refl refl refl (by_abort (in_progress st) AsyncCancelled refl);

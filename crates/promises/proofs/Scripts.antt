@@ -48,7 +48,7 @@ use Rattle.promises.specs.Scripted.{is_owed, is_asked_anew, asked_from, times_as
 use Rattle.promises.specs.Way.{Deed}
 use Rattle.promises.proofs.Truth.{both_are, both_parts, equal, left_part, not_itself, right_part, same_number}
 use Rattle.promises.proofs.BusyAgendas.{course_followed}
-use Rattle.vss_model.proofs.ByEvent.{Covers, covered, after_enabled, after_not_enabled}
+use Rattle.vss_model.proofs.ByEvent.{Covers, covered, after_enabled, after_not_enabled, by_if}
 use Rattle.promises.proofs.Heard.{same_group}
 use Rattle.promises.proofs.Speaks.{Grows, grows_answered, grows_stepped, grows_timed}
 use Rattle.promises.proofs.Stages.{failed_stays, closed_stays, grown, new_log}
@@ -442,10 +442,6 @@ module _ (s : Plan) (w : ℕ) (o : Order) (st : State) where
       → To (followed true (begun k ms vs st.clock c) st).course
   begins k ms vs c e f g = on_followed true (begun k ms vs st.clock c) st (asks_begun w o k ms vs st.clock st.course c (none_runs st.course.agenda e) (f ∙ none_runs st.course.agenda e) g)
 
-  either : (b : Bool) (x y : Replied) → To x.1.course → To y.1.course → To (if b then x else y).1.course
-  either true x y h i = h
-  either false x y h i = i
-
   every_act : Covers Next s st
   every_act = record {
     stays = λ lane p mark said e f. as_it_was;
@@ -460,8 +456,8 @@ module _ (s : Plan) (w : ℕ) (o : Order) (st : State) where
     names = λ lane u full q explicit mark g named. as_it_was;
     starts = λ lane q mark g e. as_it_was;
     adds = λ lane v r q mark g e f. as_it_was;
-    prepares = λ lane q mark g. either (has_no_volume (in_progress st)) (refused BadState st) _ as_it_was (begins kind.Prepare _ [] (record st.course { members = _ }) g.quiet refl refl);
-    snapshots = λ lane q mark g. either (has_no_volume (in_progress st)) (refused BadState st) _ as_it_was (begins kind.Snapshot st.course.members _ st.course g.quiet refl refl);
+    prepares = λ lane q mark g. by_if (λ r. To r.1.course) (has_no_volume (in_progress st)) (refused BadState st) _ as_it_was (begins kind.Prepare _ [] (record st.course { members = _ }) g.quiet refl refl);
+    snapshots = λ lane q mark g. by_if (λ r. To r.1.course) (has_no_volume (in_progress st)) (refused BadState st) _ as_it_was (begins kind.Snapshot st.course.members _ st.course g.quiet refl refl);
     completes = λ lane q mark g. begins kind.Complete _ [] st.course g.quiet refl refl;
     aborts = λ lane q mark e. on_failed (in_progress st) AsyncCancelled st refl;
     ends = λ lane q mark e. on_end q;

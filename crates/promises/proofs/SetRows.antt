@@ -30,7 +30,7 @@ use Rattle.vss_model.proofs.OrderlyActs.{orderly}
 use Rattle.vss_model.proofs.Rows.{found_above}
 use Rattle.promises.specs.Ends.{IsLaterRow, HasLaterRow, KeepsRows}
 use Rattle.promises.proofs.Truth.{equal, left_part}
-use Rattle.vss_model.proofs.ByEvent.{Covers, covered, after_enabled, after_not_enabled, some_same}
+use Rattle.vss_model.proofs.ByEvent.{Covers, covered, after_enabled, after_not_enabled, some_same, by_if}
 use Rattle.vss_model.proofs.CutAppend.{append_nothing}
 use Rattle.promises.proofs.Members.{still_less}
 
@@ -211,10 +211,6 @@ module _ (s : Plan) (st : State) (num : NumberedFrom 1 st.sets) where
   abbrev RowsGoOn : Event → Mark → Replied → Type 0
   RowsGoOn event mark x = GoOn st.sets x.1.sets
 
-  either : (b : Bool) (x y : Replied) → GoOn st.sets x.1.sets → GoOn st.sets y.1.sets → GoOn st.sets (if b then x else y).1.sets
-  either true x y g h = g
-  either false x y g h = h
-
   rows_go_on : Covers RowsGoOn s st
   rows_go_on = record {
     stays = λ lane o mark told e f. go_on_same st.sets;
@@ -229,8 +225,8 @@ module _ (s : Plan) (st : State) (num : NumberedFrom 1 st.sets) where
     names = λ lane w full q explicit mark g named. go_on_same st.sets;
     starts = λ lane q mark g e. go_on_more st.sets (new_set (new_number st) q.context);
     adds = λ lane v r q mark g e f. changed_in_progress 1 (with_volume v) st.sets r num e (more_volumes v);
-    prepares = λ lane q mark g. either (has_no_volume (in_progress st)) _ _ (go_on_same st.sets) (in_followed true _ st (go_on_same st.sets));
-    snapshots = λ lane q mark g. either (has_no_volume (in_progress st)) _ _ (go_on_same st.sets) (in_followed true _ st (go_on_same st.sets));
+    prepares = λ lane q mark g. by_if (λ r. GoOn st.sets r.1.sets) (has_no_volume (in_progress st)) _ _ (go_on_same st.sets) (in_followed true _ st (go_on_same st.sets));
+    snapshots = λ lane q mark g. by_if (λ r. GoOn st.sets r.1.sets) (has_no_volume (in_progress st)) _ _ (go_on_same st.sets) (in_followed true _ st (go_on_same st.sets));
     completes = λ lane q mark g. in_followed true _ st (go_on_same st.sets);
     aborts = λ lane q mark e. in_failed (in_progress st) AsyncCancelled st (go_on_same st.sets);
     ends = λ lane q mark e. in_closed q (failed AsyncCancelled st) (in_failed (in_progress st) AsyncCancelled st (go_on_same st.sets));

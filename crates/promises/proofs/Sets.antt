@@ -29,7 +29,7 @@ use Rattle.vss_model.proofs.Appending.{state-append}
 use Rattle.vss_model.proofs.OrderlyActs.{orderly}
 use Rattle.vss_model.proofs.Rows.{row_running}
 use Rattle.promises.specs.Sets.{VolumesAreDistinct}
-use Rattle.vss_model.proofs.ByEvent.{Covers, covered, after_enabled, after_not_enabled, some_same}
+use Rattle.vss_model.proofs.ByEvent.{Covers, covered, after_enabled, after_not_enabled, some_same, by_if}
 use Rattle.vss_model.proofs.Orderly.{other_way}
 use Rattle.promises.proofs.Members.{still_less}
 
@@ -194,10 +194,6 @@ module _ (s : Plan) (st : State) (num : NumberedFrom 1 st.sets) (h : AllDistinct
   abbrev Distinct : Event → Mark → Replied → Type 0
   Distinct event mark x = AllDistinct x.1.sets
 
-  either : (b : Bool) (x y : Replied) → AllDistinct x.1.sets → AllDistinct y.1.sets → AllDistinct (if b then x else y).1.sets
-  either true x y d e = d
-  either false x y d e = e
-
   on_add : (v : ℕ) (r : SetRow) → in_progress st ≡ Some r → add_refusal v r st ≡ None → AllDistinct (map (row_changed r.number (with_volume v)) st.sets)
   on_add v r e f = added 1 st.sets r v num (row_running 1 st.sets r num e) (not_in_set (is_in_set v (Some r)) (nat_le most_volumes (length r.volumes)) (nat_le most_images (length (history_of st v).images)) ObjectAlreadyExists MaximumNumberOfVolumesReached MaximumNumberOfSnapshotsReached f) h
 
@@ -215,8 +211,8 @@ module _ (s : Plan) (st : State) (num : NumberedFrom 1 st.sets) (h : AllDistinct
     names = λ lane w full q explicit mark g named. h;
     starts = λ lane q mark g e. distinct_append st.sets (new_set (new_number st) q.context) h refl;
     adds = λ lane v r q mark g e f. on_add v r e f;
-    prepares = λ lane q mark g. either (has_no_volume (in_progress st)) _ _ h (in_followed true _ st h);
-    snapshots = λ lane q mark g. either (has_no_volume (in_progress st)) _ _ h (in_followed true _ st h);
+    prepares = λ lane q mark g. by_if (λ r. AllDistinct r.1.sets) (has_no_volume (in_progress st)) _ _ h (in_followed true _ st h);
+    snapshots = λ lane q mark g. by_if (λ r. AllDistinct r.1.sets) (has_no_volume (in_progress st)) _ _ h (in_followed true _ st h);
     completes = λ lane q mark g. in_followed true _ st h;
     aborts = λ lane q mark e. in_failed (in_progress st) AsyncCancelled st h;
     ends = λ lane q mark e. in_closed q (failed AsyncCancelled st) (in_failed (in_progress st) AsyncCancelled st h);

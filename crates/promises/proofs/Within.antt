@@ -38,7 +38,7 @@ use Rattle.vss_model.proofs.CourseCalls.{asked_if, asked_waits}
 use Rattle.vss_model.proofs.LogRule.{Running, unspoken}
 use Rattle.promises.specs.Within.{StandsWithinLimits}
 use Rattle.promises.proofs.Truth.{false_of}
-use Rattle.vss_model.proofs.ByEvent.{Covers, covered, after_enabled, after_not_enabled}
+use Rattle.vss_model.proofs.ByEvent.{Covers, covered, after_enabled, after_not_enabled, by_if}
 use Rattle.promises.proofs.Clock.{clock-made}
 use Rattle.promises.proofs.Limits.{is_due_in, due_in, spent_runs}
 use Rattle.promises.proofs.Speaks.{Speaks, now_group, head_waits}
@@ -258,10 +258,6 @@ module _ (s : Plan) (st : State) (h : InTimeNow st) where
   abbrev Next : Event → Mark → Replied → Type 0
   Next event mark x = InTimeNow x.1
 
-  either : (b : Bool) (x y : Replied) → InTimeNow x.1 → InTimeNow y.1 → InTimeNow (if b then x else y).1
-  either true x y d e = d
-  either false x y d e = e
-
   in_time : Covers Next s st
   in_time = record {
     stays = λ lane o mark told e f. h;
@@ -276,8 +272,8 @@ module _ (s : Plan) (st : State) (h : InTimeNow st) where
     names = λ lane w full q explicit mark g named. h;
     starts = λ lane q mark g e. h;
     adds = λ lane v r q mark g e f. h;
-    prepares = λ lane q mark g. either (has_no_volume (in_progress st)) _ _ h (followed_in_time true _ st (keeps_begun _ _ _ st.clock _));
-    snapshots = λ lane q mark g. either (has_no_volume (in_progress st)) _ _ h (followed_in_time true _ st (keeps_begun _ _ _ st.clock _));
+    prepares = λ lane q mark g. by_if (λ r. InTimeNow r.1) (has_no_volume (in_progress st)) _ _ h (followed_in_time true _ st (keeps_begun _ _ _ st.clock _));
+    snapshots = λ lane q mark g. by_if (λ r. InTimeNow r.1) (has_no_volume (in_progress st)) _ _ h (followed_in_time true _ st (keeps_begun _ _ _ st.clock _));
     completes = λ lane q mark g. followed_in_time true _ st (keeps_begun _ _ _ st.clock _);
     aborts = λ lane q mark e. failed_in_time (in_progress st) AsyncCancelled st h;
     ends = λ lane q mark e. on_close q (failed AsyncCancelled st);

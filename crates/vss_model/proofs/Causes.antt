@@ -41,7 +41,7 @@ use Rattle.vss_model.specs.declared.event.Event.{Event}
 use Rattle.vss_model.specs.declared.event.Event.TheVariants.{Line, Answer as AnswerEvent, Provider, Idle}
 use Rattle.vss_model.specs.State.{State, SetRow, Kept, in_progress, row_of, row_changed, left_now, kept_image}
 use Rattle.vss_model.specs.Ending.{ending, concluded, followed, runs}
-use Rattle.vss_model.specs.Images.{Replied, cleared, set_loses_image, with_room_if, put, write, image_block, image_blocks, properties, delete_set, delete_kept, delete_image, revert_refusal, reverted_as, revert_to, revert}
+use Rattle.vss_model.specs.Images.{cleared, set_loses_image, with_room_if, put, write, image_block, image_blocks, properties, delete_set, delete_kept, delete_image, revert_refusal, reverted_as, revert_to, revert}
 use Rattle.vss_model.specs.Sessions.{begin_in, new_set, new_number, with_volume, named_as, component_in, known_metas, add_refusal, add_to, add, has_no_volume, await_last, line_in, session_line, judged}
 use Rattle.vss_model.specs.Steps.{with_cut, row_cut, cut_set, step_made, is_flush, is_failed_step, answered, stepped_as, stepped, ticked, later}
 use Rattle.vss_model.specs.Lines.{called, line}
@@ -53,6 +53,7 @@ use Rattle.vss_model.proofs.Appending.{state-append}
 use Rattle.vss_model.proofs.Failures.{failed_not_live}
 use Rattle.vss_model.proofs.Orderly.{live-map, live-settled, live_append, live_found, true_not_false}
 use Rattle.vss_model.proofs.OrderlyActs.{orderly, same_changed}
+use Rattle.vss_model.proofs.ByEvent.{by_if}
 
 -- ## courses
 
@@ -267,10 +268,6 @@ module _ (n : ℕ) where
   live_properties s v None st h = h
   live_properties s v (Some x) st h = h
 
-  either : (b : Bool) (x y : Replied) → IsLive n x.1 → IsLive n y.1 → IsLive n (if b then x else y).1
-  either true x y h i = h
-  either false x y h i = i
-
   live_delete_kept : (v : ℕ) (kept : Option Kept) (st : State) → IsLive n st → IsLive n (delete_kept v kept st).1
   live_delete_kept v None st h = h
   live_delete_kept v (Some x) st h = h
@@ -281,7 +278,7 @@ module _ (n : ℕ) where
 
   live_delete_set : (m : ℕ) (st : State) → IsLive n st → IsLive n (delete_set m st).1
   unfolding delete_set
-  live_delete_set m st h = either _ _ _ h h
+  live_delete_set m st h = by_if (λ r. IsLive n r.1) _ _ _ h h
 
   live_reverted : (s : Plan) (v : ℕ) (k : Kept) (mark : Mark) (st : State) → IsLive n st → IsLive n (reverted_as s v k mark st).1
   live_reverted s v k Clean st h = h
@@ -342,8 +339,8 @@ module _ (n : ℕ) where
   live_session_line s lane (Component w full) q st e f h = live_component q.mode s w (token s full) st h
   live_session_line s lane Start q st e f h = live_append st.sets (new_set (new_number st) q.context) n h
   live_session_line s lane (Add v) q st e f h = live_add v (in_progress st) st h
-  live_session_line s lane PrepareLine q st e f h = either (has_no_volume (in_progress st)) _ _ h (live_followed true _ st (none_begun Prepare _ [] st.clock _ f) h)
-  live_session_line s lane SnapshotLine q st e f h = either (has_no_volume (in_progress st)) _ _ h (live_followed true _ st (none_begun Snapshot st.course.members _ st.clock st.course f) h)
+  live_session_line s lane PrepareLine q st e f h = by_if (λ r. IsLive n r.1) (has_no_volume (in_progress st)) _ _ h (live_followed true _ st (none_begun Prepare _ [] st.clock _ f) h)
+  live_session_line s lane SnapshotLine q st e f h = by_if (λ r. IsLive n r.1) (has_no_volume (in_progress st)) _ _ h (live_followed true _ st (none_begun Snapshot st.course.members _ st.clock st.course f) h)
   live_session_line s lane Await q st e f h = live_await q.last st h
   live_session_line s lane CompleteLine q st e f h = live_followed true _ st (none_begun Complete _ [] st.clock _ f) h
   live_session_line s lane Abort q st e f h = absurd cc

@@ -28,14 +28,14 @@ use Rattle.scenario.specs.Plan.{Plan, blocks_of}
 use Rattle.writer_calls.specs.Script.{said_of}
 use Rattle.vss_model.specs.State.{State, SetRow, Kept, is_complete, in_progress, row_of, row_changed, history_of, left_now, has_image, kept_if, kept_of, kept_image}
 use Rattle.vss_model.specs.Ending.{Ending, NothingEnds, ending, concluded, followed, runs, failed_in, failed}
-use Rattle.vss_model.specs.Images.{Replied, cleared, has_lost_image, set_loses_image, with_room_if, put, write, reverted_as, is_in_set}
+use Rattle.vss_model.specs.Images.{cleared, has_lost_image, set_loses_image, with_room_if, put, write, reverted_as, is_in_set}
 use Rattle.vss_model.specs.Sessions.{begin_in, new_set, new_number, start_set, change_set, with_volume, has_no_volume, closed}
 use Rattle.vss_model.specs.Steps.{answered, cut_if as image_cut_if, cut_each, with_cut, row_cut, cut_set, is_flush, is_failed_step, stepped_as, stepped, ticked, later}
 use Rattle.vss_model.specs.Acts.{idle_now, Act, after, state}
 use Rattle.vss_model.specs.Cut.{is_cut_group}
 use Rattle.vss_model.specs.Facts.{NumberedFrom, has_failed}
 use Rattle.vss_model.proofs.Appending.{state-append}
-use Rattle.vss_model.proofs.ByEvent.{Covers, Next, after_covered, some_same}
+use Rattle.vss_model.proofs.ByEvent.{Covers, Next, after_covered, some_same, by_if}
 use Rattle.vss_model.proofs.Rule.{no_set_of}
 use Rattle.vss_model.proofs.Orderly.{true_not_false, other_way}
 use Rattle.vss_model.proofs.OrderlyActs.{Moves, MovesOn, moves_answered, moves_stepped, moves_timed, ending_on, orderly}
@@ -405,10 +405,6 @@ imaged_end : (q : Session) (st : State) → IsImaged (closed q st)
 unfolding closed released
 imaged_end q st r e m = absurd m
 
-imaged_either : (b : Bool) (x y : Replied) → IsImaged x.1 → IsImaged y.1 → IsImaged (if b then x else y).1
-imaged_either true x y h i = h
-imaged_either false x y h i = i
-
 imaged_at : (s : Plan) (st : State) → NumberedFrom 1 st.sets → IsImaged st → Covers (Next IsImaged) s st
 imaged_at s st o h = record {
   stays = λ lane op mark told e c. h;
@@ -426,8 +422,8 @@ imaged_at s st o h = record {
   ends = λ lane q mark f. imaged_end q (failed AsyncCancelled st);
   begins = λ lane m all c mark g f. imaged_begin lane all (Some c) st h;
   gathers = λ lane q mark g. imaged_begun Gather _ [] st.clock _ st;
-  prepares = λ lane q mark g. imaged_either (has_no_volume (in_progress st)) _ _ h (imaged_begun Prepare _ [] st.clock _ st);
-  snapshots = λ lane q mark g. imaged_either (has_no_volume (in_progress st)) _ _ h (imaged_begun Snapshot st.course.members _ st.clock st.course st);
+  prepares = λ lane q mark g. by_if (λ r. IsImaged r.1) (has_no_volume (in_progress st)) _ _ h (imaged_begun Prepare _ [] st.clock _ st);
+  snapshots = λ lane q mark g. by_if (λ r. IsImaged r.1) (has_no_volume (in_progress st)) _ _ h (imaged_begun Snapshot st.course.members _ st.clock st.course st);
   completes = λ lane q mark g. imaged_begun Complete _ [] st.clock _ st;
   answers = λ w answer mark g. imaged_answers w (said_of answer) st h;
   steps = λ mark g. imaged_step (is_cut_group (open_group (left_now st))) mark st refl g h;
@@ -503,10 +499,6 @@ module _ (n : ℕ) (vs : List ℕ) where
   unfolding closed
   done_end q x h = inl h
 
-  done_either : (b : Bool) (x y : Replied) → Done n vs x.1 → Done n vs y.1 → Done n vs (if b then x else y).1
-  done_either true x y h i = h
-  done_either false x y h i = i
-
   done_answers : (w : ℕ) (said : Said) (st : State) → st.course.outcome ≡ RunningSet → has_complete st.sets n ≡ false → (Made st.course.agenda → Imaged n vs st.volumes) → Done n vs (answered w said st)
   unfolding answered
   done_answers w said st run h images =
@@ -580,8 +572,8 @@ done_at s st r e run h images =
       ends = λ lane q mark f. done_end n us q (failed AsyncCancelled st) (done_failed n us (in_progress st) AsyncCancelled st h);
       begins = λ lane m all c mark g f. done_begin n us lane all (Some c) st h;
       gathers = λ lane q mark g. done_begun n us Gather _ [] st.clock _ st run h;
-      prepares = λ lane q mark g. done_either n us (has_no_volume (in_progress st)) _ _ (inl h) (done_begun n us Prepare _ [] st.clock _ st run h);
-      snapshots = λ lane q mark g. done_either n us (has_no_volume (in_progress st)) _ _ (inl h) (done_begun n us Snapshot st.course.members _ st.clock st.course st run h);
+      prepares = λ lane q mark g. by_if (λ r. Done n us r.1) (has_no_volume (in_progress st)) _ _ (inl h) (done_begun n us Prepare _ [] st.clock _ st run h);
+      snapshots = λ lane q mark g. by_if (λ r. Done n us r.1) (has_no_volume (in_progress st)) _ _ (inl h) (done_begun n us Snapshot st.course.members _ st.clock st.course st run h);
       completes = λ lane q mark g. done_begun n us Complete _ [] st.clock _ st run h;
       answers = λ w answer mark g. done_answers n us w (said_of answer) st run h images;
       steps = λ mark g. done_step (is_cut_group (open_group (left_now st))) r mark st refl g e run h images;

@@ -26,13 +26,14 @@ use Rattle.scenario.specs.Bounds.{IsPlan}
 use Rattle.scenario.specs.Plan.{Plan}
 use Rattle.vss_model.specs.State.{State, SetRow, Kept, start, in_progress, is_running, row_changed, row_of_writer}
 use Rattle.vss_model.specs.Ending.{Ending, NothingEnds, SetFails, ending, row_settled, concluded, followed, runs, failed_in, failed}
-use Rattle.vss_model.specs.Images.{Replied, is_in_set, put, reverted_as}
+use Rattle.vss_model.specs.Images.{is_in_set, put, reverted_as}
 use Rattle.vss_model.specs.Sessions.{begin_in, new_set, new_number, with_volume, add_refusal, has_no_volume, closed}
 use Rattle.vss_model.specs.Steps.{with_cut, row_cut, cut_set, step_made, answered, stepped_as, stepped, ticked, later}
 use Rattle.vss_model.specs.Acts.{Act, after, state}
 use Rattle.vss_model.specs.Laws.{IsKeptByChanges, IsKeptByWrites}
 use Rattle.set_agenda.proofs.CourseRule.{IsKeptInCourse, course_answered, course_stepped, course_timed, course_begun}
 use Rattle.vss_model.proofs.Rule.{on_after}
+use Rattle.vss_model.proofs.ByEvent.{by_if}
 
 -- ## writers
 
@@ -234,10 +235,6 @@ on_begins : (lane : ℕ) (all : Bool) (c : Option Context) (st : State) → IsFe
 on_begins lane all None st h = h
 on_begins lane all (Some c) st h = record { writers = h.writers; volumes = h.volumes }
 
-either_few : (b : Bool) (x y : Replied) → IsFew x.1 → IsFew y.1 → IsFew (if b then x else y).1
-either_few true x y h i = h
-either_few false x y h i = i
-
 on_closes : (q : Session) (st : State) → IsFew st → IsFew (closed q st)
 unfolding closed
 on_closes q st h = record { writers = few_released st.course h.writers; volumes = h.volumes }
@@ -255,8 +252,8 @@ kept_by_changes = record {
   ticks = on_ticks;
   fails = λ why st h. on_failed_in (in_progress st) why st h;
   gathers = λ s q st e h. few_followed true _ st (few_begun Gather _ [] st.clock _ (few_gathered st.course h.writers)) h.volumes;
-  prepares = λ s q st e h. either_few (has_no_volume (in_progress st)) _ _ h (few_followed true _ st (few_begun Prepare _ [] st.clock _ (few_prepared _ st.course h.writers)) h.volumes);
-  snapshots = λ q st e h. either_few (has_no_volume (in_progress st)) _ _ h (few_followed true _ st (few_begun Snapshot st.course.members _ st.clock st.course h.writers) h.volumes);
+  prepares = λ s q st e h. by_if (λ r. IsFew r.1) (has_no_volume (in_progress st)) _ _ h (few_followed true _ st (few_begun Prepare _ [] st.clock _ (few_prepared _ st.course h.writers)) h.volumes);
+  snapshots = λ q st e h. by_if (λ r. IsFew r.1) (has_no_volume (in_progress st)) _ _ h (few_followed true _ st (few_begun Snapshot st.course.members _ st.clock st.course h.writers) h.volumes);
   completes = λ q st e h. few_followed true _ st (few_begun Complete _ [] st.clock _ h.writers) h.volumes;
   clears = λ s v b st h. record { writers = h.writers; volumes = h.volumes };
   deletes_set = λ n st h. record { writers = h.writers; volumes = h.volumes };

@@ -17,13 +17,13 @@ use Rattle.scenario.specs.Plan.{Plan}
 use Rattle.writer_calls.specs.Script.{said_of}
 use Rattle.vss_model.specs.State.{State, SetRow, Kept, in_progress, row_of, left_now, is_held, is_frozen}
 use Rattle.vss_model.specs.Ending.{Ending, NothingEnds, ending, concluded, followed, runs, failed_in, failed}
-use Rattle.vss_model.specs.Images.{Replied, cleared, set_loses_image, with_room_if, put, write, reverted_as}
+use Rattle.vss_model.specs.Images.{cleared, set_loses_image, with_room_if, put, write, reverted_as}
 use Rattle.vss_model.specs.Sessions.{begin_in, new_set, new_number, with_volume, has_no_volume, closed}
 use Rattle.vss_model.specs.Steps.{answered, is_flush, is_failed_step, stepped_as, stepped, ticked, later}
 use Rattle.vss_model.specs.Acts.{idle_now, Act, after, state}
 use Rattle.vss_model.specs.Facts.{NumberedFrom, IsOfSession, has_failed, is_live}
 use Rattle.vss_model.proofs.Appending.{state-append}
-use Rattle.vss_model.proofs.ByEvent.{Covers, Next, after_covered}
+use Rattle.vss_model.proofs.ByEvent.{Covers, Next, after_covered, by_if}
 use Rattle.vss_model.proofs.Orderly.{live-map, live_append, live_found, true_not_false}
 use Rattle.vss_model.proofs.OrderlyActs.{Moves, MovesOn, moves_answered, moves_stepped, moves_timed, ending_idle, ending_on, orderly, same_changed}
 use Rattle.vss_model.proofs.Failures.{failed_not_live}
@@ -93,10 +93,6 @@ module _ (n : ℕ) where
   unfolding closed released
   idle_end q st = inr refl
 
-  either : (b : Bool) (x y : Replied) → LiveOrIdle n x.1 → LiveOrIdle n y.1 → LiveOrIdle n (if b then x else y).1
-  either true x y h i = h
-  either false x y h i = i
-
   idle_at : (s : Plan) (st : State) (r : SetRow) → in_progress st ≡ Some r → Fails st.course ≡ false → is_live st.sets n ≡ true → Covers (Next (LiveOrIdle n)) s st
   idle_at s st r e f h = record {
     stays = λ lane op mark told i c. inl h;
@@ -114,8 +110,8 @@ module _ (n : ℕ) where
     ends = λ lane q mark i. idle_end q (failed AsyncCancelled st);
     begins = λ lane m all c mark g i. idle_begin lane all (Some c) st h;
     gathers = λ lane q mark g. inl (live_followed n true _ st (none_begun Gather _ [] st.clock _ f) h);
-    prepares = λ lane q mark g. either (has_no_volume (in_progress st)) _ _ (inl h) (inl (live_followed n true _ st (none_begun Prepare _ [] st.clock _ f) h));
-    snapshots = λ lane q mark g. either (has_no_volume (in_progress st)) _ _ (inl h) (inl (live_followed n true _ st (none_begun Snapshot st.course.members _ st.clock st.course f) h));
+    prepares = λ lane q mark g. by_if (λ r. LiveOrIdle n r.1) (has_no_volume (in_progress st)) _ _ (inl h) (inl (live_followed n true _ st (none_begun Prepare _ [] st.clock _ f) h));
+    snapshots = λ lane q mark g. by_if (λ r. LiveOrIdle n r.1) (has_no_volume (in_progress st)) _ _ (inl h) (inl (live_followed n true _ st (none_begun Snapshot st.course.members _ st.clock st.course f) h));
     completes = λ lane q mark g. inl (live_followed n true _ st (none_begun Complete _ [] st.clock _ f) h);
     answers = λ w answer mark g. idle_answers w (said_of answer) st h;
     steps = λ mark g. idle_steps mark st g f h;

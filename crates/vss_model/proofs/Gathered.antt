@@ -35,14 +35,14 @@ use Rattle.scenario.specs.Plan.{token, Plan, WriterPlan}
 use Rattle.writer_calls.specs.Script.{said_of}
 use Rattle.vss_model.specs.State.{State, SetRow, Kept, start, in_progress, left_now}
 use Rattle.vss_model.specs.Ending.{Ending, NothingEnds, AgendaEnds, SetFails, ending, concluded, followed, runs, failed_in, failed}
-use Rattle.vss_model.specs.Images.{Replied, cleared, set_loses_image, with_room_if, put, write, reverted_as}
+use Rattle.vss_model.specs.Images.{cleared, set_loses_image, with_room_if, put, write, reverted_as}
 use Rattle.vss_model.specs.Sessions.{begin_in, disable, has_failed_identify, has_no_volume, start_set, change_set, with_volume, selected_in, is_known, meta_if, known_from, known_metas, closed}
 use Rattle.vss_model.specs.Steps.{answered, cut_set, step_made, is_flush, is_failed_step, stepped_as, stepped, ticked, later}
 use Rattle.vss_model.specs.Acts.{idle_now, Act, after, state}
 use Rattle.vss_model.specs.Laws.{LetsGo}
 use Rattle.vss_model.specs.Facts.{WaitsFor, IsAgendaOf}
 use Rattle.vss_model.proofs.OrderlyActs.{orderly}
-use Rattle.vss_model.proofs.ByEvent.{Covers, Next, after_covered}
+use Rattle.vss_model.proofs.ByEvent.{Covers, Next, after_covered, by_if}
 use Rattle.vss_model.proofs.Rows.{none_runs}
 use Rattle.vss_model.proofs.Orderly.{true_not_false}
 use Rattle.vss_model.proofs.LogRule.{unspoken, course-step_made}
@@ -508,10 +508,6 @@ on_begin s lane all None st e h = h
 on_begin s lane all (Some c) st e (inl h) = inl (record { explicit = refl; members = h.members; agenda = h.agenda })
 on_begin s lane all (Some c) st e (inr h) = absurd (subst LateIn e h.late)
 
-either : (s : Plan) (b : Bool) (x y : Replied) → NamesKnown s x.1 → NamesKnown s y.1 → NamesKnown s (if b then x else y).1
-either s true x y h i = h
-either s false x y h i = i
-
 on_gather : (s : Plan) (q : Session) (ms : List Member) (c : Course) (st : State) → LetsGo call.Gather q st → c.members ≡ st.course.members → NamesKnown s st → NamesKnown s (followed true (begun Gather ms [] st.clock c) st)
 on_gather s q ms c st g e (inl h) = inl (bare_begun Gather ms [] st.clock c st (e ∙ h.members) (inl refl) h)
 on_gather s q ms c st g e (inr h) = absurd (opened_not_late q.stage (has_writers q.context) g.allowed (late_at st.session q g.stands h.late))
@@ -558,8 +554,8 @@ kept_at s st h = record {
   ends = λ lane q mark f. on_end s q (failed AsyncCancelled st);
   begins = λ lane m all c mark g f. on_begin s lane all (Some c) st g h;
   gathers = λ lane q mark g. on_gather s q _ _ st g refl h;
-  prepares = λ lane q mark g. either s (has_no_volume (in_progress st)) _ _ h (on_prepare s q st g h);
-  snapshots = λ lane q mark g. either s (has_no_volume (in_progress st)) _ _ h (on_all s Snapshot _ st refl h);
+  prepares = λ lane q mark g. by_if (λ r. NamesKnown s r.1) (has_no_volume (in_progress st)) _ _ h (on_prepare s q st g h);
+  snapshots = λ lane q mark g. by_if (λ r. NamesKnown s r.1) (has_no_volume (in_progress st)) _ _ h (on_all s Snapshot _ st refl h);
   completes = λ lane q mark g. on_part s Complete _ [] st refl h;
   answers = λ w answer mark g. on_answers s w (said_of answer) st h;
   steps = λ mark g. on_steps s mark st h;
@@ -666,10 +662,6 @@ module _ (s : Plan) (st : State) where
   unfolding closed
   knows_end q x p e = absurd cc
 
-  knows_either : (b : Bool) (x y : Replied) → KnowsStill x.1 → KnowsStill y.1 → KnowsStill (if b then x else y).1
-  knows_either true x y h i = h
-  knows_either false x y h i = i
-
   knows_begun : (k : Kind) (ms : List Member) (vs : List ℕ) (now : ℕ) (c : Course) → c.disabled ≡ st.course.disabled → AsFit st.course.rows c.rows → KnowsStill (followed true (begun k ms vs now c) st)
   knows_begun k ms vs now c e f =
       let kept = begun_members k ms vs now c in
@@ -696,8 +688,8 @@ module _ (s : Plan) (st : State) where
     ends = λ lane x mark f. knows_end x (failed AsyncCancelled st);
     begins = λ lane m all c mark g f. absurd (no_begin st.session q e g);
     gathers = λ lane x mark g. absurd (opened_not_late x.stage (has_writers x.context) g.allowed (late_at st.session x g.stands (subst LateIn (sym e) l)));
-    prepares = λ lane x mark g. knows_either (has_no_volume (in_progress st)) _ _ (knows_same st refl) (knows_begun Prepare _ [] st.clock _ refl (λ w. refl));
-    snapshots = λ lane x mark g. knows_either (has_no_volume (in_progress st)) _ _ (knows_same st refl) (knows_begun Snapshot _ _ st.clock st.course refl (λ w. refl));
+    prepares = λ lane x mark g. by_if (λ r. KnowsStill r.1) (has_no_volume (in_progress st)) _ _ (knows_same st refl) (knows_begun Prepare _ [] st.clock _ refl (λ w. refl));
+    snapshots = λ lane x mark g. by_if (λ r. KnowsStill r.1) (has_no_volume (in_progress st)) _ _ (knows_same st refl) (knows_begun Snapshot _ _ st.clock st.course refl (λ w. refl));
     completes = λ lane x mark g. knows_begun Complete _ [] st.clock st.course refl (λ w. refl);
     answers = λ w answer mark g. knows_answers w (said_of answer) a;
     steps = λ mark g. knows_steps mark;

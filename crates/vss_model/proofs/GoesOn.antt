@@ -33,7 +33,7 @@ use Rattle.vss_model.specs.declared.event.Event.{Event}
 use Rattle.vss_model.specs.declared.event.Event.TheVariants.{Line, Answer as AnswerEvent, Provider, Idle}
 use Rattle.vss_model.specs.State.{State, SetRow, Kept, in_progress, left_now, is_held}
 use Rattle.vss_model.specs.Ending.{Ending, NothingEnds, SetFails, ending, concluded, followed, runs, failed_in, failed}
-use Rattle.vss_model.specs.Images.{Replied, put, reverted_as}
+use Rattle.vss_model.specs.Images.{put, reverted_as}
 use Rattle.vss_model.specs.Sessions.{begin_in, has_no_volume, closed, line_in, judged}
 use Rattle.vss_model.specs.Lines.{called, line}
 use Rattle.vss_model.specs.Steps.{answered, cut_set, step_made, stepped_as, stepped, ticked, later}
@@ -42,7 +42,7 @@ use Rattle.vss_model.specs.Laws.{IsKeptByWrites}
 use Rattle.vss_model.specs.Trail.{Run, begin, is_lane, cursor, next_line, line_event, answer_event, script_event, event_of, act_of, after_event, moved, run_from, run, acts, event_enabled, can_act, none_can_act, may_move, allows as allows_mark, is_legal_move, is_legal_from, is_legal, is_used_up, is_complete}
 use Rattle.scenario.specs.Bounds.{is_begin, is_end, has_end, ends_sessions}
 use Rattle.vss_model.specs.GoesOn.{EndsSessions, CanGoOn}
-use Rattle.vss_model.proofs.ByEvent.{after_enabled}
+use Rattle.vss_model.proofs.ByEvent.{after_enabled, by_if}
 use Rattle.vss_model.proofs.Rows.{none_runs}
 use Rattle.vss_model.proofs.Rule.{IsKeptButSteps, begins_at, on_after_steps}
 use Rattle.vss_model.proofs.Appending.{state-run, moves-run}
@@ -112,10 +112,6 @@ owned_failed_in : (o : ℕ) (r : Option SetRow) (why : VssResult) (st : State) �
 owned_failed_in o None why st h = h
 owned_failed_in o (Some r) why st h = owned_concluded o (SetFails why) (record st { course = course_failed why st.course }) h
 
-owned_either : (o : ℕ) (b : Bool) (x y : Replied) → Owned o x.1 → Owned o y.1 → Owned o (if b then x else y).1
-owned_either o true x y h i = h
-owned_either o false x y h i = i
-
 owned_closed : (o : ℕ) (q : Session) (st : State) → Owned o (closed q st)
 unfolding closed released
 owned_closed o q st = tt
@@ -129,8 +125,8 @@ owned_changes o = record {
   ticks = owned_ticked o;
   fails = λ why st h. owned_failed_in o (in_progress st) why st h;
   gathers = λ s q st g h. owned_followed o true _ st h;
-  prepares = λ s q st g h. owned_either o (has_no_volume (in_progress st)) _ _ h (owned_followed o true _ st h);
-  snapshots = λ q st g h. owned_either o (has_no_volume (in_progress st)) _ _ h (owned_followed o true _ st h);
+  prepares = λ s q st g h. by_if (λ r. Owned o r.1) (has_no_volume (in_progress st)) _ _ h (owned_followed o true _ st h);
+  snapshots = λ q st g h. by_if (λ r. Owned o r.1) (has_no_volume (in_progress st)) _ _ h (owned_followed o true _ st h);
   completes = λ q st g h. owned_followed o true _ st h;
   clears = λ s v b st h. h;
   deletes_set = λ n st h. h;

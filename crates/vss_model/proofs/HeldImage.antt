@@ -23,7 +23,7 @@ use Rattle.requestor.specs.Session.{Session}
 use Rattle.scenario.specs.Plan.{Plan, blocks_of}
 use Rattle.vss_model.specs.State.{State, SetRow, Kept, is_running, in_progress, row_changed, history_in, history_of, left_now, is_held}
 use Rattle.vss_model.specs.Ending.{Ending, NothingEnds, AgendaEnds, SetFails, ending, row_settled, images_dropped, concluded, followed, runs, failed}
-use Rattle.vss_model.specs.Images.{Replied, put, is_in_set, reverted_as}
+use Rattle.vss_model.specs.Images.{put, is_in_set, reverted_as}
 use Rattle.vss_model.specs.Sessions.{begin_in, has_no_volume, start_set, new_set, with_volume, change_set, closed}
 use Rattle.vss_model.specs.Steps.{answered, cut_if, cut_each, row_cut, cut_set, is_flush, is_failed_step, stepped_as, stepped, ticked, later}
 use Rattle.vss_model.specs.Acts.{Act, after, state}
@@ -41,6 +41,7 @@ use Rattle.vss_model.proofs.CutStep.{second_not, both, step_made_same, working_a
 use Rattle.vss_model.proofs.OneCut.{ends_settle, plain_kind, changed_number, changed_result, uncut_at_cut, images_in_time}
 use Rattle.vss_model.proofs.NewestImage.{UpTo, image_of, images_up_to, newest_image}
 use Rattle.vss_model.proofs.Rows.{apart as apart_below}
+use Rattle.vss_model.proofs.ByEvent.{by_if}
 
 -- ## the fact
 
@@ -351,10 +352,6 @@ in_progress-closed : (q : Session) (x : State) → in_progress (closed q x) ≡ 
 unfolding closed released
 in_progress-closed q x = refl
 
-either_unused : (m : Bool) (v : ℕ) (b : Bool) (x y : Replied) → Unused m v x.1 → Unused m v y.1 → Unused m v (if b then x else y).1
-either_unused m v true x y h i = h
-either_unused m v false x y h i = i
-
 abbrev Holds : Bool → ℕ → State → Type 0
 Holds m v st = IsOrderly st × Unused m v st
 
@@ -366,8 +363,8 @@ kept_but_steps m v =
       ticks = λ n st h. (o.ticks n st h.0, on_ticks m v n st h.1);
       fails = λ why st h. (o.fails why st h.0, no_set m v (failed why st) (none_after (in_progress st) why st refl));
       gathers = λ s q st g h. (o.gathers s q st g h.0, begun_unused m v true _ st g.quiet h.1);
-      prepares = λ s q st g h. (o.prepares s q st g h.0, either_unused m v (has_no_volume (in_progress st)) _ _ h.1 (begun_unused m v true _ st g.quiet h.1));
-      snapshots = λ q st g h. (o.snapshots q st g h.0, either_unused m v (has_no_volume (in_progress st)) _ _ h.1 (begun_unused m v true _ st g.quiet h.1));
+      prepares = λ s q st g h. (o.prepares s q st g h.0, by_if (λ r. Unused m v r.1) (has_no_volume (in_progress st)) _ _ h.1 (begun_unused m v true _ st g.quiet h.1));
+      snapshots = λ q st g h. (o.snapshots q st g h.0, by_if (λ r. Unused m v r.1) (has_no_volume (in_progress st)) _ _ h.1 (begun_unused m v true _ st g.quiet h.1));
       completes = λ q st g h. (o.completes q st g h.0, begun_unused m v true _ st g.quiet h.1);
       clears = λ s u b st h. (o.clears s u b st h.0, with_volumes m v _ st (fewer-gone m _ _ st.volumes v) h.1);
       deletes_set = λ n st h. (o.deletes_set n st h.0, with_volumes m v _ st (fewer-map m (dropped n) (fewer_dropped m n) st.volumes v) h.1);

@@ -24,7 +24,7 @@ use Rattle.requestor.specs.Session.{Session}
 use Rattle.scenario.specs.Plan.{Plan}
 use Rattle.vss_model.specs.State.{State, SetRow, Kept, start, is_running, in_progress, left_now, is_held, is_frozen}
 use Rattle.vss_model.specs.Ending.{Ending, NothingEnds, SetFails, ending, concluded, followed, runs, failed_in, failed}
-use Rattle.vss_model.specs.Images.{Replied, refused, put, reverted_as}
+use Rattle.vss_model.specs.Images.{refused, put, reverted_as}
 use Rattle.vss_model.specs.Sessions.{begin_in, pending, has_no_volume, volumes_of, closed}
 use Rattle.vss_model.specs.Steps.{answered, row_cut, cut_set, step_made, is_flush, is_failed_step, stepped_as, stepped, ticked, later}
 use Rattle.vss_model.specs.Acts.{Act, after, state}
@@ -33,6 +33,7 @@ use Rattle.set_agenda.proofs.CourseRule.{IsKeptFrom, from_settled, from_answered
 use Rattle.vss_model.proofs.Rows.{none_runs}
 use Rattle.vss_model.proofs.Rule.{on_after}
 use Rattle.vss_model.proofs.CutLog.{said_stays}
+use Rattle.vss_model.proofs.ByEvent.{by_if}
 
 -- ## the fact
 
@@ -301,15 +302,11 @@ on_begins : (lane : ℕ) (all : Bool) (c : Option Context) (st : State) → IsTi
 on_begins lane all None st h = h
 on_begins lane all (Some c) st h = h
 
-either_tied : (b : Bool) (x y : Replied) → IsTied x.1 → IsTied y.1 → IsTied (if b then x else y).1
-either_tied true x y h i = h
-either_tied false x y h i = i
-
 on_snapshot : (o : Option SetRow) (st : State) → in_progress st ≡ o → IsTied st → IsTied (if has_no_volume o then refused BadState st else pending (snapshot_begun (volumes_of o) st.clock st.course) st).1
 on_snapshot None st e h = h
 on_snapshot (Some r) st e h =
     let Q : Option SetRow → Type 0 = λ x. IsOf Snapshot r.volumes st.course.members st.course.members x in
-    either_tied (has_no_volume (Some r)) _ _ h (tied_begun Snapshot st.course.members r.volumes st.clock st.course st refl (subst Q (sym e) (refl, refl)))
+    by_if (λ r. IsTied r.1) (has_no_volume (Some r)) _ _ h (tied_begun Snapshot st.course.members r.volumes st.clock st.course st refl (subst Q (sym e) (refl, refl)))
 
 on_closes : (q : Session) (st : State) → IsTied (closed q st)
 unfolding closed released
@@ -322,7 +319,7 @@ kept_by_changes = record {
   ticks = on_ticks;
   fails = λ why st h. on_failed_in (in_progress st) why st h;
   gathers = λ s q st e h. tied_begun Gather _ [] st.clock _ st refl tt;
-  prepares = λ s q st e h. either_tied (has_no_volume (in_progress st)) _ _ h (tied_begun Prepare _ [] st.clock _ st refl tt);
+  prepares = λ s q st e h. by_if (λ r. IsTied r.1) (has_no_volume (in_progress st)) _ _ h (tied_begun Prepare _ [] st.clock _ st refl tt);
   snapshots = λ q st e h. on_snapshot (in_progress st) st refl h;
   completes = λ q st e h. tied_begun Complete _ [] st.clock _ st refl tt;
   clears = λ s v b st h. h;

@@ -19,13 +19,14 @@ use Rattle.requestor.specs.Session.{Session}
 use Rattle.scenario.specs.Plan.{Plan, blocks_of}
 use Rattle.vss_model.specs.State.{State, SetRow, Kept, in_progress, history_in, history_of, left_now, is_held}
 use Rattle.vss_model.specs.Ending.{Ending, SetFails, ending, images_dropped, concluded, followed, runs, failed_in, failed}
-use Rattle.vss_model.specs.Images.{Replied, put, is_in_set, reverted_as}
+use Rattle.vss_model.specs.Images.{put, is_in_set, reverted_as}
 use Rattle.vss_model.specs.Sessions.{begin_in, has_no_volume, images_released, closed}
 use Rattle.vss_model.specs.Steps.{answered, cut_if, cut_each, cut_set, step_made, is_flush, is_failed_step, stepped_as, stepped, ticked, later}
 use Rattle.vss_model.specs.Acts.{Act, after, state}
 use Rattle.vss_model.specs.Laws.{IsKeptByChanges, IsKeptByWrites}
 use Rattle.vss_model.proofs.Rule.{on_after}
 use Rattle.vss_model.proofs.Orderly.{true_not_false}
+use Rattle.vss_model.proofs.ByEvent.{by_if}
 
 -- the effective writes of volume v
 abbrev writes_in : List History → ℕ → List Write
@@ -143,10 +144,6 @@ writes-begun lane all (Some c) st v = refl
 abbrev HasWrites : ℕ → List Write → State → Type 0
 HasWrites v ws st = writes_in st.volumes v ≡ ws
 
-either_has : (v : ℕ) (ws : List Write) (b : Bool) (x y : Replied) → HasWrites v ws x.1 → HasWrites v ws y.1 → HasWrites v ws (if b then x else y).1
-either_has v ws true x y h i = h
-either_has v ws false x y h i = i
-
 kept_by_changes : (v : ℕ) (ws : List Write) → IsKeptByChanges (HasWrites v ws)
 kept_by_changes v ws = record {
   answers = λ w said st e h. writes-answered w said st v ∙ h;
@@ -154,8 +151,8 @@ kept_by_changes v ws = record {
   ticks = λ n st h. writes-ticked n st v ∙ h;
   fails = λ why st h. writes-failed_in (in_progress st) why st v ∙ h;
   gathers = λ s q st g h. writes-followed true _ st v ∙ h;
-  prepares = λ s q st g h. either_has v ws (has_no_volume (in_progress st)) _ _ h (writes-followed true _ st v ∙ h);
-  snapshots = λ q st g h. either_has v ws (has_no_volume (in_progress st)) _ _ h (writes-followed true _ st v ∙ h);
+  prepares = λ s q st g h. by_if (λ r. HasWrites v ws r.1) (has_no_volume (in_progress st)) _ _ h (writes-followed true _ st v ∙ h);
+  snapshots = λ q st g h. by_if (λ r. HasWrites v ws r.1) (has_no_volume (in_progress st)) _ _ h (writes-followed true _ st v ∙ h);
   completes = λ q st g h. writes-followed true _ st v ∙ h;
   clears = λ s u b st h. writes-gone _ _ st.volumes v ∙ h;
   deletes_set = λ n st h. writes-map (dropped n) (λ x. refl) st.volumes v ∙ h;

@@ -22,13 +22,14 @@ use Rattle.requestor.specs.Session.{Session}
 use Rattle.scenario.specs.Plan.{Plan}
 use Rattle.vss_model.specs.State.{State, SetRow, Kept, start, in_progress, left_now}
 use Rattle.vss_model.specs.Ending.{Ending, NothingEnds, ending, concluded, followed, runs, failed_in, failed}
-use Rattle.vss_model.specs.Images.{Replied, put, reverted_as}
+use Rattle.vss_model.specs.Images.{put, reverted_as}
 use Rattle.vss_model.specs.Sessions.{begin_in, has_no_volume, closed}
 use Rattle.vss_model.specs.Steps.{answered, cut_set, step_made, is_flush, is_failed_step, stepped_as, stepped, ticked, later}
 use Rattle.vss_model.specs.Acts.{Act, after, state}
 use Rattle.vss_model.specs.Laws.{IsKeptByChanges, IsKeptByWrites}
 use Rattle.vss_model.proofs.Rule.{on_after}
 use Rattle.vss_model.proofs.CourseCalls.{Settles, Call, call_answered, call_stepped, call_timed}
+use Rattle.vss_model.proofs.ByEvent.{by_if}
 
 -- nothing is said yet
 abbrev pub unspoken : Kind → List Member → List ℕ → ℕ → Agenda
@@ -119,10 +120,6 @@ module _ (P : Agenda → Type 0) (k : IsKeptInLog P) where
   on_begin lane all None st h = h
   on_begin lane all (Some c) st h = h
 
-  either : (b : Bool) (x y : Replied) → Holds x.1 → Holds y.1 → Holds (if b then x else y).1
-  either true x y h i = h
-  either false x y h i = i
-
   on_closes : (q : Session) (st : State) → Holds (closed q st)
   unfolding closed released
   on_closes q st = tt
@@ -134,8 +131,8 @@ module _ (P : Agenda → Type 0) (k : IsKeptInLog P) where
     ticks = on_ticks;
     fails = λ why st h. on_failed_in (in_progress st) why st h;
     gathers = λ s q st e h. on_followed true _ st (on_begun Gather _ [] st.clock _);
-    prepares = λ s q st e h. either (has_no_volume (in_progress st)) _ _ h (on_followed true _ st (on_begun Prepare _ [] st.clock _));
-    snapshots = λ q st e h. either (has_no_volume (in_progress st)) _ _ h (on_followed true _ st (on_begun Snapshot st.course.members _ st.clock st.course));
+    prepares = λ s q st e h. by_if (λ r. Holds r.1) (has_no_volume (in_progress st)) _ _ h (on_followed true _ st (on_begun Prepare _ [] st.clock _));
+    snapshots = λ q st e h. by_if (λ r. Holds r.1) (has_no_volume (in_progress st)) _ _ h (on_followed true _ st (on_begun Snapshot st.course.members _ st.clock st.course));
     completes = λ q st e h. on_followed true _ st (on_begun Complete _ [] st.clock _);
     clears = λ s v b st h. h;
     deletes_set = λ n st h. h;

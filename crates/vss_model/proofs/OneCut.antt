@@ -28,7 +28,7 @@ use Rattle.scenario.specs.Plan.{Plan, blocks_of}
 use Rattle.scenario.specs.declared.volume_row.VolumeRow.{VolumeRow}
 use Rattle.vss_model.specs.State.{State, SetRow, Kept, start, is_running, in_progress, row_of, row_changed, history_in, history_of, left_now, is_complete, kept_at, kept_if, kept_of, kept_image}
 use Rattle.vss_model.specs.Ending.{Ending, NothingEnds, SetFails, ending, row_settled, images_dropped, concluded, followed, runs, failed_in, failed}
-use Rattle.vss_model.specs.Images.{Replied, put, reverted_as}
+use Rattle.vss_model.specs.Images.{put, reverted_as}
 use Rattle.vss_model.specs.Sessions.{begin_in, has_no_volume, start_set, new_set, with_volume, change_set, images_released, closed}
 use Rattle.vss_model.specs.Steps.{answered, cut_if as history_cut_if, cut_each, row_cut, cut_set, is_flush, is_failed_step, stepped_as, stepped, ticked, later}
 use Rattle.vss_model.specs.Acts.{Act, after, state}
@@ -45,6 +45,7 @@ use Rattle.vss_model.proofs.AtCut.{IsAtCut, CutsNow, cuts, cut_group, later_plac
 use Rattle.vss_model.proofs.CutStep.{second_not, both, step_made_same, working_at_cut, after_cut, has_set}
 use Rattle.vss_model.proofs.CutHistory.{Above, Shown, no_greater, Known, writes_at, ShownIn, IsShown, AllShown, all-map, all-change_at, all-gone, all_along, shown-reverted, shown-reverted_in_part, shown-dropped, shown-written, shown-cut, below-known, shown_at, append_none}
 use Rattle.vss_model.proofs.Rows.{apart}
+use Rattle.vss_model.proofs.ByEvent.{by_if}
 
 -- ## the fact
 
@@ -364,18 +365,14 @@ on_reverts k s n v x Fault st e h = h
 on_reverts k s n v x (FaultAfter m) st e h =
     with_volumes k _ st (all-change_at k _ v 0 st.volumes (λ u y f g. shown-reverted_in_part (blocks_of s v) k u x.row.number x.point m y g) h.shown) h
 
-either_cut : (k : Known) (b : Bool) (x y : Replied) → IsCut k x.1 → IsCut k y.1 → IsCut k (if b then x else y).1
-either_cut k true x y h i = h
-either_cut k false x y h i = i
-
 kept_but_steps : (k : Known) → IsKeptButSteps (IsCut k)
 kept_but_steps k = record {
   answers = λ w said st e h. on_answers k w said st h;
   ticks = on_ticks k;
   fails = λ why st h. on_fails_in k (in_progress st) why st refl h;
   gathers = λ s q st g h. cut_begun k true _ st g.quiet h;
-  prepares = λ s q st g h. either_cut k (has_no_volume (in_progress st)) _ _ h (cut_begun k true _ st g.quiet h);
-  snapshots = λ q st g h. either_cut k (has_no_volume (in_progress st)) _ _ h (cut_begun k true _ st g.quiet h);
+  prepares = λ s q st g h. by_if (λ r. IsCut k r.1) (has_no_volume (in_progress st)) _ _ h (cut_begun k true _ st g.quiet h);
+  snapshots = λ q st g h. by_if (λ r. IsCut k r.1) (has_no_volume (in_progress st)) _ _ h (cut_begun k true _ st g.quiet h);
   completes = λ q st g h. cut_begun k true _ st g.quiet h;
   clears = λ s v b st h. with_volumes k _ st (all-gone k _ _ 0 st.volumes h.shown) h;
   deletes_set = λ n st h. with_volumes k _ st (all-map k (dropped n) (shown-dropped n k) 0 st.volumes h.shown) h;

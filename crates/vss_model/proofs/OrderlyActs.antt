@@ -31,7 +31,7 @@ use Rattle.scenario.specs.declared.volume_row.VolumeRow.{VolumeRow}
 use Rattle.scenario.specs.Plan.{Plan}
 use Rattle.vss_model.specs.State.{State, SetRow, Kept, start, is_running, in_progress, row_changed, left_now}
 use Rattle.vss_model.specs.Ending.{Ending, NothingEnds, AgendaEnds, SetFails, ending, row_settled, concluded, followed, runs, failed_in, failed}
-use Rattle.vss_model.specs.Images.{Replied, put, reverted_as}
+use Rattle.vss_model.specs.Images.{put, reverted_as}
 use Rattle.vss_model.specs.Sessions.{begin_in, has_no_volume, start_set, new_set, with_volume, change_set, images_released, closed}
 use Rattle.vss_model.specs.Steps.{answered, with_cut, row_cut, cut_if, cut_each, cut_set, step_made, is_flush, is_failed_step, stepped_as, stepped, ticked, later}
 use Rattle.vss_model.specs.Acts.{Act, after, state}
@@ -41,6 +41,7 @@ use Rattle.set_agenda.proofs.CourseRule.{IsKeptFrom, from_answered, from_stepped
 use Rattle.vss_model.proofs.Rows.{none_runs}
 use Rattle.vss_model.proofs.Rule.{on_after}
 use Rattle.vss_model.proofs.Orderly.{IsSameRow, numbered-map, newest-map, find-map, live-map, all_live_along, live-filter, live-append, all_live-map, all_live-change_at, numbered-settled, newest-settled, find-settled_over, find-settled_running, live-settled, all_live-fails, numbered-append, newest-append, find-append_new, all_live-append, live_found, true_not_false}
+use Rattle.vss_model.proofs.ByEvent.{by_if}
 
 -- ## what calls do to the agenda and the outcome
 
@@ -560,10 +561,6 @@ on_closed q x e h =
 
 -- ## every act
 
-either_orderly : (b : Bool) (x y : Replied) → IsOrderly x.1 → IsOrderly y.1 → IsOrderly (if b then x else y).1
-either_orderly true x y h i = h
-either_orderly false x y h i = i
-
 pub kept_by_changes : IsKeptByChanges IsOrderly
 kept_by_changes = record {
   answers = λ w said st e h. on_answers w said st h;
@@ -571,8 +568,8 @@ kept_by_changes = record {
   ticks = on_ticks;
   fails = λ why st h. on_failed_in (in_progress st) why st refl h;
   gathers = λ s q st g h. begun_well Gather _ [] st.clock _ st q refl g.stands (is_opened q.stage (and_parts (is_stage q.stage Opened) (has_writers q.context) g.allowed).0) h;
-  prepares = λ s q st g h. either_orderly (has_no_volume (in_progress st)) _ _ h (begun_well Prepare _ [] st.clock _ st q refl g.stands (is_started q.stage (and_parts (is_stage q.stage Started) (has_writers q.context) g.allowed).0, (and_parts (is_stage q.stage Started) (has_writers q.context) g.allowed).1) h);
-  snapshots = λ q st g h. either_orderly (has_no_volume (in_progress st)) _ _ h (begun_well Snapshot st.course.members _ st.clock st.course st q refl g.stands (snapshot_allowed (has_writers q.context) q.stage g.allowed) h);
+  prepares = λ s q st g h. by_if (λ r. IsOrderly r.1) (has_no_volume (in_progress st)) _ _ h (begun_well Prepare _ [] st.clock _ st q refl g.stands (is_started q.stage (and_parts (is_stage q.stage Started) (has_writers q.context) g.allowed).0, (and_parts (is_stage q.stage Started) (has_writers q.context) g.allowed).1) h);
+  snapshots = λ q st g h. by_if (λ r. IsOrderly r.1) (has_no_volume (in_progress st)) _ _ h (begun_well Snapshot st.course.members _ st.clock st.course st q refl g.stands (snapshot_allowed (has_writers q.context) q.stage g.allowed) h);
   completes = λ q st g h. begun_well Complete _ [] st.clock _ st q refl g.stands (is_done_stage q.stage (and_parts (is_stage q.stage Done) (has_writers q.context) g.allowed).0) h;
   clears = λ s v b st h. volumes_orderly _ st (live_gone _ st.sets _ st.volumes h.live) h;
   deletes_set = λ n st h. volumes_orderly _ st (all_live-map (dropped n) st.sets (λ x g. live_dropped n st.sets x g) st.volumes h.live) h;

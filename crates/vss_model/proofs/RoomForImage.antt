@@ -21,7 +21,7 @@ use Rattle.requestor.specs.Session.{Session}
 use Rattle.scenario.specs.Plan.{Plan, blocks_of}
 use Rattle.vss_model.specs.State.{State, SetRow, Kept, is_running, in_progress, row_changed, left_now, history_of}
 use Rattle.vss_model.specs.Ending.{Ending, NothingEnds, AgendaEnds, SetFails, ending, row_settled, concluded, followed, runs, failed_in, failed}
-use Rattle.vss_model.specs.Images.{Replied, put, reverted_as, is_in_set}
+use Rattle.vss_model.specs.Images.{put, reverted_as, is_in_set}
 use Rattle.vss_model.specs.Sessions.{most_volumes, most_images, begin_in, has_no_volume, new_set, new_number, with_volume, change_set, add_refusal, closed}
 use Rattle.vss_model.specs.Steps.{answered, cut_if as image_cut_if, cut_each, row_cut, cut_set, is_flush, is_failed_step, stepped_as, stepped, ticked, later}
 use Rattle.vss_model.specs.Acts.{Act, after, state}
@@ -37,6 +37,7 @@ use Rattle.vss_model.proofs.CutAppend.{or_cut, append_nothing, cut-append}
 use Rattle.vss_model.proofs.OneCut.{changed_result, not_cut_yet, all_three}
 use Rattle.vss_model.proofs.Volumes.{at, FewerIn, fewer_in_map, fewer_in_change, fewer_in_gone, fewer_dropped, fewer_written, fewer_reverted, fewer_in_part}
 use Rattle.vss_model.proofs.FewerImages.{fewer_images_dropped, fewer_released}
+use Rattle.vss_model.proofs.ByEvent.{by_if}
 
 -- where each set was cut
 abbrev Cuts : Type 0
@@ -167,10 +168,6 @@ module _ (k : Cuts) where
       subst (Roomy k st.volumes) (sym (find-map (row_changed r.number (with_volume v)) (λ x. ap is_running (changed_result (x.number == r.number) (with_volume v) x refl)) st.sets ∙ ap (option_map (row_changed r.number (with_volume v))) e))
       (roomy_added (r.number == r.number) k st.volumes v r room (subst (Roomy k st.volumes) e h))
 
-  either : (b : Bool) (x y : Replied) → HasRoom k x.1 → HasRoom k y.1 → HasRoom k (if b then x else y).1
-  either true x y h i = h
-  either false x y h i = i
-
   fewer : (st : State) (ks : List History) → FewerIn st.volumes ks → HasRoom k st → HasRoom k (record st { volumes = ks })
   fewer st ks f h = roomy_fewer k st.volumes ks (in_progress st) f h
 
@@ -180,8 +177,8 @@ module _ (k : Cuts) where
     ticks = on_ticks;
     fails = λ why st h. on_fails (in_progress st) why st h;
     gathers = λ s q st g h. on_followed true _ st h;
-    prepares = λ s q st g h. either (has_no_volume (in_progress st)) _ _ h (on_followed true _ st h);
-    snapshots = λ q st g h. either (has_no_volume (in_progress st)) _ _ h (on_followed true _ st h);
+    prepares = λ s q st g h. by_if (λ r. HasRoom k r.1) (has_no_volume (in_progress st)) _ _ h (on_followed true _ st h);
+    snapshots = λ q st g h. by_if (λ r. HasRoom k r.1) (has_no_volume (in_progress st)) _ _ h (on_followed true _ st h);
     completes = λ q st g h. on_followed true _ st h;
     clears = λ s v b st h. fewer st _ (fewer_in_gone _ _ st.volumes) h;
     deletes_set = λ n st h. fewer st _ (fewer_in_map (dropped n) (fewer_dropped n) st.volumes) h;

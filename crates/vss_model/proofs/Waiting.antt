@@ -29,13 +29,14 @@ use Rattle.requestor.specs.Session.{Session}
 use Rattle.scenario.specs.Plan.{Plan}
 use Rattle.vss_model.specs.State.{State, SetRow, Kept, start, in_progress, left_now}
 use Rattle.vss_model.specs.Ending.{Ending, NothingEnds, ending, concluded, followed, runs, failed_in, failed}
-use Rattle.vss_model.specs.Images.{Replied, put, reverted_as}
+use Rattle.vss_model.specs.Images.{put, reverted_as}
 use Rattle.vss_model.specs.Sessions.{begin_in, has_no_volume, closed}
 use Rattle.vss_model.specs.Steps.{answered, step_made, stepped_as, stepped, ticked, later}
 use Rattle.vss_model.specs.Acts.{Act, after, state, order_of_writer, idle_now}
 use Rattle.vss_model.specs.Laws.{IsKeptByChanges, IsKeptByWrites}
 use Rattle.vss_model.proofs.Rule.{on_after}
 use Rattle.vss_model.proofs.Orderly.{true_not_false}
+use Rattle.vss_model.proofs.ByEvent.{by_if}
 
 -- ## an agenda that runs is not done
 
@@ -139,10 +140,6 @@ on_begins : (lane : ℕ) (all : Bool) (c : Option Context) (st : State) → IsOp
 on_begins lane all None st h = h
 on_begins lane all (Some c) st h = h
 
-either_open : (b : Bool) (x y : Replied) → IsOpenState x.1 → IsOpenState y.1 → IsOpenState (if b then x else y).1
-either_open true x y h i = h
-either_open false x y h i = i
-
 on_closes : (q : Session) (st : State) → IsOpenState (closed q st)
 unfolding closed released
 on_closes q st = tt
@@ -154,8 +151,8 @@ kept_by_changes = record {
   ticks = on_ticks;
   fails = λ why st h. on_failed_in (in_progress st) why st h;
   gathers = λ s q st e h. open_followed true _ st (open_begun Gather _ [] st.clock _);
-  prepares = λ s q st e h. either_open (has_no_volume (in_progress st)) _ _ h (open_followed true _ st (open_begun Prepare _ [] st.clock _));
-  snapshots = λ q st e h. either_open (has_no_volume (in_progress st)) _ _ h (open_followed true _ st (open_begun Snapshot st.course.members _ st.clock st.course));
+  prepares = λ s q st e h. by_if (λ r. IsOpenState r.1) (has_no_volume (in_progress st)) _ _ h (open_followed true _ st (open_begun Prepare _ [] st.clock _));
+  snapshots = λ q st e h. by_if (λ r. IsOpenState r.1) (has_no_volume (in_progress st)) _ _ h (open_followed true _ st (open_begun Snapshot st.course.members _ st.clock st.course));
   completes = λ q st e h. open_followed true _ st (open_begun Complete _ [] st.clock _);
   clears = λ s v b st h. h;
   deletes_set = λ n st h. h;
