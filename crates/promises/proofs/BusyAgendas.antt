@@ -1,25 +1,13 @@
 -- The agendas that make a set: while one runs, a set is in progress. Only they have orders that decide, steps, and limits beside that of an answer.
-use Rattle.std.proofs.Common.{◌≡◌, ◌∙◌, ℕ, List, [], ◌∷◌, ◌++◌, Option, Some, None, refl, Bool, true, false, ap}
+use Rattle.promises.proofs.Words.{Order, SetOutcome, Group, Orders, Kind, Gather, Prepare, Snapshot, Complete, Limit, Agenda, Open, places, order_of, order_now, is_orders, is_working, groups_left}
+use Rattle.promises.proofs.Words.{left, Running as RunningLimit, first_hold, freeze_opened_at, hold_runs, freeze_runs, runs_if, hold_running, running_at, running_limits, spent_of, Course, is_decisive}
+use Rattle.promises.proofs.Words.{fails_set, none_and_some, IsSpentHere, spent_here, hold_limit, IsOfSession, IsAgendaOf, WaitsFor, snapshot_stage, Session, has_writers, makes_set, State, SetRow}
+use Rattle.std.proofs.Common.{◌≡◌, ◌∙◌, ℕ, List, [], ◌∷◌, Option, Some, None, refl, Bool, true, false, ap}
 use Rattle.std.specs.Prelude.{not, is_some}
-use Rattle.vss_names.specs.declared.order.Order.{Order}
-use Rattle.vss_names.specs.declared.set_outcome.SetOutcome.{SetOutcome}
-use Rattle.set_agenda.specs.declared.group.Group.{Group}
-use Rattle.set_agenda.specs.declared.group.Group.TheVariants.{Orders}
-use Rattle.set_agenda.specs.declared.kind.Kind.{Kind}
-use Rattle.set_agenda.specs.declared.kind.Kind.TheVariants.{Gather, Prepare, Snapshot, Complete}
-use Rattle.set_agenda.specs.declared.limit.Limit.{Limit}
 use Rattle.set_agenda.specs.declared.limit.Limit.TheVariants.{Hold as HoldLimit, Freeze as FreezeLimit, Answer as AnswerLimit}
-use Rattle.set_agenda.specs.Agenda.{Agenda, Open, places, order_of, order_now, is_orders, is_working, groups_left, left}
-use Rattle.set_agenda.specs.Limits.{Running as RunningLimit, first_hold, freeze_opened_at, hold_runs, freeze_runs, runs_if, hold_running, running_at, running_limits, spent_of}
-use Rattle.set_agenda.specs.Course.{Course, is_decisive, fails_set}
-use Rattle.set_agenda.proofs.SpentLimits.{none_and_some, IsSpentHere, spent_here}
-use Rattle.tick_limits.specs.Time.{hold_limit}
-use Rattle.vss_model.specs.Facts.{IsOfSession, IsAgendaOf, WaitsFor, snapshot_stage}
 use Rattle.promises.proofs.Truth.{not_both, not_itself}
 use Rattle.promises.proofs.Limits.{spent_runs, spent_holds}
 use Rattle.promises.proofs.OpenGroup.{every, in_kind}
-use Rattle.requestor.specs.Session.{Session, has_writers, makes_set}
-use Rattle.vss_model.specs.State.{State, SetRow}
 use Rattle.vss_model.specs.Ending.{Ending, NothingEnds, ending, concluded, followed}
 
 -- ## agendas that fail sets

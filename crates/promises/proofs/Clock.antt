@@ -1,32 +1,13 @@
 -- What moves the clock.
+use Rattle.promises.proofs.Words.{VssResult, InsufficientStorage, AsyncCancelled, Said, Mark, Clean, Write, said_of, Group, Orders, PreCommit, Flush, Hold, Cut, Commit, Release, PostCommit}
+use Rattle.promises.proofs.Words.{open_group, Course, Session, Op, WriteFill, WriteStamp, Target, target_of, Plan, Event, State, SetRow, Kept, in_progress, left_now, line_ticks, ticks_of, Act}
+use Rattle.promises.proofs.Words.{enabled, idle_now, after, state, ticks_if, ClockMoves, Covers, covered, after_enabled, after_not_enabled, by_if}
 use Rattle.std.proofs.Common.{◌≡◌, ◌∙◌, ℕ, ◌+◌, List, Option, Some, None, refl, Bool, true, false, sym, ap, arith}
-use Rattle.std.specs.Prelude.{if◌then◌else◌, unwrap_or}
-use Rattle.vss_names.specs.declared.vss_result.VssResult.{VssResult}
-use Rattle.vss_names.specs.declared.vss_result.VssResult.TheVariants.{InsufficientStorage, AsyncCancelled}
-use Rattle.writer_state.specs.declared.said.Said.{Said}
-use Rattle.write_history.specs.declared.mark.Mark.{Mark}
-use Rattle.write_history.specs.declared.mark.Mark.TheVariants.{Clean}
-use Rattle.write_history.specs.History.{Write}
-use Rattle.writer_calls.specs.Script.{said_of}
-use Rattle.set_agenda.specs.declared.group.Group.{Group}
-use Rattle.set_agenda.specs.declared.group.Group.TheVariants.{Orders, PreCommit, Flush, Hold, Cut, Commit, Release, PostCommit}
-use Rattle.set_agenda.specs.Agenda.{open_group}
-use Rattle.set_agenda.specs.Course.{Course}
-use Rattle.requestor.specs.Session.{Session}
-use Rattle.scenario.specs.declared.op.Op.{Op}
-use Rattle.scenario.specs.declared.op.Op.TheVariants.{WriteFill, WriteStamp}
-use Rattle.scenario.specs.Calls.{Target, target_of}
-use Rattle.scenario.specs.Plan.{Plan}
-use Rattle.vss_model.specs.declared.event.Event.{Event}
-use Rattle.vss_model.specs.State.{State, SetRow, Kept, in_progress, left_now}
+use Rattle.std.specs.Prelude.{unwrap_or}
 use Rattle.vss_model.specs.Ending.{Ending, NothingEnds, ending, concluded, followed, runs, failed_in, failed}
 use Rattle.vss_model.specs.Images.{Replied, cleared, set_loses_image, with_room_if, put, write, reverted_as}
 use Rattle.vss_model.specs.Sessions.{has_no_volume, closed}
 use Rattle.vss_model.specs.Steps.{answered, cut_set, step_made, is_flush, is_failed_step, stepped_as, stepped, ticked, later}
-use Rattle.vss_model.specs.Effects.{line_ticks, ticks_of}
-use Rattle.vss_model.specs.Acts.{Act, enabled, idle_now, after, state}
-use Rattle.promises.specs.Clock.{ticks_if, ClockMoves}
-use Rattle.vss_model.proofs.ByEvent.{Covers, covered, after_enabled, after_not_enabled, by_if}
 
 clock-concluded : (e : Ending) (st : State) → (concluded e st).clock ≡ st.clock
 clock-concluded NothingEnds st = refl
@@ -107,7 +88,6 @@ stands_still : (st : State) (now : ℕ) (o : Option ℕ) → now ≡ st.clock �
 stands_still st now o e f = e ∙ no_ticks st.clock ∙ ap (λ p. st.clock + unwrap_or p 0) (sym f)
 
 module _ (s : Plan) (st : State) where
-
   moves : Covers (Moves st) s st
   moves = record {
     stays = λ lane op mark told e f. stands_still st st.clock (line_ticks op) refl e;

@@ -1,55 +1,25 @@
 -- A set that fails has the code of its cause.
-use Rattle.std.proofs.Common.{◌≡◌, ◌∙◌, ℕ, ◌+◌, List, [], ◌∷◌, ◌++◌, Option, Some, None, refl, Bool, true, false, ap, sym, subst, inl, inr}
+use Rattle.promises.proofs.Words.{both_ways, Order, SetOutcome, Failed as FailedSet, VssResult, Timeout, Said, is_ok, Mark, Clean, Write, said_of, Group, Limit, Agenda, Open, groups_left, open_group}
+use Rattle.promises.proofs.Words.{open_order, order_now, is_working, left, Running as RunningLimit, first_hold, running_at, running_limits, spent_of, held_here, frozen_here, IsSpentHere, spent_here}
+use Rattle.promises.proofs.Words.{Session, Op, target_of, Plan, Event, Line, State, SetRow, in_progress, left_now, followed, runs, failed_in, failed, has_failed, Act, idle_now, state, holds_volumes}
+use Rattle.promises.proofs.Words.{held_too_long, frozen_too_long, outcome_is_running, hold_late, freeze_late, set_failure, Rising, late_code_at, late_code_in, late_code, IsAnswerCode, IsLineCode}
+use Rattle.promises.proofs.Words.{IsCode, FailsByCode, Covers, covered, after_enabled, some_same, by_if, none_settled as calm_settled}
+use Rattle.std.proofs.Common.{◌≡◌, ◌∙◌, ℕ, ◌+◌, List, [], ◌∷◌, Option, Some, None, refl, Bool, true, false, ap, sym, subst, inl, inr}
 use Rattle.std.specs.Prelude.{◌&&◌, not, if◌then◌else◌}
-use Rattle.std.proofs.lemmas.Bool.{both_ways}
-use Rattle.vss_names.specs.declared.order.Order.{Order}
-use Rattle.vss_names.specs.declared.set_outcome.SetOutcome.{SetOutcome}
-use Rattle.vss_names.specs.declared.set_outcome.SetOutcome.TheVariants.{Failed as FailedSet}
-use Rattle.vss_names.specs.declared.vss_result.VssResult.{VssResult}
 use Rattle.vss_names.specs.declared.vss_result.VssResult.TheVariants.{Writer as WriterFault, AsyncCancelled, UnexpectedProviderError, InsufficientStorage, HoldWritesTimeout, WriterNotResponding, BadState}
-use Rattle.vss_names.specs.declared.writer_error.WriterError.TheVariants.{Timeout}
-use Rattle.writer_state.specs.declared.said.Said.{Said}
 use Rattle.writer_state.specs.declared.said.Said.TheVariants as said
-use Rattle.writer_state.specs.WriterState.{is_ok}
-use Rattle.write_history.specs.declared.mark.Mark.{Mark}
-use Rattle.write_history.specs.declared.mark.Mark.TheVariants.{Clean}
-use Rattle.write_history.specs.History.{Write}
 use Rattle.writer_calls.specs.declared.answer.Answer.{Answer}
 use Rattle.writer_calls.specs.declared.answer.Answer.TheVariants.{Ok, Veto}
-use Rattle.writer_calls.specs.Script.{said_of}
-use Rattle.set_agenda.specs.declared.group.Group.{Group}
 use Rattle.set_agenda.specs.declared.kind.Kind.TheVariants as kind
-use Rattle.set_agenda.specs.declared.limit.Limit.{Limit}
 use Rattle.set_agenda.specs.declared.limit.Limit.TheVariants.{Hold as HoldLimit, Freeze as FreezeLimit, Answer as AnswerLimit}
-use Rattle.set_agenda.specs.Agenda.{Agenda, Open, groups_left, open_group, open_order, order_now, is_working, left}
-use Rattle.set_agenda.specs.Limits.{Running as RunningLimit, first_hold, running_at, running_limits, spent_of}
 use Rattle.set_agenda.specs.Course.{Course, posted, failed as course_failed, settled, told, is_decisive, decided, answered_to, answered as course_answered, stepped as course_stepped, freeze_limit, limits_now, lost, lost_to, fails_set, lost_decided, treated_as, treated, timed as course_timed}
-use Rattle.set_agenda.proofs.SpentLimits.{held_here, frozen_here, IsSpentHere, spent_here}
-use Rattle.requestor.specs.Session.{Session}
-use Rattle.scenario.specs.declared.op.Op.{Op}
 use Rattle.scenario.specs.declared.op.Op.TheVariants as op
-use Rattle.scenario.specs.Calls.{target_of}
-use Rattle.scenario.specs.Plan.{Plan}
-use Rattle.vss_model.specs.declared.event.Event.{Event}
-use Rattle.vss_model.specs.declared.event.Event.TheVariants.{Line}
-use Rattle.vss_model.specs.State.{State, SetRow, in_progress, left_now}
-use Rattle.vss_model.specs.Ending.{followed, runs, failed_in, failed}
 use Rattle.vss_model.specs.Images.{Replied, refused, cleared, set_loses_image, with_room_if, put, write, reverted_as}
 use Rattle.vss_model.specs.Sessions.{has_no_volume, start_set, closed}
 use Rattle.vss_model.specs.Steps.{answered, step_made, is_flush, is_failed_step, stepped_as, stepped, ticked, later}
-use Rattle.vss_model.specs.Facts.{has_failed}
-use Rattle.vss_model.specs.Acts.{Act, idle_now, state}
-use Rattle.vss_model.specs.Causes.{holds_volumes, held_too_long, frozen_too_long}
-use Rattle.vss_model.proofs.FlushFails.{outcome_is_running}
-use Rattle.vss_model.proofs.Late.{hold_late, freeze_late}
 use Rattle.vss_model.proofs.LogRule.{Running}
-use Rattle.promises.specs.Awaited.{set_failure}
-use Rattle.promises.specs.Way.{Rising}
-use Rattle.promises.specs.Codes.{late_code_at, late_code_in, late_code, IsAnswerCode, IsLineCode, IsCode, FailsByCode}
 use Rattle.promises.proofs.Truth.{false_of}
 use Rattle.promises.proofs.BusyAgendas.{course_followed}
-use Rattle.vss_model.proofs.ByEvent.{Covers, covered, after_enabled, some_same, by_if}
-use Rattle.vss_model.proofs.Causes.{none_settled as calm_settled}
 use Rattle.promises.proofs.CalmCourses.{calm_begun}
 use Rattle.promises.proofs.GoneImages.{none_stepped}
 use Rattle.promises.proofs.Limits.{held_since_first, none_found, held_finds, frozen_finds}

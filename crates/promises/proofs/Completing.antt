@@ -1,42 +1,18 @@
 -- BackupComplete goes to no writer that has failed.
+use Rattle.promises.proofs.Words.{Order, BackupComplete, VssResult, InsufficientStorage, AsyncCancelled, WriterState, Unknown, Stable, WaitingForFreeze, WaitingForThaw, WaitingForPostSnapshot}
+use Rattle.promises.proofs.Words.{WaitingForBackupComplete, Said, Ok, WriterRow, is_failed, row_after, Mark, Clean, Write, said_of, Group, Kind, Gather, Prepare, Snapshot, Complete, Member, Agenda}
+use Rattle.promises.proofs.Words.{open_group, places, has_said, waited_for, with_group, groups_left, left, is_asked, is_among, order_now, open_order, next_member, all_say, writers_at, IsKeptInCourse}
+use Rattle.promises.proofs.Words.{course_answered as kept_answered, course_stepped as kept_stepped, course_timed as kept_timed, course_begun as kept_begun, Session, Plan, Event, State, SetRow, Kept}
+use Rattle.promises.proofs.Words.{start, in_progress, left_now, Act, enabled, idle_now, after, asked_if, unspoken, StandsWell, CompletesUnfailed, Covers, covered, after_enabled, after_not_enabled}
+use Rattle.promises.proofs.Words.{by_if}
 use Rattle.std.proofs.Common.{◌≡◌, ◌∙◌, ℕ, ◌+◌, ◌==◌, zero, suc, List, [], ◌∷◌, Option, Some, None, refl, Bool, true, false, ap, sym, subst, filter, fold, arith}
-use Rattle.std.specs.Prelude.{◌&&◌, ◌||◌, not, option_map, if◌then◌else◌, slice_get}
-use Rattle.vss_names.specs.declared.order.Order.{Order}
-use Rattle.vss_names.specs.declared.order.Order.TheVariants.{BackupComplete}
-use Rattle.vss_names.specs.declared.vss_result.VssResult.{VssResult}
-use Rattle.vss_names.specs.declared.vss_result.VssResult.TheVariants.{InsufficientStorage, AsyncCancelled}
-use Rattle.vss_names.specs.declared.writer_state.WriterState.{WriterState}
-use Rattle.vss_names.specs.declared.writer_state.WriterState.TheVariants.{Unknown, Stable, WaitingForFreeze, WaitingForThaw, WaitingForPostSnapshot, WaitingForBackupComplete}
-use Rattle.writer_state.specs.declared.said.Said.{Said}
-use Rattle.writer_state.specs.declared.said.Said.TheVariants.{Ok}
-use Rattle.writer_state.specs.declared.writer_row.WriterRow.{WriterRow}
-use Rattle.writer_state.specs.WriterState.{is_failed}
-use Rattle.writer_state.specs.WriterRow.{row_after}
-use Rattle.write_history.specs.declared.mark.Mark.{Mark}
-use Rattle.write_history.specs.declared.mark.Mark.TheVariants.{Clean}
-use Rattle.write_history.specs.History.{Write}
-use Rattle.writer_calls.specs.Script.{said_of}
-use Rattle.set_agenda.specs.declared.group.Group.{Group}
-use Rattle.set_agenda.specs.declared.kind.Kind.{Kind}
-use Rattle.set_agenda.specs.declared.kind.Kind.TheVariants.{Gather, Prepare, Snapshot, Complete}
-use Rattle.set_agenda.specs.declared.member.Member.{Member}
-use Rattle.set_agenda.specs.Agenda.{Agenda, open_group, places, has_said, waited_for, with_group, groups_left, left, is_asked, is_among, order_now, open_order, next_member, all_say, writers_at}
+use Rattle.std.specs.Prelude.{◌||◌, not, option_map, if◌then◌else◌, slice_get}
 use Rattle.set_agenda.specs.Course.{Course, posted, failed as course_failed, rows_where, row_if, has_row_failed, row_failed, begun, told, answered as course_answered, worked, stepped as course_stepped, timed as course_timed, released}
-use Rattle.set_agenda.proofs.CourseRule.{IsKeptInCourse, course_answered as kept_answered, course_stepped as kept_stepped, course_timed as kept_timed, course_begun as kept_begun}
-use Rattle.requestor.specs.Session.{Session}
-use Rattle.scenario.specs.Plan.{Plan}
-use Rattle.vss_model.specs.declared.event.Event.{Event}
-use Rattle.vss_model.specs.State.{State, SetRow, Kept, start, in_progress, left_now}
 use Rattle.vss_model.specs.Ending.{Ending, NothingEnds, ending, concluded, followed, runs, failed_in, failed}
 use Rattle.vss_model.specs.Images.{Replied, cleared, set_loses_image, with_room_if, put, write, reverted_as}
 use Rattle.vss_model.specs.Sessions.{has_no_volume, closed}
 use Rattle.vss_model.specs.Steps.{answered, step_made, is_flush, is_failed_step, stepped_as, stepped, ticked, later}
-use Rattle.vss_model.specs.Acts.{Act, enabled, idle_now, after}
-use Rattle.vss_model.proofs.CourseCalls.{asked_if}
-use Rattle.vss_model.proofs.LogRule.{unspoken}
-use Rattle.promises.specs.Completing.{StandsWell, CompletesUnfailed}
 use Rattle.promises.proofs.Truth.{equal}
-use Rattle.vss_model.proofs.ByEvent.{Covers, covered, after_enabled, after_not_enabled, by_if}
 use Rattle.promises.proofs.LastOrder.{is_last_order, among_all, last_place, not_in_kind, still_open}
 use Rattle.promises.proofs.OpenGroup.{every}
 use Rattle.promises.proofs.Members.{one_on}

@@ -1,28 +1,13 @@
 -- What each call of the course does to the rows of the writers.
-use Rattle.std.proofs.Common.{◌≡◌, ◌∙◌, ℕ, ◌+◌, zero, suc, List, [], ◌∷◌, ◌++◌, ◌⊎◌, Option, Some, None, refl, Bool, true, false, ap, sym, subst, inl, inr, map, arith}
+use Rattle.promises.proofs.Words.{Order, VssResult, Said, Lost, WriterRow, is_ok, row_after, row_aborted, Group, Orders, Kind, Limit, Member, Agenda, Open, order_of, order_now, open_order, is_among}
+use Rattle.promises.proofs.Words.{is_done, groups_left, left, waits_now, Running as RunningLimit, first_hold, hold_runs, running_at, running_limits, spent_of, none_and_some, IsSpentHere, spent_here}
+use Rattle.promises.proofs.Words.{has_failed, none_settled as calm_settled, some_same}
+use Rattle.std.proofs.Common.{◌≡◌, ◌∙◌, ℕ, ◌+◌, zero, suc, List, [], ◌∷◌, ◌⊎◌, Option, Some, None, refl, Bool, true, false, ap, sym, subst, inl, inr, map, arith}
 use Rattle.std.specs.Prelude.{◌&&◌, not, slice_get}
-use Rattle.vss_names.specs.declared.order.Order.{Order}
-use Rattle.vss_names.specs.declared.vss_result.VssResult.{VssResult}
-use Rattle.writer_state.specs.declared.said.Said.{Said}
-use Rattle.writer_state.specs.declared.said.Said.TheVariants.{Lost}
-use Rattle.writer_state.specs.declared.writer_row.WriterRow.{WriterRow}
-use Rattle.writer_state.specs.WriterState.{is_ok}
-use Rattle.writer_state.specs.WriterRow.{row_after, row_aborted}
-use Rattle.set_agenda.specs.declared.group.Group.{Group}
-use Rattle.set_agenda.specs.declared.group.Group.TheVariants.{Orders}
-use Rattle.set_agenda.specs.declared.kind.Kind.{Kind}
-use Rattle.set_agenda.specs.declared.limit.Limit.{Limit}
 use Rattle.set_agenda.specs.declared.limit.Limit.TheVariants.{Hold as HoldLimit, Freeze as FreezeLimit, Answer as AnswerLimit}
-use Rattle.set_agenda.specs.declared.member.Member.{Member}
-use Rattle.set_agenda.specs.Agenda.{Agenda, Open, order_of, order_now, open_order, is_among, is_done, groups_left, left, waits_now}
-use Rattle.set_agenda.specs.Limits.{Running as RunningLimit, first_hold, hold_runs, running_at, running_limits, spent_of}
 use Rattle.set_agenda.specs.Course.{Course, posted, failed as course_failed, rows_where, row_if, is_member, settled_if, settled_in, settled, begun, told, is_decisive, decided, answered_to, answered as course_answered, worked, stepped as course_stepped, freeze_limit, limits_now, lost_to, lost, fails_set, lost_decided, treated_as, treated, timed as course_timed}
-use Rattle.set_agenda.proofs.SpentLimits.{none_and_some, IsSpentHere, spent_here}
-use Rattle.vss_model.specs.Facts.{has_failed}
 use Rattle.promises.proofs.BusyAgendas.{IsBusy, busy_order, busy_limit}
 use Rattle.promises.proofs.Limits.{spent_holds}
-use Rattle.vss_model.proofs.Causes.{none_settled as calm_settled}
-use Rattle.vss_model.proofs.ByEvent.{some_same}
 use Rattle.promises.proofs.Members.{one_on}
 
 row_where : (f : WriterRow → WriterRow) (test : ℕ → Bool) (k : ℕ) (rows : List WriterRow) (w : ℕ) (r : WriterRow) → slice_get rows w ≡ Some r → slice_get (rows_where f test k rows) w ≡ Some (row_if (test (k + w)) f r)

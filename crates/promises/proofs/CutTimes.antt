@@ -1,39 +1,17 @@
 -- The row of a set that was cut has the clock at its cut: only the Cut step writes it, and it comes once.
+use Rattle.promises.proofs.Words.{SetOutcome, VssResult, InsufficientStorage, AsyncCancelled, Mark, Clean, Write, Said, said_of, Group, Orders, PreCommit, Flush, Hold, Cut, Commit, Release}
+use Rattle.promises.proofs.Words.{PostCommit, open_group, Session, Plan, Event, Line, State, SetRow, Kept, in_progress, row_changed, left_now, Act, enabled, idle_now, after, state, state-append, cuts}
+use Rattle.promises.proofs.Words.{or_cut, cut-append, append_nothing, both, after_cut, not_cut_yet, orderly, row_running, Covers, covered, after_enabled, after_not_enabled, by_if}
 use Rattle.std.proofs.Common.{◌≡◌, ◌∙◌, ℕ, ◌+◌, ◌==◌, List, [], ◌∷◌, ◌++◌, Option, Some, None, refl, Bool, true, false, ap, sym, subst, map, find, arith}
 use Rattle.std.specs.Prelude.{◌&&◌, option_map, if◌then◌else◌}
-use Rattle.vss_names.specs.declared.set_outcome.SetOutcome.{SetOutcome}
-use Rattle.vss_names.specs.declared.vss_result.VssResult.{VssResult}
-use Rattle.vss_names.specs.declared.vss_result.VssResult.TheVariants.{InsufficientStorage, AsyncCancelled}
-use Rattle.write_history.specs.declared.mark.Mark.{Mark}
-use Rattle.write_history.specs.declared.mark.Mark.TheVariants.{Clean}
-use Rattle.write_history.specs.History.{Write}
-use Rattle.writer_state.specs.declared.said.Said.{Said}
-use Rattle.writer_calls.specs.Script.{said_of}
-use Rattle.set_agenda.specs.declared.group.Group.{Group}
-use Rattle.set_agenda.specs.declared.group.Group.TheVariants.{Orders, PreCommit, Flush, Hold, Cut, Commit, Release, PostCommit}
-use Rattle.set_agenda.specs.Agenda.{open_group}
 use Rattle.set_agenda.specs.Course.{Course, answered as course_answered, stepped as course_stepped, timed as course_timed}
-use Rattle.requestor.specs.Session.{Session}
 use Rattle.scenario.specs.declared.op.Op.TheVariants as op
-use Rattle.scenario.specs.Plan.{Plan}
-use Rattle.vss_model.specs.declared.event.Event.{Event}
-use Rattle.vss_model.specs.declared.event.Event.TheVariants.{Line}
-use Rattle.vss_model.specs.State.{State, SetRow, Kept, in_progress, row_changed, left_now}
 use Rattle.vss_model.specs.Ending.{Ending, NothingEnds, ending, row_settled, concluded, followed, runs, failed_in, failed}
 use Rattle.vss_model.specs.Images.{Replied, cleared, set_loses_image, with_room_if, put, write, reverted_as}
 use Rattle.vss_model.specs.Sessions.{has_no_volume, new_set, new_number, with_volume, closed}
 use Rattle.vss_model.specs.Steps.{answered, with_cut, row_cut, cut_set, step_made, is_flush, is_failed_step, stepped_as, stepped, ticked, later}
 use Rattle.vss_model.specs.Cut.{is_provider, is_cut_group, is_set, is_cut_of, cut_if, cut}
-use Rattle.vss_model.specs.Acts.{Act, enabled, idle_now, after, state}
-use Rattle.vss_model.proofs.Appending.{state-append}
-use Rattle.vss_model.proofs.AtCut.{cuts}
-use Rattle.vss_model.proofs.CutAppend.{or_cut, cut-append, append_nothing}
-use Rattle.vss_model.proofs.CutStep.{both, after_cut}
-use Rattle.vss_model.proofs.OneCut.{not_cut_yet}
-use Rattle.vss_model.proofs.OrderlyActs.{orderly}
-use Rattle.vss_model.proofs.Rows.{row_running}
 use Rattle.promises.proofs.Truth.{equal, not_both}
-use Rattle.vss_model.proofs.ByEvent.{Covers, covered, after_enabled, after_not_enabled, by_if}
 use Rattle.promises.proofs.Contexts.{settled_number, changed_number}
 
 -- ## the time of a set

@@ -1,23 +1,10 @@
 -- Who was waited for has spoken, and what the log keeps.
+use Rattle.promises.proofs.Words.{list_any, Level, Order, Identify, PrepareBackup, PrepareSnapshot, Freeze, Thaw, PostSnapshot, BackupComplete, Said, Group, Orders, PreCommit, Flush, Hold, Cut}
+use Rattle.promises.proofs.Words.{Commit, Release, PostCommit, Snapshot, Member, Place, is_member, fails_set, Plan, unspoken, true_not_false, among_filter, among_members, Deed, level_of, stage}
+use Rattle.promises.proofs.Words.{Rising, same_volume, is_heard, is_made, AreOnce, heard, agreed, made}
 use Rattle.std.proofs.Common.{◌≡◌, ◌∙◌, ℕ, ◌==◌, List, [], ◌∷◌, Option, Some, None, refl, Bool, true, false, ap, sym, subst, map, filter}
 use Rattle.std.specs.Prelude.{◌&&◌, ◌||◌, not, if◌then◌else◌}
-use Rattle.std.specs.List.{list_any}
-use Rattle.vss_names.specs.declared.level.Level.{Level}
-use Rattle.vss_names.specs.declared.order.Order.{Order}
-use Rattle.vss_names.specs.declared.order.Order.TheVariants.{Identify, PrepareBackup, PrepareSnapshot, Freeze, Thaw, PostSnapshot, BackupComplete}
-use Rattle.writer_state.specs.declared.said.Said.{Said}
-use Rattle.set_agenda.specs.declared.group.Group.{Group}
-use Rattle.set_agenda.specs.declared.group.Group.TheVariants.{Orders, PreCommit, Flush, Hold, Cut, Commit, Release, PostCommit}
-use Rattle.set_agenda.specs.declared.kind.Kind.TheVariants.{Snapshot}
-use Rattle.set_agenda.specs.declared.member.Member.{Member}
-use Rattle.set_agenda.specs.declared.place.Place.{Place}
 use Rattle.set_agenda.specs.Agenda.{Agenda, Entry, Open, plain, places, same_order, group_code, level_code, is_orders, has_failed, has_said, is_at, writers_at, members_of, waited_for, with_group, left_from, groups_left, open_place, is_among, waits_now, at_level}
-use Rattle.set_agenda.specs.Course.{is_member, fails_set}
-use Rattle.scenario.specs.Plan.{Plan}
-use Rattle.vss_model.proofs.LogRule.{unspoken}
-use Rattle.vss_model.proofs.Orderly.{true_not_false}
-use Rattle.vss_model.proofs.Spoken.{among_filter, among_members}
-use Rattle.promises.specs.Way.{Deed, level_of, stage, Rising, same_volume, is_heard, is_made, AreOnce, heard, agreed, made}
 use Rattle.promises.proofs.Truth.{both_parts, equal, left_part, not_true, right_part}
 use Rattle.promises.proofs.Levels.{Ascends, MembersOf}
 use Rattle.promises.proofs.Speaks.{deed_at, deed_in}

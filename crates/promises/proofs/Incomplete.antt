@@ -1,33 +1,15 @@
 -- A set that an act does not complete stays incomplete, and an agenda that begins completes none.
+use Rattle.promises.proofs.Words.{System, BackEnd, FrontEnd, PrepareSnapshot, Freeze, SetOutcome, VssResult, InsufficientStorage, Mark, Clean, Write, Group, Orders, PreCommit, Flush, Hold, Cut}
+use Rattle.promises.proofs.Words.{Commit, Release, PostCommit, Kind, Snapshot, Member, Agenda, Open, plain, at_level, places, waited_for, with_group, left_from, groups_left, is_done, Session, Plan}
+use Rattle.promises.proofs.Words.{State, SetRow, Kept, is_complete, in_progress, with_cut, row_cut, cut_set, step_made, later, unspoken, true_not_false, has_complete, incomplete_settled}
+use Rattle.promises.proofs.Words.{incomplete_map, past_group}
 use Rattle.std.proofs.Common.{◌≡◌, ◌∙◌, ℕ, ◌==◌, List, [], ◌∷◌, ◌⊎◌, Option, Some, None, refl, Bool, true, false, ap, subst, inl, inr}
-use Rattle.vss_names.specs.declared.level.Level.TheVariants.{System, BackEnd, FrontEnd}
-use Rattle.vss_names.specs.declared.order.Order.TheVariants.{PrepareSnapshot, Freeze}
-use Rattle.vss_names.specs.declared.set_outcome.SetOutcome.{SetOutcome}
 use Rattle.vss_names.specs.declared.set_outcome.SetOutcome.TheVariants.{Running as RunningSet, Failed as FailedSet}
-use Rattle.vss_names.specs.declared.vss_result.VssResult.{VssResult}
-use Rattle.vss_names.specs.declared.vss_result.VssResult.TheVariants.{InsufficientStorage}
-use Rattle.write_history.specs.declared.mark.Mark.{Mark}
-use Rattle.write_history.specs.declared.mark.Mark.TheVariants.{Clean}
-use Rattle.write_history.specs.History.{Write}
-use Rattle.set_agenda.specs.declared.group.Group.{Group}
-use Rattle.set_agenda.specs.declared.group.Group.TheVariants.{Orders, PreCommit, Flush, Hold, Cut, Commit, Release, PostCommit}
-use Rattle.set_agenda.specs.declared.kind.Kind.{Kind}
-use Rattle.set_agenda.specs.declared.kind.Kind.TheVariants.{Snapshot}
-use Rattle.set_agenda.specs.declared.member.Member.{Member}
-use Rattle.set_agenda.specs.Agenda.{Agenda, Open, plain, at_level, places, waited_for, with_group, left_from, groups_left, is_done}
 use Rattle.set_agenda.specs.Course.{Course, posted, failed as course_failed, outcome_after, settled_if, settled, begun}
-use Rattle.requestor.specs.Session.{Session}
-use Rattle.scenario.specs.Plan.{Plan}
-use Rattle.vss_model.specs.State.{State, SetRow, Kept, is_complete, in_progress}
 use Rattle.vss_model.specs.Ending.{Ending, NothingEnds, ending, concluded, followed, failed_in}
 use Rattle.vss_model.specs.Images.{cleared, set_loses_image, with_room_if, put, write, reverted_as}
 use Rattle.vss_model.specs.Sessions.{closed}
-use Rattle.vss_model.specs.Steps.{with_cut, row_cut, cut_set, step_made, later}
-use Rattle.vss_model.proofs.LogRule.{unspoken}
 use Rattle.vss_model.proofs.OneCut.{changed_number, changed_result}
-use Rattle.vss_model.proofs.Orderly.{true_not_false}
-use Rattle.vss_model.proofs.Rows.{has_complete, incomplete_settled, incomplete_map}
-use Rattle.vss_model.proofs.Completed.{past_group}
 
 -- an agenda that completes the set is a snapshot's
 pub completes_snapshot : (k : Kind) (o p : SetOutcome) → o ≡ RunningSet → p ≡ outcome_after k o → is_complete p ≡ true → k ≡ Snapshot

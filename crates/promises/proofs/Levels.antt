@@ -1,40 +1,17 @@
 -- The levels and the freeze time-outs of the writers' rows, and the levels of the participants, are those that the scenario gives the writers.
+use Rattle.promises.proofs.Words.{Context, Level, Order, VssResult, AsyncCancelled, Said, WriterRow, is_failed, stable_again, one_more, row_after, row_aborted, row_gathered, row_ended, Mark, Clean}
+use Rattle.promises.proofs.Words.{Write, Group, Kind, Gather, Prepare, Snapshot, Complete, Member, open_group, is_among, IsKeptInCourse, course_answered as kept_answered}
+use Rattle.promises.proofs.Words.{course_stepped as kept_stepped, course_timed as kept_timed, course_begun as kept_begun, Session, Plan, WriterPlan, State, SetRow, Kept, start, row_of_writer}
+use Rattle.promises.proofs.Words.{in_progress, left_now, put, reverted_as, Act, after, state, IsKeptByChanges, IsKeptByWrites, on_after, timeout_in, timeout_of, HasItsNumbers, level_in, level_of}
+use Rattle.promises.proofs.Words.{by_if}
 use Rattle.std.proofs.Common.{◌≡◌, ◌∙◌, ℕ, ◌+◌, ◌≤◌, zero, suc, sym, List, [], ◌∷◌, ◌++◌, Option, Some, None, refl, Bool, true, false, ap, map, fold, arith}
-use Rattle.std.specs.Prelude.{◌&&◌, if◌then◌else◌, slice_get}
-use Rattle.vss_names.specs.declared.context.Context.{Context}
-use Rattle.vss_names.specs.declared.level.Level.{Level}
-use Rattle.vss_names.specs.declared.order.Order.{Order}
-use Rattle.vss_names.specs.declared.vss_result.VssResult.{VssResult}
-use Rattle.vss_names.specs.declared.vss_result.VssResult.TheVariants.{AsyncCancelled}
-use Rattle.writer_state.specs.declared.said.Said.{Said}
-use Rattle.writer_state.specs.declared.writer_row.WriterRow.{WriterRow}
-use Rattle.writer_state.specs.WriterState.{is_failed, stable_again}
-use Rattle.writer_state.specs.WriterRow.{one_more, row_after, row_aborted, row_gathered, row_ended}
-use Rattle.write_history.specs.declared.mark.Mark.{Mark}
-use Rattle.write_history.specs.declared.mark.Mark.TheVariants.{Clean}
-use Rattle.write_history.specs.History.{Write}
-use Rattle.set_agenda.specs.declared.group.Group.{Group}
-use Rattle.set_agenda.specs.declared.kind.Kind.{Kind}
-use Rattle.set_agenda.specs.declared.kind.Kind.TheVariants.{Gather, Prepare, Snapshot, Complete}
-use Rattle.set_agenda.specs.declared.member.Member.{Member}
-use Rattle.set_agenda.specs.Agenda.{open_group, is_among}
+use Rattle.std.specs.Prelude.{if◌then◌else◌, slice_get}
 use Rattle.set_agenda.specs.Course.{Course, posted, rows_where, row_if, member_if, members_from, is_member, failed as course_failed, begun, told, worked, released}
-use Rattle.set_agenda.proofs.CourseRule.{IsKeptInCourse, course_answered as kept_answered, course_stepped as kept_stepped, course_timed as kept_timed, course_begun as kept_begun}
-use Rattle.requestor.specs.Session.{Session}
-use Rattle.scenario.specs.Plan.{Plan, WriterPlan}
-use Rattle.vss_model.specs.State.{State, SetRow, Kept, start, row_of_writer, in_progress, left_now}
 use Rattle.vss_model.specs.Ending.{Ending, NothingEnds, ending, concluded, followed, runs, failed_in, failed}
-use Rattle.vss_model.specs.Images.{put, reverted_as}
 use Rattle.vss_model.specs.Sessions.{begin_in, has_no_volume, closed}
 use Rattle.vss_model.specs.Steps.{answered, step_made, is_flush, is_failed_step, stepped_as, stepped, ticked, later}
-use Rattle.vss_model.specs.Acts.{Act, after, state}
-use Rattle.vss_model.specs.Laws.{IsKeptByChanges, IsKeptByWrites}
-use Rattle.vss_model.proofs.Rule.{on_after}
-use Rattle.promises.specs.Numbers.{timeout_in, timeout_of, HasItsNumbers}
-use Rattle.promises.specs.Way.{level_in, level_of}
 use Rattle.promises.proofs.Truth.{no_less}
 use Rattle.promises.proofs.Members.{one_on}
-use Rattle.vss_model.proofs.ByEvent.{by_if}
 
 -- members in the order of their writers, from w on, each once
 abbrev pub Ascends : ℕ → List Member → Type 0

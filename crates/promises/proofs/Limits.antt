@@ -1,23 +1,13 @@
 -- Where more than a limit has gone by that fails the set, time fails it. The limit of held writes is said of the first Hold step.
+use Rattle.promises.proofs.Words.{list_any, Order, PrepareBackup, PrepareSnapshot, WriterRow, answer_limit, hold_limit, default_freeze, is_spent, Group, Orders, Limit, Member, Agenda, Entry, Open}
+use Rattle.promises.proofs.Words.{left, groups_left, order_of, order_now, Running, opened_at, freeze_opened_at, is_hold, first_time, first_hold, hold_runs, freeze_runs, answer_runs, runs_if}
+use Rattle.promises.proofs.Words.{hold_running, running_at, running_limits, spent_of, same_running, first_found, later_found, none_and_some, limit_found, hold_found, held_here, frozen_here}
+use Rattle.promises.proofs.Words.{asked_here, has_failed, has_passed, last_of, holds_volumes, is_hold_step, freezes_writers, prepares_snapshot, prepares_writers, frozen_too_long, unanswered_too_long}
+use Rattle.promises.proofs.Words.{Decides, same_hold, same_hold_step, same_freeze, freeze_since, answer_since}
 use Rattle.std.proofs.Common.{◌≡◌, ◌∙◌, ℕ, ◌+◌, List, [], ◌∷◌, ◌++◌, Option, Some, None, refl, Bool, true, false, sym, subst, filter, find, fold, min, arith}
 use Rattle.std.specs.Prelude.{◌&&◌, ◌||◌, nat_lt, ◌-◌, option_map, if◌then◌else◌, slice_get}
-use Rattle.std.specs.List.{list_any}
-use Rattle.vss_names.specs.declared.order.Order.{Order}
-use Rattle.vss_names.specs.declared.order.Order.TheVariants.{PrepareBackup, PrepareSnapshot}
-use Rattle.writer_state.specs.declared.writer_row.WriterRow.{WriterRow}
-use Rattle.tick_limits.specs.Time.{answer_limit, hold_limit, default_freeze, is_spent}
-use Rattle.set_agenda.specs.declared.group.Group.{Group}
-use Rattle.set_agenda.specs.declared.group.Group.TheVariants.{Orders}
-use Rattle.set_agenda.specs.declared.limit.Limit.{Limit}
 use Rattle.set_agenda.specs.declared.limit.Limit.TheVariants.{Hold as HoldLimit, Freeze as FreezeLimit, Answer as AnswerLimit}
-use Rattle.set_agenda.specs.declared.member.Member.{Member}
-use Rattle.set_agenda.specs.Agenda.{Agenda, Entry, Open, left, groups_left, order_of, order_now}
-use Rattle.set_agenda.specs.Limits.{Running, opened_at, freeze_opened_at, is_hold, first_time, first_hold, hold_runs, freeze_runs, answer_runs, runs_if, hold_running, running_at, running_limits, spent_of}
 use Rattle.set_agenda.specs.Course.{Course, posted, failed as course_failed, limit_of, freeze_limit, limits_now, fails_set as decides, lost, lost_decided, treated_as, treated, timed as course_timed}
-use Rattle.set_agenda.proofs.SpentLimits.{same_running, first_found, later_found, none_and_some, limit_found, hold_found, held_here, frozen_here, asked_here}
-use Rattle.vss_model.specs.Facts.{has_failed}
-use Rattle.vss_model.specs.Causes.{has_passed, last_of, holds_volumes, is_hold_step, freezes_writers, prepares_snapshot, prepares_writers, frozen_too_long, unanswered_too_long}
-use Rattle.vss_model.proofs.Late.{Decides, same_hold, same_hold_step, same_freeze, freeze_since, answer_since}
 use Rattle.promises.proofs.Truth.{both_parts}
 
 -- ## a limit has gone by

@@ -1,19 +1,11 @@
 -- Limits that are not spent, and the stages in which they run.
+use Rattle.promises.proofs.Words.{Level, System, Order, PrepareBackup, PrepareSnapshot, Freeze, Thaw, PostSnapshot, hold_limit, is_spent, Group, Orders, PreCommit, Flush}
+use Rattle.promises.proofs.Words.{Hold, Cut, Commit, Release, PostCommit, Limit, Running as RunningLimit, is_prepare_snapshot, is_hold, hold_runs, freeze_runs, runs_if, hold_running, spent_of}
+use Rattle.promises.proofs.Words.{is_decisive, later_found}
 use Rattle.std.proofs.Common.{◌≡◌, ◌∙◌, ℕ, ◌+◌, ◌≤◌, List, [], ◌∷◌, ◌++◌, Option, Some, None, refl, Bool, true, false, arith}
 use Rattle.std.specs.Prelude.{not, nat_lt, ◌-◌, if◌then◌else◌}
-use Rattle.vss_names.specs.declared.level.Level.{Level}
-use Rattle.vss_names.specs.declared.level.Level.TheVariants.{System}
-use Rattle.vss_names.specs.declared.order.Order.{Order}
-use Rattle.vss_names.specs.declared.order.Order.TheVariants.{Identify, PrepareBackup, PrepareSnapshot, Freeze, Thaw, PostSnapshot, BackupComplete}
-use Rattle.tick_limits.specs.Time.{hold_limit, is_spent}
-use Rattle.set_agenda.specs.declared.group.Group.{Group}
-use Rattle.set_agenda.specs.declared.group.Group.TheVariants.{Orders, PreCommit, Flush, Hold, Cut, Commit, Release, PostCommit}
-use Rattle.set_agenda.specs.declared.limit.Limit.{Limit}
 use Rattle.set_agenda.specs.declared.limit.Limit.TheVariants.{Hold as HoldLimit}
-use Rattle.set_agenda.specs.Limits.{Running as RunningLimit, is_prepare_snapshot, is_hold, hold_runs, freeze_runs, runs_if, hold_running, spent_of}
-use Rattle.set_agenda.specs.Course.{is_decisive}
 use Rattle.promises.proofs.Truth.{chain}
-use Rattle.set_agenda.proofs.SpentLimits.{later_found}
 use Rattle.promises.proofs.Stages.{group_stage}
 
 -- ## limits that are not spent

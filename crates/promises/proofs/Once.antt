@@ -1,22 +1,9 @@
 -- No step is made twice, and nobody is heard twice to an order.
+use Rattle.promises.proofs.Words.{list_any, list_any-append, or_parts, Level, Order, Identify, Freeze, Thaw, PostSnapshot, Said, Group, Orders, Snapshot, Member, Place, true_not_false, among_filter}
+use Rattle.promises.proofs.Words.{Deed, is_heard, is_again, AreOnce, heard, Spoke}
 use Rattle.std.proofs.Common.{◌≡◌, ◌∙◌, ℕ, ◌==◌, ◌≤◌, ◌<◌, List, [], ◌∷◌, ◌++◌, Option, Some, None, refl, Bool, true, false, ap, sym, subst, map, filter, arith, ◌+◌}
 use Rattle.std.specs.Prelude.{◌&&◌, ◌||◌, not, is_some, if◌then◌else◌}
-use Rattle.std.specs.List.{list_any}
-use Rattle.std.proofs.lemmas.List.Folds.{list_any-append}
-use Rattle.std.proofs.lemmas.Bool.{or_parts}
-use Rattle.vss_names.specs.declared.level.Level.{Level}
-use Rattle.vss_names.specs.declared.order.Order.{Order}
-use Rattle.vss_names.specs.declared.order.Order.TheVariants.{Identify, Freeze, Thaw, PostSnapshot}
-use Rattle.writer_state.specs.declared.said.Said.{Said}
-use Rattle.set_agenda.specs.declared.group.Group.{Group}
-use Rattle.set_agenda.specs.declared.group.Group.TheVariants.{Orders}
-use Rattle.set_agenda.specs.declared.kind.Kind.TheVariants.{Snapshot}
-use Rattle.set_agenda.specs.declared.member.Member.{Member}
-use Rattle.set_agenda.specs.declared.place.Place.{Place}
 use Rattle.set_agenda.specs.Agenda.{Agenda, Open, places, same_order, has_failed, has_said, is_at, writers_at, members_of, waited_for, with_group, left_from, open_place, is_among, waits_now}
-use Rattle.vss_model.proofs.Orderly.{true_not_false}
-use Rattle.vss_model.proofs.Spoken.{among_filter}
-use Rattle.promises.specs.Way.{Deed, is_heard, is_again, AreOnce, heard, Spoke}
 use Rattle.promises.proofs.Truth.{equal, false_of, left_part, right_part, same_number}
 use Rattle.promises.proofs.Levels.{Ascends}
 use Rattle.promises.proofs.Stages.{level_or, leveled}

@@ -1,21 +1,10 @@
 -- Orders and levels: each participant is heard at its own.
+use Rattle.promises.proofs.Words.{Level, System, BackEnd, FrontEnd, Order, Identify, PrepareSnapshot, Freeze, Thaw, PostSnapshot, Said, is_ok, Group, Orders, PreCommit, Snapshot, Member, Place}
+use Rattle.promises.proofs.Words.{is_member, fails_set, Plan}
 use Rattle.std.proofs.Common.{◌≡◌, ◌∙◌, ℕ, ◌==◌, ◌≤◌, ◌<◌, List, [], ◌∷◌, Option, Some, None, refl, Bool, true, false, ap, sym, map, filter, arith}
 use Rattle.std.specs.Prelude.{◌&&◌, ◌||◌, not, is_some, if◌then◌else◌}
-use Rattle.vss_names.specs.declared.level.Level.{Level}
-use Rattle.vss_names.specs.declared.level.Level.TheVariants.{System, BackEnd, FrontEnd}
 use Rattle.vss_names.specs.Level.{number_of}
-use Rattle.vss_names.specs.declared.order.Order.{Order}
-use Rattle.vss_names.specs.declared.order.Order.TheVariants.{Identify, PrepareSnapshot, Freeze, Thaw, PostSnapshot}
-use Rattle.writer_state.specs.declared.said.Said.{Said}
-use Rattle.writer_state.specs.WriterState.{is_ok}
-use Rattle.set_agenda.specs.declared.group.Group.{Group}
-use Rattle.set_agenda.specs.declared.group.Group.TheVariants.{Orders, PreCommit}
-use Rattle.set_agenda.specs.declared.kind.Kind.TheVariants.{Snapshot}
-use Rattle.set_agenda.specs.declared.member.Member.{Member}
-use Rattle.set_agenda.specs.declared.place.Place.{Place}
 use Rattle.set_agenda.specs.Agenda.{Agenda, Entry, Open, places, same_order, order_code, group_code, level_code, order_of, is_orders, has_failed, is_at, writers_at, members_of, waited_for, with_group, left_from, open_place, is_among}
-use Rattle.set_agenda.specs.Course.{is_member, fails_set}
-use Rattle.scenario.specs.Plan.{Plan}
 use Rattle.promises.specs.Way.{level_of, is_heard, is_agreed, heard, agreed, failed}
 use Rattle.promises.proofs.Truth.{both_are, both_parts, equal, left_part, right_part, same_number}
 use Rattle.promises.proofs.Levels.{MembersOf}

@@ -1,75 +1,31 @@
 -- Nobody owes an answer once the agenda that asked for it is over: while it runs, whoever owes one is waited for; and it ends only where
 -- nobody is.
+use Rattle.promises.proofs.Words.{list_any, list_any-append, Context, Backup, AppRollback, NasRollback, Order, SetOutcome, VssResult, AsyncCancelled, AsyncPending, BadState, InsufficientStorage, Said}
+use Rattle.promises.proofs.Words.{Lost, is_ok, row_gathered, WriterRow, Mark, Clean, Fault, Write, takers, said_of, Group, Orders, Kind, Gather, Prepare, Snapshot, Complete, Member, Place, Agenda}
+use Rattle.promises.proofs.Words.{Entry, Open, plain, places, order_of, has_said, same_place, writers_at, waited_for, with_group, left_from, groups_left, left, open_group, open_place, is_among}
+use Rattle.promises.proofs.Words.{is_working, is_done, at_place, all_say, order_now, same_order, waits_now, order_code, spent_of, Stage, Session, opened, started as session_started, has_writers}
+use Rattle.promises.proofs.Words.{stage_after, agenda_ended, set_failed, is_stage, Op, begins_agenda, Target, target_of, Plan, runs, followed, failed_in, failed, SetRow, State, Kept, in_progress}
+use Rattle.promises.proofs.Words.{left_now, Event, Reply, Fine, Coded, Deleted, has_failed, WaitsFor, IsAgendaOf, line_ticks, lost_after, lost_order_if, Act, enabled, order_of_writer, idle_now}
+use Rattle.promises.proofs.Words.{answer_reply, reply, after, state, LetsGo, is_pending, Settles, among_filter, state-append, append_nothing, orderly, Deed, Spoke, deeds_lost, Asking, ToIdentify}
+use Rattle.promises.proofs.Words.{ForConsent, AtCompletion, order_for, asks, step_for, is_asked_of, counts, is_reply, owes_after, owes_if, owes_from, owes, NobodyOwes, Step, ByGather, ByPrepare}
+use Rattle.promises.proofs.Words.{ByComplete, progress, is_step, is_writer, choosing, Covers, covered, after_enabled, after_not_enabled, some_same, by_if, none_runs}
 use Rattle.std.proofs.Common.{◌≡◌, ◌∙◌, ℕ, ◌+◌, ◌==◌, List, [], ◌∷◌, ◌++◌, Option, Some, None, refl, Bool, true, false, ap, sym, subst, inl, inr, map, filter, length, arith}
 use Rattle.std.specs.Prelude.{◌&&◌, ◌||◌, not, is_some, option_map, if◌then◌else◌, nat_lt}
-use Rattle.std.specs.List.{list_any}
-use Rattle.std.proofs.lemmas.List.Folds.{list_any-append}
-use Rattle.vss_names.specs.declared.context.Context.{Context}
-use Rattle.vss_names.specs.declared.context.Context.TheVariants.{Backup, AppRollback, NasRollback}
-use Rattle.vss_names.specs.declared.order.Order.{Order}
-use Rattle.vss_names.specs.declared.set_outcome.SetOutcome.{SetOutcome}
-use Rattle.vss_names.specs.declared.vss_result.VssResult.{VssResult}
-use Rattle.vss_names.specs.declared.vss_result.VssResult.TheVariants.{AsyncCancelled, AsyncPending, BadState, InsufficientStorage}
-use Rattle.writer_state.specs.declared.said.Said.{Said}
-use Rattle.writer_state.specs.declared.said.Said.TheVariants.{Lost}
-use Rattle.writer_state.specs.WriterState.{is_ok}
-use Rattle.writer_state.specs.WriterRow.{row_gathered}
-use Rattle.writer_state.specs.declared.writer_row.WriterRow.{WriterRow}
-use Rattle.write_history.specs.declared.mark.Mark.{Mark}
-use Rattle.write_history.specs.declared.mark.Mark.TheVariants.{Clean, Fault}
-use Rattle.write_history.specs.History.{Write}
-use Rattle.component_doc.specs.Selection.{takers}
 use Rattle.writer_calls.specs.declared.answer.Answer.{Answer}
-use Rattle.writer_calls.specs.Script.{said_of}
-use Rattle.set_agenda.specs.declared.group.Group.{Group}
-use Rattle.set_agenda.specs.declared.group.Group.TheVariants.{Orders}
-use Rattle.set_agenda.specs.declared.kind.Kind.{Kind}
-use Rattle.set_agenda.specs.declared.kind.Kind.TheVariants.{Gather, Prepare, Snapshot, Complete}
-use Rattle.set_agenda.specs.declared.member.Member.{Member}
-use Rattle.set_agenda.specs.declared.place.Place.{Place}
-use Rattle.set_agenda.specs.Agenda.{Agenda, Entry, Open, plain, places, order_of, has_said, same_place, writers_at, waited_for, with_group, left_from, groups_left, left, open_group, open_place}
-use Rattle.set_agenda.specs.Agenda.{is_among, is_working, is_done, at_place, all_say, order_now, same_order, waits_now, order_code}
 use Rattle.set_agenda.specs.Course.{Course, is_member, fails_set, begun, answered as course_answered, stepped as course_stepped, timed as course_timed, settled, settled_if, posted}
 use Rattle.set_agenda.specs.Course.{failed as course_failed, released, limits_now, lost_at, members_from, has_row_failed, prepared as course_prepared}
-use Rattle.set_agenda.specs.Limits.{spent_of}
-use Rattle.requestor.specs.declared.stage.Stage.{Stage}
 use Rattle.requestor.specs.declared.stage.Stage.TheVariants.{Opened, Gathered, Started, Prepared, Done, Finished, Failed}
-use Rattle.requestor.specs.Session.{Session, opened, started as session_started, has_writers, stage_after, agenda_ended, set_failed}
-use Rattle.requestor.specs.Check.{is_stage}
 use Rattle.requestor.specs.declared.session_call.SessionCall.TheVariants as call
-use Rattle.scenario.specs.declared.op.Op.{Op}
 use Rattle.scenario.specs.declared.op.Op.TheVariants as op
-use Rattle.scenario.specs.Bounds.{begins_agenda}
-use Rattle.scenario.specs.Calls.{Target, target_of}
-use Rattle.scenario.specs.Plan.{Plan}
-use Rattle.vss_model.specs.Ending.{runs, followed, failed_in, failed}
-use Rattle.vss_model.specs.State.{SetRow, State, Kept, in_progress, left_now}
-use Rattle.vss_model.specs.declared.event.Event.{Event}
 use Rattle.vss_model.specs.declared.event.Event.TheVariants.{Line, Answer as AnswerEvent, Provider}
-use Rattle.vss_model.specs.Reply.{Reply, Fine, Coded, Deleted}
 use Rattle.vss_model.specs.Images.{Replied, refused, cleared, set_loses_image, with_room_if, put, write, reverted_as}
 use Rattle.vss_model.specs.Sessions.{disable, new_number, start_set, has_no_volume, closed, is_disabled, selected, pending, gather, complete}
 use Rattle.vss_model.specs.Steps.{answered, step_made, is_flush, is_failed_step, stepped_as, stepped, ticked, later}
-use Rattle.vss_model.specs.Facts.{has_failed, WaitsFor, IsAgendaOf}
-use Rattle.vss_model.specs.Effects.{line_ticks, lost_after, lost_order_if}
-use Rattle.vss_model.specs.Acts.{Act, enabled, order_of_writer, idle_now, answer_reply, reply, after, state}
-use Rattle.vss_model.specs.Laws.{LetsGo}
-use Rattle.vss_model.specs.Replies.{is_pending}
-use Rattle.vss_model.proofs.CourseCalls.{Settles}
 use Rattle.vss_model.proofs.LogRule.{Running, unspoken}
-use Rattle.vss_model.proofs.Spoken.{among_filter}
-use Rattle.vss_model.proofs.Appending.{state-append}
-use Rattle.vss_model.proofs.CutAppend.{append_nothing}
-use Rattle.vss_model.proofs.OrderlyActs.{orderly}
-use Rattle.promises.specs.Way.{Deed, Spoke, deeds_lost}
-use Rattle.promises.specs.Owed.{Asking, ToIdentify, ForConsent, AtCompletion, order_for, asks, step_for, is_asked_of, counts, is_reply, owes_after, owes_if, owes_from, owes, NobodyOwes}
-use Rattle.promises.specs.InOrder.{Step, ByGather, ByPrepare, ByComplete, progress, is_step}
-use Rattle.promises.specs.Participants.{is_writer, choosing}
 use Rattle.promises.proofs.Truth.{and_true, both_are, both_parts, equal, false_of, left_part, not_false, not_true, right_part, same_number}
 use Rattle.promises.proofs.Scripts.{kept_test, kept_among}
 use Rattle.promises.proofs.Speaks.{deed_at, deed_in, said_at, Grows, made_now, lost_told, grows_answered, grows_stepped, grows_timed}
 use Rattle.promises.proofs.BusyAgendas.{course_followed}
-use Rattle.vss_model.proofs.ByEvent.{Covers, covered, after_enabled, after_not_enabled, some_same, by_if}
 use Rattle.promises.proofs.CalmCourses.{calm_begun}
 use Rattle.promises.proofs.Clock.{write_ticks}
 use Rattle.promises.proofs.Progress.{stage_of, StandsAt, stands_all, is_opened, is_started, is_done as is_done_stage, snapshots}
@@ -77,7 +33,6 @@ use Rattle.promises.proofs.Turns.{Turn, begun_turn, answer_turn, tick_turn, step
 use Rattle.promises.proofs.Members.{members_from_are}
 use Rattle.promises.proofs.CalmStages.{IsCalm, calm_kept, calm_always}
 use Rattle.promises.proofs.Participants.{Follows, follows_all, standing, asked_by, asked_are}
-use Rattle.vss_model.proofs.Rows.{none_runs}
 
 abbrev p0 : Asking → Place
 p0 i = plain (Orders (order_for i))

@@ -1,57 +1,26 @@
 -- A writer's row changes by what is said, by its set's failure, by `gather` and by `end`, and by nothing else.
+use Rattle.promises.proofs.Words.{SetOutcome, VssResult, InsufficientStorage, AsyncCancelled, AsyncPending, BadState, Timeout, WriterState, Unknown, Order, Identify, Said, WriterRow, is_ok, is_failed}
+use Rattle.promises.proofs.Words.{after_ok, failed_at, stable_again, row_after, row_aborted, row_ended, row_gathered, one_more, Mark, Clean, Fault, FaultAfter, Write, said_of, Group, Orders}
+use Rattle.promises.proofs.Words.{PreCommit, Flush, Hold, Cut, Commit, Release, PostCommit, Gather, Prepare, Snapshot, Complete, Open, open_group, open_order, next_volume, order_of, order_if}
+use Rattle.promises.proofs.Words.{order_now, is_among, is_asked, is_orders, is_working, waits_now, Running as RunningLimit, spent_of, Session, Op, Target, target_of, Plan, Event, State, SetRow, Kept}
+use Rattle.promises.proofs.Words.{is_running, in_progress, left_now, row_of, row_settled, followed, runs, failed_in, failed, Reply, Fine, Coded, Deleted, Idled, line_ticks, lost_after, Act}
+use Rattle.promises.proofs.Words.{order_of_writer, answer_reply, step_reply, reply, idle_now, after, state, is_veto, is_refused, is_late, is_fault, is_flush_step, loses_own_image, gives_cause}
+use Rattle.promises.proofs.Words.{NumberedFrom, has_failed, IsFailed, outcome_is_running, orderly, running_found, row_running, row_fails, set_fails, row_said, at_rest, row_told, row_asked, row_over}
+use Rattle.promises.proofs.Words.{state_at_ok, state_at_failure, speaks, said_by, asks_anew, ends_session, row_by, row_next, RowsChange, Covers, ChangesNothing, covered, after_enabled, by_if}
 use Rattle.std.proofs.Common.{◌≡◌, ◌∙◌, ℕ, ◌+◌, List, [], ◌∷◌, Option, Some, None, refl, Bool, true, false, ap, sym, subst, inl, inr, map}
 use Rattle.std.specs.Prelude.{◌&&◌, not, is_some, find, ◌==◌, if◌then◌else◌, slice_get}
-use Rattle.vss_names.specs.declared.set_outcome.SetOutcome.{SetOutcome}
 use Rattle.vss_names.specs.declared.set_outcome.SetOutcome.TheVariants.{Running as RunningSet}
-use Rattle.vss_names.specs.declared.vss_result.VssResult.{VssResult}
-use Rattle.vss_names.specs.declared.vss_result.VssResult.TheVariants.{InsufficientStorage, AsyncCancelled, AsyncPending, BadState}
-use Rattle.vss_names.specs.declared.writer_error.WriterError.TheVariants.{Timeout}
-use Rattle.vss_names.specs.declared.writer_state.WriterState.{WriterState}
-use Rattle.vss_names.specs.declared.writer_state.WriterState.TheVariants.{Unknown}
-use Rattle.vss_names.specs.declared.order.Order.{Order}
-use Rattle.vss_names.specs.declared.order.Order.TheVariants.{Identify}
-use Rattle.writer_state.specs.declared.said.Said.{Said}
 use Rattle.writer_state.specs.declared.said.Said.TheVariants.{Ok, Veto, Lost}
-use Rattle.writer_state.specs.declared.writer_row.WriterRow.{WriterRow}
-use Rattle.writer_state.specs.WriterState.{is_ok, is_failed, after_ok, failed_at, stable_again}
-use Rattle.writer_state.specs.WriterRow.{row_after, row_aborted, row_ended, row_gathered, one_more}
-use Rattle.write_history.specs.declared.mark.Mark.{Mark}
-use Rattle.write_history.specs.declared.mark.Mark.TheVariants.{Clean, Fault, FaultAfter}
-use Rattle.write_history.specs.History.{Write}
 use Rattle.writer_calls.specs.declared.answer.Answer.{Answer}
-use Rattle.writer_calls.specs.Script.{said_of}
-use Rattle.set_agenda.specs.declared.group.Group.{Group}
-use Rattle.set_agenda.specs.declared.group.Group.TheVariants.{Orders, PreCommit, Flush, Hold, Cut, Commit, Release, PostCommit}
-use Rattle.set_agenda.specs.declared.kind.Kind.TheVariants.{Gather, Prepare, Snapshot, Complete}
-use Rattle.set_agenda.specs.Agenda.{Open, open_group, open_order, next_volume, order_of, order_if, order_now, is_among, is_asked, is_orders, is_working, waits_now}
-use Rattle.set_agenda.specs.Limits.{Running as RunningLimit, spent_of}
 use Rattle.set_agenda.specs.Course.{Course, posted, failed as course_failed, released, row_if, limits_now, lost_at, is_member, is_decisive, answered as course_answered, stepped as course_stepped, timed as course_timed}
-use Rattle.requestor.specs.Session.{Session}
-use Rattle.scenario.specs.declared.op.Op.{Op}
 use Rattle.scenario.specs.declared.op.Op.TheVariants as op
-use Rattle.scenario.specs.Calls.{Target, target_of}
-use Rattle.scenario.specs.Plan.{Plan}
-use Rattle.vss_model.specs.declared.event.Event.{Event}
 use Rattle.vss_model.specs.declared.event.Event.TheVariants.{Line, Answer as AnswerEvent, Provider, Idle}
-use Rattle.vss_model.specs.State.{State, SetRow, Kept, is_running, in_progress, left_now, row_of}
-use Rattle.vss_model.specs.Ending.{row_settled, followed, runs, failed_in, failed}
 use Rattle.vss_model.specs.Images.{Replied, refused, cleared, set_loses_image, with_room_if, put, write, reverted_as}
 use Rattle.vss_model.specs.Sessions.{disable, has_no_volume, start_set, closed, end_session}
 use Rattle.vss_model.specs.Steps.{answered, step_made, is_flush, is_failed_step, stepped_as, stepped, ticked, later}
-use Rattle.vss_model.specs.Reply.{Reply, Fine, Coded, Deleted, Idled}
-use Rattle.vss_model.specs.Effects.{line_ticks, lost_after}
-use Rattle.vss_model.specs.Acts.{Act, order_of_writer, answer_reply, step_reply, reply, idle_now, after, state}
-use Rattle.vss_model.specs.Causes.{is_veto, is_refused, is_late, is_fault, is_flush_step, loses_own_image, gives_cause}
-use Rattle.vss_model.specs.Facts.{NumberedFrom, has_failed}
-use Rattle.vss_model.specs.Headline.{IsFailed}
-use Rattle.vss_model.proofs.FlushFails.{outcome_is_running}
-use Rattle.vss_model.proofs.OrderlyActs.{orderly}
-use Rattle.vss_model.proofs.Rows.{running_found, row_running}
-use Rattle.promises.specs.Rows.{row_fails, set_fails, row_said, at_rest, row_told, row_asked, row_over, state_at_ok, state_at_failure, speaks, said_by, asks_anew, ends_session, row_by, row_next, RowsChange}
 use Rattle.promises.proofs.Truth.{both_parts, equal, false_of, not_both, or_false}
 use Rattle.promises.proofs.CourseRows.{Becomes, as_it_is, and_told, same_rows, rows_map_are, rise_failed, stay_begun, say_to, refuses, comes_answered, Comes, stay_stepped, rise_stepped, lost_by, PassesOrFails, over_timed}
 use Rattle.promises.proofs.BusyAgendas.{IsBusy, busy_order, busy_step, busy_set, course_followed}
-use Rattle.vss_model.proofs.ByEvent.{Covers, ChangesNothing, covered, after_enabled, by_if}
 use Rattle.promises.proofs.Failing.{fails_for_cause, same_consent, same_veto, refused_fails, falls, followed_sets, failed_fails, write_fails}
 use Rattle.promises.proofs.Limits.{timed_fails}
 use Rattle.promises.proofs.Times.{late_is_due}

@@ -1,30 +1,14 @@
 -- What keeps the choice of writers: answers, steps, ticks, failures and agendas change neither who takes part, nor which classes are
 -- disabled, nor what is named, nor whether the session takes all; and each writer keeps a row.
-use Rattle.std.proofs.Common.{◌≡◌, ◌∙◌, ℕ, ◌+◌, List, [], ◌∷◌, Option, Some, None, refl, Bool, true, false, ap, length}
-use Rattle.std.specs.Prelude.{◌&&◌, option_map}
-use Rattle.vss_names.specs.declared.order.Order.{Order}
-use Rattle.vss_names.specs.declared.vss_result.VssResult.{VssResult}
-use Rattle.vss_names.specs.declared.vss_result.VssResult.TheVariants.{InsufficientStorage}
-use Rattle.write_history.specs.declared.mark.Mark.{Mark}
-use Rattle.write_history.specs.declared.mark.Mark.TheVariants.{Clean, Fault}
-use Rattle.write_history.specs.History.{Write}
-use Rattle.writer_state.specs.declared.said.Said.{Said}
-use Rattle.writer_state.specs.WriterRow.{row_after, row_aborted}
-use Rattle.set_agenda.specs.declared.group.Group.{Group}
-use Rattle.set_agenda.specs.declared.group.Group.TheVariants.{Orders, PreCommit, Flush, Hold, Cut, Commit, Release, PostCommit}
-use Rattle.set_agenda.specs.declared.kind.Kind.{Kind}
-use Rattle.set_agenda.specs.declared.member.Member.{Member}
-use Rattle.set_agenda.specs.Agenda.{Agenda, is_among, open_group}
+use Rattle.promises.proofs.Words.{Order, VssResult, InsufficientStorage, Mark, Clean, Fault, Write, Said, row_after, row_aborted, Group, Orders, PreCommit, Flush, Hold, Cut, Commit, Release}
+use Rattle.promises.proofs.Words.{PostCommit, Kind, Member, Agenda, is_among, open_group, IsKeptFrom, from_settled, from_begun, from_answered, from_timed, Mode, Session, agenda_ended, set_failed}
+use Rattle.promises.proofs.Words.{Plan, State, SetRow, Kept, in_progress, left_now, length-rows_where}
+use Rattle.std.proofs.Common.{◌≡◌, ◌∙◌, ℕ, ◌+◌, List, [], Option, Some, None, refl, Bool, true, false, ap, length}
+use Rattle.std.specs.Prelude.{option_map}
 use Rattle.set_agenda.specs.Course.{Course, is_member, posted, failed as course_failed, begun, told, answered as course_answered, worked, stepped as course_stepped, timed as course_timed}
-use Rattle.set_agenda.proofs.CourseRule.{IsKeptFrom, from_settled, from_begun, from_answered, from_timed}
-use Rattle.requestor.specs.declared.mode.Mode.{Mode}
-use Rattle.requestor.specs.Session.{Session, agenda_ended, set_failed}
-use Rattle.scenario.specs.Plan.{Plan}
-use Rattle.vss_model.specs.State.{State, SetRow, Kept, in_progress, left_now}
 use Rattle.vss_model.specs.Ending.{Ending, NothingEnds, AgendaEnds, SetFails, ending, concluded, followed, runs, failed_in}
 use Rattle.vss_model.specs.Images.{cleared, set_loses_image, with_room_if, put, write, reverted_as}
 use Rattle.vss_model.specs.Steps.{answered, cut_set, step_made, is_flush, is_failed_step, stepped_as, stepped, ticked, later}
-use Rattle.vss_model.proofs.FewTurns.{length-rows_where}
 
 -- ## the course
 

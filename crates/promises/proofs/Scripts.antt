@@ -1,60 +1,24 @@
 -- A writer answers by its script: how often it was asked, as the acts tell it, is how many groups of that order have opened for it.
+use Rattle.promises.proofs.Words.{list_any, sum_by-append, Level, Order, VssResult, InsufficientStorage, AsyncCancelled, BadState, SetOutcome, Said, is_ok, row_gathered, Mark, Clean, Writer, Move}
+use Rattle.promises.proofs.Words.{Write, Scripted, said_of, answer_in, is_row_for, scripted_answer, Group, Orders, PreCommit, Flush, Hold, Cut, Commit, Release, PostCommit, Freeze, PostSnapshot, Kind}
+use Rattle.promises.proofs.Words.{Limit, Member, Place, Running as RunningLimit, spent_of, Session, Plan, script_of, Event, State, SetRow, start, in_progress, left_now, followed, runs, failed_in}
+use Rattle.promises.proofs.Words.{failed, Act, enabled, order_of_writer, idle_now, after, state, run, acts, acts_if, answer_event, script_event, event_of, state-run, acts-append, Settles, said_stays}
+use Rattle.promises.proofs.Words.{among_filter, is_owed, is_asked_anew, asked_from, times_asked, written_in, AnswersByScript, Deed, Covers, covered, after_enabled, after_not_enabled, by_if}
+use Rattle.promises.proofs.Words.{append_nothing, and-false, none_runs}
 use Rattle.std.proofs.Common.{◌≡◌, ◌∙◌, ℕ, ◌+◌, ◌==◌, List, [], ◌∷◌, ◌++◌, Option, Some, None, refl, Bool, true, false, cond, ap, sym, subst, inl, inr, map, filter, find, fold, arith}
 use Rattle.std.specs.Prelude.{◌&&◌, ◌||◌, not, is_some, count_by, if◌then◌else◌}
-use Rattle.std.specs.List.{list_any}
-use Rattle.std.proofs.lemmas.List.Sums.{sum_by-append}
-use Rattle.vss_names.specs.declared.level.Level.{Level}
-use Rattle.vss_names.specs.declared.order.Order.{Order}
-use Rattle.vss_names.specs.declared.vss_result.VssResult.{VssResult}
-use Rattle.vss_names.specs.declared.vss_result.VssResult.TheVariants.{InsufficientStorage, AsyncCancelled, BadState}
-use Rattle.vss_names.specs.declared.set_outcome.SetOutcome.{SetOutcome}
-use Rattle.writer_state.specs.declared.said.Said.{Said}
-use Rattle.writer_state.specs.WriterState.{is_ok}
-use Rattle.writer_state.specs.WriterRow.{row_gathered}
-use Rattle.write_history.specs.declared.mark.Mark.{Mark}
-use Rattle.write_history.specs.declared.mark.Mark.TheVariants.{Clean}
-use Rattle.write_history.specs.declared.actor.Actor.TheVariants.{Writer}
-use Rattle.write_history.specs.declared.move_item.Move.{Move}
-use Rattle.write_history.specs.History.{Write}
-use Rattle.writer_calls.specs.declared.scripted.Scripted.{Scripted}
-use Rattle.writer_calls.specs.Script.{said_of, answer_in, is_row_for, scripted_answer}
-use Rattle.set_agenda.specs.declared.group.Group.{Group}
-use Rattle.set_agenda.specs.declared.group.Group.TheVariants.{Orders, PreCommit, Flush, Hold, Cut, Commit, Release, PostCommit}
-use Rattle.vss_names.specs.declared.order.Order.TheVariants.{Freeze, PostSnapshot}
-use Rattle.set_agenda.specs.declared.kind.Kind.{Kind}
 use Rattle.set_agenda.specs.declared.kind.Kind.TheVariants as kind
-use Rattle.set_agenda.specs.declared.limit.Limit.{Limit}
 use Rattle.set_agenda.specs.declared.limit.Limit.TheVariants.{Hold as HoldLimit, Freeze as FreezeLimit, Answer as AnswerLimit}
-use Rattle.set_agenda.specs.declared.member.Member.{Member}
-use Rattle.set_agenda.specs.declared.place.Place.{Place}
 use Rattle.set_agenda.specs.Agenda.{Agenda, Entry, Open, places, group_code, level_code, same_order, same_place, order_of, is_orders, has_failed, has_said, writers_at, members_of, waited_for, with_group, left_from, groups_left, left, open_group, open_place, waits_now, order_now, is_among, order_if, open_order, is_working, is_done, all_say}
-use Rattle.set_agenda.specs.Limits.{Running as RunningLimit, spent_of}
 use Rattle.set_agenda.specs.Course.{OrderGroup, Course, group_of_orders, opens, posted, sent, failed as course_failed, settled_if, settled_in, settled, begun, told, is_decisive, decided, answered_to, answered as course_answered, worked, stepped_as as course_stepped_as, stepped as course_stepped, limits_now, lost, lost_to, fails_set, lost_decided, treated_as, treated, timed as course_timed, released}
-use Rattle.requestor.specs.Session.{Session}
-use Rattle.scenario.specs.Plan.{Plan, script_of}
-use Rattle.vss_model.specs.declared.event.Event.{Event}
-use Rattle.vss_model.specs.State.{State, SetRow, start, in_progress, left_now}
-use Rattle.vss_model.specs.Ending.{followed, runs, failed_in, failed}
 use Rattle.vss_model.specs.Images.{Replied, refused, cleared, set_loses_image, with_room_if, put, write, reverted_as}
 use Rattle.vss_model.specs.Sessions.{has_no_volume, closed}
 use Rattle.vss_model.specs.Steps.{answered, step_made, is_flush, is_failed_step, stepped_as, stepped, ticked, later}
-use Rattle.vss_model.specs.Acts.{Act, enabled, order_of_writer, idle_now, after, state}
-use Rattle.vss_model.specs.Trail.{run, acts, acts_if, answer_event, script_event, event_of}
-use Rattle.vss_model.proofs.Appending.{state-run, acts-append}
-use Rattle.vss_model.proofs.CourseCalls.{Settles}
-use Rattle.vss_model.proofs.CutLog.{said_stays}
-use Rattle.vss_model.proofs.Spoken.{among_filter}
-use Rattle.promises.specs.Scripted.{is_owed, is_asked_anew, asked_from, times_asked, written_in, AnswersByScript}
-use Rattle.promises.specs.Way.{Deed}
 use Rattle.promises.proofs.Truth.{both_are, both_parts, equal, left_part, not_itself, right_part, same_number}
 use Rattle.promises.proofs.BusyAgendas.{course_followed}
-use Rattle.vss_model.proofs.ByEvent.{Covers, covered, after_enabled, after_not_enabled, by_if}
 use Rattle.promises.proofs.Heard.{same_group}
 use Rattle.promises.proofs.Speaks.{Grows, grows_answered, grows_stepped, grows_timed}
 use Rattle.promises.proofs.Stages.{failed_stays, closed_stays, grown, new_log}
-use Rattle.vss_model.proofs.CutAppend.{append_nothing}
-use Rattle.set_agenda.proofs.WriterSets.{and-false}
-use Rattle.vss_model.proofs.Rows.{none_runs}
 
 -- ## who waits at a place does not begin to wait there
 

@@ -1,37 +1,16 @@
 -- The rows of sets go on: no act loses one, and one that is over stays as it is.
+use Rattle.promises.proofs.Words.{append_assoc, list_any-append, SetOutcome, VssResult, InsufficientStorage, AsyncCancelled, Said, Mark, Clean, Write, said_of, Group, Orders, PreCommit, Flush, Hold}
+use Rattle.promises.proofs.Words.{Cut, Commit, Release, PostCommit, is_among, open_group, Session, Plan, Event, State, SetRow, Kept, is_running, in_progress, row_changed, left_now, NumberedFrom, Act}
+use Rattle.promises.proofs.Words.{enabled, idle_now, after, state, state-append, orderly, found_above, IsLaterRow, HasLaterRow, KeepsRows, Covers, covered, after_enabled, after_not_enabled, some_same}
+use Rattle.promises.proofs.Words.{by_if, append_nothing}
 use Rattle.std.proofs.Common.{◌≡◌, ◌∙◌, ℕ, ◌+◌, ◌==◌, ◌<◌, ◌≤◌, List, [], ◌∷◌, ◌++◌, Option, Some, None, refl, Bool, true, false, ap, sym, subst, map, find, arith}
 use Rattle.std.specs.Prelude.{◌||◌, if◌then◌else◌}
-use Rattle.std.proofs.lemmas.List.{append_assoc}
-use Rattle.std.proofs.lemmas.List.Folds.{list_any-append}
-use Rattle.vss_names.specs.declared.set_outcome.SetOutcome.{SetOutcome}
-use Rattle.vss_names.specs.declared.vss_result.VssResult.{VssResult}
-use Rattle.vss_names.specs.declared.vss_result.VssResult.TheVariants.{InsufficientStorage, AsyncCancelled}
-use Rattle.writer_state.specs.declared.said.Said.{Said}
-use Rattle.write_history.specs.declared.mark.Mark.{Mark}
-use Rattle.write_history.specs.declared.mark.Mark.TheVariants.{Clean}
-use Rattle.write_history.specs.History.{Write}
-use Rattle.writer_calls.specs.Script.{said_of}
-use Rattle.set_agenda.specs.declared.group.Group.{Group}
-use Rattle.set_agenda.specs.declared.group.Group.TheVariants.{Orders, PreCommit, Flush, Hold, Cut, Commit, Release, PostCommit}
-use Rattle.set_agenda.specs.Agenda.{is_among, open_group}
 use Rattle.set_agenda.specs.Course.{Course, answered as course_answered, stepped as course_stepped, timed as course_timed}
-use Rattle.requestor.specs.Session.{Session}
-use Rattle.scenario.specs.Plan.{Plan}
-use Rattle.vss_model.specs.declared.event.Event.{Event}
-use Rattle.vss_model.specs.State.{State, SetRow, Kept, is_running, in_progress, row_changed, left_now}
 use Rattle.vss_model.specs.Ending.{Ending, NothingEnds, ending, row_settled, concluded, followed, runs, failed_in, failed}
 use Rattle.vss_model.specs.Images.{Replied, cleared, set_loses_image, with_room_if, put, write, reverted_as}
 use Rattle.vss_model.specs.Sessions.{new_set, new_number, with_volume, has_no_volume, closed}
 use Rattle.vss_model.specs.Steps.{answered, with_cut, cut_set, step_made, is_flush, is_failed_step, stepped_as, stepped, ticked, later}
-use Rattle.vss_model.specs.Facts.{NumberedFrom}
-use Rattle.vss_model.specs.Acts.{Act, enabled, idle_now, after, state}
-use Rattle.vss_model.proofs.Appending.{state-append}
-use Rattle.vss_model.proofs.OrderlyActs.{orderly}
-use Rattle.vss_model.proofs.Rows.{found_above}
-use Rattle.promises.specs.Ends.{IsLaterRow, HasLaterRow, KeepsRows}
 use Rattle.promises.proofs.Truth.{equal, left_part}
-use Rattle.vss_model.proofs.ByEvent.{Covers, covered, after_enabled, after_not_enabled, some_same, by_if}
-use Rattle.vss_model.proofs.CutAppend.{append_nothing}
 use Rattle.promises.proofs.Members.{still_less}
 
 -- ## one row

@@ -1,36 +1,15 @@
 -- No volume is twice in a set.
+use Rattle.promises.proofs.Words.{list_any-append, SetOutcome, VssResult, InsufficientStorage, AsyncCancelled, ObjectAlreadyExists, MaximumNumberOfVolumesReached, MaximumNumberOfSnapshotsReached}
+use Rattle.promises.proofs.Words.{Said, Mark, Clean, Write, said_of, Group, Orders, PreCommit, Flush, Hold, Cut, Commit, Release, PostCommit, is_among, open_group, are_distinct, Session, Plan, Event}
+use Rattle.promises.proofs.Words.{State, SetRow, Kept, is_running, in_progress, row_changed, left_now, history_of, NumberedFrom, Act, enabled, idle_now, after, state, state-append, orderly}
+use Rattle.promises.proofs.Words.{row_running, VolumesAreDistinct, Covers, covered, after_enabled, after_not_enabled, some_same, by_if, other_way}
 use Rattle.std.proofs.Common.{◌≡◌, ◌∙◌, ℕ, ◌+◌, ◌==◌, ◌<◌, List, [], ◌∷◌, ◌++◌, Option, Some, None, refl, Bool, true, false, ap, sym, subst, map, find, fold, arith}
 use Rattle.std.specs.Prelude.{◌&&◌, ◌||◌, not, nat_le, length, if◌then◌else◌}
-use Rattle.std.proofs.lemmas.List.Folds.{list_any-append}
-use Rattle.vss_names.specs.declared.set_outcome.SetOutcome.{SetOutcome}
-use Rattle.vss_names.specs.declared.vss_result.VssResult.{VssResult}
-use Rattle.vss_names.specs.declared.vss_result.VssResult.TheVariants.{InsufficientStorage, AsyncCancelled, ObjectAlreadyExists, MaximumNumberOfVolumesReached, MaximumNumberOfSnapshotsReached}
-use Rattle.writer_state.specs.declared.said.Said.{Said}
-use Rattle.write_history.specs.declared.mark.Mark.{Mark}
-use Rattle.write_history.specs.declared.mark.Mark.TheVariants.{Clean}
-use Rattle.write_history.specs.History.{Write}
-use Rattle.writer_calls.specs.Script.{said_of}
-use Rattle.set_agenda.specs.declared.group.Group.{Group}
-use Rattle.set_agenda.specs.declared.group.Group.TheVariants.{Orders, PreCommit, Flush, Hold, Cut, Commit, Release, PostCommit}
-use Rattle.set_agenda.specs.Agenda.{is_among, open_group}
-use Rattle.set_agenda.specs.Begin.{are_distinct}
 use Rattle.set_agenda.specs.Course.{Course, answered as course_answered, stepped as course_stepped, timed as course_timed}
-use Rattle.requestor.specs.Session.{Session}
-use Rattle.scenario.specs.Plan.{Plan}
-use Rattle.vss_model.specs.declared.event.Event.{Event}
-use Rattle.vss_model.specs.State.{State, SetRow, Kept, is_running, in_progress, row_changed, left_now, history_of}
 use Rattle.vss_model.specs.Ending.{Ending, NothingEnds, ending, row_settled, concluded, followed, runs, failed_in, failed}
 use Rattle.vss_model.specs.Images.{Replied, cleared, set_loses_image, with_room_if, put, write, reverted_as, is_in_set}
 use Rattle.vss_model.specs.Sessions.{most_volumes, most_images, new_set, new_number, with_volume, add_refusal, has_no_volume, closed}
 use Rattle.vss_model.specs.Steps.{answered, with_cut, row_cut, cut_set, step_made, is_flush, is_failed_step, stepped_as, stepped, ticked, later}
-use Rattle.vss_model.specs.Facts.{NumberedFrom}
-use Rattle.vss_model.specs.Acts.{Act, enabled, idle_now, after, state}
-use Rattle.vss_model.proofs.Appending.{state-append}
-use Rattle.vss_model.proofs.OrderlyActs.{orderly}
-use Rattle.vss_model.proofs.Rows.{row_running}
-use Rattle.promises.specs.Sets.{VolumesAreDistinct}
-use Rattle.vss_model.proofs.ByEvent.{Covers, covered, after_enabled, after_not_enabled, some_same, by_if}
-use Rattle.vss_model.proofs.Orderly.{other_way}
 use Rattle.promises.proofs.Members.{still_less}
 
 abbrev AllDistinct : List SetRow → Type 0

@@ -1,24 +1,10 @@
 -- The stages of a snapshot's sequence in its agenda: groups stay closed, the stage of the open group does not fall, and what is said
 -- belongs to it.
+use Rattle.promises.proofs.Words.{list_any, list_any-append, Level, System, Identify, PrepareBackup, PrepareSnapshot, Freeze, Thaw, PostSnapshot, BackupComplete, Said, is_ok, Group, Orders, PreCommit}
+use Rattle.promises.proofs.Words.{Flush, Hold, Cut, Commit, Release, PostCommit, Snapshot, Place, Plan, after, said_stays, true_not_false, Deed, level_of, order_stage, stage, Rising}
 use Rattle.std.proofs.Common.{◌≡◌, ◌∙◌, ℕ, ◌==◌, ◌≤◌, ◌<◌, List, [], ◌∷◌, ◌++◌, Option, Some, None, refl, Bool, true, false, ap, sym, map, filter, arith}
 use Rattle.std.specs.Prelude.{◌&&◌, ◌||◌, not, if◌then◌else◌}
-use Rattle.std.specs.List.{list_any}
-use Rattle.std.proofs.lemmas.List.Folds.{list_any-append}
-use Rattle.vss_names.specs.declared.level.Level.{Level}
-use Rattle.vss_names.specs.declared.level.Level.TheVariants.{System}
-use Rattle.vss_names.specs.declared.order.Order.TheVariants.{Identify, PrepareBackup, PrepareSnapshot, Freeze, Thaw, PostSnapshot, BackupComplete}
-use Rattle.writer_state.specs.declared.said.Said.{Said}
-use Rattle.writer_state.specs.WriterState.{is_ok}
-use Rattle.set_agenda.specs.declared.group.Group.{Group}
-use Rattle.set_agenda.specs.declared.group.Group.TheVariants.{Orders, PreCommit, Flush, Hold, Cut, Commit, Release, PostCommit}
-use Rattle.set_agenda.specs.declared.kind.Kind.TheVariants.{Snapshot}
-use Rattle.set_agenda.specs.declared.place.Place.{Place}
 use Rattle.set_agenda.specs.Agenda.{Agenda, Entry, Open, places, is_orders, has_failed, has_said, writers_at, members_of, waited_for, with_group, left_from, groups_left, is_among, at_place, all_say}
-use Rattle.scenario.specs.Plan.{Plan}
-use Rattle.vss_model.specs.Acts.{after}
-use Rattle.vss_model.proofs.CutLog.{said_stays}
-use Rattle.vss_model.proofs.Orderly.{true_not_false}
-use Rattle.promises.specs.Way.{Deed, level_of, order_stage, stage, Rising}
 use Rattle.promises.proofs.Truth.{chain, left_part, no_less, right_part, same_number}
 use Rattle.promises.proofs.Speaks.{deed_at, deed_in, said_at}
 

@@ -1,22 +1,12 @@
 -- No order is open for more than the answer limit.
+use Rattle.promises.proofs.Words.{PrepareBackup, PrepareSnapshot, Freeze, answer_limit, Group, Orders}
+use Rattle.promises.proofs.Words.{Agenda, Open, groups_left, opened_at, freeze_opened_at, first_hold, freeze_runs, answer_runs, runs_if, hold_running, running_at, spent_of, freeze_limit}
+use Rattle.promises.proofs.Words.{Plan, Act, state, has_passed, last_of, is_elsewhere, true_not_false, informs_writers, is_overdue_at, is_overdue_in, OrdersEnd, answer_since}
 use Rattle.std.proofs.Common.{sym, ◌≡◌, ℕ, List, [], ◌∷◌, ◌++◌, Option, Some, None, refl, true, false, subst}
-use Rattle.vss_names.specs.declared.order.Order.TheVariants.{Identify, PrepareBackup, PrepareSnapshot, Freeze, Thaw, PostSnapshot, BackupComplete}
-use Rattle.tick_limits.specs.Time.{answer_limit}
-use Rattle.set_agenda.specs.declared.group.Group.{Group}
-use Rattle.set_agenda.specs.declared.group.Group.TheVariants.{Orders, PreCommit, Flush, Hold, Cut, Commit, Release, PostCommit}
 use Rattle.set_agenda.specs.declared.limit.Limit.TheVariants.{Freeze as FreezeLimit, Answer as AnswerLimit}
-use Rattle.set_agenda.specs.Agenda.{Agenda, Open, groups_left}
-use Rattle.set_agenda.specs.Limits.{opened_at, freeze_opened_at, first_hold, freeze_runs, answer_runs, runs_if, hold_running, running_at, spent_of}
-use Rattle.set_agenda.specs.Course.{freeze_limit}
-use Rattle.scenario.specs.Plan.{Plan}
-use Rattle.vss_model.specs.Acts.{Act, state}
-use Rattle.vss_model.specs.Causes.{has_passed, last_of, is_elsewhere}
 use Rattle.vss_model.proofs.LogRule.{Running}
-use Rattle.vss_model.proofs.Orderly.{true_not_false}
-use Rattle.promises.specs.Unanswered.{informs_writers, is_overdue_at, is_overdue_in, OrdersEnd}
 use Rattle.promises.proofs.Truth.{both_parts, false_of}
 use Rattle.promises.proofs.Limits.{passed_spent}
-use Rattle.vss_model.proofs.Late.{answer_since}
 use Rattle.promises.proofs.NotSpent.{none_second, is_unspent}
 use Rattle.promises.proofs.OneMore.{InTime}
 use Rattle.promises.proofs.Within.{none_spent}

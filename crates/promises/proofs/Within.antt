@@ -1,44 +1,19 @@
 -- No limit that would fail the set is outrun as the clock stands.
-use Rattle.std.proofs.Common.{◌≡◌, ◌∙◌, ℕ, ◌+◌, zero, suc, List, [], ◌∷◌, ◌++◌, Option, Some, None, refl, Bool, true, false, ap, sym, subst, inl, fold, min, arith}
-use Rattle.std.specs.Prelude.{◌&&◌, not, option_map, if◌then◌else◌, slice_get}
-use Rattle.vss_names.specs.declared.order.Order.{Order}
-use Rattle.vss_names.specs.declared.vss_result.VssResult.{VssResult}
-use Rattle.vss_names.specs.declared.vss_result.VssResult.TheVariants.{InsufficientStorage, AsyncCancelled}
-use Rattle.writer_state.specs.declared.said.Said.{Said}
-use Rattle.writer_state.specs.declared.said.Said.TheVariants.{Ok, Lost}
-use Rattle.writer_state.specs.declared.writer_row.WriterRow.{WriterRow}
-use Rattle.writer_state.specs.WriterState.{is_ok}
-use Rattle.writer_state.specs.WriterRow.{row_after}
-use Rattle.tick_limits.specs.Time.{answer_limit, default_freeze}
-use Rattle.write_history.specs.declared.mark.Mark.{Mark}
-use Rattle.write_history.specs.declared.mark.Mark.TheVariants.{Clean}
-use Rattle.write_history.specs.History.{Write}
-use Rattle.writer_calls.specs.Script.{said_of}
-use Rattle.set_agenda.specs.declared.group.Group.{Group}
-use Rattle.set_agenda.specs.declared.group.Group.TheVariants.{Orders}
-use Rattle.set_agenda.specs.declared.kind.Kind.{Kind}
-use Rattle.set_agenda.specs.declared.limit.Limit.{Limit}
+use Rattle.promises.proofs.Words.{Order, VssResult, InsufficientStorage, AsyncCancelled, Said, Ok, Lost, WriterRow, is_ok, row_after, answer_limit, default_freeze, Mark, Clean, Write, said_of, Group}
+use Rattle.promises.proofs.Words.{Orders, Kind, Limit, Member, Agenda, Open, places, order_of, is_orders, groups_left, left, open_group, waits_now, order_now, is_among, is_asked, open_order}
+use Rattle.promises.proofs.Words.{is_working, next_member, is_done, all_say, Running as RunningLimit, opened_at, freeze_runs, answer_runs, runs_if, running_at, running_limits, spent_of, none_and_some}
+use Rattle.promises.proofs.Words.{IsSpentHere, spent_here, Session, Plan, Event, State, SetRow, Kept, start, in_progress, left_now, Act, enabled, idle_now, after, state, is_late_in, asked_if}
+use Rattle.promises.proofs.Words.{asked_waits, StandsWithinLimits, Covers, covered, after_enabled, after_not_enabled, by_if}
+use Rattle.std.proofs.Common.{◌≡◌, ◌∙◌, ℕ, ◌+◌, zero, suc, List, [], ◌∷◌, Option, Some, None, refl, Bool, true, false, ap, sym, subst, inl, fold, min, arith}
+use Rattle.std.specs.Prelude.{◌&&◌, not, option_map, slice_get}
 use Rattle.set_agenda.specs.declared.limit.Limit.TheVariants.{Hold as HoldLimit, Freeze as FreezeLimit, Answer as AnswerLimit}
-use Rattle.set_agenda.specs.declared.member.Member.{Member}
-use Rattle.set_agenda.specs.Agenda.{Agenda, Open, places, order_of, is_orders, groups_left, left, open_group, waits_now, order_now, is_among, is_asked, open_order, is_working, next_member, is_done, all_say}
-use Rattle.set_agenda.specs.Limits.{Running as RunningLimit, opened_at, freeze_runs, answer_runs, runs_if, running_at, running_limits, spent_of}
 use Rattle.set_agenda.specs.Course.{Course, posted, failed as course_failed, rows_where, row_if, limit_of, freeze_limit, limits_now, settled_if, settled_in, settled, begun, told, is_decisive, decided, answered_to, answered as course_answered, worked, stepped as course_stepped, lost_to, lost, fails_set, lost_decided, treated_as, treated, timed as course_timed, released}
-use Rattle.set_agenda.proofs.SpentLimits.{none_and_some, IsSpentHere, spent_here}
-use Rattle.requestor.specs.Session.{Session}
-use Rattle.scenario.specs.Plan.{Plan}
-use Rattle.vss_model.specs.declared.event.Event.{Event}
-use Rattle.vss_model.specs.State.{State, SetRow, Kept, start, in_progress, left_now}
 use Rattle.vss_model.specs.Ending.{Ending, NothingEnds, ending, concluded, followed, runs, failed_in, failed}
 use Rattle.vss_model.specs.Images.{Replied, cleared, set_loses_image, with_room_if, put, write, reverted_as}
 use Rattle.vss_model.specs.Sessions.{has_no_volume, closed}
 use Rattle.vss_model.specs.Steps.{answered, step_made, is_flush, is_failed_step, stepped_as, stepped, ticked, later}
-use Rattle.vss_model.specs.Acts.{Act, enabled, idle_now, after, state}
-use Rattle.vss_model.specs.Causes.{is_late_in}
-use Rattle.vss_model.proofs.CourseCalls.{asked_if, asked_waits}
 use Rattle.vss_model.proofs.LogRule.{Running, unspoken}
-use Rattle.promises.specs.Within.{StandsWithinLimits}
 use Rattle.promises.proofs.Truth.{false_of}
-use Rattle.vss_model.proofs.ByEvent.{Covers, covered, after_enabled, after_not_enabled, by_if}
 use Rattle.promises.proofs.Clock.{clock-made}
 use Rattle.promises.proofs.Limits.{is_due_in, due_in, spent_runs}
 use Rattle.promises.proofs.Speaks.{Speaks, now_group, head_waits}
