@@ -1,44 +1,18 @@
 -- An ordered call is accepted just where it may come.
+use Rattle.promises.proofs.Words.{bytes_eq, both_ways, Context, Backup, AppRollback, NasRollback, AsyncPending, BadState, SnapshotSetInProgress, ObjectAlreadyExists, MaximumNumberOfVolumesReached}
+use Rattle.promises.proofs.Words.{MaximumNumberOfSnapshotsReached, Mark, Part, Meta, full_name, is_among, Pair, Naming, IsNotFound, IsNotSelectable, IsNamedAlready, Names, has_pair, found_from}
+use Rattle.promises.proofs.Words.{naming_if, naming_found, naming_of, Mode, Components, All, SessionCall, Stage, Opened, Gathered, Started, Prepared, Verdict, Go, Session, has_writers, makes_set}
+use Rattle.promises.proofs.Words.{mode_of, context_of, without_all, check, check_begin, begin_verdict, check_other, check_owner, owner_only, verdict_of, allows, stage_code, is_stage}
+use Rattle.promises.proofs.Words.{goes_beside_agenda, is_start, is_await, Op, Plan, token, Event, Line, Reply, Fine, Coded, StatusOf, State, SetRow, in_progress, history_of, runs, Replied, begin_in}
+use Rattle.promises.proofs.Words.{known_metas, named_as, component_in, most_volumes, most_images, add_to, add, has_no_volume, judged, line_in, session_line, Act, happens, reply, state, IsOfSession}
+use Rattle.promises.proofs.Words.{owns, is_fine, orderly, is_ordered, is_accepted, can_name_in, can_name, has_place, has_volume, has_its_wants, IsAccepting, is_context, AcceptsInOrder, Step, ByBegin}
+use Rattle.promises.proofs.Words.{ByGather, ByStart, ByPrepare, BySnapshot, ByComplete, ByFailure, Progress, progress, step_code, is_step, asks_writers, comes_now}
 use Rattle.std.proofs.Common.{◌≡◌, ◌∙◌, ℕ, ◌+◌, ◌==◌, suc, List, [], ◌∷◌, Option, Some, None, refl, Bool, true, false, ap, sym, subst, length, arith}
 use Rattle.std.specs.Prelude.{◌&&◌, ◌||◌, not, nat_le, nat_lt, nat_eq, is_some, is_none, option_and_then, slice_get, if◌then◌else◌}
-use Rattle.std.specs.Str.{bytes_eq}
-use Rattle.std.proofs.lemmas.Bool.{both_ways}
-use Rattle.vss_names.specs.declared.context.Context.{Context}
-use Rattle.vss_names.specs.declared.context.Context.TheVariants.{Backup, AppRollback, NasRollback}
-use Rattle.vss_names.specs.declared.vss_result.VssResult.TheVariants.{AsyncPending, BadState, SnapshotSetInProgress, ObjectAlreadyExists, MaximumNumberOfVolumesReached, MaximumNumberOfSnapshotsReached}
 use Rattle.vss_names.specs.Context.{number_of, context_of_number}
-use Rattle.write_history.specs.declared.mark.Mark.{Mark}
-use Rattle.writer_meta.specs.Metadata.{Part, Meta, full_name}
-use Rattle.set_agenda.specs.Agenda.{is_among}
-use Rattle.component_doc.specs.Selection.{Pair, Naming, IsNotFound, IsNotSelectable, IsNamedAlready, Names, has_pair, found_from, naming_if, naming_found, naming_of}
-use Rattle.requestor.specs.declared.mode.Mode.{Mode}
-use Rattle.requestor.specs.declared.mode.Mode.TheVariants.{Components, All}
-use Rattle.requestor.specs.declared.session_call.SessionCall.{SessionCall}
 use Rattle.requestor.specs.declared.session_call.SessionCall.TheVariants as call
-use Rattle.requestor.specs.declared.stage.Stage.{Stage}
-use Rattle.requestor.specs.declared.stage.Stage.TheVariants.{Opened, Gathered, Started, Prepared}
-use Rattle.requestor.specs.declared.verdict.Verdict.{Verdict}
-use Rattle.requestor.specs.declared.verdict.Verdict.TheVariants.{Go}
-use Rattle.requestor.specs.Session.{Session, has_writers, makes_set, mode_of, context_of, without_all}
-use Rattle.requestor.specs.Check.{check, check_begin, begin_verdict, check_other, check_owner, owner_only, verdict_of, allows, stage_code, is_stage, goes_beside_agenda, is_start, is_await}
-use Rattle.scenario.specs.declared.op.Op.{Op}
 use Rattle.scenario.specs.declared.op.Op.TheVariants as op
-use Rattle.scenario.specs.Plan.{Plan, token}
-use Rattle.vss_model.specs.declared.event.Event.{Event}
-use Rattle.vss_model.specs.declared.event.Event.TheVariants.{Line}
-use Rattle.vss_model.specs.Reply.{Reply, Fine, Coded, StatusOf}
-use Rattle.vss_model.specs.State.{State, SetRow, in_progress, history_of}
-use Rattle.vss_model.specs.Ending.{runs}
-use Rattle.vss_model.specs.Images.{Replied}
-use Rattle.vss_model.specs.Sessions.{begin_in, known_metas, named_as, component_in, most_volumes, most_images, add_to, add, has_no_volume, judged, line_in, session_line}
 use Rattle.vss_model.specs.Lines.{called}
-use Rattle.vss_model.specs.Acts.{Act, happens, reply, state}
-use Rattle.vss_model.specs.Facts.{IsOfSession}
-use Rattle.vss_model.specs.Causes.{owns}
-use Rattle.vss_model.specs.Replies.{is_fine}
-use Rattle.vss_model.proofs.OrderlyActs.{orderly}
-use Rattle.promises.specs.Accepted.{is_ordered, is_accepted, can_name_in, can_name, has_place, has_volume, has_its_wants, IsAccepting, is_context, AcceptsInOrder}
-use Rattle.promises.specs.InOrder.{Step, ByBegin, ByGather, ByStart, ByPrepare, BySnapshot, ByComplete, ByFailure, Progress, progress, step_code, is_step, asks_writers, comes_now}
 use Rattle.promises.proofs.Truth.{and_true, not_both}
 use Rattle.promises.proofs.Progress.{stage_of, StandsAt, stands_all}
 
@@ -97,12 +71,7 @@ module _ (s : Plan) (st : State) (lane : ℕ) where
 
 code_of : (a : Step) → stage_code (stage_of a) ≡ step_code a
 code_of ByBegin = refl
-code_of ByGather = refl
-code_of ByStart = refl
-code_of ByPrepare = refl
-code_of BySnapshot = refl
-code_of ByComplete = refl
-code_of ByFailure = refl
+code_of _ = refl
 
 pub same_stage : (a b : Step) → is_stage (stage_of a) (stage_of b) ≡ is_step a b
 same_stage a b = ap (λ n. n == stage_code (stage_of b)) (code_of a) ∙ ap (λ n. step_code a == n) (code_of b)
@@ -129,8 +98,7 @@ either_stage a false = same_stage a ByStart
 
 pub writers_asked : (c : Context) (n : ℕ) → number_of c ≡ n → has_writers c ≡ ((n == 0) || (n == 9))
 writers_asked Backup n e = ap (λ k. (k == 0) || (k == 9)) e
-writers_asked AppRollback n e = ap (λ k. (k == 0) || (k == 9)) e
-writers_asked NasRollback n e = ap (λ k. (k == 0) || (k == 9)) e
+writers_asked _ n e = ap (λ k. (k == 0) || (k == 9)) e
 
 -- the table of stages, for a call of an order
 abbrev pub allowed_in : Bool → Stage → SessionCall → Bool
@@ -154,9 +122,8 @@ module _ (s : Plan) (st : State) where
       by_name false ih = ih
 
   name_of : (w : ℕ) (name : List ℕ) (named : List Pair) (o : Option (Option Meta)) → is_accepted (named_as (naming_of w name o named) st).0 ≡ can_name w named name o
-  name_of w name named None = refl
-  name_of w name named (Some None) = refl
   name_of w name named (Some (Some m)) = name_in w named name 0 m.parts
+  name_of w name named _ = refl
 
   component_wants : (w : ℕ) (name : List ℕ) (mode : Mode) (all : Bool) → mode ≡ mode_of all → is_accepted (component_in mode s w name st).0 ≡ (not all && can_name w st.explicit name (slice_get (known_metas s st) w))
   component_wants w name mode true e = ap (λ m. is_accepted (component_in m s w name st).0) e

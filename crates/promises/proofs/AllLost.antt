@@ -1,19 +1,11 @@
 -- All answers to an order are lost, and the agenda goes on: no limit is outrun in the group that opens then.
+use Rattle.promises.proofs.Words.{PrepareBackup, PrepareSnapshot, Freeze, Lost, answer_limit, Group, Orders}
+use Rattle.promises.proofs.Words.{Kind, Gather, Place, others, others_if, asks_unfailed, unasked, unasked_if, advance, Agenda, Entry, Open, places, is_orders, same_place, waited_for}
+use Rattle.promises.proofs.Words.{with_group, left_from, groups_left, open_place, waits_now, is_among, at_place, last_time, opened_at, freeze_opened_at, first_hold, hold_runs, freeze_runs}
+use Rattle.promises.proofs.Words.{answer_runs, runs_if, hold_running, running_at, spent_of, groups_left-all_say}
 use Rattle.std.proofs.Common.{◌≡◌, ◌∙◌, ℕ, List, [], ◌∷◌, ◌++◌, None, refl, Bool, true, false, ap, sym, subst, inr, map, filter, arith}
 use Rattle.std.specs.Prelude.{◌&&◌, ◌||◌, ◌==◌, not, if◌then◌else◌}
-use Rattle.vss_names.specs.declared.order.Order.TheVariants.{Identify, PrepareBackup, PrepareSnapshot, Freeze, Thaw, PostSnapshot, BackupComplete}
-use Rattle.writer_state.specs.declared.said.Said.TheVariants.{Lost}
-use Rattle.tick_limits.specs.Time.{answer_limit}
-use Rattle.set_agenda.specs.declared.group.Group.{Group}
-use Rattle.set_agenda.specs.declared.group.Group.TheVariants.{Orders, PreCommit, Flush, Hold, Cut, Commit, Release, PostCommit}
-use Rattle.set_agenda.specs.declared.kind.Kind.{Kind}
-use Rattle.set_agenda.specs.declared.kind.Kind.TheVariants.{Gather, Prepare, Snapshot, Complete}
 use Rattle.set_agenda.specs.declared.limit.Limit.TheVariants.{Freeze as FreezeLimit, Answer as AnswerLimit}
-use Rattle.set_agenda.specs.declared.place.Place.{Place}
-use Rattle.set_agenda.specs.Advance.{others, others_if, asks_unfailed, unasked, unasked_if, advance}
-use Rattle.set_agenda.specs.Agenda.{Agenda, Entry, Open, places, is_orders, same_place, waited_for, with_group, left_from, groups_left, open_place, waits_now, is_among, at_place}
-use Rattle.set_agenda.specs.Limits.{last_time, opened_at, freeze_opened_at, first_hold, hold_runs, freeze_runs, answer_runs, runs_if, hold_running, running_at, spent_of}
-use Rattle.set_agenda.proofs.GroupsLeft.{groups_left-all_say}
 use Rattle.promises.proofs.Truth.{both_parts, not_both, not_true, right_part}
 use Rattle.promises.proofs.Speaks.{Speaks}
 use Rattle.promises.proofs.NotSpent.{at_once, none_both, unspent_if, unspent_hold, is_mild}
@@ -32,9 +24,7 @@ all_apart (p ∷ ps) = none_same p ps && all_apart ps
 
 kind_apart : (k : Kind) → all_apart (places k) ≡ true
 kind_apart Gather = refl
-kind_apart Prepare = refl
-kind_apart Snapshot = refl
-kind_apart Complete = refl
+kind_apart _ = refl
 
 abbrev Apart : Place → List Open → Type 0
 Apart p [] = Unit {0}
@@ -92,20 +82,11 @@ left_after : (failed : Bool) (o : Open) (os : List Open) → advance o.waits fai
 left_after failed o os = ap (λ ws. with_group o.place ws (unasked_if (is_orders o.place.group && failed) o.waits os)) (others_none o.waits)
 
 mild_alone : (g : Group) → is_mild g ≡ true → (hold_runs g ≡ false) × (freeze_runs g ≡ false)
-mild_alone (Orders Identify) e = (refl, refl)
 mild_alone (Orders PrepareBackup) e = absurd cc
 mild_alone (Orders PrepareSnapshot) e = absurd cc
 mild_alone (Orders Freeze) e = absurd cc
-mild_alone (Orders Thaw) e = (refl, refl)
-mild_alone (Orders PostSnapshot) e = (refl, refl)
-mild_alone (Orders BackupComplete) e = (refl, refl)
-mild_alone PreCommit e = absurd cc
-mild_alone Flush e = absurd cc
-mild_alone Hold e = absurd cc
-mild_alone Cut e = absurd cc
-mild_alone Commit e = absurd cc
-mild_alone Release e = absurd cc
-mild_alone PostCommit e = absurd cc
+mild_alone (Orders _) e = (refl, refl)
+mild_alone _ e = absurd cc
 
 module _ (now : ℕ) (a : Agenda) (asks : is_orders (open_place (groups_left a)).group ≡ true) (order : Ordered a) (mild : is_mild (open_place (groups_left a)).group ≡ true) where
   abbrev ws : List ℕ

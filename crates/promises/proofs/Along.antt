@@ -1,59 +1,30 @@
 -- The rule of snapshots: a fact of a running snapshot agenda that holds where it begins, and is kept by what is said, holds in every
 -- state, and beside it the deeds since the `snapshot` line are those of the log; and a set completes only where such an agenda,
 -- with what the last act tells, has no group left.
+use Rattle.promises.proofs.Words.{Order, SetOutcome, VssResult, BadState, InsufficientStorage, AsyncPending, AsyncCancelled, Said, is_ok, Mark, Clean, Write, dropped, said_of, Group, Kind, Gather}
+use Rattle.promises.proofs.Words.{Prepare, Snapshot, Complete, Member, Agenda, Open, order_of, groups_left, left, open_group, next_volume, open_place, open_order, order_now, is_done, is_working}
+use Rattle.promises.proofs.Words.{all_say, spent_of, takers, Session, opened, Op, begins_agenda, Target, target_of, Plan, Event, Reply, Fine, Coded, Deleted, Idled, Stepped, State, SetRow, Kept}
+use Rattle.promises.proofs.Words.{start, is_complete, in_progress, row_of, row_changed, left_now, Act, enabled, order_of_writer, answer_reply, step_reply, idle_now, happens, reply, after, state}
+use Rattle.promises.proofs.Words.{is_pending, Settles, outcome_is_running, agenda-concluded, true_not_false, orderly, has_complete, running_incomplete, incomplete_map, incomplete_append}
+use Rattle.promises.proofs.Words.{complete_found, Deed, Spoke, Made, deeds_lost, deeds_of, deeds_if, is_snapshot_line, way_after, way_from, way, Covers, covered, after_enabled, after_not_enabled}
+use Rattle.promises.proofs.Words.{not_complete}
 use Rattle.std.proofs.Common.{◌≡◌, ◌∙◌, ℕ, ◌+◌, ◌==◌, List, [], ◌∷◌, ◌++◌, ◌⊎◌, Option, Some, None, refl, Bool, true, false, ap, sym, subst, inl, inr, map, fold}
 use Rattle.std.specs.Prelude.{is_some, ◌&&◌, not, if◌then◌else◌, length}
-use Rattle.vss_names.specs.declared.order.Order.{Order}
-use Rattle.vss_names.specs.declared.set_outcome.SetOutcome.{SetOutcome}
 use Rattle.vss_names.specs.declared.set_outcome.SetOutcome.TheVariants.{Running as RunningSet}
-use Rattle.vss_names.specs.declared.vss_result.VssResult.{VssResult}
-use Rattle.vss_names.specs.declared.vss_result.VssResult.TheVariants.{BadState, InsufficientStorage, AsyncPending, AsyncCancelled}
-use Rattle.writer_state.specs.declared.said.Said.{Said}
-use Rattle.writer_state.specs.WriterState.{is_ok}
-use Rattle.write_history.specs.declared.mark.Mark.{Mark}
-use Rattle.write_history.specs.declared.mark.Mark.TheVariants.{Clean, Fault, FaultAfter}
-use Rattle.write_history.specs.History.{Write, dropped}
 use Rattle.writer_calls.specs.declared.answer.Answer.{Answer}
-use Rattle.writer_calls.specs.Script.{said_of}
-use Rattle.set_agenda.specs.declared.group.Group.{Group}
-use Rattle.set_agenda.specs.declared.kind.Kind.{Kind}
-use Rattle.set_agenda.specs.declared.kind.Kind.TheVariants.{Gather, Prepare, Snapshot, Complete}
-use Rattle.set_agenda.specs.declared.member.Member.{Member}
-use Rattle.set_agenda.specs.Agenda.{Agenda, Open, order_of, groups_left, left, open_group, next_volume, open_place, open_order, order_now, is_done, is_working, all_say}
-use Rattle.set_agenda.specs.Limits.{spent_of}
 use Rattle.set_agenda.specs.Course.{Course, posted, failed as course_failed, settled_if, settled_in, settled, begun, gathered, prepared, snapshot_begun, completing, change_at, stepped as course_stepped, limits_now, lost_writers, fails_set, released}
-use Rattle.component_doc.specs.Selection.{takers}
-use Rattle.requestor.specs.Session.{Session, opened}
-use Rattle.scenario.specs.declared.op.Op.{Op}
 use Rattle.scenario.specs.declared.op.Op.TheVariants as op
-use Rattle.scenario.specs.Bounds.{begins_agenda}
-use Rattle.scenario.specs.Calls.{Target, target_of}
-use Rattle.scenario.specs.Plan.{Plan}
-use Rattle.vss_model.specs.declared.event.Event.{Event}
 use Rattle.vss_model.specs.declared.event.Event.TheVariants.{Line, Answer as AnswerEvent, Provider, Idle}
-use Rattle.vss_model.specs.Reply.{Reply, Fine, Coded, Deleted, Idled, Stepped}
-use Rattle.vss_model.specs.State.{State, SetRow, Kept, start, is_complete, in_progress, row_of, row_changed, left_now}
 use Rattle.vss_model.specs.Ending.{ending, followed, runs, failed_in, failed}
 use Rattle.vss_model.specs.Images.{Replied, refused, cleared, set_loses_image, with_room_if, put, write, reverted_as}
 use Rattle.vss_model.specs.Sessions.{new_set, new_number, with_volume, has_no_volume, volumes_of, start_set, change_set, disable, is_disabled, selected, closed}
 use Rattle.vss_model.specs.Steps.{answered, step_made, is_flush, is_failed_step, stepped_as, stepped, ticked, later}
 use Rattle.vss_model.specs.Effects.{line_ticks, lost, lost_after, lost_order, lost_order_if}
-use Rattle.vss_model.specs.Acts.{Act, enabled, order_of_writer, answer_reply, step_reply, idle_now, happens, reply, after, state}
-use Rattle.vss_model.specs.Replies.{is_pending}
-use Rattle.vss_model.proofs.CourseCalls.{Settles}
-use Rattle.vss_model.proofs.FlushFails.{outcome_is_running}
-use Rattle.vss_model.proofs.Freed.{agenda-concluded}
 use Rattle.vss_model.proofs.LogRule.{Running, unspoken}
 use Rattle.vss_model.proofs.OneCut.{changed_number, changed_result}
-use Rattle.vss_model.proofs.Orderly.{true_not_false}
-use Rattle.vss_model.proofs.OrderlyActs.{orderly}
-use Rattle.vss_model.proofs.Rows.{has_complete, running_incomplete, incomplete_map, incomplete_append, complete_found}
-use Rattle.promises.specs.Way.{Deed, Spoke, Made, deeds_lost, deeds_of, deeds_if, is_snapshot_line, way_after, way_from, way}
-use Rattle.vss_model.proofs.ByEvent.{Covers, covered, after_enabled, after_not_enabled}
 use Rattle.promises.proofs.Clock.{clock-answered, clock-stepped_as, clock-ticked, write_ticks}
 use Rattle.promises.proofs.Incomplete.{begun_incomplete, completes_snapshot, done_followed, incomplete_closed, incomplete_failed, incomplete_made, incomplete_revert, incomplete_write}
 use Rattle.promises.proofs.Speaks.{deed_in, said_at, Speaks, Grows, made_now, lost_told, grows_answered, grows_stepped, grows_timed}
-use Rattle.vss_model.proofs.Completed.{not_complete}
 use Rattle.promises.proofs.Stages.{deeds_append}
 
 pub record IsKeptAlong (G : Agenda → Type 0) : Type 0 where
@@ -160,8 +131,7 @@ module _ (G : Agenda → Type 0) (k : IsKeptAlong G) where
 
   on_put : (so_far : List Deed) (v : ℕ) (w : Write) (mark : Mark) (x : State) → Stands so_far x → Stands so_far (put v w mark x)
   on_put so_far v w Clean x h = h
-  on_put so_far v w Fault x h = h
-  on_put so_far v w (FaultAfter n) x h = h
+  on_put so_far v w _ x h = h
 
   on_write : (so_far : List Deed) (s : Plan) (v : ℕ) (w : Write) (mark : Mark) (st : State) → Stands so_far st → Stands so_far (write s v w mark st).1
   unfolding write
@@ -169,8 +139,7 @@ module _ (G : Agenda → Type 0) (k : IsKeptAlong G) where
 
   on_reverts : (so_far : List Deed) (s : Plan) (v : ℕ) (x : Kept) (mark : Mark) (st : State) → Stands so_far st → Stands so_far (reverted_as s v x mark st).1
   on_reverts so_far s v x Clean st h = h
-  on_reverts so_far s v x Fault st h = h
-  on_reverts so_far s v x (FaultAfter n) st h = h
+  on_reverts so_far s v x _ st h = h
 
   on_closes : (so_far : List Deed) (q : Session) (st : State) → Stands so_far (closed q st)
   unfolding closed released

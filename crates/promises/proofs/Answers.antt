@@ -1,32 +1,12 @@
 -- An answer says what was done.
+use Rattle.promises.proofs.Words.{Mark, Clean, Fault, FaultAfter, Write, History, dropped, point_in, Group, Orders, PreCommit, Flush, Hold, Cut, Commit, Release, PostCommit, open_group, next_volume}
+use Rattle.promises.proofs.Words.{change_at, Op, WriteFill, WriteStamp, Tick, DeleteSet, DeleteImage, Target, target_of, Plan, Event, Line, Provider, Idle, Fine, Deleted, Stepped, Idled, State, Kept}
+use Rattle.promises.proofs.Words.{has_image, history_of, is_kept_set, kept_image, row_of, left_now, is_flush, is_failed_step, Act, enabled, happens, step_reply, after, state, idle_now, is_fault}
+use Rattle.promises.proofs.Words.{is_flush_step, volumes_losing, row_number, kept_point, at, ticks_if, answer_of, AreGone, AnswersSay, after_enabled}
 use Rattle.std.proofs.Common.{◌≡◌, ◌∙◌, ℕ, ◌+◌, ◌<◌, zero, suc, List, [], ◌∷◌, length, Option, Some, None, refl, Bool, true, false, ap, sym, subst, map, arith}
 use Rattle.std.specs.Prelude.{◌&&◌, not, nat_lt, is_some, if◌then◌else◌}
-use Rattle.write_history.specs.declared.mark.Mark.{Mark}
-use Rattle.write_history.specs.declared.mark.Mark.TheVariants.{Clean, Fault, FaultAfter}
-use Rattle.write_history.specs.History.{Write, History, dropped, point_in}
-use Rattle.set_agenda.specs.declared.group.Group.{Group}
-use Rattle.set_agenda.specs.declared.group.Group.TheVariants.{Orders, PreCommit, Flush, Hold, Cut, Commit, Release, PostCommit}
-use Rattle.set_agenda.specs.Agenda.{open_group, next_volume}
-use Rattle.set_agenda.specs.Course.{change_at}
-use Rattle.scenario.specs.declared.op.Op.{Op}
-use Rattle.scenario.specs.declared.op.Op.TheVariants.{WriteFill, WriteStamp, Tick, DeleteSet, DeleteImage}
-use Rattle.scenario.specs.Calls.{Target, target_of}
-use Rattle.scenario.specs.Plan.{Plan}
-use Rattle.vss_model.specs.declared.event.Event.{Event}
-use Rattle.vss_model.specs.declared.event.Event.TheVariants.{Line, Provider, Idle}
-use Rattle.vss_model.specs.Reply.{Fine, Deleted, Stepped, Idled}
-use Rattle.vss_model.specs.State.{State, Kept, has_image, history_of, is_kept_set, kept_image, row_of, left_now}
 use Rattle.vss_model.specs.Images.{reply_of_mark, write, count_images, delete_set, delete_kept, delete_image}
-use Rattle.vss_model.specs.Steps.{is_flush, is_failed_step}
-use Rattle.vss_model.specs.Acts.{Act, enabled, happens, step_reply, after, state, idle_now}
-use Rattle.vss_model.specs.Causes.{is_fault, is_flush_step}
-use Rattle.vss_model.specs.Effects.{volumes_losing}
-use Rattle.vss_model.proofs.OneCut.{row_number, kept_point}
-use Rattle.vss_model.proofs.Volumes.{at}
-use Rattle.promises.specs.Clock.{ticks_if}
-use Rattle.promises.specs.Answers.{answer_of, AreGone, AnswersSay}
 use Rattle.promises.proofs.Truth.{second_both}
-use Rattle.vss_model.proofs.ByEvent.{after_enabled}
 use Rattle.promises.proofs.Clock.{clock_after}
 use Rattle.promises.proofs.Done.{dropped_gone}
 use Rattle.promises.proofs.Accepted.{line_reply}
@@ -35,8 +15,7 @@ use Rattle.promises.proofs.Accepted.{line_reply}
 
 same_answer : (mark : Mark) → reply_of_mark mark ≡ answer_of mark
 same_answer Clean = refl
-same_answer Fault = refl
-same_answer (FaultAfter k) = refl
+same_answer _ = refl
 
 write_says : (s : Plan) (v : ℕ) (w : Write) (mark : Mark) (st : State) → (write s v w mark st).0 ≡ answer_of mark
 unfolding write

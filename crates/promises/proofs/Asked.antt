@@ -1,46 +1,22 @@
 -- Whoever has an order to answer is one whom it is for.
+use Rattle.promises.proofs.Words.{list_any, Order, Identify, PostSnapshot, VssResult, AsyncCancelled, InsufficientStorage, Said, row_gathered, Mark, Clean, Write, said_of, Group, Orders, PreCommit}
+use Rattle.promises.proofs.Words.{Flush, Hold, Cut, Commit, Release, PostCommit, Kind, Member, Place, Session, Plan, class_of, Event, State, SetRow, Kept, start, in_progress, left_now, followed, runs}
+use Rattle.promises.proofs.Words.{failed_in, failed, IsAgendaOf, Act, enabled, idle_now, after, state, orderly, IsFor, AsksItsOwn, choosing, Covers, covered, after_enabled, after_not_enabled, by_if}
+use Rattle.promises.proofs.Words.{filter_member, member_passes}
 use Rattle.std.proofs.Common.{◌≡◌, ◌∙◌, ℕ, ◌+◌, ◌==◌, List, [], ◌∷◌, Option, Some, None, refl, Bool, true, false, ap, sym, subst, map, filter, fold}
 use Rattle.std.specs.Prelude.{◌&&◌, ◌||◌, not, is_some, if◌then◌else◌}
-use Rattle.std.specs.List.{list_any}
-use Rattle.vss_names.specs.declared.order.Order.{Order}
-use Rattle.vss_names.specs.declared.order.Order.TheVariants.{Identify, PrepareBackup, PrepareSnapshot, Freeze, Thaw, PostSnapshot, BackupComplete}
-use Rattle.vss_names.specs.declared.vss_result.VssResult.{VssResult}
-use Rattle.vss_names.specs.declared.vss_result.VssResult.TheVariants.{AsyncCancelled, InsufficientStorage}
-use Rattle.writer_state.specs.declared.said.Said.{Said}
-use Rattle.writer_state.specs.WriterRow.{row_gathered}
-use Rattle.write_history.specs.declared.mark.Mark.{Mark}
-use Rattle.write_history.specs.declared.mark.Mark.TheVariants.{Clean, Fault, FaultAfter}
-use Rattle.write_history.specs.History.{Write}
-use Rattle.writer_calls.specs.Script.{said_of}
-use Rattle.set_agenda.specs.declared.group.Group.{Group}
-use Rattle.set_agenda.specs.declared.group.Group.TheVariants.{Orders, PreCommit, Flush, Hold, Cut, Commit, Release, PostCommit}
-use Rattle.set_agenda.specs.declared.kind.Kind.{Kind}
 use Rattle.set_agenda.specs.declared.kind.Kind.TheVariants as kind
-use Rattle.set_agenda.specs.declared.member.Member.{Member}
-use Rattle.set_agenda.specs.declared.place.Place.{Place}
 use Rattle.set_agenda.specs.Agenda.{Agenda, Open, places, has_failed, has_said, is_at, writers_at, members_of, waited_for, with_group, left_from, groups_left, left, is_among, is_orders, order_of, order_if, open_order, open_group, is_done}
 use Rattle.set_agenda.specs.Course.{Course, is_member, has_row_failed, posted, failed as course_failed, settled_if, settled, begun, released}
-use Rattle.requestor.specs.Session.{Session}
-use Rattle.scenario.specs.Plan.{Plan, class_of}
-use Rattle.vss_model.specs.declared.event.Event.{Event}
-use Rattle.vss_model.specs.State.{State, SetRow, Kept, start, in_progress, left_now}
-use Rattle.vss_model.specs.Ending.{followed, runs, failed_in, failed}
 use Rattle.vss_model.specs.Images.{Replied, cleared, set_loses_image, with_room_if, put, write, reverted_as}
 use Rattle.vss_model.specs.Sessions.{is_disabled, has_no_volume, closed}
 use Rattle.vss_model.specs.Steps.{answered, step_made, is_flush, is_failed_step, stepped_as, stepped, ticked, later}
-use Rattle.vss_model.specs.Facts.{IsAgendaOf}
-use Rattle.vss_model.specs.Acts.{Act, enabled, idle_now, after, state}
 use Rattle.vss_model.proofs.HeldOfSet.{Follows, goes_answered, goes_stepped, goes_timed}
-use Rattle.vss_model.proofs.OrderlyActs.{orderly}
-use Rattle.promises.specs.Asked.{IsFor, AsksItsOwn}
-use Rattle.promises.specs.Participants.{choosing}
 use Rattle.promises.proofs.Truth.{not_true, second_both}
 use Rattle.promises.proofs.BusyAgendas.{course_followed}
-use Rattle.vss_model.proofs.ByEvent.{Covers, covered, after_enabled, after_not_enabled}
 use Rattle.promises.proofs.OpenGroup.{every, in_kind}
 use Rattle.promises.proofs.Participants.{ChosenIn, StandsChosen, follows_all}
 use Rattle.promises.proofs.SameChoice.{SameCourse, mode_in, on_course_answered, on_course_stepped, on_course_timed}
-use Rattle.vss_model.proofs.Gathered.{filter_member, member_passes}
 
 -- ## lists of writers
 
@@ -66,22 +42,15 @@ at_level_are ms l w e = filter_member (λ (m : Member). is_at l m.level) ms w (s
 
 -- those of a group of orders are members
 group_members : (a : Agenda) (o : Order) (l : Option _) (w : ℕ) → is_among w (members_of a (Orders o) l) ≡ true → is_member a.members w ≡ true
-group_members a Identify l w e = at_level_are a.members l w e
-group_members a PrepareBackup l w e = at_level_are a.members l w e
-group_members a PrepareSnapshot l w e = at_level_are a.members l w e
-group_members a Freeze l w e = at_level_are a.members l w e
-group_members a Thaw l w e = at_level_are a.members l w e
 group_members a PostSnapshot l w e = at_level_are a.members l w (among_filter (λ x. not (has_failed a.log x)) (writers_at a.members l) w e)
-group_members a BackupComplete l w e = at_level_are a.members l w e
+group_members a _ l w e = at_level_are a.members l w e
 
 -- ## the fact
 
 -- whom an agenda asks
 abbrev IsOfKind : Plan → Kind → Course → ℕ → Type 0
 IsOfKind s kind.Gather c w = list_any (λ x. class_of s x == class_of s w) c.disabled ≡ false
-IsOfKind s kind.Prepare c w = is_member c.members w ≡ true
-IsOfKind s kind.Snapshot c w = is_member c.members w ≡ true
-IsOfKind s kind.Complete c w = is_member c.members w ≡ true
+IsOfKind s _ c w = is_member c.members w ≡ true
 
 abbrev Asks : Plan → Option Agenda → Course → Type 0
 Asks s None c = Unit {0}
@@ -89,9 +58,7 @@ Asks s (Some a) c = (w : ℕ) → is_member a.members w ≡ true → IsOfKind s 
 
 of_kind : (s : Plan) (k : Kind) (c d : Course) (w : ℕ) → d.disabled ≡ c.disabled → d.members ≡ c.members → IsOfKind s k c w → IsOfKind s k d w
 of_kind s kind.Gather c d w e f h = ap (λ ds. list_any (λ x. class_of s x == class_of s w) ds) e ∙ h
-of_kind s kind.Prepare c d w e f h = ap (λ ms. is_member ms w) f ∙ h
-of_kind s kind.Snapshot c d w e f h = ap (λ ms. is_member ms w) f ∙ h
-of_kind s kind.Complete c d w e f h = ap (λ ms. is_member ms w) f ∙ h
+of_kind s _ c d w e f h = ap (λ ms. is_member ms w) f ∙ h
 
 asks_on : (s : Plan) (c d : Course) (a b : Option Agenda) → Follows a c.members c.outcome b d.members d.outcome → SameCourse c d → Asks s a c → Asks s b d
 asks_on s c d a None m same h = tt
@@ -133,8 +100,7 @@ module _ (s : Plan) where
 
   asks_put : (v : ℕ) (w : Write) (mark : Mark) (x : State) → AsksIn s x → AsksIn s (put v w mark x)
   asks_put v w Clean x h = h
-  asks_put v w Fault x h = h
-  asks_put v w (FaultAfter k) x h = h
+  asks_put v w _ x h = h
 
   module _ (st : State) (h : AsksIn s st) where
     abbrev Next : Event → Mark → Replied → Type 0
@@ -146,8 +112,7 @@ module _ (s : Plan) where
 
     on_revert : (v : ℕ) (k : Kept) (mark : Mark) → AsksIn s (reverted_as s v k mark st).1
     on_revert v k Clean = h
-    on_revert v k Fault = h
-    on_revert v k (FaultAfter n) = h
+    on_revert v k _ = h
 
     on_answer : (w : ℕ) (said : Said) → AsksIn s (answered w said st)
     unfolding answered
@@ -165,10 +130,6 @@ module _ (s : Plan) where
     unfolding stepped
     on_step mark = step_as (is_failed_step (is_flush (open_group (left_now st))) mark) (open_group (left_now st))
 
-    either : (b : Bool) (x y : Replied) → AsksIn s x.1 → AsksIn s y.1 → AsksIn s (if b then x else y).1
-    either true x y h i = h
-    either false x y h i = i
-
     asks_all : Covers Next s st
     asks_all = record {
       stays = λ lane o mark told e f. h;
@@ -183,8 +144,8 @@ module _ (s : Plan) where
       names = λ lane w full q explicit mark g named. h;
       starts = λ lane q mark g e. h;
       adds = λ lane v r q mark g e f. h;
-      prepares = λ lane q mark g. either (has_no_volume (in_progress st)) _ _ h (asks_followed true _ st (asks_begun kind.Prepare _ [] st.clock _ (λ w e. e)));
-      snapshots = λ lane q mark g. either (has_no_volume (in_progress st)) _ _ h (asks_followed true _ st (asks_begun kind.Snapshot st.course.members _ st.clock st.course (λ w e. e)));
+      prepares = λ lane q mark g. by_if (λ r. AsksIn s r.1) (has_no_volume (in_progress st)) _ _ h (asks_followed true _ st (asks_begun kind.Prepare _ [] st.clock _ (λ w e. e)));
+      snapshots = λ lane q mark g. by_if (λ r. AsksIn s r.1) (has_no_volume (in_progress st)) _ _ h (asks_followed true _ st (asks_begun kind.Snapshot st.course.members _ st.clock st.course (λ w e. e)));
       completes = λ lane q mark g. asks_followed true _ st (asks_begun kind.Complete _ [] st.clock st.course (λ w e. filter_member (λ (m : Member). not (has_row_failed st.course.rows m.writer)) st.course.members w e));
       aborts = λ lane q mark e. asks_failed (in_progress st) AsyncCancelled st h;
       ends = λ lane q mark e. asks_closed q (failed AsyncCancelled st);
@@ -262,12 +223,7 @@ module _ (s : Plan) (so_far : List Act) (w : ℕ) (order : Order) where
 
   for_other : (o : Order) → (o ≡ Identify → ⊥) → is_member st.course.members w ≡ true → IsFor s so_far w o
   for_other Identify e f = absurd (e refl)
-  for_other PrepareBackup e f = f
-  for_other PrepareSnapshot e f = f
-  for_other Freeze e f = f
-  for_other Thaw e f = f
-  for_other PostSnapshot e f = f
-  for_other BackupComplete e f = f
+  for_other _ e f = f
 
   module _ (a : Agenda) (o : Open) (os : List Open) (runs_is : st.course.agenda ≡ Some a) (open_is : groups_left a ≡ o ∷ os) (order_is : order_of o.place.group ≡ Some order) where
     others : (k : Kind) → a.kind ≡ k → every (λ q. not (is_identify q.group)) (places k) ≡ true → is_member st.course.members w ≡ true → IsFor s so_far w order

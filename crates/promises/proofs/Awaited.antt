@@ -1,21 +1,11 @@
 -- `await` tells the last result.
+use Rattle.promises.proofs.Words.{eq-eqb, VssResult, Go, Blocked, Session, check, owner_only, verdict_of, Plan, State, runs, await_last, line_in, judged, Act, enabled, is_blocked, happens, state}
+use Rattle.promises.proofs.Words.{Owns, result_told, AwaitTells}
 use Rattle.std.proofs.Common.{◌≡◌, ◌∙◌, ℕ, ◌==◌, List, Option, Some, None, refl, Bool, true, false, ap, sym}
 use Rattle.std.specs.Prelude.{◌&&◌, not, if◌then◌else◌}
-use Rattle.std.proofs.lemmas.Bool.{eq-eqb}
-use Rattle.vss_names.specs.declared.vss_result.VssResult.{VssResult}
-use Rattle.requestor.specs.declared.verdict.Verdict.TheVariants.{Go, Blocked}
 use Rattle.requestor.specs.declared.session_call.SessionCall.TheVariants as call
-use Rattle.requestor.specs.Session.{Session}
-use Rattle.requestor.specs.Check.{check, owner_only, verdict_of}
 use Rattle.scenario.specs.declared.op.Op.TheVariants as op
-use Rattle.scenario.specs.Plan.{Plan}
-use Rattle.vss_model.specs.State.{State}
-use Rattle.vss_model.specs.Ending.{runs}
-use Rattle.vss_model.specs.Sessions.{await_last, line_in, judged}
 use Rattle.vss_model.specs.Lines.{called}
-use Rattle.vss_model.specs.Acts.{Act, enabled, is_blocked, happens, state}
-use Rattle.promises.specs.Accepted.{Owns}
-use Rattle.promises.specs.Awaited.{result_told, AwaitTells}
 use Rattle.promises.proofs.Truth.{not_itself}
 use Rattle.promises.proofs.LastResult.{last_all}
 

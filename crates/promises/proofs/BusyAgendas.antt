@@ -1,39 +1,27 @@
 -- The agendas that make a set: while one runs, a set is in progress. Only they have orders that decide, steps, and limits beside that of an answer.
-use Rattle.std.proofs.Common.{◌≡◌, ◌∙◌, ℕ, List, [], ◌∷◌, ◌++◌, Option, Some, None, refl, Bool, true, false, ap, subst}
+use Rattle.promises.proofs.Words.{Order, SetOutcome, Group, Orders, Kind, Gather, Prepare, Snapshot, Complete, Limit, Agenda, Open, places, order_of, order_now, is_orders, is_working, groups_left}
+use Rattle.promises.proofs.Words.{left, Running as RunningLimit, first_hold, freeze_opened_at, hold_runs, freeze_runs, runs_if, hold_running, running_at, running_limits, spent_of, Course, is_decisive}
+use Rattle.promises.proofs.Words.{fails_set, none_and_some, IsSpentHere, spent_here, hold_limit, IsOfSession, IsAgendaOf, WaitsFor, snapshot_stage, Session, has_writers, makes_set, State, SetRow}
+use Rattle.std.proofs.Common.{◌≡◌, ◌∙◌, ℕ, List, [], ◌∷◌, Option, Some, None, refl, Bool, true, false, ap}
 use Rattle.std.specs.Prelude.{not, is_some}
-use Rattle.vss_names.specs.declared.order.Order.{Order}
-use Rattle.vss_names.specs.declared.set_outcome.SetOutcome.{SetOutcome}
-use Rattle.set_agenda.specs.declared.group.Group.{Group}
-use Rattle.set_agenda.specs.declared.group.Group.TheVariants.{Orders, PreCommit, Flush, Hold, Cut, Commit, Release, PostCommit}
-use Rattle.set_agenda.specs.declared.kind.Kind.{Kind}
-use Rattle.set_agenda.specs.declared.kind.Kind.TheVariants.{Gather, Prepare, Snapshot, Complete}
 use Rattle.set_agenda.specs.declared.limit.Limit.TheVariants.{Hold as HoldLimit, Freeze as FreezeLimit, Answer as AnswerLimit}
-use Rattle.set_agenda.specs.Agenda.{Agenda, Open, places, order_of, order_now, is_orders, is_working, groups_left, left}
-use Rattle.set_agenda.specs.Limits.{Running as RunningLimit, first_hold, opened_at, freeze_opened_at, hold_runs, freeze_runs, answer_runs, runs_if, hold_running, running_at, running_limits, spent_of}
-use Rattle.set_agenda.specs.Course.{Course, is_decisive, fails_set}
-use Rattle.tick_limits.specs.Time.{answer_limit, hold_limit}
-use Rattle.vss_model.specs.Facts.{IsOfSession, IsAgendaOf, WaitsFor, snapshot_stage}
 use Rattle.promises.proofs.Truth.{not_both, not_itself}
-use Rattle.promises.proofs.Limits.{limit_found, none_and_some}
+use Rattle.promises.proofs.Limits.{spent_runs, spent_holds}
 use Rattle.promises.proofs.OpenGroup.{every, in_kind}
-use Rattle.requestor.specs.Session.{Session, has_writers, makes_set}
-use Rattle.vss_model.specs.State.{State, SetRow}
-use Rattle.vss_model.specs.Ending.{Ending, NothingEnds, AgendaEnds, SetFails, ending, concluded, followed}
+use Rattle.vss_model.specs.Ending.{Ending, NothingEnds, ending, concluded, followed}
 
 -- ## agendas that fail sets
 
 abbrev pub makes_a_set : Kind → Bool
-makes_a_set Gather = false
 makes_a_set Prepare = true
 makes_a_set Snapshot = true
-makes_a_set Complete = false
+makes_a_set _ = false
 
 -- a group that no agenda beside those of a set has
 pub of_kind : (test : Group → Bool) (k : Kind) (a : Agenda) (o : Open) (os : List Open) → a.kind ≡ k → every (λ q. not (test q.group)) (places Gather) ≡ true → every (λ q. not (test q.group)) (places Complete) ≡ true → groups_left a ≡ o ∷ os → test o.place.group ≡ true → makes_a_set k ≡ true
 of_kind test Gather a o os e f g h i = absurd (not_itself (test o.place.group) i (in_kind (λ q. not (test q.group)) Gather a o os e f h))
-of_kind test Prepare a o os e f g h i = refl
-of_kind test Snapshot a o os e f g h i = refl
 of_kind test Complete a o os e f g h i = absurd (not_itself (test o.place.group) i (in_kind (λ q. not (test q.group)) Complete a o os e g h))
+of_kind test _ a o os e f g h i = refl
 
 abbrev pub IsBusy : Option Agenda → Type 0
 IsBusy None = ⊥
@@ -56,15 +44,9 @@ busy_step (Some a) e = at_list (groups_left a) refl e
     at_list [] g f = absurd cc
     at_list (x ∷ xs) g f = of_kind (λ h. not (is_orders h)) a.kind a x xs refl refl refl g f
 
-pub held_frozen : (g : Group) → freeze_runs g ≡ false → hold_runs g ≡ false
-held_frozen (Orders o) e = refl
-held_frozen PreCommit e = absurd cc
-held_frozen Flush e = absurd cc
-held_frozen Hold e = absurd cc
-held_frozen Cut e = absurd cc
-held_frozen Commit e = absurd cc
-held_frozen Release e = absurd cc
-held_frozen PostCommit e = absurd cc
+hold_freezes : (g : Group) → hold_runs g ≡ true → freeze_runs g ≡ true
+hold_freezes (Orders o) e = absurd cc
+hold_freezes _ e = refl
 
 pub none_held : (g : Group) (t : Option ℕ) → hold_runs g ≡ false → hold_running g t ≡ []
 none_held g None e = refl
@@ -72,17 +54,12 @@ none_held g (Some t) e = ap (λ b. runs_if b HoldLimit t hold_limit) e
 
 -- a limit that is not that of an answer
 pub frozen_now : (now f : ℕ) (a : Agenda) (o : Open) (os : List Open) (l : RunningLimit) → spent_of now (running_at f a (o ∷ os)) ≡ Some l → (l.limit ≡ AnswerLimit → ⊥) → freeze_runs o.place.group ≡ true
-frozen_now now f a o os l e not_answer = by_group (freeze_runs o.place.group) refl
+frozen_now now f a o os l e not_answer = by_limit l.limit not_answer (spent_here now f a o os l e)
   where
-    by_group : (b : Bool) → freeze_runs o.place.group ≡ b → b ≡ true
-    by_group true g = refl
-    by_group false g =
-        absurd
-        (not_answer
-        (limit_found now (answer_runs o.place.group) AnswerLimit (opened_at a o) answer_limit l
-        (subst (λ (fs : List RunningLimit). spent_of now (fs ++ runs_if (answer_runs o.place.group) AnswerLimit (opened_at a o) answer_limit) ≡ Some l) (ap (λ b. runs_if b FreezeLimit (freeze_opened_at a) f) g)
-        (subst (λ (hs : List RunningLimit). spent_of now (hs ++ runs_if (freeze_runs o.place.group) FreezeLimit (freeze_opened_at a) f ++ runs_if (answer_runs o.place.group) AnswerLimit (opened_at a o) answer_limit) ≡ Some l)
-        (none_held o.place.group (first_hold a.log) (held_frozen o.place.group g)) e))))
+    by_limit : (x : Limit) → (x ≡ AnswerLimit → ⊥) → IsSpentHere now f a o l x → freeze_runs o.place.group ≡ true
+    by_limit HoldLimit k h = hold_freezes o.place.group (spent_holds now o.place.group (first_hold a.log) l h)
+    by_limit FreezeLimit k h = spent_runs now (freeze_runs o.place.group) FreezeLimit (freeze_opened_at a) f l h.1
+    by_limit AnswerLimit k h = absurd (k refl)
 
 pub busy_limit : (now f : ℕ) (x : Option Agenda) (l : RunningLimit) → spent_of now (running_limits f x) ≡ Some l → (l.limit ≡ AnswerLimit → ⊥) → IsBusy x
 busy_limit now f None l e k = none_and_some None l refl e
@@ -95,14 +72,13 @@ busy_limit now f (Some a) l e k = at_list (groups_left a) refl e
 -- ## while an agenda makes a set, one is in progress
 
 pub made_stage : (k : Kind) (q : Session) → makes_a_set k ≡ true → WaitsFor k q.context q.stage → makes_set q.stage ≡ true
-made_stage Gather q e h = absurd cc
 made_stage Prepare q e h = ap makes_set h.0
 made_stage Snapshot q e h = ap makes_set h ∙ either (has_writers q.context)
   where
     either : (b : Bool) → makes_set (snapshot_stage b) ≡ true
     either true = refl
     either false = refl
-made_stage Complete q e h = absurd cc
+made_stage _ q e h = absurd cc
 
 pub busy_set : (x : Option Agenda) (q : Option Session) (o : SetOutcome) (found : Option SetRow) → IsBusy x → IsAgendaOf x q → IsOfSession q o found → is_some found ≡ true
 busy_set None q o found b h i = absurd b
@@ -112,8 +88,7 @@ busy_set (Some a) (Some q) o (Some r) b h i = refl
 
 pub course_ended : (e : Ending) (x : State) → (concluded e x).course ≡ x.course
 course_ended NothingEnds x = refl
-course_ended AgendaEnds x = refl
-course_ended (SetFails why) x = refl
+course_ended _ x = refl
 
 pub course_followed : (ran : Bool) (c : Course) (x : State) → (followed ran c x).course ≡ c
 unfolding followed

@@ -1,31 +1,14 @@
 -- Who may call, and what waits.
+use Rattle.promises.proofs.Words.{BadState, Agenda, SessionCall, Verdict, Refused, Session, has_writers, makes_set, check, check_begin, begin_verdict, check_other, check_owner, owner_only, verdict_of}
+use Rattle.promises.proofs.Words.{goes_beside_agenda, is_start, allows, is_await as awaits, Op, Target, target_of, Plan, acts_as, Line, Coded, State, is_held, is_frozen, runs, judged, Act, is_blocked}
+use Rattle.promises.proofs.Words.{is_free, enabled, happens, after, state, IsAgendaOf, owns, orderly, is_owners, CallsAreOwned, may_wait, WaitsAreFew, WaitsAreDue, StandsQuiet, FrozenDoNotWrite}
+use Rattle.promises.proofs.Words.{after_enabled, after_not_enabled, some_same}
 use Rattle.std.proofs.Common.{◌≡◌, ◌∙◌, ℕ, ◌==◌, List, Option, Some, None, refl, Bool, true, false, ap}
 use Rattle.std.specs.Prelude.{◌&&◌, not, is_some}
-use Rattle.vss_names.specs.declared.vss_result.VssResult.TheVariants.{BadState}
-use Rattle.set_agenda.specs.Agenda.{Agenda}
-use Rattle.requestor.specs.declared.session_call.SessionCall.{SessionCall}
 use Rattle.requestor.specs.declared.session_call.SessionCall.TheVariants as call
-use Rattle.requestor.specs.declared.verdict.Verdict.{Verdict}
-use Rattle.requestor.specs.declared.verdict.Verdict.TheVariants.{Refused}
-use Rattle.requestor.specs.Session.{Session, has_writers, makes_set}
-use Rattle.requestor.specs.Check.{check, check_begin, begin_verdict, check_other, check_owner, owner_only, verdict_of, goes_beside_agenda, is_start, allows, is_await as awaits}
-use Rattle.scenario.specs.declared.op.Op.{Op}
 use Rattle.scenario.specs.declared.op.Op.TheVariants.{WriteFill, WriteStamp, Begin, Disable, Gather, Component, Document, Start, Add, Prepare, Snapshot, Await, Status, Complete, Abort, End}
-use Rattle.scenario.specs.Calls.{Target, target_of}
-use Rattle.scenario.specs.Plan.{Plan, acts_as}
-use Rattle.vss_model.specs.declared.event.Event.TheVariants.{Line}
-use Rattle.vss_model.specs.Reply.{Coded}
-use Rattle.vss_model.specs.State.{State, is_held, is_frozen}
-use Rattle.vss_model.specs.Ending.{runs}
-use Rattle.vss_model.specs.Sessions.{judged}
 use Rattle.vss_model.specs.Lines.{called, line}
-use Rattle.vss_model.specs.Acts.{Act, is_blocked, is_free, enabled, happens, after, state}
-use Rattle.vss_model.specs.Facts.{IsAgendaOf}
-use Rattle.vss_model.specs.Causes.{owns}
-use Rattle.vss_model.proofs.OrderlyActs.{orderly}
-use Rattle.promises.specs.Calls.{is_owners, CallsAreOwned, may_wait, WaitsAreFew, WaitsAreDue, StandsQuiet, FrozenDoNotWrite}
 use Rattle.promises.proofs.Truth.{first_both, not_false}
-use Rattle.vss_model.proofs.ByEvent.{after_enabled, after_not_enabled, some_same}
 
 -- ## a call of another lane
 

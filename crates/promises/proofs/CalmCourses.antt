@@ -1,18 +1,11 @@
 -- A call of the course fails it only while an agenda runs that makes a set.
+use Rattle.promises.proofs.Words.{Order, Said, is_ok, Kind, Member, left, is_asked, is_working, open_order, order_now, has_failed, none_settled as calm_settled, now_if}
 use Rattle.std.proofs.Common.{◌≡◌, ◌∙◌, ℕ, List, [], ◌∷◌, ◌⊎◌, Option, Some, None, refl, Bool, true, false, ap, inl, inr}
 use Rattle.std.specs.Prelude.{◌&&◌, not}
-use Rattle.vss_names.specs.declared.order.Order.{Order}
-use Rattle.writer_state.specs.declared.said.Said.{Said}
-use Rattle.writer_state.specs.WriterState.{is_ok}
-use Rattle.set_agenda.specs.declared.kind.Kind.{Kind}
-use Rattle.set_agenda.specs.declared.member.Member.{Member}
-use Rattle.set_agenda.specs.Agenda.{left, is_asked, is_working, open_order, order_now}
 use Rattle.set_agenda.specs.Course.{Course, posted, begun, is_decisive, told, decided, answered_to, answered as course_answered, stepped as course_stepped, timed as course_timed}
-use Rattle.vss_model.specs.Facts.{has_failed}
 use Rattle.promises.proofs.Truth.{both_parts}
-use Rattle.promises.proofs.CourseRows.{PassesOrFails, over_timed, calm_settled}
+use Rattle.promises.proofs.CourseRows.{PassesOrFails, over_timed}
 use Rattle.promises.proofs.BusyAgendas.{IsBusy, busy_order, busy_step}
-use Rattle.set_agenda.proofs.CourseRule.{now_if}
 
 abbrev pub CalmOrBusy : Course → Course → Type 0
 CalmOrBusy c d = (has_failed c.outcome ≡ false → has_failed d.outcome ≡ false) ⊎ IsBusy c.agenda

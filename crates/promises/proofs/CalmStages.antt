@@ -1,39 +1,20 @@
 -- Where the set of a session has failed, the session says so: in every other stage the course's set has not failed.
+use Rattle.promises.proofs.Words.{Context, SetOutcome, VssResult, AsyncCancelled, Said, row_gathered, Mark, Clean, Write, Group, Gather, Prepare, Snapshot, Complete, Agenda, open_group, is_working}
+use Rattle.promises.proofs.Words.{Session, stage_after, agenda_ended, set_failed, Plan, State, SetRow, Kept, start, in_progress, left_now, put, reverted_as, has_failed, IsOfStage, IsOfSession}
+use Rattle.promises.proofs.Words.{IsOrderly, Act, after, state, IsKeptByChanges, IsKeptByWrites, kept_by_changes as orderly_kept, kept_by_writes as orderly_writes, orderly, on_after, course-step_made}
+use Rattle.promises.proofs.Words.{some_same, by_if}
 use Rattle.std.proofs.Common.{◌≡◌, ◌∙◌, ℕ, ◌+◌, List, [], ◌∷◌, ◌⊎◌, Option, Some, None, refl, Bool, true, false, ap, sym, subst, inl, inr, map, fold}
-use Rattle.std.specs.Prelude.{is_some, option_map, if◌then◌else◌}
-use Rattle.vss_names.specs.declared.context.Context.{Context}
-use Rattle.vss_names.specs.declared.set_outcome.SetOutcome.{SetOutcome}
+use Rattle.std.specs.Prelude.{is_some, option_map}
 use Rattle.vss_names.specs.declared.set_outcome.SetOutcome.TheVariants.{Running as RunningSet, Complete as CompleteSet, Failed as FailedSet}
-use Rattle.vss_names.specs.declared.vss_result.VssResult.{VssResult}
-use Rattle.vss_names.specs.declared.vss_result.VssResult.TheVariants.{AsyncCancelled}
-use Rattle.writer_state.specs.declared.said.Said.{Said}
-use Rattle.writer_state.specs.WriterRow.{row_gathered}
-use Rattle.write_history.specs.declared.mark.Mark.{Mark}
-use Rattle.write_history.specs.declared.mark.Mark.TheVariants.{Clean, Fault, FaultAfter}
-use Rattle.write_history.specs.History.{Write}
-use Rattle.set_agenda.specs.declared.group.Group.{Group}
-use Rattle.set_agenda.specs.declared.kind.Kind.TheVariants.{Gather, Prepare, Snapshot, Complete}
-use Rattle.set_agenda.specs.Agenda.{Agenda, open_group, is_working}
 use Rattle.set_agenda.specs.Course.{Course, answered as course_answered, stepped as course_stepped, timed as course_timed}
 use Rattle.requestor.specs.declared.stage.Stage.TheVariants.{Started, Failed}
-use Rattle.requestor.specs.Session.{Session, stage_after, agenda_ended, set_failed}
-use Rattle.scenario.specs.Plan.{Plan}
-use Rattle.vss_model.specs.State.{State, SetRow, Kept, start, in_progress, left_now}
 use Rattle.vss_model.specs.Ending.{ending, concluded, followed, failed_in, failed, runs}
-use Rattle.vss_model.specs.Images.{Replied, put, reverted_as}
 use Rattle.vss_model.specs.Sessions.{begin_in, closed, has_no_volume, start_set}
 use Rattle.vss_model.specs.Steps.{answered, step_made, is_flush, is_failed_step, stepped_as, stepped, ticked, later}
-use Rattle.vss_model.specs.Facts.{has_failed, IsOfStage, IsOfSession, IsOrderly}
-use Rattle.vss_model.specs.Acts.{Act, after, state}
-use Rattle.vss_model.specs.Laws.{IsKeptByChanges, IsKeptByWrites}
-use Rattle.vss_model.proofs.OrderlyActs.{kept_by_changes as orderly_kept, kept_by_writes as orderly_writes, orderly}
-use Rattle.vss_model.proofs.Rule.{on_after}
-use Rattle.vss_model.proofs.LogRule.{course-step_made}
 use Rattle.promises.proofs.Truth.{not_both}
 use Rattle.promises.proofs.BusyAgendas.{IsBusy, busy_set}
 use Rattle.promises.proofs.CalmCourses.{CalmOrBusy, calm_begun, calm_answered, calm_stepped, calm_timed}
 use Rattle.promises.proofs.SetFailures.{session_made}
-use Rattle.vss_model.proofs.ByEvent.{some_same}
 
 abbrev pub IsCalm : State → Type 0
 IsCalm x = (q : Session) → x.session ≡ Some q → (q.stage ≡ Failed → ⊥) → has_failed x.course.outcome ≡ false
@@ -161,10 +142,6 @@ on_started x q h e f = λ p g k. ap has_failed
         differ e = cc
     by_set (Some r) i = i.2
 
-either : (b : Bool) (x y : Replied) → IsCalm x.1 → IsCalm y.1 → IsCalm (if b then x else y).1
-either true x y h i = h
-either false x y h i = i
-
 pub calm_kept : IsKeptByChanges IsCalmOrderly
 calm_kept = record {
   answers = λ w said st e h. (orderly_kept.answers w said st e h.0, on_answers st h w said);
@@ -172,8 +149,8 @@ calm_kept = record {
   ticks = λ n st h. (orderly_kept.ticks n st h.0, on_ticks st h n);
   fails = λ why st h. (orderly_kept.fails why st h.0, on_failed st h (in_progress st) why);
   gathers = λ s q st g h. (orderly_kept.gathers s q st g h.0, on_begun st h _ (calm_begun Gather _ [] st.clock (record st.course { rows = map row_gathered st.course.rows })));
-  prepares = λ s q st g h. (orderly_kept.prepares s q st g h.0, either (has_no_volume (in_progress st)) _ _ h.1 (on_begun st h _ (calm_begun Prepare _ [] st.clock _)));
-  snapshots = λ q st g h. (orderly_kept.snapshots q st g h.0, either (has_no_volume (in_progress st)) _ _ h.1 (on_begun st h _ (calm_begun Snapshot st.course.members _ st.clock st.course)));
+  prepares = λ s q st g h. (orderly_kept.prepares s q st g h.0, by_if (λ r. IsCalm r.1) (has_no_volume (in_progress st)) _ _ h.1 (on_begun st h _ (calm_begun Prepare _ [] st.clock _)));
+  snapshots = λ q st g h. (orderly_kept.snapshots q st g h.0, by_if (λ r. IsCalm r.1) (has_no_volume (in_progress st)) _ _ h.1 (on_begun st h _ (calm_begun Snapshot st.course.members _ st.clock st.course)));
   completes = λ q st g h. (orderly_kept.completes q st g h.0, on_begun st h _ (calm_begun Complete _ [] st.clock st.course));
   clears = λ s v b st h. (orderly_kept.clears s v b st h.0, h.1);
   deletes_set = λ n st h. (orderly_kept.deletes_set n st h.0, h.1);
@@ -188,13 +165,11 @@ calm_kept = record {
 
 calm_put : (v : ℕ) (w : Write) (mark : Mark) (x : State) → IsCalm x → IsCalm (put v w mark x)
 calm_put v w Clean x h = h
-calm_put v w Fault x h = h
-calm_put v w (FaultAfter n) x h = h
+calm_put v w _ x h = h
 
 calm_revert : (s : Plan) (v : ℕ) (k : Kept) (mark : Mark) (st : State) → IsCalm st → IsCalm (reverted_as s v k mark st).1
 calm_revert s v k Clean st h = h
-calm_revert s v k Fault st h = h
-calm_revert s v k (FaultAfter n) st h = h
+calm_revert s v k _ st h = h
 
 calm_writes : (st : State) → IsKeptByWrites IsCalmOrderly st
 calm_writes st =

@@ -1,37 +1,17 @@
 -- What moves the clock.
+use Rattle.promises.proofs.Words.{VssResult, InsufficientStorage, AsyncCancelled, Said, Mark, Clean, Write, said_of, Group, Orders, PreCommit, Flush, Hold, Cut, Commit, Release, PostCommit}
+use Rattle.promises.proofs.Words.{open_group, Course, Session, Op, WriteFill, WriteStamp, Target, target_of, Plan, Event, State, SetRow, Kept, in_progress, left_now, line_ticks, ticks_of, Act}
+use Rattle.promises.proofs.Words.{enabled, idle_now, after, state, ticks_if, ClockMoves, Covers, covered, after_enabled, after_not_enabled, by_if}
 use Rattle.std.proofs.Common.{◌≡◌, ◌∙◌, ℕ, ◌+◌, List, Option, Some, None, refl, Bool, true, false, sym, ap, arith}
-use Rattle.std.specs.Prelude.{if◌then◌else◌, unwrap_or}
-use Rattle.vss_names.specs.declared.vss_result.VssResult.{VssResult}
-use Rattle.vss_names.specs.declared.vss_result.VssResult.TheVariants.{InsufficientStorage, AsyncCancelled}
-use Rattle.writer_state.specs.declared.said.Said.{Said}
-use Rattle.write_history.specs.declared.mark.Mark.{Mark}
-use Rattle.write_history.specs.declared.mark.Mark.TheVariants.{Clean, Fault, FaultAfter}
-use Rattle.write_history.specs.History.{Write}
-use Rattle.writer_calls.specs.Script.{said_of}
-use Rattle.set_agenda.specs.declared.group.Group.{Group}
-use Rattle.set_agenda.specs.declared.group.Group.TheVariants.{Orders, PreCommit, Flush, Hold, Cut, Commit, Release, PostCommit}
-use Rattle.set_agenda.specs.Agenda.{open_group}
-use Rattle.set_agenda.specs.Course.{Course}
-use Rattle.requestor.specs.Session.{Session}
-use Rattle.scenario.specs.declared.op.Op.{Op}
-use Rattle.scenario.specs.declared.op.Op.TheVariants.{WriteFill, WriteStamp}
-use Rattle.scenario.specs.Calls.{Target, target_of}
-use Rattle.scenario.specs.Plan.{Plan}
-use Rattle.vss_model.specs.declared.event.Event.{Event}
-use Rattle.vss_model.specs.State.{State, SetRow, Kept, in_progress, left_now}
-use Rattle.vss_model.specs.Ending.{Ending, NothingEnds, AgendaEnds, SetFails, ending, concluded, followed, runs, failed_in, failed}
+use Rattle.std.specs.Prelude.{unwrap_or}
+use Rattle.vss_model.specs.Ending.{Ending, NothingEnds, ending, concluded, followed, runs, failed_in, failed}
 use Rattle.vss_model.specs.Images.{Replied, cleared, set_loses_image, with_room_if, put, write, reverted_as}
 use Rattle.vss_model.specs.Sessions.{has_no_volume, closed}
 use Rattle.vss_model.specs.Steps.{answered, cut_set, step_made, is_flush, is_failed_step, stepped_as, stepped, ticked, later}
-use Rattle.vss_model.specs.Effects.{line_ticks, ticks_of}
-use Rattle.vss_model.specs.Acts.{Act, enabled, idle_now, after, state}
-use Rattle.promises.specs.Clock.{ticks_if, ClockMoves}
-use Rattle.vss_model.proofs.ByEvent.{Covers, covered, after_enabled, after_not_enabled}
 
 clock-concluded : (e : Ending) (st : State) → (concluded e st).clock ≡ st.clock
 clock-concluded NothingEnds st = refl
-clock-concluded AgendaEnds st = refl
-clock-concluded (SetFails why) st = refl
+clock-concluded _ st = refl
 
 pub clock-followed : (ran : Bool) (c : Course) (st : State) → (followed ran c st).clock ≡ st.clock
 unfolding followed
@@ -47,8 +27,7 @@ clock-room false x = refl
 
 clock-put : (v : ℕ) (w : Write) (mark : Mark) (x : State) → (put v w mark x).clock ≡ x.clock
 clock-put v w Clean x = refl
-clock-put v w Fault x = refl
-clock-put v w (FaultAfter k) x = refl
+clock-put v w _ x = refl
 
 clock-write : (s : Plan) (v : ℕ) (w : Write) (mark : Mark) (st : State) → (write s v w mark st).1.clock ≡ st.clock
 unfolding write
@@ -56,8 +35,7 @@ clock-write s v w mark st = clock-put v w mark _ ∙ clock-room (set_loses_image
 
 clock-reverted : (s : Plan) (v : ℕ) (k : Kept) (mark : Mark) (st : State) → (reverted_as s v k mark st).1.clock ≡ st.clock
 clock-reverted s v k Clean st = refl
-clock-reverted s v k Fault st = refl
-clock-reverted s v k (FaultAfter n) st = refl
+clock-reverted s v k _ st = refl
 
 clock-cut : (o : Option SetRow) (st : State) → (cut_set o st).clock ≡ st.clock
 clock-cut None st = refl
@@ -110,10 +88,6 @@ stands_still : (st : State) (now : ℕ) (o : Option ℕ) → now ≡ st.clock �
 stands_still st now o e f = e ∙ no_ticks st.clock ∙ ap (λ p. st.clock + unwrap_or p 0) (sym f)
 
 module _ (s : Plan) (st : State) where
-  either : (b : Bool) (x y : Replied) → x.1.clock ≡ st.clock → y.1.clock ≡ st.clock → (if b then x else y).1.clock ≡ st.clock
-  either true x y e f = e
-  either false x y e f = f
-
   moves : Covers (Moves st) s st
   moves = record {
     stays = λ lane op mark told e f. stands_still st st.clock (line_ticks op) refl e;
@@ -128,8 +102,8 @@ module _ (s : Plan) (st : State) where
     names = λ lane w full q explicit mark g named. no_ticks st.clock;
     starts = λ lane q mark g e. no_ticks st.clock;
     adds = λ lane v r q mark g e f. no_ticks st.clock;
-    prepares = λ lane q mark g. stands_still st _ None (either (has_no_volume (in_progress st)) _ _ refl (clock-followed true _ st)) refl;
-    snapshots = λ lane q mark g. stands_still st _ None (either (has_no_volume (in_progress st)) _ _ refl (clock-followed true _ st)) refl;
+    prepares = λ lane q mark g. stands_still st _ None (by_if (λ r. r.1.clock ≡ st.clock) (has_no_volume (in_progress st)) _ _ refl (clock-followed true _ st)) refl;
+    snapshots = λ lane q mark g. stands_still st _ None (by_if (λ r. r.1.clock ≡ st.clock) (has_no_volume (in_progress st)) _ _ refl (clock-followed true _ st)) refl;
     completes = λ lane q mark g. stands_still st _ None (clock-followed true _ st) refl;
     aborts = λ lane q mark e. stands_still st _ None (clock-failed_in (in_progress st) AsyncCancelled st) refl;
     ends = λ lane q mark e. stands_still st _ None (clock-closed q (failed AsyncCancelled st) ∙ clock-failed_in (in_progress st) AsyncCancelled st) refl;

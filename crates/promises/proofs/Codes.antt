@@ -1,58 +1,28 @@
 -- A set that fails has the code of its cause.
-use Rattle.std.proofs.Common.{◌≡◌, ◌∙◌, ℕ, ◌+◌, List, [], ◌∷◌, ◌++◌, Option, Some, None, refl, Bool, true, false, ap, sym, subst, inl, inr}
+use Rattle.promises.proofs.Words.{both_ways, Order, SetOutcome, Failed as FailedSet, VssResult, Timeout, Said, is_ok, Mark, Clean, Write, said_of, Group, Limit, Agenda, Open, groups_left, open_group}
+use Rattle.promises.proofs.Words.{open_order, order_now, is_working, left, Running as RunningLimit, first_hold, running_at, running_limits, spent_of, held_here, frozen_here, IsSpentHere, spent_here}
+use Rattle.promises.proofs.Words.{Session, Op, target_of, Plan, Event, Line, State, SetRow, in_progress, left_now, followed, runs, failed_in, failed, has_failed, Act, idle_now, state, holds_volumes}
+use Rattle.promises.proofs.Words.{held_too_long, frozen_too_long, outcome_is_running, hold_late, freeze_late, set_failure, Rising, late_code_at, late_code_in, late_code, IsAnswerCode, IsLineCode}
+use Rattle.promises.proofs.Words.{IsCode, FailsByCode, Covers, covered, after_enabled, some_same, by_if, none_settled as calm_settled}
+use Rattle.std.proofs.Common.{◌≡◌, ◌∙◌, ℕ, ◌+◌, List, [], ◌∷◌, Option, Some, None, refl, Bool, true, false, ap, sym, subst, inl, inr}
 use Rattle.std.specs.Prelude.{◌&&◌, not, if◌then◌else◌}
-use Rattle.std.proofs.lemmas.Bool.{both_ways}
-use Rattle.vss_names.specs.declared.order.Order.{Order}
-use Rattle.vss_names.specs.declared.set_outcome.SetOutcome.{SetOutcome}
-use Rattle.vss_names.specs.declared.set_outcome.SetOutcome.TheVariants.{Failed as FailedSet}
-use Rattle.vss_names.specs.declared.vss_result.VssResult.{VssResult}
 use Rattle.vss_names.specs.declared.vss_result.VssResult.TheVariants.{Writer as WriterFault, AsyncCancelled, UnexpectedProviderError, InsufficientStorage, HoldWritesTimeout, WriterNotResponding, BadState}
-use Rattle.vss_names.specs.declared.writer_error.WriterError.TheVariants.{Timeout}
-use Rattle.writer_state.specs.declared.said.Said.{Said}
 use Rattle.writer_state.specs.declared.said.Said.TheVariants as said
-use Rattle.writer_state.specs.WriterState.{is_ok}
-use Rattle.write_history.specs.declared.mark.Mark.{Mark}
-use Rattle.write_history.specs.declared.mark.Mark.TheVariants.{Clean, Fault, FaultAfter}
-use Rattle.write_history.specs.History.{Write}
 use Rattle.writer_calls.specs.declared.answer.Answer.{Answer}
 use Rattle.writer_calls.specs.declared.answer.Answer.TheVariants.{Ok, Veto}
-use Rattle.writer_calls.specs.Script.{said_of}
-use Rattle.set_agenda.specs.declared.group.Group.{Group}
 use Rattle.set_agenda.specs.declared.kind.Kind.TheVariants as kind
-use Rattle.set_agenda.specs.declared.limit.Limit.{Limit}
 use Rattle.set_agenda.specs.declared.limit.Limit.TheVariants.{Hold as HoldLimit, Freeze as FreezeLimit, Answer as AnswerLimit}
-use Rattle.tick_limits.specs.Time.{answer_limit}
-use Rattle.set_agenda.specs.Agenda.{Agenda, Open, groups_left, open_group, open_order, order_now, is_working, left}
-use Rattle.set_agenda.specs.Limits.{Running as RunningLimit, opened_at, freeze_opened_at, first_hold, freeze_runs, answer_runs, runs_if, hold_running, running_at, running_limits, spent_of}
 use Rattle.set_agenda.specs.Course.{Course, posted, failed as course_failed, settled, told, is_decisive, decided, answered_to, answered as course_answered, stepped as course_stepped, freeze_limit, limits_now, lost, lost_to, fails_set, lost_decided, treated_as, treated, timed as course_timed}
-use Rattle.requestor.specs.Session.{Session}
-use Rattle.scenario.specs.declared.op.Op.{Op}
 use Rattle.scenario.specs.declared.op.Op.TheVariants as op
-use Rattle.scenario.specs.Calls.{target_of}
-use Rattle.scenario.specs.Plan.{Plan}
-use Rattle.vss_model.specs.declared.event.Event.{Event}
-use Rattle.vss_model.specs.declared.event.Event.TheVariants.{Line}
-use Rattle.vss_model.specs.State.{State, SetRow, in_progress, left_now}
-use Rattle.vss_model.specs.Ending.{followed, runs, failed_in, failed}
 use Rattle.vss_model.specs.Images.{Replied, refused, cleared, set_loses_image, with_room_if, put, write, reverted_as}
 use Rattle.vss_model.specs.Sessions.{has_no_volume, start_set, closed}
 use Rattle.vss_model.specs.Steps.{answered, step_made, is_flush, is_failed_step, stepped_as, stepped, ticked, later}
-use Rattle.vss_model.specs.Facts.{has_failed}
-use Rattle.vss_model.specs.Acts.{Act, idle_now, state}
-use Rattle.vss_model.specs.Causes.{holds_volumes, held_too_long, frozen_too_long}
-use Rattle.vss_model.proofs.FlushFails.{outcome_is_running}
-use Rattle.vss_model.proofs.Late.{hold_late, freeze_late}
 use Rattle.vss_model.proofs.LogRule.{Running}
-use Rattle.promises.specs.Awaited.{set_failure}
-use Rattle.promises.specs.Way.{Rising}
-use Rattle.promises.specs.Codes.{late_code_at, late_code_in, late_code, IsAnswerCode, IsLineCode, IsCode, FailsByCode}
 use Rattle.promises.proofs.Truth.{false_of}
 use Rattle.promises.proofs.BusyAgendas.{course_followed}
-use Rattle.vss_model.proofs.ByEvent.{Covers, covered, after_enabled, some_same}
 use Rattle.promises.proofs.CalmCourses.{calm_begun}
-use Rattle.promises.proofs.CourseRows.{calm_settled}
 use Rattle.promises.proofs.GoneImages.{none_stepped}
-use Rattle.promises.proofs.Limits.{held_since_first, none_found, first_found, later_found, limit_found, hold_found, held_finds, frozen_finds}
+use Rattle.promises.proofs.Limits.{held_since_first, none_found, held_finds, frozen_finds}
 use Rattle.promises.proofs.SetFailures.{failure_at}
 use Rattle.promises.proofs.Times.{times, held_is_first, logs_rise}
 use Rattle.promises.proofs.Turns.{Turn, no_failure, write_turn, revert_turn, begun_turn, answer_turn, tick_turn, step_turn, abort_turn, add_turn, none_started}
@@ -84,49 +54,30 @@ code_of_limit FreezeLimit = WriterFault Timeout
 code_of_limit AnswerLimit = WriterNotResponding
 
 module _ (now : ℕ) (c : Course) (a : Agenda) (o : Open) (l : RunningLimit) where
-  abbrev H : List RunningLimit
-  H = hold_running o.place.group (first_hold a.log)
-
-  abbrev F : List RunningLimit
-  F = runs_if (freeze_runs o.place.group) FreezeLimit (freeze_opened_at a) (freeze_limit c)
-
-  abbrev A : List RunningLimit
-  A = runs_if (answer_runs o.place.group) AnswerLimit (opened_at a o) answer_limit
-
   abbrev code : Bool → Bool → VssResult
   code held frozen = if held then HoldWritesTimeout else if frozen then WriterFault Timeout else WriterNotResponding
 
-  same_limit : (m : RunningLimit) → spent_of now (H ++ F ++ A) ≡ Some l → spent_of now (H ++ F ++ A) ≡ Some m → m.limit ≡ l.limit
-  same_limit m e f = ap (λ (x : RunningLimit). x.limit) (both (spent_of now (H ++ F ++ A)) e f)
-    where
-      both : (x : Option RunningLimit) → x ≡ Some l → x ≡ Some m → m ≡ l
-      both x e f = cc
+  -- what is too long held is so since the first Hold step
+  abbrev FromFirst : Type 0
+  FromFirst = held_too_long now o.place.group a ≡ true → (holds_volumes o.place.group ≡ true) × (held_since_first now a ≡ true)
 
-  not_held : (held_too_long now o.place.group a ≡ true → (holds_volumes o.place.group ≡ true) × (held_since_first now a ≡ true)) → spent_of now H ≡ None
-      → held_too_long now o.place.group a ≡ false
-  not_held first e = false_of (held_too_long now o.place.group a) (λ i. let parts = first i in none_found now H HoldLimit e (held_finds now o.place.group a parts.0 parts.1))
+  not_held : FromFirst → spent_of now (held_here a o) ≡ None → held_too_long now o.place.group a ≡ false
+  not_held first e = false_of (held_too_long now o.place.group a) (λ i. let parts = first i in none_found now (held_here a o) HoldLimit e (held_finds now o.place.group a parts.0 parts.1))
 
-  by_limits : (h f : Option RunningLimit) → spent_of now H ≡ h → spent_of now F ≡ f
-      → (held_too_long now o.place.group a ≡ true → (holds_volumes o.place.group ≡ true) × (held_since_first now a ≡ true)) → spent_of now (H ++ F ++ A) ≡ Some l
-      → code_of_limit l.limit ≡ code (held_too_long now o.place.group a) (frozen_too_long now o.place.group c a)
-  by_limits (Some m) f e g first is =
-      ap code_of_limit (sym (same_limit m is (first_found now (H ++ F) A m (first_found now H F m e))) ∙ hold_found now o.place.group (first_hold a.log) m e)
-      ∙ ap (λ b. code b (frozen_too_long now o.place.group c a)) (sym (hold_late now o.place.group a (first_hold a.log) m refl e))
-  by_limits None (Some m) e g first is =
-      ap code_of_limit (sym (same_limit m is (first_found now (H ++ F) A m (later_found now H F e ∙ g))) ∙ limit_found now (freeze_runs o.place.group) FreezeLimit (freeze_opened_at a) (freeze_limit c) m g)
-      ∙ ap (λ b. code false b) (sym (freeze_late now o.place.group c a m g))
-      ∙ ap (λ b. code b (frozen_too_long now o.place.group c a)) (sym (not_held first e))
-  by_limits None None e g first is =
-      ap code_of_limit (limit_found now (answer_runs o.place.group) AnswerLimit (opened_at a o) answer_limit l (sym (later_found now (H ++ F) A (later_found now H F e ∙ g)) ∙ is))
-      ∙ ap (λ b. code false b) (sym (false_of (frozen_too_long now o.place.group c a) (λ i. none_found now F FreezeLimit g (frozen_finds now o.place.group c a i))))
-      ∙ ap (λ b. code b (frozen_too_long now o.place.group c a)) (sym (not_held first e))
+  not_frozen : spent_of now (frozen_here (freeze_limit c) a o) ≡ None → frozen_too_long now o.place.group c a ≡ false
+  not_frozen e = false_of (frozen_too_long now o.place.group c a) (λ i. none_found now (frozen_here (freeze_limit c) a o) FreezeLimit e (frozen_finds now o.place.group c a i))
+
+  by_limit : (x : Limit) → FromFirst → IsSpentHere now (freeze_limit c) a o l x → code_of_limit x ≡ code (held_too_long now o.place.group a) (frozen_too_long now o.place.group c a)
+  by_limit HoldLimit first e = ap (λ b. code b (frozen_too_long now o.place.group c a)) (sym (hold_late now o.place.group a (first_hold a.log) l refl e))
+  by_limit FreezeLimit first e =
+      ap (λ b. code false b) (sym (freeze_late now o.place.group c a l e.1)) ∙ ap (λ b. code b (frozen_too_long now o.place.group c a)) (sym (not_held first e.0))
+  by_limit AnswerLimit first e = ap (λ b. code false b) (sym (not_frozen e.1)) ∙ ap (λ b. code b (frozen_too_long now o.place.group c a)) (sym (not_held first e.0))
 
 code_left : (now : ℕ) (c : Course) (a : Agenda) (os : List Open) (l : RunningLimit) → groups_left a ≡ os → spent_of now (running_at (freeze_limit c) a os) ≡ Some l
     → (a.kind ≡ kind.Snapshot → Rising (times a.log))
     → code_of_limit l.limit ≡ late_code_at now c a os
 code_left now c a [] l same e rising = absurd cc
-code_left now c a (o ∷ os) l same e rising =
-    by_limits now c a o l (spent_of now (hold_running o.place.group (first_hold a.log))) (spent_of now (runs_if (freeze_runs o.place.group) FreezeLimit (freeze_opened_at a) (freeze_limit c))) refl refl (held_is_first now a o os same rising) e
+code_left now c a (o ∷ os) l same e rising = by_limit now c a o l l.limit (held_is_first now a o os same rising) (spent_here now (freeze_limit c) a o os l e)
 
 limit_code : (now : ℕ) (c : Course) (x : Option Agenda) (l : RunningLimit) → spent_of now (running_limits (freeze_limit c) x) ≡ Some l
     → Running (λ (a : Agenda). a.kind ≡ kind.Snapshot → Rising (times a.log)) x → code_of_limit l.limit ≡ late_code_in now c x
@@ -216,8 +167,7 @@ module _ (s : Plan) (so_far : List Act) (why : VssResult) where
 
   course_put : (v : ℕ) (w : Write) (mark : Mark) (x : State) → (put v w mark x).course ≡ x.course
   course_put v w Clean x = refl
-  course_put v w Fault x = refl
-  course_put v w (FaultAfter k) x = refl
+  course_put v w _ x = refl
 
   room_reason : (b : Bool) (v block : ℕ) → has_failed st.course.outcome ≡ false → (with_room_if b (cleared s v block st)).course.outcome ≡ FailedSet why → why ≡ InsufficientStorage
   unfolding course_failed
@@ -280,17 +230,12 @@ module _ (s : Plan) (so_far : List Act) (why : VssResult) where
       by_set None = refl
       by_set (Some r) = refl
 
-  either : (event : Event) (mark : Mark) (b : Bool) (x y : Replied) → Next event mark x → Next event mark y → Next event mark (if b then x else y)
-  either event mark true x y h i = h
-  either event mark false x y h i = i
-
   unchanged : (event : Event) → set_failure (in_progress st) st ≡ Some why → IsCode st event why
   unchanged event e = same_sets event st (λ n. refl) e
 
   revert_course : (v : ℕ) (k : _) (mark : Mark) → (reverted_as s v k mark st).1.course.outcome ≡ st.course.outcome
   revert_course v k Clean = refl
-  revert_course v k Fault = refl
-  revert_course v k (FaultAfter n) = refl
+  revert_course v k _ = refl
 
   codes : Covers Next s st
   codes = record {
@@ -306,8 +251,8 @@ module _ (s : Plan) (so_far : List Act) (why : VssResult) where
     names = λ lane w full q explicit mark g named. same_sets (Line lane (op.Component w full)) _ (λ m. refl);
     starts = λ lane q mark g e f. not_none (set_failure (in_progress st) (start_set q st).1) (none_started s so_far q (start_set q st).1 g.stands e) f;
     adds = λ lane v r q mark g e f i. calm_reason st.course.outcome why (was_running _ i) (of_turn _ (runs st) (add_turn s so_far v r) i);
-    prepares = λ lane q mark g. either (Line lane op.Prepare) mark (has_no_volume (in_progress st)) (refused BadState st) _ (unchanged (Line lane op.Prepare)) (begun_code (Line lane op.Prepare) _ (calm_begun kind.Prepare _ [] st.clock _));
-    snapshots = λ lane q mark g. either (Line lane op.Snapshot) mark (has_no_volume (in_progress st)) (refused BadState st) _ (unchanged (Line lane op.Snapshot)) (begun_code (Line lane op.Snapshot) _ (calm_begun kind.Snapshot st.course.members _ st.clock st.course));
+    prepares = λ lane q mark g. by_if (Next (Line lane op.Prepare) mark) (has_no_volume (in_progress st)) (refused BadState st) _ (unchanged (Line lane op.Prepare)) (begun_code (Line lane op.Prepare) _ (calm_begun kind.Prepare _ [] st.clock _));
+    snapshots = λ lane q mark g. by_if (Next (Line lane op.Snapshot) mark) (has_no_volume (in_progress st)) (refused BadState st) _ (unchanged (Line lane op.Snapshot)) (begun_code (Line lane op.Snapshot) _ (calm_begun kind.Snapshot st.course.members _ st.clock st.course));
     completes = λ lane q mark g. begun_code (Line lane op.Complete) _ (calm_begun kind.Complete _ [] st.clock st.course);
     aborts = λ lane q mark e. abort_code;
     ends = λ lane q mark e f. abort_code (sym (closed_failure q (failed AsyncCancelled st)) ∙ f);

@@ -1,44 +1,18 @@
 -- BackupComplete goes to no writer that has failed.
+use Rattle.promises.proofs.Words.{Order, BackupComplete, VssResult, InsufficientStorage, AsyncCancelled, WriterState, Unknown, Stable, WaitingForFreeze, WaitingForThaw, WaitingForPostSnapshot}
+use Rattle.promises.proofs.Words.{WaitingForBackupComplete, Said, Ok, WriterRow, is_failed, row_after, Mark, Clean, Write, said_of, Group, Kind, Gather, Prepare, Snapshot, Complete, Member, Agenda}
+use Rattle.promises.proofs.Words.{open_group, places, has_said, waited_for, with_group, groups_left, left, is_asked, is_among, order_now, open_order, next_member, all_say, writers_at, IsKeptInCourse}
+use Rattle.promises.proofs.Words.{course_answered as kept_answered, course_stepped as kept_stepped, course_timed as kept_timed, course_begun as kept_begun, Session, Plan, Event, State, SetRow, Kept}
+use Rattle.promises.proofs.Words.{start, in_progress, left_now, Act, enabled, idle_now, after, asked_if, unspoken, StandsWell, CompletesUnfailed, Covers, covered, after_enabled, after_not_enabled}
+use Rattle.promises.proofs.Words.{by_if}
 use Rattle.std.proofs.Common.{◌≡◌, ◌∙◌, ℕ, ◌+◌, ◌==◌, zero, suc, List, [], ◌∷◌, Option, Some, None, refl, Bool, true, false, ap, sym, subst, filter, fold, arith}
-use Rattle.std.specs.Prelude.{◌&&◌, ◌||◌, not, option_map, if◌then◌else◌, slice_get}
-use Rattle.vss_names.specs.declared.order.Order.{Order}
-use Rattle.vss_names.specs.declared.order.Order.TheVariants.{BackupComplete}
-use Rattle.vss_names.specs.declared.vss_result.VssResult.{VssResult}
-use Rattle.vss_names.specs.declared.vss_result.VssResult.TheVariants.{InsufficientStorage, AsyncCancelled}
-use Rattle.vss_names.specs.declared.writer_state.WriterState.{WriterState}
-use Rattle.vss_names.specs.declared.writer_state.WriterState.TheVariants.{Unknown, Stable, WaitingForFreeze, WaitingForThaw, WaitingForPostSnapshot, WaitingForBackupComplete, FailedAtIdentify, FailedAtPrepareBackup, FailedAtPrepareSnapshot, FailedAtFreeze, FailedAtThaw, FailedAtPostSnapshot, FailedAtBackupComplete, FailedAtPreRestore, FailedAtPostRestore, FailedAtBackupShutdown}
-use Rattle.writer_state.specs.declared.said.Said.{Said}
-use Rattle.writer_state.specs.declared.said.Said.TheVariants.{Ok, Lost}
-use Rattle.writer_state.specs.declared.writer_row.WriterRow.{WriterRow}
-use Rattle.writer_state.specs.WriterState.{is_ok, is_failed}
-use Rattle.writer_state.specs.WriterRow.{row_after}
-use Rattle.write_history.specs.declared.mark.Mark.{Mark}
-use Rattle.write_history.specs.declared.mark.Mark.TheVariants.{Clean, Fault, FaultAfter}
-use Rattle.write_history.specs.History.{Write}
-use Rattle.writer_calls.specs.Script.{said_of}
-use Rattle.set_agenda.specs.declared.group.Group.{Group}
-use Rattle.set_agenda.specs.declared.kind.Kind.{Kind}
-use Rattle.set_agenda.specs.declared.kind.Kind.TheVariants.{Gather, Prepare, Snapshot, Complete}
-use Rattle.set_agenda.specs.declared.limit.Limit.{Limit}
-use Rattle.set_agenda.specs.declared.limit.Limit.TheVariants.{Hold as HoldLimit, Freeze as FreezeLimit, Answer as AnswerLimit}
-use Rattle.set_agenda.specs.declared.member.Member.{Member}
-use Rattle.set_agenda.specs.Agenda.{Agenda, open_group, places, has_said, waited_for, with_group, groups_left, left, is_asked, is_among, order_now, open_order, next_member, is_done, all_say, writers_at}
-use Rattle.set_agenda.specs.Limits.{Running as RunningLimit, spent_of}
-use Rattle.set_agenda.specs.Course.{Course, posted, failed as course_failed, rows_where, row_if, has_row_failed, row_failed, settled_if, settled_in, settled, begun, told, is_decisive, decided, answered_to, answered as course_answered, worked, stepped as course_stepped, lost_to, lost, fails_set, lost_decided, treated_as, treated, timed as course_timed, limits_now, released}
-use Rattle.requestor.specs.Session.{Session}
-use Rattle.scenario.specs.Plan.{Plan}
-use Rattle.vss_model.specs.declared.event.Event.{Event}
-use Rattle.vss_model.specs.State.{State, SetRow, Kept, start, in_progress, left_now}
-use Rattle.vss_model.specs.Ending.{Ending, NothingEnds, AgendaEnds, SetFails, ending, concluded, followed, runs, failed_in, failed}
+use Rattle.std.specs.Prelude.{◌||◌, not, option_map, if◌then◌else◌, slice_get}
+use Rattle.set_agenda.specs.Course.{Course, posted, failed as course_failed, rows_where, row_if, has_row_failed, row_failed, begun, told, answered as course_answered, worked, stepped as course_stepped, timed as course_timed, released}
+use Rattle.vss_model.specs.Ending.{Ending, NothingEnds, ending, concluded, followed, runs, failed_in, failed}
 use Rattle.vss_model.specs.Images.{Replied, cleared, set_loses_image, with_room_if, put, write, reverted_as}
 use Rattle.vss_model.specs.Sessions.{has_no_volume, closed}
 use Rattle.vss_model.specs.Steps.{answered, step_made, is_flush, is_failed_step, stepped_as, stepped, ticked, later}
-use Rattle.vss_model.specs.Acts.{Act, enabled, idle_now, after}
-use Rattle.vss_model.proofs.CourseCalls.{asked_if}
-use Rattle.vss_model.proofs.LogRule.{unspoken}
-use Rattle.promises.specs.Completing.{StandsWell, CompletesUnfailed}
 use Rattle.promises.proofs.Truth.{equal}
-use Rattle.vss_model.proofs.ByEvent.{Covers, covered, after_enabled, after_not_enabled}
 use Rattle.promises.proofs.LastOrder.{is_last_order, among_all, last_place, not_in_kind, still_open}
 use Rattle.promises.proofs.OpenGroup.{every}
 use Rattle.promises.proofs.Members.{one_on}
@@ -62,18 +36,6 @@ well_posted : (prior c : Course) → Well c → Well (posted prior c)
 unfolding posted
 well_posted prior c h = h
 
-well_settled_if : (b : Bool) (k : Kind) (c : Course) → Well c → Well (settled_if b k c)
-well_settled_if true k c h = nobody c.rows
-well_settled_if false k c h = h
-
-well_settled_in : (x : Option Agenda) (c : Course) → Well c → Well (settled_in x c)
-well_settled_in None c h = h
-well_settled_in (Some a) c h = well_settled_if (is_done (groups_left a)) a.kind c h
-
-well_settled : (c : Course) → Well c → Well (settled c)
-unfolding settled
-well_settled c h = well_settled_in c.agenda c h
-
 -- a row that is not of these
 row_stays : (f : WriterRow → WriterRow) (test : ℕ → Bool) (k : ℕ) (rows : List WriterRow) (w : ℕ) → test (k + w) ≡ false → slice_get (rows_where f test k rows) w ≡ slice_get rows w
 row_stays f test k [] w e = refl
@@ -96,17 +58,6 @@ well_told : (o : Order) (said : Said) (now : ℕ) (ws : List ℕ) (c : Course) �
 unfolding told
 well_told o said now ws c h = well_said o said now ws c.rows c.agenda h
 
-well_decided : (b : Bool) (said : Said) (c : Course) → Well c → Well (decided b said c)
-well_decided true said c h = well_failed _ c
-well_decided false said c h = well_settled c h
-
-well_answered_to : (x : Option Order) (w : ℕ) (said : Said) (now : ℕ) (c : Course) → Well c → Well (answered_to x w said now c)
-well_answered_to None w said now c h = h
-well_answered_to (Some o) w said now c h = well_decided (is_decisive o && not (is_ok said)) said (told o said now (w ∷ []) c) (well_told o said now (w ∷ []) c h)
-
-well_answered : (w : ℕ) (said : Said) (now : ℕ) (c : Course) → Well c → Well (course_answered w said now c)
-well_answered w said now c h = well_posted c _ (well_answered_to (open_order (left c.agenda) w) w said now c h)
-
 well_made : (now : ℕ) (ws : List ℕ) (rows : List WriterRow) (x : Option Agenda) → Unfailed rows x → Unfailed rows (option_map (all_say Ok now ws) x)
 well_made now ws rows None h w e = nobody rows w e
 well_made now ws rows (Some a) h w e = h w (still_open a.kind Ok now ws a w refl e).0
@@ -115,35 +66,13 @@ well_worked : (now : ℕ) (c : Course) → Well c → Well (worked now c)
 unfolding worked
 well_worked now c h = well_made now (next_member (left c.agenda) ∷ []) c.rows c.agenda h
 
-well_stepped : (ok : Bool) (now : ℕ) (c : Course) → Well c → Well (course_stepped ok now c)
-well_stepped true now c h = well_posted c _ (well_settled (worked now c) (well_worked now c h))
-well_stepped false now c h = well_posted c _ (well_failed _ c)
-
-well_lost_to : (x : Option Order) (now : ℕ) (c : Course) → Well c → Well (lost_to x now c)
-well_lost_to None now c h = h
-well_lost_to (Some o) now c h = well_told o Lost now _ c h
-
-well_lost_decided : (b : Bool) (c : Course) → Well c → Well (lost_decided b c)
-well_lost_decided true c h = well_failed _ c
-well_lost_decided false c h = well_settled c h
-
-well_treated_as : (l : Limit) (now : ℕ) (c : Course) → Well c → Well (treated_as l now c)
-well_treated_as HoldLimit now c h = well_failed _ c
-well_treated_as FreezeLimit now c h = well_failed _ (lost now c)
-well_treated_as AnswerLimit now c h = well_lost_decided (fails_set (order_now (left c.agenda))) (lost now c) (well_lost_to (order_now (left c.agenda)) now c h)
-
-well_treated : (x : Option RunningLimit) (now : ℕ) (c : Course) → Well c → Well (treated x now c)
-well_treated None now c h = h
-well_treated (Some l) now c h = well_treated_as l.limit now c h
-
-well_timed : (now : ℕ) (c : Course) → Well c → Well (course_timed now c)
-well_timed now c h = well_posted c _ (well_treated (spent_of now (limits_now c)) now c h)
+well_kept : IsKeptInCourse Well
+well_kept = record { posts = well_posted; says = well_told; works = well_worked; fails = λ why c h. well_failed why c; closes = λ k c h. nobody c.rows }
 
 -- ## an agenda begins
 
 well_begun_as : (k : Kind) (ms : List Member) (vs : List ℕ) (now : ℕ) (c : Course) → Unfailed c.rows (Some (unspoken k ms vs now)) → Well (begun k ms vs now c)
-unfolding begun
-well_begun_as k ms vs now c h = well_posted c _ (well_settled (record c { agenda = Some (unspoken k ms vs now) }) h)
+well_begun_as k ms vs now c h = kept_begun Well well_kept k ms vs now c h
 
 well_begun : (k : Kind) (ms : List Member) (vs : List ℕ) (now : ℕ) (c : Course) → every (λ q. not (is_last_order q.group)) (places k) ≡ true → Well (begun k ms vs now c)
 well_begun k ms vs now c h = well_begun_as k ms vs now c (λ w e. absurd (not_in_kind k (unspoken k ms vs now) w refl h e))
@@ -183,8 +112,7 @@ WellNow st = Well st.course
 
 well_ended : (e : Ending) (x : State) → WellNow x → WellNow (concluded e x)
 well_ended NothingEnds x h = h
-well_ended AgendaEnds x h = h
-well_ended (SetFails why) x h = h
+well_ended _ x h = h
 
 well_followed : (ran : Bool) (c : Course) (x : State) → Well c → WellNow (followed ran c x)
 unfolding followed
@@ -200,8 +128,7 @@ well_room false x h = h
 
 well_put : (v : ℕ) (w : Write) (mark : Mark) (x : State) → WellNow x → WellNow (put v w mark x)
 well_put v w Clean x h = h
-well_put v w Fault x h = h
-well_put v w (FaultAfter k) x h = h
+well_put v w _ x h = h
 
 module _ (s : Plan) (st : State) (h : WellNow st) where
   on_write : (v : ℕ) (w : Write) (mark : Mark) → WellNow (write s v w mark st).1
@@ -210,8 +137,7 @@ module _ (s : Plan) (st : State) (h : WellNow st) where
 
   on_revert : (v : ℕ) (k : Kept) (mark : Mark) → WellNow (reverted_as s v k mark st).1
   on_revert v k Clean = h
-  on_revert v k Fault = h
-  on_revert v k (FaultAfter n) = h
+  on_revert v k _ = h
 
   on_close : (q : Session) (x : State) → WellNow (closed q x)
   unfolding closed released
@@ -219,15 +145,15 @@ module _ (s : Plan) (st : State) (h : WellNow st) where
 
   on_answer : (w : ℕ) (said : Said) → WellNow (answered w said st)
   unfolding answered
-  on_answer w said = well_followed (runs st) (course_answered w said st.clock st.course) st (well_answered w said st.clock st.course h)
+  on_answer w said = well_followed (runs st) (course_answered w said st.clock st.course) st (kept_answered Well well_kept w said st.clock st.course h)
 
   on_tick : (n : ℕ) → WellNow (ticked n st)
   unfolding ticked
-  on_tick n = well_followed (runs st) (course_timed (st.clock + n) st.course) (later n st) (well_timed (st.clock + n) st.course h)
+  on_tick n = well_followed (runs st) (course_timed (st.clock + n) st.course) (later n st) (kept_timed Well well_kept (st.clock + n) st.course h)
 
   on_step_as : (b : Bool) (g : Option Group) → WellNow (stepped_as b g st)
-  on_step_as true g = well_followed (runs st) (course_stepped false st.clock st.course) st (well_stepped false st.clock st.course h)
-  on_step_as false g = well_followed (runs st) (course_stepped true st.clock st.course) (step_made g st) (well_stepped true st.clock st.course h)
+  on_step_as true g = well_followed (runs st) (course_stepped false st.clock st.course) st (kept_stepped Well well_kept false st.clock st.course h)
+  on_step_as false g = well_followed (runs st) (course_stepped true st.clock st.course) (step_made g st) (kept_stepped Well well_kept true st.clock st.course h)
 
   on_step : (mark : Mark) → WellNow (stepped mark st)
   unfolding stepped
@@ -235,10 +161,6 @@ module _ (s : Plan) (st : State) (h : WellNow st) where
 
   abbrev Next : Event → Mark → Replied → Type 0
   Next event mark x = WellNow x.1
-
-  either : (b : Bool) (x y : Replied) → WellNow x.1 → WellNow y.1 → WellNow (if b then x else y).1
-  either true x y d e = d
-  either false x y d e = e
 
   well : Covers Next s st
   well = record {
@@ -254,8 +176,8 @@ module _ (s : Plan) (st : State) (h : WellNow st) where
     names = λ lane w full q explicit mark g named. h;
     starts = λ lane q mark g e. h;
     adds = λ lane v r q mark g e f. h;
-    prepares = λ lane q mark g. either (has_no_volume (in_progress st)) _ _ h (well_followed true _ st (well_begun Prepare _ _ st.clock _ refl));
-    snapshots = λ lane q mark g. either (has_no_volume (in_progress st)) _ _ h (well_followed true _ st (well_begun Snapshot _ _ st.clock _ refl));
+    prepares = λ lane q mark g. by_if (λ r. WellNow r.1) (has_no_volume (in_progress st)) _ _ h (well_followed true _ st (well_begun Prepare _ _ st.clock _ refl));
+    snapshots = λ lane q mark g. by_if (λ r. WellNow r.1) (has_no_volume (in_progress st)) _ _ h (well_followed true _ st (well_begun Snapshot _ _ st.clock _ refl));
     completes = λ lane q mark g. well_followed true _ st (well_completing st.course.members st.clock st.course);
     aborts = λ lane q mark e. well_failed_in (in_progress st) AsyncCancelled st h;
     ends = λ lane q mark e. on_close q (failed AsyncCancelled st);
@@ -279,16 +201,7 @@ stands_well WaitingForFreeze e = tt
 stands_well WaitingForThaw e = tt
 stands_well WaitingForPostSnapshot e = tt
 stands_well WaitingForBackupComplete e = tt
-stands_well FailedAtIdentify e = absurd cc
-stands_well FailedAtPrepareBackup e = absurd cc
-stands_well FailedAtPrepareSnapshot e = absurd cc
-stands_well FailedAtFreeze e = absurd cc
-stands_well FailedAtThaw e = absurd cc
-stands_well FailedAtPostSnapshot e = absurd cc
-stands_well FailedAtBackupComplete e = absurd cc
-stands_well FailedAtPreRestore e = absurd cc
-stands_well FailedAtPostRestore e = absurd cc
-stands_well FailedAtBackupShutdown e = absurd cc
+stands_well _ e = absurd cc
 
 pub completes_unfailed : (s : Plan) (so_far : List Act) → CompletesUnfailed s so_far
 completes_unfailed s so_far w row e f = stands_well row.state (ap row_failed (sym f) ∙ well_from s (start s) so_far (nobody (start s).course.rows) w e)

@@ -1,45 +1,20 @@
 -- What changes the contents of a volume.
+use Rattle.promises.proofs.Words.{payload_bytes, zeros, Context, Backup, AppRollback, NasRollback, VssResult, InsufficientStorage, AsyncCancelled, Said, Mark, Clean, Fault, FaultAfter, Write, History}
+use Rattle.promises.proofs.Words.{after_set, last_bytes, content, dropped, written, to_restore, reverted, reverted_in_part, Placed, gone_up_to, said_of, Group, Orders, PreCommit, Flush, Hold, Cut}
+use Rattle.promises.proofs.Words.{Commit, Release, PostCommit, is_among, open_group, Session, Op, Writes, Target, line_of, target_in, target_of, does, Plan, blocks_of, group_of, Event, Line, State}
+use Rattle.promises.proofs.Words.{SetRow, Kept, in_progress, left_now, history_of, kept_image, Act, enabled, happens, idle_now, after, state, as_many_volumes, at, change_other, as_many_map}
+use Rattle.promises.proofs.Words.{as_many_gone, block_now, is_clean, may_change, ContentsChange, changes_by, Covers, covered, after_enabled, after_not_enabled, all_taken}
 use Rattle.std.proofs.Common.{◌≡◌, ◌∙◌, ℕ, ◌+◌, ◌==◌, zero, suc, List, [], ◌∷◌, ◌++◌, Option, Some, None, refl, Bool, true, false, ◌<◌, ap, sym, subst, map, length, take, arith}
 use Rattle.std.specs.Prelude.{◌&&◌, if◌then◌else◌}
-use Rattle.block_data.specs.PayloadBytes.{payload_bytes}
-use Rattle.block_data.specs.Runs.{zeros}
-use Rattle.vss_names.specs.declared.context.Context.{Context}
-use Rattle.vss_names.specs.declared.context.Context.TheVariants.{Backup, AppRollback, NasRollback}
-use Rattle.vss_names.specs.declared.vss_result.VssResult.{VssResult}
-use Rattle.vss_names.specs.declared.vss_result.VssResult.TheVariants.{InsufficientStorage, AsyncCancelled}
-use Rattle.writer_state.specs.declared.said.Said.{Said}
-use Rattle.write_history.specs.declared.mark.Mark.{Mark}
-use Rattle.write_history.specs.declared.mark.Mark.TheVariants.{Clean, Fault, FaultAfter}
-use Rattle.write_history.specs.History.{Write, History, after_set, last_bytes, content, dropped, written, to_restore, reverted, reverted_in_part}
-use Rattle.write_history.specs.Slots.{Placed, gone_up_to}
-use Rattle.writer_calls.specs.Script.{said_of}
-use Rattle.set_agenda.specs.declared.group.Group.{Group}
-use Rattle.set_agenda.specs.declared.group.Group.TheVariants.{Orders, PreCommit, Flush, Hold, Cut, Commit, Release, PostCommit}
-use Rattle.set_agenda.specs.Agenda.{is_among, open_group}
 use Rattle.set_agenda.specs.Course.{Course, answered as course_answered, stepped as course_stepped, timed as course_timed, change_at}
-use Rattle.requestor.specs.Session.{Session}
-use Rattle.scenario.specs.declared.op.Op.{Op}
 use Rattle.scenario.specs.declared.op.Op.TheVariants as op
 use Rattle.scenario.specs.declared.line.Line.{Line as Does}
-use Rattle.scenario.specs.declared.line.Line.TheVariants.{Writes}
-use Rattle.scenario.specs.Calls.{Target, line_of, target_in, target_of}
-use Rattle.vss_model.specs.Lines.{does}
-use Rattle.scenario.specs.Plan.{Plan, blocks_of, group_of}
-use Rattle.vss_model.specs.declared.event.Event.{Event}
-use Rattle.vss_model.specs.declared.event.Event.TheVariants.{Line}
-use Rattle.vss_model.specs.State.{State, SetRow, Kept, in_progress, left_now, history_of, kept_image}
-use Rattle.vss_model.specs.Ending.{Ending, NothingEnds, AgendaEnds, SetFails, ending, images_dropped, concluded, followed, runs, failed_in, failed}
+use Rattle.vss_model.specs.Ending.{Ending, SetFails, ending, images_dropped, concluded, followed, runs, failed_in, failed}
 use Rattle.vss_model.specs.Images.{Replied, cleared, going_up_to, set_loses_image, with_room_if, put, write, revert_refusal, reverted_as, revert_to, revert}
 use Rattle.vss_model.specs.Sessions.{has_no_volume, images_released, closed}
 use Rattle.vss_model.specs.Steps.{answered, cut_if, cut_each, cut_set, step_made, is_flush, is_failed_step, stepped_as, stepped, ticked, later}
-use Rattle.vss_model.specs.Acts.{Act, enabled, happens, idle_now, after, state}
-use Rattle.vss_model.proofs.FewerImages.{as_many_volumes}
-use Rattle.vss_model.proofs.Volumes.{at, change_other, as_many_map, as_many_gone}
-use Rattle.promises.specs.Contents.{block_now, is_clean, may_change, ContentsChange, changes_by}
 use Rattle.promises.proofs.Truth.{same_number}
-use Rattle.vss_model.proofs.ByEvent.{Covers, covered, after_enabled, after_not_enabled}
 use Rattle.promises.proofs.Restored.{some_restored}
-use Rattle.vss_model.proofs.OneCut.{all_taken}
 
 -- ## writes of a volume
 
@@ -117,9 +92,8 @@ module _ (s : Plan) (st : State) (v b : ℕ) where
   by_writes hs ks e = ap (λ ws. content ws (length ws) b) (e v)
 
   stay_ended : (e : Ending) (x : State) → Stays x.volumes → Stays (concluded e x).volumes
-  stay_ended NothingEnds x h = h
-  stay_ended AgendaEnds x h = h
   stay_ended (SetFails why) x h = by_writes x.volumes _ (same_dropped (in_progress x) x.volumes) ∙ h
+  stay_ended _ x h = h
 
   stay_followed : (ran : Bool) (c : Course) (x : State) → Stays x.volumes → Stays (followed ran c x).volumes
   unfolding followed

@@ -1,47 +1,18 @@
 -- An image of context 0 stands only while its session does.
+use Rattle.promises.proofs.Words.{Context, Backup, VssResult, AsyncCancelled, Said, Mark, Clean, Write, dropped, said_of, open_group, Group, Orders, PreCommit, Flush, Hold, Cut, Commit, Release}
+use Rattle.promises.proofs.Words.{PostCommit, Stage, Session, has_writers, opened, started, is_stage, Plan, Event, Line, State, SetRow, Kept, start, in_progress, row_changed, left_now, has_image}
+use Rattle.promises.proofs.Words.{followed, runs, failed, NumberedFrom, IsOfSession as IsSessionOfSet, is_early, LetsGo, is_provider, is_cut_group, Act, enabled, idle_now, after, state, state-append}
+use Rattle.promises.proofs.Words.{after_cut, fewer_after, fewer_followed, true_not_false, orderly, at, stands, BackupsEnd, Covers, covered, after_enabled, after_not_enabled, some_same, by_if}
 use Rattle.std.proofs.Common.{◌≡◌, ◌∙◌, ℕ, ◌+◌, ◌==◌, List, [], ◌∷◌, ◌++◌, Option, Some, None, refl, Bool, true, false, ap, sym, subst, fold}
 use Rattle.std.specs.Prelude.{◌&&◌, option_map, if◌then◌else◌}
-use Rattle.vss_names.specs.declared.context.Context.{Context}
-use Rattle.vss_names.specs.declared.context.Context.TheVariants.{Backup, AppRollback, NasRollback}
-use Rattle.vss_names.specs.declared.vss_result.VssResult.{VssResult}
-use Rattle.vss_names.specs.declared.vss_result.VssResult.TheVariants.{AsyncCancelled}
-use Rattle.writer_state.specs.declared.said.Said.{Said}
-use Rattle.write_history.specs.declared.mark.Mark.{Mark}
-use Rattle.write_history.specs.declared.mark.Mark.TheVariants.{Clean, Fault, FaultAfter}
-use Rattle.write_history.specs.History.{Write, dropped}
-use Rattle.writer_calls.specs.Script.{said_of}
-use Rattle.set_agenda.specs.Agenda.{open_group}
-use Rattle.set_agenda.specs.declared.group.Group.{Group}
-use Rattle.set_agenda.specs.declared.group.Group.TheVariants.{Orders, PreCommit, Flush, Hold, Cut, Commit, Release, PostCommit}
 use Rattle.set_agenda.specs.Course.{answered as course_answered, stepped as course_stepped, timed as course_timed}
 use Rattle.requestor.specs.declared.session_call.SessionCall.TheVariants as call
-use Rattle.requestor.specs.declared.stage.Stage.{Stage}
 use Rattle.requestor.specs.declared.stage.Stage.TheVariants.{Opened, Gathered, Started, Prepared, Done, Finished, Failed}
-use Rattle.requestor.specs.Session.{Session, has_writers, opened, started}
-use Rattle.requestor.specs.Check.{is_stage}
 use Rattle.scenario.specs.declared.op.Op.TheVariants as op
-use Rattle.scenario.specs.Plan.{Plan}
-use Rattle.vss_model.specs.declared.event.Event.{Event}
-use Rattle.vss_model.specs.declared.event.Event.TheVariants.{Line}
-use Rattle.vss_model.specs.State.{State, SetRow, Kept, start, in_progress, row_changed, left_now, has_image}
-use Rattle.vss_model.specs.Ending.{followed, runs, failed}
 use Rattle.vss_model.specs.Images.{Replied, is_backup, cleared, set_loses_image, write, reverted_as}
 use Rattle.vss_model.specs.Sessions.{new_set, new_number, with_volume, start_set, has_no_volume, images_released, closed}
 use Rattle.vss_model.specs.Steps.{answered, cut_set, step_made, is_flush, is_failed_step, stepped_as, stepped, ticked, later}
-use Rattle.vss_model.specs.Facts.{NumberedFrom, IsOfSession as IsSessionOfSet, is_early}
-use Rattle.vss_model.specs.Laws.{LetsGo}
-use Rattle.vss_model.specs.Cut.{is_provider, is_cut_group}
-use Rattle.vss_model.specs.Acts.{Act, enabled, idle_now, after, state}
-use Rattle.vss_model.proofs.Appending.{state-append}
-use Rattle.vss_model.proofs.CutStep.{after_cut}
-use Rattle.vss_model.proofs.FewerImages.{fewer_after, fewer_followed}
-use Rattle.vss_model.proofs.Orderly.{true_not_false}
-use Rattle.vss_model.proofs.OrderlyActs.{orderly}
-use Rattle.vss_model.proofs.Volumes.{at}
-use Rattle.promises.specs.Gone.{stands}
-use Rattle.promises.specs.ContextZero.{BackupsEnd}
 use Rattle.promises.proofs.Truth.{both_parts, equal}
-use Rattle.vss_model.proofs.ByEvent.{Covers, covered, after_enabled, after_not_enabled, some_same}
 use Rattle.promises.proofs.Done.{kept_map, dropped_gone}
 use Rattle.promises.proofs.Contexts.{context_in, context_map, changed_number, changed_context, context_other, context_new, HasMade, Owned, NoMore, Relates, relates_same, relates_over, relates_followed, relates_failed, relates_room, relates_put, owned_by, cut_contexts, owned_cut}
 
@@ -101,8 +72,7 @@ module _ (s : Plan) (st : State) (num : NumberedFrom 1 st.sets) (h : Owned st) w
 
   related_revert : (v : ℕ) (k : Kept) (mark : Mark) → Relates st.sets st.session (reverted_as s v k mark st).1
   related_revert v k Clean = relates_same st.sets _ (λ n. refl)
-  related_revert v k Fault = relates_same st.sets _ (λ n. refl)
-  related_revert v k (FaultAfter n) = relates_same st.sets _ (λ n. refl)
+  related_revert v k _ = relates_same st.sets _ (λ n. refl)
 
   related_answer : (w : ℕ) (said : Said) → Relates st.sets st.session (answered w said st)
   unfolding answered
@@ -195,10 +165,6 @@ module _ (s : Plan) (st : State) (num : NumberedFrom 1 st.sets) (h : Owned st) w
       none_set : {X : Type 0} (p : Session) (n : ℕ) → p.set ≡ None → p.set ≡ Some n → X
       none_set p n e f = absurd cc
 
-  either : (event : Event) (mark : Mark) (b : Bool) (x y : Replied) → Next event mark x → Next event mark y → Next event mark (if b then x else y)
-  either event mark true x y d e = d
-  either event mark false x y d e = e
-
   owned_next : Covers Next s st
   owned_next = record {
     stays = λ lane o mark told e f img. h;
@@ -213,8 +179,8 @@ module _ (s : Plan) (st : State) (num : NumberedFrom 1 st.sets) (h : Owned st) w
     names = λ lane w full q explicit mark g named. by _ (relates_same st.sets _ (λ m. refl));
     starts = λ lane q mark g e img. owned_start q st g num h;
     adds = λ lane v r q mark g e f. by _ (relates_same st.sets _ (context_map (row_changed r.number (with_volume v)) (λ x. changed_number r.number (with_volume v) x refl) (λ x. changed_context r.number (with_volume v) x refl) st.sets));
-    prepares = λ lane q mark g. either (Line lane op.Prepare) mark (has_no_volume (in_progress st)) _ _ (λ img. h) (by _ (relates_followed true _ st));
-    snapshots = λ lane q mark g. either (Line lane op.Snapshot) mark (has_no_volume (in_progress st)) _ _ (λ img. h) (by _ (relates_followed true _ st));
+    prepares = λ lane q mark g. by_if (Next (Line lane op.Prepare) mark) (has_no_volume (in_progress st)) _ _ (λ img. h) (by _ (relates_followed true _ st));
+    snapshots = λ lane q mark g. by_if (Next (Line lane op.Snapshot) mark) (has_no_volume (in_progress st)) _ _ (λ img. h) (by _ (relates_followed true _ st));
     completes = λ lane q mark g. by _ (relates_followed true _ st);
     aborts = λ lane q mark e. by _ (relates_failed (in_progress st) AsyncCancelled st);
     ends = λ lane q mark e. on_end q AsyncCancelled e;
@@ -257,8 +223,7 @@ backups_end s so_far n v r e b g =
   where
     backup : (c : Context) → is_backup c ≡ true → c ≡ Backup
     backup Backup e = refl
-    backup AppRollback e = absurd cc
-    backup NasRollback e = absurd cc
+    backup _ e = absurd cc
 
     some_context : (x y : Context) → Some x ≡ Some y → y ≡ x
     some_context x y e = cc

@@ -1,28 +1,12 @@
 -- What keeps the context of a set, and whose session it is.
+use Rattle.promises.proofs.Words.{Context, Backup, AppRollback, NasRollback, SetOutcome, VssResult, InsufficientStorage, Mark, Clean, Write, Image, History, point_in, is_among, Course, Stage, Session}
+use Rattle.promises.proofs.Words.{stage_after, agenda_ended, set_failed, State, SetRow, in_progress, row_changed, has_image, with_room_if, put, cut_if, cut_each, with_cut, row_cut, cut_set}
+use Rattle.promises.proofs.Words.{NumberedFrom, IsOfSession as IsSessionOfSet, is_early, at, stands, some_same}
 use Rattle.std.proofs.Common.{◌≡◌, ◌∙◌, ℕ, ◌+◌, ◌==◌, zero, suc, List, [], ◌∷◌, ◌++◌, Option, Some, None, refl, Bool, true, false, ap, sym, subst, map, find, length, arith}
 use Rattle.std.specs.Prelude.{is_some, option_map, if◌then◌else◌}
-use Rattle.vss_names.specs.declared.context.Context.{Context}
-use Rattle.vss_names.specs.declared.context.Context.TheVariants.{Backup, AppRollback, NasRollback}
-use Rattle.vss_names.specs.declared.set_outcome.SetOutcome.{SetOutcome}
-use Rattle.vss_names.specs.declared.vss_result.VssResult.{VssResult}
-use Rattle.vss_names.specs.declared.vss_result.VssResult.TheVariants.{InsufficientStorage}
-use Rattle.write_history.specs.declared.mark.Mark.{Mark}
-use Rattle.write_history.specs.declared.mark.Mark.TheVariants.{Clean, Fault, FaultAfter}
-use Rattle.write_history.specs.History.{Write, Image, History, point_in}
-use Rattle.set_agenda.specs.Agenda.{is_among}
-use Rattle.set_agenda.specs.Course.{Course}
-use Rattle.requestor.specs.declared.stage.Stage.{Stage}
 use Rattle.requestor.specs.declared.stage.Stage.TheVariants.{Opened, Gathered, Started, Prepared, Done, Finished, Failed}
-use Rattle.requestor.specs.Session.{Session, stage_after, agenda_ended, set_failed}
-use Rattle.vss_model.specs.State.{State, SetRow, in_progress, row_changed, has_image}
 use Rattle.vss_model.specs.Ending.{Ending, NothingEnds, AgendaEnds, SetFails, ending, row_settled, concluded, followed, failed_in}
-use Rattle.vss_model.specs.Images.{with_room_if, put}
-use Rattle.vss_model.specs.Steps.{cut_if, cut_each, with_cut, row_cut, cut_set}
-use Rattle.vss_model.specs.Facts.{NumberedFrom, IsOfSession as IsSessionOfSet, is_early}
-use Rattle.vss_model.proofs.Volumes.{at}
-use Rattle.promises.specs.Gone.{stands}
 use Rattle.promises.proofs.Truth.{equal, same_number}
-use Rattle.vss_model.proofs.ByEvent.{some_same}
 
 -- ## the context of a set
 
@@ -185,8 +169,7 @@ relates_room false x = relates_same x.sets x (λ n. refl)
 
 pub relates_put : (v : ℕ) (w : Write) (mark : Mark) (rows : List SetRow) (session : Option Session) (x : State) → Relates rows session x → Relates rows session (put v w mark x)
 relates_put v w Clean rows session x h = record { change = h.change; keeps = h.keeps; contexts = h.contexts; is = h.is }
-relates_put v w Fault rows session x h = h
-relates_put v w (FaultAfter k) rows session x h = h
+relates_put v w _ rows session x h = h
 
 pub owned_by : (x next : State) → Relates x.sets x.session next → NoMore x next → Owned x → Owned next
 owned_by x next r img h = owned_still r.change r.keeps x next r.contexts r.is img h

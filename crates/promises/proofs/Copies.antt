@@ -1,17 +1,8 @@
 -- Each copy holds its block as it was at the cut of its set.
+use Rattle.promises.proofs.Words.{All-nil, All-cons, All-append, Write, Image, History, content, point_in, AreLater, AreInTime, Placed, Copy, copy_of, named, copies_of, copies_from, copies, Plan}
+use Rattle.promises.proofs.Words.{group_of, history_of, Act, state, cut, IsShownAt, image_shown, image_reads, images_in_time, at, place_from, HoldsTheCut, CopiesHold, within}
 use Rattle.std.proofs.Common.{◌≡◌, ◌∙◌, ℕ, ◌+◌, ◌==◌, ◌<◌, suc, List, [], ◌∷◌, ◌++◌, Option, Some, None, refl, Bool, true, false, ap, sym, subst, map, length, arith}
 use Rattle.std.specs.Prelude.{if◌then◌else◌, is_some, slice_get, All}
-use Rattle.std.proofs.lemmas.List.Elements.{All-nil, All-cons, All-append}
-use Rattle.write_history.specs.History.{Write, Image, History, content, point_in, AreLater, AreInTime}
-use Rattle.write_history.specs.Slots.{Placed, Copy, copy_of, named, copies_of, copies_from, copies}
-use Rattle.scenario.specs.Plan.{Plan, group_of}
-use Rattle.vss_model.specs.State.{history_of}
-use Rattle.vss_model.specs.Acts.{Act, state}
-use Rattle.vss_model.specs.Cut.{cut, IsShownAt}
-use Rattle.vss_model.proofs.OneCut.{image_shown, image_reads, images_in_time}
-use Rattle.vss_model.proofs.Volumes.{at}
-use Rattle.promises.specs.Copies.{place_from, HoldsTheCut, CopiesHold}
-use Rattle.promises.specs.Gone.{within}
 use Rattle.promises.proofs.Truth.{same_number}
 
 -- ## the copies of a volume

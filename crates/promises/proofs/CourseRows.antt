@@ -1,28 +1,13 @@
 -- What each call of the course does to the rows of the writers.
-use Rattle.std.proofs.Common.{◌≡◌, ◌∙◌, ℕ, ◌+◌, zero, suc, List, [], ◌∷◌, ◌++◌, ◌⊎◌, Option, Some, None, refl, Bool, true, false, ap, sym, subst, inl, inr, map, arith}
+use Rattle.promises.proofs.Words.{Order, VssResult, Said, Lost, WriterRow, is_ok, row_after, row_aborted, Group, Orders, Kind, Limit, Member, Agenda, Open, order_of, order_now, open_order, is_among}
+use Rattle.promises.proofs.Words.{is_done, groups_left, left, waits_now, Running as RunningLimit, first_hold, hold_runs, running_at, running_limits, spent_of, none_and_some, IsSpentHere, spent_here}
+use Rattle.promises.proofs.Words.{has_failed, none_settled as calm_settled, some_same}
+use Rattle.std.proofs.Common.{◌≡◌, ◌∙◌, ℕ, ◌+◌, zero, suc, List, [], ◌∷◌, ◌⊎◌, Option, Some, None, refl, Bool, true, false, ap, sym, subst, inl, inr, map, arith}
 use Rattle.std.specs.Prelude.{◌&&◌, not, slice_get}
-use Rattle.vss_names.specs.declared.order.Order.{Order}
-use Rattle.vss_names.specs.declared.vss_result.VssResult.{VssResult}
-use Rattle.writer_state.specs.declared.said.Said.{Said}
-use Rattle.writer_state.specs.declared.said.Said.TheVariants.{Lost}
-use Rattle.writer_state.specs.declared.writer_row.WriterRow.{WriterRow}
-use Rattle.writer_state.specs.WriterState.{is_ok}
-use Rattle.writer_state.specs.WriterRow.{row_after, row_aborted}
-use Rattle.tick_limits.specs.Time.{answer_limit, hold_limit}
-use Rattle.set_agenda.specs.declared.group.Group.{Group}
-use Rattle.set_agenda.specs.declared.group.Group.TheVariants.{Orders, PreCommit, Flush, Hold, Cut, Commit, Release, PostCommit}
-use Rattle.set_agenda.specs.declared.kind.Kind.{Kind}
-use Rattle.set_agenda.specs.declared.limit.Limit.{Limit}
 use Rattle.set_agenda.specs.declared.limit.Limit.TheVariants.{Hold as HoldLimit, Freeze as FreezeLimit, Answer as AnswerLimit}
-use Rattle.set_agenda.specs.declared.member.Member.{Member}
-use Rattle.set_agenda.specs.Agenda.{Agenda, Open, order_of, order_now, open_order, is_among, is_done, groups_left, left, waits_now}
-use Rattle.set_agenda.specs.Limits.{Running as RunningLimit, first_hold, opened_at, freeze_opened_at, hold_runs, freeze_runs, answer_runs, runs_if, hold_running, running_at, running_limits, spent_of}
 use Rattle.set_agenda.specs.Course.{Course, posted, failed as course_failed, rows_where, row_if, is_member, settled_if, settled_in, settled, begun, told, is_decisive, decided, answered_to, answered as course_answered, worked, stepped as course_stepped, freeze_limit, limits_now, lost_to, lost, fails_set, lost_decided, treated_as, treated, timed as course_timed}
-use Rattle.vss_model.specs.Facts.{has_failed}
 use Rattle.promises.proofs.BusyAgendas.{IsBusy, busy_order, busy_limit}
-use Rattle.promises.proofs.Limits.{later_found, first_found, limit_found, none_and_some}
-use Rattle.vss_model.proofs.Causes.{none_outcome}
-use Rattle.vss_model.proofs.ByEvent.{some_same}
+use Rattle.promises.proofs.Limits.{spent_holds}
 use Rattle.promises.proofs.Members.{one_on}
 
 row_where : (f : WriterRow → WriterRow) (test : ℕ → Bool) (k : ℕ) (rows : List WriterRow) (w : ℕ) (r : WriterRow) → slice_get rows w ≡ Some r → slice_get (rows_where f test k rows) w ≡ Some (row_if (test (k + w)) f r)
@@ -164,46 +149,13 @@ outcome_failed why x = refl
 fails_by : (say : ℕ → WriterRow → WriterRow) (why : VssResult) (c d : Course) → Becomes say c.rows d.rows → d.members ≡ c.members → IsBusy c.agenda → Fails say c (course_failed why d)
 fails_by say why c d h e busy = record { rise = rise_failed say why c d h e; failed = outcome_failed why d; busy = busy }
 
--- where the hold limit is spent, nobody is asked
-
 -- where the hold limit is spent, the provider works
 holds_work : (now f : ℕ) (a : Agenda) (o : Open) (os : List Open) (l : RunningLimit) → spent_of now (running_at f a (o ∷ os)) ≡ Some l → l.limit ≡ HoldLimit → hold_runs o.place.group ≡ true
-holds_work now f a o os l e k =
-    by_limits (hold_running o.place.group (first_hold a.log)) (runs_if (freeze_runs o.place.group) FreezeLimit (freeze_opened_at a) f) (runs_if (answer_runs o.place.group) AnswerLimit (opened_at a o) answer_limit)
-    (spent_of now (hold_running o.place.group (first_hold a.log))) (spent_of now (runs_if (freeze_runs o.place.group) FreezeLimit (freeze_opened_at a) f)) refl refl
-    (at_hold (first_hold a.log)) (λ x i. limit_found now (freeze_runs o.place.group) FreezeLimit (freeze_opened_at a) f x i) (λ x i. limit_found now (answer_runs o.place.group) AnswerLimit (opened_at a o) answer_limit x i) e
-  where
-    not_freeze : FreezeLimit ≡ HoldLimit → ⊥
-    not_freeze e = cc
-
-    not_answer : AnswerLimit ≡ HoldLimit → ⊥
-    not_answer e = cc
-
-    at_hold : (t : Option ℕ) (x : RunningLimit) → spent_of now (hold_running o.place.group t) ≡ Some x → hold_runs o.place.group ≡ true
-    at_hold None x i = absurd cc
-    at_hold (Some t) x i = runs_it (hold_runs o.place.group) t i
-      where
-        runs_it : (b : Bool) (t : ℕ) → spent_of now (runs_if b HoldLimit t hold_limit) ≡ Some x → b ≡ true
-        runs_it true t i = refl
-        runs_it false t i = absurd cc
-
-    by_limits : (hs fs xs : List RunningLimit) (h g : Option RunningLimit) → spent_of now hs ≡ h → spent_of now fs ≡ g → ((x : RunningLimit) → spent_of now hs ≡ Some x → hold_runs o.place.group ≡ true)
-        → ((x : RunningLimit) → spent_of now fs ≡ Some x → x.limit ≡ FreezeLimit) → ((x : RunningLimit) → spent_of now xs ≡ Some x → x.limit ≡ AnswerLimit) → spent_of now (hs ++ fs ++ xs) ≡ Some l → hold_runs o.place.group ≡ true
-    by_limits hs fs xs (Some x) g i j at_h at_f at_x e = at_h x i
-    by_limits hs fs xs None (Some x) i j at_h at_f at_x e =
-        let same = some_same x l (sym (first_found now (hs ++ fs) xs x (later_found now hs fs i ∙ j)) ∙ e) in
-        absurd (not_freeze (sym (at_f x j) ∙ ap (λ (y : RunningLimit). y.limit) same ∙ k))
-    by_limits hs fs xs None None i j at_h at_f at_x e = absurd (not_answer (sym (at_x l (sym (later_found now (hs ++ fs) xs (later_found now hs fs i ∙ j)) ∙ e)) ∙ k))
+holds_work now f a o os l e k = spent_holds now o.place.group (first_hold a.log) l (subst (λ x. IsSpentHere now f a o l x) k (spent_here now f a o os l e))
 
 steps_ask_nobody : (g : Group) (o : Order) → hold_runs g ≡ true → order_of g ≡ Some o → ⊥
 steps_ask_nobody (Orders p) o e f = cc
-steps_ask_nobody PreCommit o e f = cc
-steps_ask_nobody Flush o e f = cc
-steps_ask_nobody Hold o e f = cc
-steps_ask_nobody Cut o e f = cc
-steps_ask_nobody Commit o e f = cc
-steps_ask_nobody Release o e f = cc
-steps_ask_nobody PostCommit o e f = cc
+steps_ask_nobody _ o e f = cc
 
 no_hold_asks : (now f : ℕ) (x : Option Agenda) (l : RunningLimit) (o : Order) → spent_of now (running_limits f x) ≡ Some l → l.limit ≡ HoldLimit → order_now (left x) ≡ Some o → ⊥
 no_hold_asks now f None l o e k i = none_and_some None l refl e
@@ -212,18 +164,6 @@ no_hold_asks now f (Some a) l o e k i = at_list (groups_left a) e i
     at_list : (os : List Open) → spent_of now (running_at f a os) ≡ Some l → order_now os ≡ Some o → ⊥
     at_list [] e i = none_and_some None l refl e
     at_list (x ∷ os) e i = steps_ask_nobody x.place.group o (holds_work now f a x os l e k) i
-
-calm_settled_if : (b : Bool) (k : Kind) (d : Course) → has_failed d.outcome ≡ false → has_failed (settled_if b k d).outcome ≡ false
-calm_settled_if true k d e = none_outcome k d.outcome e
-calm_settled_if false k d e = e
-
-calm_settled_in : (x : Option Agenda) (d : Course) → has_failed d.outcome ≡ false → has_failed (settled_in x d).outcome ≡ false
-calm_settled_in None d e = e
-calm_settled_in (Some a) d e = calm_settled_if (is_done (groups_left a)) a.kind d e
-
-pub calm_settled : (d : Course) → has_failed d.outcome ≡ false → has_failed (settled d).outcome ≡ false
-unfolding settled
-calm_settled d e = calm_settled_in d.agenda d e
 
 stay_lost_to : (x : Option Order) (now : ℕ) (c : Course) → Becomes (say_to x Lost (waits_now (left c.agenda))) c.rows (lost_to x now c).rows
 stay_lost_to None now c = same_rows c.rows

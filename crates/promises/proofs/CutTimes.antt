@@ -1,39 +1,17 @@
 -- The row of a set that was cut has the clock at its cut: only the Cut step writes it, and it comes once.
+use Rattle.promises.proofs.Words.{SetOutcome, VssResult, InsufficientStorage, AsyncCancelled, Mark, Clean, Write, Said, said_of, Group, Orders, PreCommit, Flush, Hold, Cut, Commit, Release}
+use Rattle.promises.proofs.Words.{PostCommit, open_group, Session, Plan, Event, Line, State, SetRow, Kept, in_progress, row_changed, left_now, Act, enabled, idle_now, after, state, state-append, cuts}
+use Rattle.promises.proofs.Words.{or_cut, cut-append, append_nothing, both, after_cut, not_cut_yet, orderly, row_running, Covers, covered, after_enabled, after_not_enabled, by_if}
 use Rattle.std.proofs.Common.{◌≡◌, ◌∙◌, ℕ, ◌+◌, ◌==◌, List, [], ◌∷◌, ◌++◌, Option, Some, None, refl, Bool, true, false, ap, sym, subst, map, find, arith}
 use Rattle.std.specs.Prelude.{◌&&◌, option_map, if◌then◌else◌}
-use Rattle.vss_names.specs.declared.set_outcome.SetOutcome.{SetOutcome}
-use Rattle.vss_names.specs.declared.vss_result.VssResult.{VssResult}
-use Rattle.vss_names.specs.declared.vss_result.VssResult.TheVariants.{InsufficientStorage, AsyncCancelled}
-use Rattle.write_history.specs.declared.mark.Mark.{Mark}
-use Rattle.write_history.specs.declared.mark.Mark.TheVariants.{Clean, Fault, FaultAfter}
-use Rattle.write_history.specs.History.{Write}
-use Rattle.writer_state.specs.declared.said.Said.{Said}
-use Rattle.writer_calls.specs.Script.{said_of}
-use Rattle.set_agenda.specs.declared.group.Group.{Group}
-use Rattle.set_agenda.specs.declared.group.Group.TheVariants.{Orders, PreCommit, Flush, Hold, Cut, Commit, Release, PostCommit}
-use Rattle.set_agenda.specs.Agenda.{open_group}
 use Rattle.set_agenda.specs.Course.{Course, answered as course_answered, stepped as course_stepped, timed as course_timed}
-use Rattle.requestor.specs.Session.{Session}
 use Rattle.scenario.specs.declared.op.Op.TheVariants as op
-use Rattle.scenario.specs.Plan.{Plan}
-use Rattle.vss_model.specs.declared.event.Event.{Event}
-use Rattle.vss_model.specs.declared.event.Event.TheVariants.{Line}
-use Rattle.vss_model.specs.State.{State, SetRow, Kept, in_progress, row_changed, left_now}
-use Rattle.vss_model.specs.Ending.{Ending, NothingEnds, AgendaEnds, SetFails, ending, row_settled, concluded, followed, runs, failed_in, failed}
+use Rattle.vss_model.specs.Ending.{Ending, NothingEnds, ending, row_settled, concluded, followed, runs, failed_in, failed}
 use Rattle.vss_model.specs.Images.{Replied, cleared, set_loses_image, with_room_if, put, write, reverted_as}
 use Rattle.vss_model.specs.Sessions.{has_no_volume, new_set, new_number, with_volume, closed}
 use Rattle.vss_model.specs.Steps.{answered, with_cut, row_cut, cut_set, step_made, is_flush, is_failed_step, stepped_as, stepped, ticked, later}
 use Rattle.vss_model.specs.Cut.{is_provider, is_cut_group, is_set, is_cut_of, cut_if, cut}
-use Rattle.vss_model.specs.Acts.{Act, enabled, idle_now, after, state}
-use Rattle.vss_model.proofs.Appending.{state-append}
-use Rattle.vss_model.proofs.AtCut.{cuts}
-use Rattle.vss_model.proofs.CutAppend.{or_cut, cut-append, append_nothing}
-use Rattle.vss_model.proofs.CutStep.{both, after_cut}
-use Rattle.vss_model.proofs.OneCut.{not_cut_yet}
-use Rattle.vss_model.proofs.OrderlyActs.{orderly}
-use Rattle.vss_model.proofs.Rows.{row_running}
 use Rattle.promises.proofs.Truth.{equal, not_both}
-use Rattle.vss_model.proofs.ByEvent.{Covers, covered, after_enabled, after_not_enabled}
 use Rattle.promises.proofs.Contexts.{settled_number, changed_number}
 
 -- ## the time of a set
@@ -115,8 +93,7 @@ times_settled o rows n = time_map (row_settled o) (settled_number o) n (λ r e. 
 
 times_ended : (e : Ending) (x : State) → SameTimes x (concluded e x)
 times_ended NothingEnds x n = refl
-times_ended AgendaEnds x n = times_settled x.course.outcome x.sets n
-times_ended (SetFails why) x n = times_settled x.course.outcome x.sets n
+times_ended _ x n = times_settled x.course.outcome x.sets n
 
 times_followed : (ran : Bool) (c : Course) (x : State) → SameTimes x (followed ran c x)
 unfolding followed
@@ -132,8 +109,7 @@ times_room false x n = refl
 
 times_put : (v : ℕ) (w : Write) (mark : Mark) (x : State) → SameTimes x (put v w mark x)
 times_put v w Clean x n = refl
-times_put v w Fault x n = refl
-times_put v w (FaultAfter k) x n = refl
+times_put v w _ x n = refl
 
 times_closed : (q : Session) (x : State) → SameTimes x (closed q x)
 unfolding closed
@@ -150,8 +126,7 @@ module _ (s : Plan) (st : State) (n : ℕ) (t : Option ℕ) where
 
   on_revert : (v : ℕ) (k : Kept) (mark : Mark) → time_in (reverted_as s v k mark st).1.sets n ≡ time_in st.sets n
   on_revert v k Clean = refl
-  on_revert v k Fault = refl
-  on_revert v k (FaultAfter j) = refl
+  on_revert v k _ = refl
 
   on_answer : (w : ℕ) (said : Said) → time_in (answered w said st).sets n ≡ time_in st.sets n
   unfolding answered
@@ -184,10 +159,6 @@ module _ (s : Plan) (st : State) (n : ℕ) (t : Option ℕ) where
   unfolding stepped
   on_step mark e = on_step_as (is_failed_step (is_flush (open_group (left_now st))) mark) (open_group (left_now st)) e
 
-  either : (event : Event) (mark : Mark) (b : Bool) (x y : Replied) → Next event mark x → Next event mark y → Next event mark (if b then x else y)
-  either event mark true x y h i = h
-  either event mark false x y h i = i
-
   keeps_time : Covers Next s st
   keeps_time = record {
     stays = λ lane o mark told e f c h. h;
@@ -202,8 +173,8 @@ module _ (s : Plan) (st : State) (n : ℕ) (t : Option ℕ) where
     names = λ lane w full q explicit mark g named c h. h;
     starts = λ lane q mark g e c h. time_more st.sets (new_set (new_number st) q.context) n t h;
     adds = λ lane v r q mark g e f c h. time_map (row_changed r.number (with_volume v)) (λ x. changed_number r.number (with_volume v) x refl) n (λ x i. added_time r.number v x) st.sets ∙ h;
-    prepares = λ lane q mark g. either (Line lane op.Prepare) mark (has_no_volume (in_progress st)) _ _ (λ c h. h) (λ c h. times_followed true _ st n ∙ h);
-    snapshots = λ lane q mark g. either (Line lane op.Snapshot) mark (has_no_volume (in_progress st)) _ _ (λ c h. h) (λ c h. times_followed true _ st n ∙ h);
+    prepares = λ lane q mark g. by_if (Next (Line lane op.Prepare) mark) (has_no_volume (in_progress st)) _ _ (λ c h. h) (λ c h. times_followed true _ st n ∙ h);
+    snapshots = λ lane q mark g. by_if (Next (Line lane op.Snapshot) mark) (has_no_volume (in_progress st)) _ _ (λ c h. h) (λ c h. times_followed true _ st n ∙ h);
     completes = λ lane q mark g c h. times_followed true _ st n ∙ h;
     aborts = λ lane q mark e c h. times_failed (in_progress st) AsyncCancelled st n ∙ h;
     ends = λ lane q mark e c h. times_closed q (failed AsyncCancelled st) n ∙ times_failed (in_progress st) AsyncCancelled st n ∙ h;

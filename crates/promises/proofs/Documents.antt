@@ -1,45 +1,20 @@
 -- The component document lists what the session has named, and what comes with it.
+use Rattle.promises.proofs.Words.{list_any, bytes_eq, length-map, compact_text, AsyncCancelled, BadState, Mark, said_of, Part, Meta, full_name, is_ancestor, row_gathered, is_among, Course, begun}
+use Rattle.promises.proofs.Words.{members_from, prepared as course_prepared, Pair, Named, AllOf, is_pair, has_pair, with_pair, found_from, found_in, Names, naming_if, naming_found, naming_of}
+use Rattle.promises.proofs.Words.{is_taker, takers, has_named_ancestor, choice_if, choices_from, choices_of, chosen_from, known_from as numbers_known, is_named, Mode, Components, All, Session}
+use Rattle.promises.proofs.Words.{mode_of, Op, Target, target_of, Plan, WriterPlan, token, Event, Line, Reply, DocumentOf, State, start, in_progress, Replied, refused, write, followed, failed, Act}
+use Rattle.promises.proofs.Words.{enabled, idle_now, after, state, named_known_components, is_accepted, is_first, is_part, line_names, event_names, names_if, names_from, has_named, is_below}
+use Rattle.promises.proofs.Words.{parts_listed, writer_listed, writers_listed, TellsDocument, progress, is_chosen, is_unfit, choosing, is_writer, ChangesNothing, Covers, covered, after_enabled}
+use Rattle.promises.proofs.Words.{after_not_enabled}
 use Rattle.std.proofs.Common.{◌≡◌, ◌∙◌, ℕ, ◌+◌, ◌==◌, zero, suc, List, [], ◌∷◌, ◌++◌, Option, Some, None, refl, Bool, true, false, ap, sym, subst, map, length, fold, arith}
 use Rattle.std.specs.Prelude.{◌&&◌, ◌||◌, not, nat_lt, if◌then◌else◌, slice_get}
-use Rattle.std.specs.List.{list_any}
-use Rattle.std.specs.Str.{bytes_eq}
-use Rattle.std.proofs.lemmas.List.{length-map}
-use Rattle.serde_json.specs.Written.{compact_text}
-use Rattle.vss_names.specs.declared.vss_result.VssResult.TheVariants.{AsyncCancelled, BadState}
-use Rattle.write_history.specs.declared.mark.Mark.{Mark}
-use Rattle.writer_calls.specs.Script.{said_of}
-use Rattle.writer_meta.specs.Metadata.{Part, Meta, full_name, is_ancestor}
-use Rattle.writer_state.specs.WriterRow.{row_gathered}
 use Rattle.set_agenda.specs.declared.kind.Kind.TheVariants as kind
-use Rattle.set_agenda.specs.Agenda.{is_among}
-use Rattle.set_agenda.specs.Course.{Course, begun, members_from, prepared as course_prepared}
-use Rattle.component_doc.specs.Selection.{Pair, Named, AllOf, is_pair, has_pair, with_pair, found_from, found_in, Names, naming_if, naming_found, naming_of, is_taker, takers, has_named_ancestor, choice_if, choices_from, choices_of, chosen_from, known_from as numbers_known}
-use Rattle.component_doc.specs.Held.{is_named}
 use Rattle.component_doc.specs.Document.{choices_data, document_of, document_text}
-use Rattle.requestor.specs.declared.mode.Mode.{Mode}
-use Rattle.requestor.specs.declared.mode.Mode.TheVariants.{Components, All}
 use Rattle.requestor.specs.declared.session_call.SessionCall.TheVariants as call
-use Rattle.requestor.specs.Session.{Session, mode_of}
-use Rattle.scenario.specs.declared.op.Op.{Op}
 use Rattle.scenario.specs.declared.op.Op.TheVariants as op
-use Rattle.scenario.specs.Calls.{Target, target_of}
-use Rattle.scenario.specs.Plan.{Plan, WriterPlan, token}
-use Rattle.vss_model.specs.declared.event.Event.{Event}
-use Rattle.vss_model.specs.declared.event.Event.TheVariants.{Line}
-use Rattle.vss_model.specs.Reply.{Reply, DocumentOf}
-use Rattle.vss_model.specs.State.{State, start, in_progress}
-use Rattle.vss_model.specs.Images.{Replied, refused, write}
 use Rattle.vss_model.specs.Sessions.{is_known, meta_if, known_from, known_metas, selected_in, selected, start_set, has_no_volume, volumes_of, closed}
-use Rattle.vss_model.specs.Ending.{followed, failed}
-use Rattle.vss_model.specs.Acts.{Act, enabled, idle_now, after, state}
-use Rattle.vss_model.proofs.Gathered.{named_known_components}
-use Rattle.promises.specs.Accepted.{is_accepted}
-use Rattle.promises.specs.Documented.{is_first, is_part, line_names, event_names, names_if, names_from, has_named, is_below, parts_listed, writer_listed, writers_listed, TellsDocument}
-use Rattle.promises.specs.InOrder.{progress}
-use Rattle.promises.specs.Participants.{is_chosen, is_unfit, choosing, is_writer}
 use Rattle.promises.proofs.Truth.{false_of, not_both}
 use Rattle.promises.proofs.Accepted.{tells, line_reply}
-use Rattle.vss_model.proofs.ByEvent.{ChangesNothing, Covers, covered, after_enabled, after_not_enabled}
 use Rattle.promises.proofs.Members.{is_selected, taker_is}
 use Rattle.promises.proofs.Participants.{chosen_by, follows_all, standing, pair_added}
 use Rattle.promises.proofs.Prepares.{named_is_known}

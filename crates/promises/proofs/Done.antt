@@ -1,25 +1,11 @@
 -- What was asked for is done.
+use Rattle.promises.proofs.Words.{lt-ltb, VssResult, Mark, Clean, Fault, FaultAfter, Image, History, point_in, dropped, up_to_set, reverted, reverted_in_part, change_at, DeleteSet, DeleteImage}
+use Rattle.promises.proofs.Words.{Revert, Plan, blocks_of, Event, Line, State, Kept, has_image, is_kept_set, row_of, history_of, kept_image, Act, enabled, happens, after, state, row_number}
+use Rattle.promises.proofs.Words.{kept_point, at, reverts, IsDone, stands, after_enabled, some_same}
 use Rattle.std.proofs.Common.{◌≡◌, ◌∙◌, ℕ, ◌+◌, ◌==◌, ◌<◌, zero, suc, List, [], ◌∷◌, Option, Some, None, refl, Bool, true, false, ap, sym, subst, map, arith}
 use Rattle.std.specs.Prelude.{◌&&◌, not, nat_lt, is_some, if◌then◌else◌}
-use Rattle.std.proofs.lemmas.Bool.{lt-ltb}
-use Rattle.vss_names.specs.declared.vss_result.VssResult.{VssResult}
-use Rattle.write_history.specs.declared.mark.Mark.{Mark}
-use Rattle.write_history.specs.declared.mark.Mark.TheVariants.{Clean, Fault, FaultAfter}
-use Rattle.write_history.specs.History.{Image, History, point_in, dropped, up_to_set, reverted, reverted_in_part}
-use Rattle.set_agenda.specs.Course.{change_at}
-use Rattle.scenario.specs.declared.op.Op.TheVariants.{DeleteSet, DeleteImage, Revert}
-use Rattle.scenario.specs.Plan.{Plan, blocks_of}
-use Rattle.vss_model.specs.declared.event.Event.{Event}
-use Rattle.vss_model.specs.declared.event.Event.TheVariants.{Line}
-use Rattle.vss_model.specs.State.{State, Kept, has_image, is_kept_set, row_of, history_of, kept_image}
 use Rattle.vss_model.specs.Images.{Replied, count_images, delete_set, delete_kept, delete_image, revert_refusal, reverted_as, revert_to, revert}
-use Rattle.vss_model.specs.Acts.{Act, enabled, happens, after, state}
-use Rattle.vss_model.proofs.OneCut.{row_number, kept_point}
-use Rattle.vss_model.proofs.Volumes.{at}
-use Rattle.promises.specs.Done.{reverts, IsDone}
-use Rattle.promises.specs.Gone.{stands}
 use Rattle.promises.proofs.Truth.{false_of, not_itself, same_number}
-use Rattle.vss_model.proofs.ByEvent.{after_enabled, some_same}
 use Rattle.promises.proofs.GoneImages.{kept_by}
 
 -- ## on which volume

@@ -1,34 +1,17 @@
 -- Each set ends, and one that nothing disturbs completes.
+use Rattle.promises.proofs.Words.{append_assoc, both_ways, SetOutcome, Move, open_group, Op, IsPlan, Plan, Event, State, SetRow, is_running, is_complete, in_progress, row_of, left_now, OverButNewest}
+use Rattle.promises.proofs.Words.{has_failed, Act, after, state, idle_now, ticks_of, is_fault, is_flush_step, line_gives_cause, gives_cause, state-append, complete_ends, orderly, row_running}
+use Rattle.promises.proofs.Words.{append_nothing, some_same}
 use Rattle.std.proofs.Common.{◌≡◌, ◌∙◌, ℕ, ◌==◌, List, [], ◌∷◌, ◌++◌, Some, None, refl, Bool, true, false, ap, sym, subst, find}
 use Rattle.std.specs.Prelude.{◌&&◌, if◌then◌else◌}
-use Rattle.std.proofs.lemmas.List.{append_assoc}
-use Rattle.std.proofs.lemmas.Bool.{both_ways}
-use Rattle.vss_names.specs.declared.set_outcome.SetOutcome.{SetOutcome}
 use Rattle.vss_names.specs.declared.set_outcome.SetOutcome.TheVariants.{Running as RunningSet, Complete as CompleteSet, Failed as FailedSet}
-use Rattle.write_history.specs.declared.move_item.Move.{Move}
-use Rattle.set_agenda.specs.Agenda.{open_group}
-use Rattle.scenario.specs.declared.op.Op.{Op}
 use Rattle.scenario.specs.declared.op.Op.TheVariants as op
-use Rattle.scenario.specs.Bounds.{IsPlan}
-use Rattle.scenario.specs.Plan.{Plan}
-use Rattle.vss_model.specs.declared.event.Event.{Event}
 use Rattle.vss_model.specs.declared.event.Event.TheVariants.{Line, Answer as AnswerEvent, Provider, Idle}
-use Rattle.vss_model.specs.State.{State, SetRow, is_running, is_complete, in_progress, row_of, left_now}
-use Rattle.vss_model.specs.Facts.{OverButNewest, has_failed}
-use Rattle.vss_model.specs.Acts.{Act, after, state, idle_now}
-use Rattle.vss_model.specs.Effects.{ticks_of}
 use Rattle.vss_model.specs.Trail.{acts, is_legal, is_complete as is_complete_trail}
-use Rattle.vss_model.specs.Causes.{is_fault, is_flush_step, line_gives_cause, gives_cause}
-use Rattle.vss_model.proofs.Appending.{state-append}
-use Rattle.vss_model.proofs.Ended.{complete_ends}
-use Rattle.vss_model.proofs.OrderlyActs.{orderly}
-use Rattle.vss_model.proofs.Rows.{row_running}
 use Rattle.promises.specs.Ends.{IsLaterRow, HasLaterRow, HasEnded, EndsEachSet, IsCalm, CalmWhile, HasCompleted, CompletesWhereCalm}
 use Rattle.promises.proofs.Failing.{fails_for_cause}
 use Rattle.promises.proofs.OwnSlots.{loses_none}
 use Rattle.promises.proofs.SetRows.{later_again, later_row, keeps_rows, go_on_from}
-use Rattle.vss_model.proofs.CutAppend.{append_nothing}
-use Rattle.vss_model.proofs.ByEvent.{some_same}
 
 -- ## every set ends
 
@@ -103,9 +86,8 @@ runs_found k n (q ∷ p ∷ rows) r h e f = by_head (q.number == n) e (runs_foun
 -- ## a calm set completes
 
 complete_over : (o : SetOutcome) → is_complete o ≡ true → is_running o ≡ false
-complete_over RunningSet e = absurd cc
 complete_over CompleteSet e = refl
-complete_over (FailedSet why) e = absurd cc
+complete_over _ e = absurd cc
 
 stays_complete : (st : State) (r q : SetRow) → is_complete q.result ≡ true → q.number ≡ r.number → IsLaterRow r q → HasLaterRow st q → HasCompleted st r
 stays_complete st r q e num h k = record {

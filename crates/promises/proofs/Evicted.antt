@@ -1,39 +1,16 @@
 -- Exactly the kept images that a write takes are told as evicted.
+use Rattle.promises.proofs.Words.{list_any, list_all, flat_map, list_any-append, lt-ltb, Fill, Stamp, payload_bytes, Evicted, Mark, Write, History, evicted_of, is_among, Op, Target, target_of, Plan}
+use Rattle.promises.proofs.Words.{Event, Line, State, SetRow, is_complete, in_progress, has_image, is_kept_set, NumberedFrom, Act, enabled, happens, after, state, volumes_losing, evicted_for}
+use Rattle.promises.proofs.Words.{evicted_at, evicted, true_not_false, orderly, running_incomplete, at, FewerIn, fewer_in_over, as_many_gone, stands, Fails, is_write, is_told, goes_before}
+use Rattle.promises.proofs.Words.{are_in_order, TellsEvicted, after_enabled, and-false}
 use Rattle.std.proofs.Common.{◌≡◌, ◌∙◌, ℕ, ◌+◌, ◌==◌, ◌<◌, zero, suc, List, [], ◌∷◌, ◌++◌, ◌⊎◌, Option, Some, None, refl, Bool, true, false, ap, sym, inl, inr, filter, length, arith}
 use Rattle.std.specs.Prelude.{is_some, ◌&&◌, ◌||◌, not, nat_lt, if◌then◌else◌}
-use Rattle.std.specs.List.{list_any, list_all, flat_map}
-use Rattle.std.proofs.lemmas.List.Folds.{list_any-append}
-use Rattle.std.proofs.lemmas.Bool.{lt-ltb}
-use Rattle.block_data.specs.declared.payload.Payload.TheVariants.{Fill, Stamp}
-use Rattle.block_data.specs.PayloadBytes.{payload_bytes}
-use Rattle.write_history.specs.declared.evicted.Evicted.{Evicted}
-use Rattle.write_history.specs.declared.mark.Mark.{Mark}
-use Rattle.write_history.specs.History.{Write, History}
-use Rattle.write_history.specs.Slots.{evicted_of}
-use Rattle.set_agenda.specs.Agenda.{is_among}
-use Rattle.scenario.specs.declared.op.Op.{Op}
 use Rattle.scenario.specs.declared.op.Op.TheVariants as op
-use Rattle.scenario.specs.Calls.{Target, target_of}
-use Rattle.scenario.specs.Plan.{Plan}
-use Rattle.vss_model.specs.declared.event.Event.{Event}
-use Rattle.vss_model.specs.declared.event.Event.TheVariants.{Line, Answer as AnswerEvent, Provider, Idle}
-use Rattle.vss_model.specs.State.{State, SetRow, is_complete, in_progress, has_image, is_kept_set}
 use Rattle.vss_model.specs.Images.{cleared, set_loses_image, with_room, put, write}
-use Rattle.vss_model.specs.Facts.{NumberedFrom}
-use Rattle.vss_model.specs.Acts.{Act, enabled, happens, after, state}
-use Rattle.vss_model.specs.Effects.{volumes_losing, evicted_for, evicted_at, evicted}
-use Rattle.vss_model.proofs.Orderly.{true_not_false}
-use Rattle.vss_model.proofs.OrderlyActs.{orderly}
-use Rattle.vss_model.proofs.Rows.{running_incomplete}
-use Rattle.vss_model.proofs.Volumes.{at, FewerIn, fewer_in_over, as_many_gone}
-use Rattle.promises.specs.Gone.{stands, Fails}
-use Rattle.promises.specs.Evicted.{is_write, is_told, goes_before, are_in_order, TellsEvicted}
 use Rattle.promises.proofs.Truth.{both_are, both_ways, equal, left_part, neither}
-use Rattle.vss_model.proofs.ByEvent.{after_enabled}
 use Rattle.promises.proofs.Images.{volumes_put, volumes_room, roomy, wants_or_fails}
 use Rattle.promises.proofs.Participants.{off}
 use Rattle.promises.proofs.Members.{beyond, still_less}
-use Rattle.set_agenda.proofs.WriterSets.{and-false}
 
 -- ## the volumes that lose an image
 
@@ -271,9 +248,7 @@ ordered_at s st (Some t) num = rows_in_order st.volumes (cleared s t.volume t.bl
 
 ordered : (s : Plan) (st : State) (event : Event) → NumberedFrom 1 st.sets → are_in_order (evicted s st event) ≡ true
 ordered s st (Line lane o) num = ordered_at s st (target_of o) num
-ordered s st (AnswerEvent w answer) num = refl
-ordered s st Provider num = refl
-ordered s st Idle num = refl
+ordered s st _ num = refl
 
 none_at : (s : Plan) (st : State) (t : Option Target) → is_some t ≡ false → evicted_at s st t ≡ []
 none_at s st None e = refl
@@ -281,9 +256,7 @@ none_at s st (Some t) e = absurd cc
 
 none_other : (s : Plan) (st : State) (event : Event) → is_write event ≡ false → evicted s st event ≡ []
 none_other s st (Line lane o) e = none_at s st (target_of o) e
-none_other s st (AnswerEvent w answer) e = refl
-none_other s st Provider e = refl
-none_other s st Idle e = refl
+none_other s st _ e = refl
 
 pub tells_evicted : (s : Plan) (so_far : List Act) (act : Act) → TellsEvicted s so_far act
 tells_evicted s so_far act =

@@ -1,51 +1,24 @@
 -- Each cause fails the set in progress in the act that gives it.
+use Rattle.promises.proofs.Words.{Fill, Stamp, payload_bytes, Order, Identify, SetOutcome, VssResult, InsufficientStorage, AsyncCancelled, Said, is_ok, Mark, Clean, Fault, Write, said_of, Group}
+use Rattle.promises.proofs.Words.{Orders, PreCommit, Flush, Hold, Cut, Commit, Release, PostCommit, Agenda, left, open_order, open_group, Go, Session, makes_set, check_other, owner_only, verdict_of}
+use Rattle.promises.proofs.Words.{Op, Plan, Event, State, SetRow, is_running, in_progress, left_now, Act, enabled, happens, order_of_writer, idle_now, after, state, NumberedFrom, IsOfSession}
+use Rattle.promises.proofs.Words.{IsOrderly, has_failed, needs_consent, is_veto, is_refused, is_late_in, is_late, is_fault, is_flush_step, loses_own_image, owns, line_gives_cause, gives_cause}
+use Rattle.promises.proofs.Words.{IsFailed, fails_with_cause, outcome_is_running, flush_fails, orderly, FailsForCause, after_enabled}
 use Rattle.std.proofs.Common.{◌≡◌, ◌∙◌, ℕ, ◌+◌, ◌==◌, List, Option, Some, None, refl, Bool, true, false, ap, sym, subst, map, find}
 use Rattle.std.specs.Prelude.{◌&&◌, not}
-use Rattle.block_data.specs.declared.payload.Payload.TheVariants.{Fill, Stamp}
-use Rattle.block_data.specs.PayloadBytes.{payload_bytes}
-use Rattle.vss_names.specs.declared.order.Order.{Order}
-use Rattle.vss_names.specs.declared.order.Order.TheVariants.{Identify, PrepareBackup, PrepareSnapshot, Freeze, Thaw, PostSnapshot, BackupComplete}
-use Rattle.vss_names.specs.declared.set_outcome.SetOutcome.{SetOutcome}
 use Rattle.vss_names.specs.declared.set_outcome.SetOutcome.TheVariants.{Running as RunningSet, Complete as CompleteSet, Failed as FailedSet}
-use Rattle.vss_names.specs.declared.vss_result.VssResult.{VssResult}
-use Rattle.vss_names.specs.declared.vss_result.VssResult.TheVariants.{InsufficientStorage, AsyncCancelled}
-use Rattle.writer_state.specs.declared.said.Said.{Said}
-use Rattle.writer_state.specs.WriterState.{is_ok}
-use Rattle.write_history.specs.declared.mark.Mark.{Mark}
-use Rattle.write_history.specs.declared.mark.Mark.TheVariants.{Clean, Fault, FaultAfter}
-use Rattle.write_history.specs.History.{Write}
-use Rattle.writer_calls.specs.Script.{said_of}
 use Rattle.writer_calls.specs.declared.answer.Answer.{Answer}
 use Rattle.writer_calls.specs.declared.answer.Answer.TheVariants.{Ok as AnswerOk, Veto as AnswerVeto}
-use Rattle.set_agenda.specs.declared.group.Group.{Group}
-use Rattle.set_agenda.specs.declared.group.Group.TheVariants.{Orders, PreCommit, Flush, Hold, Cut, Commit, Release, PostCommit}
-use Rattle.set_agenda.specs.Agenda.{Agenda, left, open_order, open_group}
 use Rattle.set_agenda.specs.Course.{Course, failed as course_failed, is_decisive, decided, answered_to, answered as course_answered, timed as course_timed}
 use Rattle.requestor.specs.declared.session_call.SessionCall.TheVariants as call
-use Rattle.requestor.specs.declared.verdict.Verdict.TheVariants.{Go}
-use Rattle.requestor.specs.Session.{Session, makes_set}
-use Rattle.requestor.specs.Check.{check_other, owner_only, verdict_of}
-use Rattle.scenario.specs.declared.op.Op.{Op}
 use Rattle.scenario.specs.declared.op.Op.TheVariants as op
-use Rattle.scenario.specs.Plan.{Plan}
-use Rattle.vss_model.specs.declared.event.Event.{Event}
 use Rattle.vss_model.specs.declared.event.Event.TheVariants.{Line, Answer as AnswerEvent, Provider, Idle}
-use Rattle.vss_model.specs.State.{State, SetRow, is_running, in_progress, left_now}
 use Rattle.vss_model.specs.Ending.{ending, row_settled, concluded, followed, runs, failed_in, failed}
 use Rattle.vss_model.specs.Images.{cleared, set_loses_image, with_room_if, with_room, put, write}
 use Rattle.vss_model.specs.Sessions.{closed, line_in, judged}
 use Rattle.vss_model.specs.Steps.{answered, ticked, later}
 use Rattle.vss_model.specs.Lines.{called, line}
-use Rattle.vss_model.specs.Acts.{Act, enabled, happens, order_of_writer, idle_now, after, state}
-use Rattle.vss_model.specs.Facts.{NumberedFrom, IsOfSession, IsOrderly, has_failed}
-use Rattle.vss_model.specs.Causes.{needs_consent, is_veto, is_refused, is_late_in, is_late, is_fault, is_flush_step, loses_own_image, owns, line_gives_cause, gives_cause}
-use Rattle.vss_model.specs.Headline.{IsFailed}
-use Rattle.vss_model.proofs.Causes.{fails_with_cause}
-use Rattle.vss_model.proofs.FlushFails.{outcome_is_running, flush_fails}
-use Rattle.vss_model.proofs.OrderlyActs.{orderly}
-use Rattle.promises.specs.Failing.{FailsForCause}
 use Rattle.promises.proofs.Truth.{both_parts}
-use Rattle.vss_model.proofs.ByEvent.{after_enabled}
 use Rattle.promises.proofs.GoneImages.{fails_as}
 use Rattle.promises.proofs.Limits.{is_due_in, posted_fails, timed_fails}
 use Rattle.promises.proofs.Times.{late_is_due}
@@ -59,12 +32,7 @@ decided_fails false said c e = absurd cc
 
 pub same_consent : (o : Order) → needs_consent o ≡ is_decisive o
 same_consent Identify = refl
-same_consent PrepareBackup = refl
-same_consent PrepareSnapshot = refl
-same_consent Freeze = refl
-same_consent Thaw = refl
-same_consent PostSnapshot = refl
-same_consent BackupComplete = refl
+same_consent _ = refl
 
 pub same_veto : (answer : Answer) → is_veto answer ≡ not (is_ok (said_of answer))
 same_veto AnswerOk = refl
@@ -124,8 +92,7 @@ module _ (s : Plan) (st : State) (r : SetRow) (e : in_progress st ≡ Some r) (n
 
   put_sets : (v : ℕ) (w : Write) (mark : Mark) (x : State) → (put v w mark x).sets ≡ x.sets
   put_sets v w Clean x = refl
-  put_sets v w Fault x = refl
-  put_sets v w (FaultAfter k) x = refl
+  put_sets v w _ x = refl
 
   room_sets : (b : Bool) (x : State) → x.sets ≡ st.sets → b ≡ true → (with_room_if b x).sets ≡ map (row_settled (FailedSet InsufficientStorage)) st.sets
   room_sets false x f g = absurd cc
@@ -200,9 +167,8 @@ flush_group (Some Release) e = absurd cc
 flush_group (Some PostCommit) e = absurd cc
 
 fault_mark : (m : Mark) → is_fault m ≡ true → m ≡ Fault
-fault_mark Clean e = absurd cc
 fault_mark Fault e = refl
-fault_mark (FaultAfter k) e = absurd cc
+fault_mark _ e = absurd cc
 
 happens_fails : (event : Event) (s : Plan) (so_far : List Act) (act : Act) (r : SetRow) → act.event ≡ event → in_progress (state s so_far) ≡ Some r → enabled s (state s so_far) act.event ≡ true → gives_cause s (state s so_far) event act.mark ≡ true
     → IsFailed (after s (state s so_far) act) r.number

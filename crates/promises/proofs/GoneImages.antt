@@ -1,30 +1,14 @@
 -- Which images are gone after a change of the volumes, of the sets or of the course.
+use Rattle.promises.proofs.Words.{range_with_len, ltb-false, ltb-true, SetOutcome, VssResult, Image, History, point_in, dropped, after_set, up_to_set, Placed, lacks_slot, gone_up_to, evicted_up_to}
+use Rattle.promises.proofs.Words.{Group, Orders, PreCommit, Flush, Hold, Cut, Commit, Release, PostCommit, Kind, Agenda, groups_left, is_among, is_done, State, SetRow, is_running, in_progress}
+use Rattle.promises.proofs.Words.{has_image, cut_if, cut_each, cut_set, step_made, NumberedFrom, has_failed, IsFailed, course-step_made, true_not_false, running_found, row_running, row_settles}
+use Rattle.promises.proofs.Words.{result-settled, at, stands, Fails, within, none_outcome}
 use Rattle.std.proofs.Common.{◌≡◌, ◌∙◌, ℕ, ◌+◌, ◌==◌, ◌≤◌, ◌<◌, zero, suc, List, [], ◌∷◌, ◌++◌, Option, Some, None, refl, Bool, true, false, ap, sym, subst, map, filter, find, length, arith}
 use Rattle.std.specs.Prelude.{not, nat_lt, is_some, unwrap_or, option_map, if◌then◌else◌, slice_get}
-use Rattle.std.specs.List.{range_with_len}
-use Rattle.std.proofs.lemmas.Bool.{ltb-false, ltb-true}
-use Rattle.vss_names.specs.declared.set_outcome.SetOutcome.{SetOutcome}
 use Rattle.vss_names.specs.declared.set_outcome.SetOutcome.TheVariants.{Running as RunningSet, Complete as CompleteSet, Failed as FailedSet}
-use Rattle.vss_names.specs.declared.vss_result.VssResult.{VssResult}
-use Rattle.write_history.specs.History.{Image, History, point_in, dropped, after_set, up_to_set}
-use Rattle.write_history.specs.Slots.{Placed, lacks_slot, gone_up_to, evicted_up_to}
-use Rattle.set_agenda.specs.declared.group.Group.{Group}
-use Rattle.set_agenda.specs.declared.group.Group.TheVariants.{Orders, PreCommit, Flush, Hold, Cut, Commit, Release, PostCommit}
-use Rattle.set_agenda.specs.declared.kind.Kind.{Kind}
-use Rattle.set_agenda.specs.Agenda.{Agenda, groups_left, is_among, is_done}
 use Rattle.set_agenda.specs.Course.{Course, posted, failed as course_failed, settled_if, settled_in, settled, worked, stepped as course_stepped, change_at}
-use Rattle.vss_model.specs.State.{State, SetRow, is_running, in_progress, has_image}
 use Rattle.vss_model.specs.Ending.{Ending, NothingEnds, AgendaEnds, SetFails, ending, row_settled, images_dropped, concluded, followed, failed_in}
-use Rattle.vss_model.specs.Steps.{cut_if, cut_each, cut_set, step_made}
-use Rattle.vss_model.specs.Facts.{NumberedFrom, has_failed}
-use Rattle.vss_model.specs.Headline.{IsFailed}
-use Rattle.vss_model.proofs.LogRule.{course-step_made}
-use Rattle.vss_model.proofs.Orderly.{true_not_false}
-use Rattle.vss_model.proofs.Rows.{running_found, row_running, row_settles, result-settled}
-use Rattle.vss_model.proofs.Volumes.{at}
-use Rattle.promises.specs.Gone.{stands, Fails, within}
 use Rattle.promises.proofs.Truth.{equal, not_false}
-use Rattle.vss_model.proofs.Causes.{none_outcome}
 use Rattle.promises.proofs.Members.{next_up}
 
 -- ## lists of images

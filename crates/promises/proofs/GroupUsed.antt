@@ -1,18 +1,10 @@
 -- How many slots the images of a group use, and where a write finds its slot.
+use Rattle.promises.proofs.Words.{range_with_len, and_left, Image, History, after_set, Placed, group_used, used, needs_slot, needs_slot_in, gone_up_to, lacks_slot, evicted_up_to, change_at}
+use Rattle.promises.proofs.Words.{history_in, UpTo, at, within, some_same}
 use Rattle.std.proofs.Common.{◌≡◌, ◌∙◌, ℕ, ◌+◌, ◌==◌, ◌≤◌, ◌<◌, zero, suc, List, [], ◌∷◌, Option, Some, None, refl, Bool, true, false, ap, subst, find, length, arith}
 use Rattle.std.specs.Prelude.{◌&&◌, not, nat_lt, if◌then◌else◌, unwrap_or, slice_get}
-use Rattle.std.specs.List.{range_with_len}
-use Rattle.std.proofs.lemmas.Bool.{and_left}
-use Rattle.write_history.specs.History.{Image, History, after_set}
-use Rattle.write_history.specs.Slots.{Placed, group_used, used, needs_slot, needs_slot_in, gone_up_to, lacks_slot, evicted_up_to}
-use Rattle.set_agenda.specs.Course.{change_at}
-use Rattle.vss_model.specs.State.{history_in}
-use Rattle.vss_model.proofs.NewestImage.{UpTo}
-use Rattle.vss_model.proofs.Volumes.{at}
-use Rattle.promises.specs.Gone.{within}
 use Rattle.promises.proofs.Truth.{no_less, not_true}
 use Rattle.promises.proofs.Shrinks.{used_in}
-use Rattle.vss_model.proofs.ByEvent.{some_same}
 
 -- ## what each volume uses
 

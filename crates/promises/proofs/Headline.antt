@@ -1,12 +1,7 @@
 -- The headline, put together.
+use Rattle.promises.proofs.Words.{Move, IsPlan, Plan, reads_as_at_cut, leaves_nothing, held_for_set, frozen_for_set, keeps_set, each_line_once, trail_is_short, Headline}
 use Rattle.std.proofs.Common.{◌≡◌, List, true}
-use Rattle.write_history.specs.declared.move_item.Move.{Move}
-use Rattle.scenario.specs.Bounds.{IsPlan}
-use Rattle.scenario.specs.Plan.{Plan}
 use Rattle.vss_model.specs.Trail.{is_legal, is_complete}
-use Rattle.vss_model.proofs.Headline.{reads_as_at_cut, leaves_nothing, held_for_set, frozen_for_set, keeps_set, each_line_once}
-use Rattle.vss_model.proofs.TrailLength.{trail_is_short}
-use Rattle.promises.specs.Headline.{Headline}
 use Rattle.promises.proofs.Ends.{ends_each_set, complete_where_calm}
 use Rattle.promises.proofs.Failing.{fails_for_cause}
 use Rattle.promises.proofs.Promises.{as_promised}

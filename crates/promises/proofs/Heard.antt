@@ -1,23 +1,10 @@
 -- Who was waited for has spoken, and what the log keeps.
+use Rattle.promises.proofs.Words.{list_any, Level, Order, Identify, PrepareBackup, PrepareSnapshot, Freeze, Thaw, PostSnapshot, BackupComplete, Said, Group, Orders, PreCommit, Flush, Hold, Cut}
+use Rattle.promises.proofs.Words.{Commit, Release, PostCommit, Snapshot, Member, Place, is_member, fails_set, Plan, unspoken, true_not_false, among_filter, among_members, Deed, level_of, stage}
+use Rattle.promises.proofs.Words.{Rising, same_volume, is_heard, is_made, AreOnce, heard, agreed, made}
 use Rattle.std.proofs.Common.{◌≡◌, ◌∙◌, ℕ, ◌==◌, List, [], ◌∷◌, Option, Some, None, refl, Bool, true, false, ap, sym, subst, map, filter}
 use Rattle.std.specs.Prelude.{◌&&◌, ◌||◌, not, if◌then◌else◌}
-use Rattle.std.specs.List.{list_any}
-use Rattle.vss_names.specs.declared.level.Level.{Level}
-use Rattle.vss_names.specs.declared.order.Order.{Order}
-use Rattle.vss_names.specs.declared.order.Order.TheVariants.{Identify, PrepareBackup, PrepareSnapshot, Freeze, Thaw, PostSnapshot, BackupComplete}
-use Rattle.writer_state.specs.declared.said.Said.{Said}
-use Rattle.set_agenda.specs.declared.group.Group.{Group}
-use Rattle.set_agenda.specs.declared.group.Group.TheVariants.{Orders, PreCommit, Flush, Hold, Cut, Commit, Release, PostCommit}
-use Rattle.set_agenda.specs.declared.kind.Kind.TheVariants.{Snapshot}
-use Rattle.set_agenda.specs.declared.member.Member.{Member}
-use Rattle.set_agenda.specs.declared.place.Place.{Place}
 use Rattle.set_agenda.specs.Agenda.{Agenda, Entry, Open, plain, places, same_order, group_code, level_code, is_orders, has_failed, has_said, is_at, writers_at, members_of, waited_for, with_group, left_from, groups_left, open_place, is_among, waits_now, at_level}
-use Rattle.set_agenda.specs.Course.{is_member, fails_set}
-use Rattle.scenario.specs.Plan.{Plan}
-use Rattle.vss_model.proofs.LogRule.{unspoken}
-use Rattle.vss_model.proofs.Orderly.{true_not_false}
-use Rattle.vss_model.proofs.Spoken.{among_filter, among_members}
-use Rattle.promises.specs.Way.{Deed, level_of, stage, Rising, same_volume, is_heard, is_made, AreOnce, heard, agreed, made}
 use Rattle.promises.proofs.Truth.{both_parts, equal, left_part, not_true, right_part}
 use Rattle.promises.proofs.Levels.{Ascends, MembersOf}
 use Rattle.promises.proofs.Speaks.{deed_at, deed_in}
@@ -55,19 +42,8 @@ decode n =
 pub decoded : (g : Group) → decode (group_code g) ≡ g
 unfolding decode
 decoded (Orders Identify) = refl
-decoded (Orders PrepareBackup) = refl
-decoded (Orders PrepareSnapshot) = refl
-decoded (Orders Freeze) = refl
-decoded (Orders Thaw) = refl
-decoded (Orders PostSnapshot) = refl
-decoded (Orders BackupComplete) = refl
-decoded PreCommit = refl
-decoded Flush = refl
-decoded Hold = refl
-decoded Cut = refl
-decoded Commit = refl
-decoded Release = refl
-decoded PostCommit = refl
+decoded (Orders _) = refl
+decoded _ = refl
 
 pub same_group : (g h : Group) → (group_code g == group_code h) ≡ true → g ≡ h
 same_group g h e = sym (decoded g) ∙ ap decode (equal (group_code g) (group_code h) e) ∙ decoded h
@@ -177,24 +153,13 @@ unsaid a (p ∷ ps) x e = at_group (waited_for a p) (left_from a ps) (λ f. unsa
 -- ## members
 
 pub order_member : (o : Order) (a : Agenda) (l : Option Level) (w : ℕ) → is_among w (members_of a (Orders o) l) ≡ true → is_member a.members w ≡ true
-order_member Identify a l w h = among_members (λ m. is_at l m.level) w a.members h
-order_member PrepareBackup a l w h = among_members (λ m. is_at l m.level) w a.members h
-order_member PrepareSnapshot a l w h = among_members (λ m. is_at l m.level) w a.members h
-order_member Freeze a l w h = among_members (λ m. is_at l m.level) w a.members h
-order_member Thaw a l w h = among_members (λ m. is_at l m.level) w a.members h
 order_member PostSnapshot a l w h = among_members (λ m. is_at l m.level) w a.members (among_filter (λ x. not (has_failed a.log x)) w (writers_at a.members l) h)
-order_member BackupComplete a l w h = among_members (λ m. is_at l m.level) w a.members h
+order_member _ a l w h = among_members (λ m. is_at l m.level) w a.members h
 
 -- the writer of a deed that was heard, and its group
 pub heard_writer : (order : Order) (w : ℕ) (g : Group) (a : Agenda) (l : Option Level) (u : ℕ) (said : Said) (now : ℕ) → is_among u (members_of a g l) ≡ true → is_heard order w (deed_at g u said now) ≡ true → is_member a.members w ≡ true
 heard_writer order w (Orders o) a l u said now h e = subst (λ x. is_member a.members x ≡ true) (equal u w (both_parts (same_order o order) (u == w) e).1) (order_member o a l u h)
-heard_writer order w PreCommit a l u said now h e = absurd cc
-heard_writer order w Flush a l u said now h e = absurd cc
-heard_writer order w Hold a l u said now h e = absurd cc
-heard_writer order w Cut a l u said now h e = absurd cc
-heard_writer order w Commit a l u said now h e = absurd cc
-heard_writer order w Release a l u said now h e = absurd cc
-heard_writer order w PostCommit a l u said now h e = absurd cc
+heard_writer order w _ a l u said now h e = absurd cc
 
 pub made_volume : (g : Group) (v : ℕ) (h : Group) (a : Agenda) (l : Option Level) (u : ℕ) (said : Said) (now : ℕ) → is_among u (members_of a h l) ≡ true → is_made g (Some v) (deed_at h u said now) ≡ true → is_among v a.volumes ≡ true
 made_volume g v (Orders o) a l u said now i e = absurd cc

@@ -1,13 +1,7 @@
 -- An idle stretch is the shortest that spends a limit that runs.
+use Rattle.promises.proofs.Words.{is_spent, ticks_until, Running, spent_of, running_until, ticks_to_spend, limits_now, Plan, Act, state, idle_spends, IdlesShortest}
 use Rattle.std.proofs.Common.{◌≡◌, ℕ, ◌+◌, ◌<◌, List, [], ◌∷◌, Some, refl, Bool, true, false, fold, min, arith}
 use Rattle.std.specs.Prelude.{◌-◌, nat_lt, is_some, if◌then◌else◌}
-use Rattle.tick_limits.specs.Time.{is_spent, ticks_until}
-use Rattle.set_agenda.specs.Limits.{Running, spent_of, running_until, ticks_to_spend}
-use Rattle.set_agenda.specs.Course.{limits_now}
-use Rattle.scenario.specs.Plan.{Plan}
-use Rattle.vss_model.specs.Acts.{Act, state}
-use Rattle.vss_model.proofs.Waiting.{idle_spends}
-use Rattle.promises.specs.Idle.{IdlesShortest}
 
 abbrev Least : ℕ → ℕ → List Running → ℕ
 Least now t ls = fold (λ t (m : Running). min t (running_until now m)) t ls

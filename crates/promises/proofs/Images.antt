@@ -1,43 +1,19 @@
 -- Why an image goes: each act takes an image only for a cause.
+use Rattle.promises.proofs.Words.{Context, Backup, AppRollback, NasRollback, Failed as FailedSet, VssResult, InsufficientStorage, AsyncCancelled, Said, Mark, Clean, Fault, FaultAfter, Write, History}
+use Rattle.promises.proofs.Words.{point_in, dropped, written, reverted, reverted_in_part, said_of, Group, open_group, Session, Op, Writes, Target, line_of, target_in, target_of, Plan, blocks_of}
+use Rattle.promises.proofs.Words.{slots_of, group_of, Event, State, SetRow, Kept, is_running, in_progress, row_of, left_now, history_of, has_image, kept_image, row_settled, followed, runs, failed_in}
+use Rattle.promises.proofs.Words.{failed, NumberedFrom, has_failed, Act, enabled, idle_now, after, state, row_number, kept_point, true_not_false, orderly, at, FewerIn, fewer_written, fewer_in_same}
+use Rattle.promises.proofs.Words.{fewer_in_change, fewer_in_over, fewer_images_dropped, Covers, covered, after_enabled, after_not_enabled, by_if}
 use Rattle.std.proofs.Common.{◌≡◌, ◌∙◌, ℕ, ◌+◌, ◌≤◌, ◌<◌, List, ◌⊎◌, Option, Some, None, refl, Bool, true, false, ap, sym, subst, inl, inr, map, find, length, arith}
-use Rattle.std.specs.Prelude.{if◌then◌else◌}
-use Rattle.vss_names.specs.declared.context.Context.{Context}
-use Rattle.vss_names.specs.declared.context.Context.TheVariants.{Backup, AppRollback, NasRollback}
-use Rattle.vss_names.specs.declared.set_outcome.SetOutcome.TheVariants.{Failed as FailedSet}
-use Rattle.vss_names.specs.declared.vss_result.VssResult.{VssResult}
-use Rattle.vss_names.specs.declared.vss_result.VssResult.TheVariants.{InsufficientStorage, AsyncCancelled}
-use Rattle.writer_state.specs.declared.said.Said.{Said}
-use Rattle.write_history.specs.declared.mark.Mark.{Mark}
-use Rattle.write_history.specs.declared.mark.Mark.TheVariants.{Clean, Fault, FaultAfter}
-use Rattle.write_history.specs.History.{Write, History, point_in, dropped, written, reverted, reverted_in_part}
-use Rattle.writer_calls.specs.Script.{said_of}
-use Rattle.set_agenda.specs.declared.group.Group.{Group}
-use Rattle.set_agenda.specs.Agenda.{open_group}
 use Rattle.set_agenda.specs.Course.{Course, answered as course_answered, stepped as course_stepped, timed as course_timed, change_at}
-use Rattle.requestor.specs.Session.{Session}
-use Rattle.scenario.specs.declared.op.Op.{Op}
 use Rattle.scenario.specs.declared.op.Op.TheVariants as op
 use Rattle.scenario.specs.declared.line.Line.{Line as Does}
-use Rattle.scenario.specs.declared.line.Line.TheVariants.{Writes}
-use Rattle.scenario.specs.Calls.{Target, line_of, target_in, target_of}
-use Rattle.scenario.specs.Plan.{Plan, blocks_of, slots_of, group_of}
-use Rattle.vss_model.specs.declared.event.Event.{Event}
 use Rattle.vss_model.specs.declared.event.Event.TheVariants.{Line, Answer as AnswerEvent, Provider, Idle}
-use Rattle.vss_model.specs.State.{State, SetRow, Kept, is_running, in_progress, row_of, left_now, history_of, has_image, kept_image}
-use Rattle.vss_model.specs.Ending.{row_settled, followed, runs, failed_in, failed}
 use Rattle.vss_model.specs.Images.{Replied, cleared, going_up_to, set_loses_image, with_room_if, with_room, put, write, reverted_as, is_backup}
 use Rattle.vss_model.specs.Sessions.{has_no_volume, images_released, closed}
 use Rattle.vss_model.specs.Steps.{answered, step_made, is_flush, is_failed_step, stepped_as, stepped, ticked, later}
-use Rattle.vss_model.specs.Facts.{NumberedFrom, has_failed}
-use Rattle.vss_model.specs.Acts.{Act, enabled, idle_now, after, state}
-use Rattle.vss_model.proofs.OneCut.{row_number, kept_point}
-use Rattle.vss_model.proofs.Orderly.{true_not_false}
-use Rattle.vss_model.proofs.OrderlyActs.{orderly}
-use Rattle.vss_model.proofs.Volumes.{at, FewerIn, fewer_written, fewer_in_same, fewer_in_change, fewer_in_over}
-use Rattle.vss_model.proofs.FewerImages.{fewer_images_dropped}
 use Rattle.promises.specs.Gone.{stands, Fails, IsWanted, IsOfSession, Takes, TakesBy, ImagesGoForCause}
 use Rattle.promises.proofs.Truth.{false_of}
-use Rattle.vss_model.proofs.ByEvent.{Covers, covered, after_enabled, after_not_enabled}
 use Rattle.promises.proofs.GoneImages.{gone_dropped, gone_reverted, gone_map, gone_change, gone_group, left_in_group, least_sets, fails_as, gone_followed, gone_failed_in, none_stepped, course-made, made_keeps}
 
 -- ## every act
@@ -65,14 +41,12 @@ module _ (s : Plan) (st : State) (num : NumberedFrom 1 st.sets) (n v : ℕ) wher
 
   pub volumes_put : (u : ℕ) (w : Write) (mark : Mark) (x : State) → FewerIn x.volumes (put u w mark x).volumes
   volumes_put u w Clean x = fewer_in_change (written w) (fewer_written w) u x.volumes
-  volumes_put u w Fault x = fewer_in_same x.volumes
-  volumes_put u w (FaultAfter k) x = fewer_in_same x.volumes
+  volumes_put u w _ x = fewer_in_same x.volumes
 
   -- a write takes no image beside those that go for want of a slot
   pub put_keeps : (u : ℕ) (w : Write) (mark : Mark) (x : State) → stands x n v ≡ true → stands (put u w mark x) n v ≡ false → ⊥
   put_keeps u w Clean x h g = true_not_false (has_image n (at x.volumes v)) h (gone_change (written w) n u x.volumes v h g).1
-  put_keeps u w Fault x h g = true_not_false (stands x n v) h g
-  put_keeps u w (FaultAfter k) x h g = true_not_false (stands x n v) h g
+  put_keeps u w _ x h g = true_not_false (stands x n v) h g
 
   pub volumes_room : (b : Bool) (x : State) → FewerIn x.volumes (with_room_if b x).volumes
   volumes_room true x = by_set (in_progress x)
@@ -84,8 +58,7 @@ module _ (s : Plan) (st : State) (num : NumberedFrom 1 st.sets) (n v : ℕ) wher
 
   sets_put : (u : ℕ) (w : Write) (mark : Mark) (x : State) → (put u w mark x).sets ≡ x.sets
   sets_put u w Clean x = refl
-  sets_put u w Fault x = refl
-  sets_put u w (FaultAfter k) x = refl
+  sets_put u w _ x = refl
 
   module _ (u : ℕ) (w : Write) (mark : Mark) where
     abbrev pub roomy : State
@@ -207,10 +180,6 @@ module _ (s : Plan) (st : State) (num : NumberedFrom 1 st.sets) (n v : ℕ) wher
   unfolding stepped
   on_steps mark h g = on_step_as (is_failed_step (is_flush (open_group (left_now st))) mark) (open_group (left_now st)) h g
 
-  either : (event : Event) (mark : Mark) (b : Bool) (x y : Replied) → Goes event mark x → Goes event mark y → Goes event mark (if b then x else y)
-  either event mark true x y e f = e
-  either event mark false x y e f = f
-
   goes : Covers Goes s st
   goes = record {
     stays = λ lane o mark told e f h g. absurd (true_not_false (stands st n v) h g);
@@ -225,8 +194,8 @@ module _ (s : Plan) (st : State) (num : NumberedFrom 1 st.sets) (n v : ℕ) wher
     names = λ lane w full q explicit mark i named h g. absurd (true_not_false (stands st n v) h g);
     starts = λ lane q mark i e h g. absurd (true_not_false (stands st n v) h g);
     adds = λ lane u r q mark i e f h g. absurd (true_not_false (stands st n v) h g);
-    prepares = λ lane q mark i. either (Line lane op.Prepare) mark (has_no_volume (in_progress st)) _ _ (λ h g. absurd (true_not_false (stands st n v) h g)) (λ h g. by_course (Line lane op.Prepare) true _ st refl refl h g);
-    snapshots = λ lane q mark i. either (Line lane op.Snapshot) mark (has_no_volume (in_progress st)) _ _ (λ h g. absurd (true_not_false (stands st n v) h g)) (λ h g. by_course (Line lane op.Snapshot) true _ st refl refl h g);
+    prepares = λ lane q mark i. by_if (Goes (Line lane op.Prepare) mark) (has_no_volume (in_progress st)) _ _ (λ h g. absurd (true_not_false (stands st n v) h g)) (λ h g. by_course (Line lane op.Prepare) true _ st refl refl h g);
+    snapshots = λ lane q mark i. by_if (Goes (Line lane op.Snapshot) mark) (has_no_volume (in_progress st)) _ _ (λ h g. absurd (true_not_false (stands st n v) h g)) (λ h g. by_course (Line lane op.Snapshot) true _ st refl refl h g);
     completes = λ lane q mark i h g. by_course (Line lane op.Complete) true _ st refl refl h g;
     aborts = λ lane q mark e. by_failure (Line lane op.Abort) AsyncCancelled;
     ends = λ lane q mark e. on_close lane q AsyncCancelled e;

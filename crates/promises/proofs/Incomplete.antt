@@ -1,46 +1,25 @@
 -- A set that an act does not complete stays incomplete, and an agenda that begins completes none.
+use Rattle.promises.proofs.Words.{System, BackEnd, FrontEnd, PrepareSnapshot, Freeze, SetOutcome, VssResult, InsufficientStorage, Mark, Clean, Write, Group, Orders, PreCommit, Flush, Hold, Cut}
+use Rattle.promises.proofs.Words.{Commit, Release, PostCommit, Kind, Snapshot, Member, Agenda, Open, plain, at_level, places, waited_for, with_group, left_from, groups_left, is_done, Session, Plan}
+use Rattle.promises.proofs.Words.{State, SetRow, Kept, is_complete, in_progress, with_cut, row_cut, cut_set, step_made, later, unspoken, true_not_false, has_complete, incomplete_settled}
+use Rattle.promises.proofs.Words.{incomplete_map, past_group}
 use Rattle.std.proofs.Common.{◌≡◌, ◌∙◌, ℕ, ◌==◌, List, [], ◌∷◌, ◌⊎◌, Option, Some, None, refl, Bool, true, false, ap, subst, inl, inr}
-use Rattle.vss_names.specs.declared.level.Level.TheVariants.{System, BackEnd, FrontEnd}
-use Rattle.vss_names.specs.declared.order.Order.TheVariants.{PrepareSnapshot, Freeze}
-use Rattle.vss_names.specs.declared.set_outcome.SetOutcome.{SetOutcome}
 use Rattle.vss_names.specs.declared.set_outcome.SetOutcome.TheVariants.{Running as RunningSet, Failed as FailedSet}
-use Rattle.vss_names.specs.declared.vss_result.VssResult.{VssResult}
-use Rattle.vss_names.specs.declared.vss_result.VssResult.TheVariants.{InsufficientStorage}
-use Rattle.write_history.specs.declared.mark.Mark.{Mark}
-use Rattle.write_history.specs.declared.mark.Mark.TheVariants.{Clean, Fault, FaultAfter}
-use Rattle.write_history.specs.History.{Write}
-use Rattle.set_agenda.specs.declared.group.Group.{Group}
-use Rattle.set_agenda.specs.declared.group.Group.TheVariants.{Orders, PreCommit, Flush, Hold, Cut, Commit, Release, PostCommit}
-use Rattle.set_agenda.specs.declared.kind.Kind.{Kind}
-use Rattle.set_agenda.specs.declared.kind.Kind.TheVariants.{Gather, Prepare, Snapshot, Complete}
-use Rattle.set_agenda.specs.declared.member.Member.{Member}
-use Rattle.set_agenda.specs.Agenda.{Agenda, Open, plain, at_level, places, waited_for, with_group, left_from, groups_left, is_done}
 use Rattle.set_agenda.specs.Course.{Course, posted, failed as course_failed, outcome_after, settled_if, settled, begun}
-use Rattle.requestor.specs.Session.{Session}
-use Rattle.scenario.specs.Plan.{Plan}
-use Rattle.vss_model.specs.State.{State, SetRow, Kept, is_complete, in_progress}
-use Rattle.vss_model.specs.Ending.{Ending, NothingEnds, AgendaEnds, SetFails, ending, concluded, followed, failed_in}
+use Rattle.vss_model.specs.Ending.{Ending, NothingEnds, ending, concluded, followed, failed_in}
 use Rattle.vss_model.specs.Images.{cleared, set_loses_image, with_room_if, put, write, reverted_as}
 use Rattle.vss_model.specs.Sessions.{closed}
-use Rattle.vss_model.specs.Steps.{with_cut, row_cut, cut_set, step_made, later}
-use Rattle.vss_model.proofs.LogRule.{unspoken}
 use Rattle.vss_model.proofs.OneCut.{changed_number, changed_result}
-use Rattle.vss_model.proofs.Orderly.{true_not_false}
-use Rattle.vss_model.proofs.Rows.{has_complete, incomplete_settled, incomplete_map}
-use Rattle.vss_model.proofs.Completed.{past_group}
 
 -- an agenda that completes the set is a snapshot's
 pub completes_snapshot : (k : Kind) (o p : SetOutcome) → o ≡ RunningSet → p ≡ outcome_after k o → is_complete p ≡ true → k ≡ Snapshot
 completes_snapshot Snapshot o p e f g = refl
-completes_snapshot Gather o p e f g = absurd (true_not_false (is_complete p) g (ap is_complete (f ∙ e)))
-completes_snapshot Prepare o p e f g = absurd (true_not_false (is_complete p) g (ap is_complete (f ∙ e)))
-completes_snapshot Complete o p e f g = absurd (true_not_false (is_complete p) g (ap is_complete (f ∙ e)))
+completes_snapshot _ o p e f g = absurd (true_not_false (is_complete p) g (ap is_complete (f ∙ e)))
 
 module _ (n : ℕ) where
   incomplete_ended : (e : Ending) (st : State) → is_complete st.course.outcome ≡ false → has_complete st.sets n ≡ false → has_complete (concluded e st).sets n ≡ false
   incomplete_ended NothingEnds st e h = h
-  incomplete_ended AgendaEnds st e h = incomplete_settled st.course.outcome n st.sets e h
-  incomplete_ended (SetFails why) st e h = incomplete_settled st.course.outcome n st.sets e h
+  incomplete_ended _ st e h = incomplete_settled st.course.outcome n st.sets e h
 
   done_if : (b : Bool) (L : Type 0) (ran : Bool) (c : Course) (st : State) → is_complete c.outcome ≡ b → has_complete st.sets n ≡ false → (is_complete c.outcome ≡ true → L) → (has_complete (followed ran c st).sets n ≡ false) ⊎ L
   unfolding followed
@@ -61,8 +40,7 @@ module _ (n : ℕ) where
 
   incomplete_put : (v : ℕ) (w : Write) (mark : Mark) (x : State) → has_complete x.sets n ≡ false → has_complete (put v w mark x).sets n ≡ false
   incomplete_put v w Clean x h = h
-  incomplete_put v w Fault x h = h
-  incomplete_put v w (FaultAfter k) x h = h
+  incomplete_put v w _ x h = h
 
   pub incomplete_write : (s : Plan) (v : ℕ) (w : Write) (mark : Mark) (st : State) → has_complete st.sets n ≡ false → has_complete (write s v w mark st).1.sets n ≡ false
   unfolding write
@@ -70,8 +48,7 @@ module _ (n : ℕ) where
 
   pub incomplete_revert : (s : Plan) (v : ℕ) (x : Kept) (mark : Mark) (st : State) → has_complete st.sets n ≡ false → has_complete (reverted_as s v x mark st).1.sets n ≡ false
   incomplete_revert s v x Clean st h = h
-  incomplete_revert s v x Fault st h = h
-  incomplete_revert s v x (FaultAfter m) st h = h
+  incomplete_revert s v x _ st h = h
 
   pub incomplete_closed : (q : Session) (x : State) → has_complete x.sets n ≡ false → has_complete (closed q x).sets n ≡ false
   unfolding closed

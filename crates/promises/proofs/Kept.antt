@@ -1,26 +1,11 @@
 -- Lines find exactly the images that are kept, and a revert and a deletion are answered by that.
+use Rattle.promises.proofs.Words.{ObjectNotFound, UnsupportedContext, SnapshotSetInProgress, Mark, Clean, History, dropped, point_in, Revert, DeleteSet, DeleteImage, Plan, Line, Coded, Deleted, State}
+use Rattle.promises.proofs.Words.{SetRow, Kept, is_complete, in_progress, row_of, is_kept_set, history_of, has_image, kept_if, kept_of, kept_image, NumberedFrom, Act, state, orderly, has_complete, at}
+use Rattle.promises.proofs.Words.{answer_of, stands, is_kept, is_of_backup, has_in_it, revert_answer, is_deleted, FindsTheKept, some_same}
 use Rattle.std.proofs.Common.{◌≡◌, ◌∙◌, ℕ, ◌+◌, ◌==◌, ◌<◌, zero, suc, List, [], ◌∷◌, Option, Some, None, refl, Bool, true, false, ap, sym, map, find, arith}
 use Rattle.std.specs.Prelude.{◌&&◌, ◌||◌, nat_lt, is_some, if◌then◌else◌}
-use Rattle.vss_names.specs.declared.vss_result.VssResult.TheVariants.{ObjectNotFound, UnsupportedContext, SnapshotSetInProgress}
-use Rattle.write_history.specs.declared.mark.Mark.{Mark}
-use Rattle.write_history.specs.declared.mark.Mark.TheVariants.{Clean, Fault, FaultAfter}
-use Rattle.write_history.specs.History.{History, dropped, point_in}
-use Rattle.scenario.specs.declared.op.Op.TheVariants.{Revert, DeleteSet, DeleteImage}
-use Rattle.scenario.specs.Plan.{Plan}
-use Rattle.vss_model.specs.declared.event.Event.TheVariants.{Line}
-use Rattle.vss_model.specs.Reply.{Coded, Deleted}
-use Rattle.vss_model.specs.State.{State, SetRow, Kept, is_complete, in_progress, row_of, is_kept_set, history_of, has_image, kept_if, kept_of, kept_image}
 use Rattle.vss_model.specs.Images.{Replied, is_backup, is_in_set, reverted_as, revert_refusal, revert_to, revert, count_images, delete_set, delete_kept, delete_image}
-use Rattle.vss_model.specs.Facts.{NumberedFrom}
-use Rattle.vss_model.specs.Acts.{Act, state}
-use Rattle.vss_model.proofs.OrderlyActs.{orderly}
-use Rattle.vss_model.proofs.Rows.{has_complete}
-use Rattle.vss_model.proofs.Volumes.{at}
-use Rattle.promises.specs.Answers.{answer_of}
-use Rattle.promises.specs.Gone.{stands}
-use Rattle.promises.specs.Kept.{is_kept, is_of_backup, has_in_it, revert_answer, is_deleted, FindsTheKept}
 use Rattle.promises.proofs.Truth.{both_parts}
-use Rattle.vss_model.proofs.ByEvent.{some_same}
 use Rattle.promises.proofs.Accepted.{line_reply}
 
 -- ## the row of a set
@@ -75,8 +60,7 @@ module _ (s : Plan) (so_far : List Act) where
 
   revert_told : (v : ℕ) (k : Kept) (mark : Mark) → (reverted_as s v k mark st).0 ≡ answer_of mark
   revert_told v k Clean = refl
-  revert_told v k Fault = refl
-  revert_told v k (FaultAfter j) = refl
+  revert_told v k _ = refl
 
   busy_is : (v : ℕ) (o : Option SetRow) → is_in_set v o ≡ has_in_it v o
   busy_is v None = refl

@@ -1,23 +1,12 @@
 -- An area keeps exactly the copies of what was overwritten, and none twice.
+use Rattle.promises.proofs.Words.{list_any, range_with_len, list_any-append, Write, Image, History, point_in, AreLater, AreInTime, names, blocks_named, Placed, Copy, copy_of, named, writes_since}
+use Rattle.promises.proofs.Words.{copies_of, copies_from, VolumeRow, Plan, blocks_in, blocks_of, placed, placed_in, group_of, is_among, Act, state, images_in_time, at, place_from, is_cut_by}
+use Rattle.promises.proofs.Words.{is_overwritten, is_copy, are_once, KeepsCopies, within, and-false, some_same}
 use Rattle.std.proofs.Common.{◌≡◌, ◌∙◌, ℕ, ◌+◌, ◌-◌, ◌==◌, ◌<◌, ◌≤◌, zero, suc, List, [], ◌∷◌, ◌++◌, Option, Some, None, refl, Bool, true, false, ap, sym, subst, map, filter, take, drop, length, arith}
 use Rattle.std.specs.Prelude.{◌&&◌, ◌||◌, not, nat_lt, nat_le, if◌then◌else◌, slice_get}
-use Rattle.std.specs.List.{list_any, range_with_len}
-use Rattle.std.proofs.lemmas.List.Folds.{list_any-append}
-use Rattle.write_history.specs.History.{Write, Image, History, point_in, AreLater, AreInTime, names, blocks_named}
-use Rattle.write_history.specs.Slots.{Placed, Copy, copy_of, named, writes_since, copies_of, copies_from}
-use Rattle.scenario.specs.declared.volume_row.VolumeRow.{VolumeRow}
-use Rattle.scenario.specs.Plan.{Plan, blocks_in, blocks_of, placed, placed_in, group_of}
-use Rattle.set_agenda.specs.Agenda.{is_among}
-use Rattle.vss_model.specs.Acts.{Act, state}
-use Rattle.vss_model.proofs.OneCut.{images_in_time}
-use Rattle.vss_model.proofs.Volumes.{at}
-use Rattle.promises.specs.Copies.{place_from, is_cut_by, is_overwritten, is_copy, are_once, KeepsCopies}
-use Rattle.promises.specs.Gone.{within}
 use Rattle.promises.proofs.Truth.{both_are, both_parts, not_both, or_false, same_number}
 use Rattle.promises.proofs.Copies.{later_set, InTimeAll}
 use Rattle.promises.proofs.Members.{none_passes, range_passes, beyond, still_less}
-use Rattle.set_agenda.proofs.WriterSets.{and-false}
-use Rattle.vss_model.proofs.ByEvent.{some_same}
 
 -- ## the copies of one image
 

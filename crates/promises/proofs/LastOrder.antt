@@ -1,19 +1,8 @@
 -- Who has the order BackupComplete open: in its agenda there is no other group, and in no other agenda is that order.
+use Rattle.promises.proofs.Words.{Order, BackupComplete, Said, is_ok, Group, Orders, Kind, Gather, Prepare, Snapshot, Complete, Place, others, advance, Agenda, Open, places, plain, is_orders}
+use Rattle.promises.proofs.Words.{waited_for, with_group, left_from, groups_left, is_asked, is_among, order_now, order_if, open_order, all_say, unasked_if-nil, groups_left-all_say, asked_if}
 use Rattle.std.proofs.Common.{◌≡◌, ◌∙◌, ℕ, ◌==◌, List, [], ◌∷◌, Option, Some, refl, Bool, true, false, ap, sym, subst, filter}
 use Rattle.std.specs.Prelude.{◌&&◌, ◌||◌, not, if◌then◌else◌}
-use Rattle.vss_names.specs.declared.order.Order.{Order}
-use Rattle.vss_names.specs.declared.order.Order.TheVariants.{BackupComplete}
-use Rattle.writer_state.specs.declared.said.Said.{Said}
-use Rattle.writer_state.specs.WriterState.{is_ok}
-use Rattle.set_agenda.specs.declared.group.Group.{Group}
-use Rattle.set_agenda.specs.declared.group.Group.TheVariants.{Orders}
-use Rattle.set_agenda.specs.declared.kind.Kind.{Kind}
-use Rattle.set_agenda.specs.declared.kind.Kind.TheVariants.{Gather, Prepare, Snapshot, Complete}
-use Rattle.set_agenda.specs.declared.place.Place.{Place}
-use Rattle.set_agenda.specs.Advance.{others, advance}
-use Rattle.set_agenda.specs.Agenda.{Agenda, Open, places, plain, is_orders, waited_for, with_group, left_from, groups_left, is_asked, is_among, order_now, order_if, open_order, all_say}
-use Rattle.set_agenda.proofs.GroupsLeft.{unasked_if-nil, groups_left-all_say}
-use Rattle.vss_model.proofs.CourseCalls.{asked_if}
 use Rattle.promises.proofs.Truth.{both_are, both_parts, left_part, not_both, not_true, right_part}
 use Rattle.promises.proofs.Heard.{passes}
 use Rattle.promises.proofs.OpenGroup.{every, in_kind}

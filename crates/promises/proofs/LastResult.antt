@@ -1,42 +1,18 @@
 -- The last result of a session is what the acts have made of it.
+use Rattle.promises.proofs.Words.{and_left, Context, VssResult, AsyncFinished, AsyncPending, AsyncCancelled, BadState, Mark, Clean, Write, said_of, open_group, next_volume, Course, prepared}
+use Rattle.promises.proofs.Words.{snapshot_begun, takers, Session, makes_set, opened, started as session_started, agenda_ended, set_failed, Op, is_begin, begins_agenda, Target, target_of, Plan, Event}
+use Rattle.promises.proofs.Words.{Reply, Fine, Coded, Deleted, Idled, State, start, in_progress, left_now, runs, failed, Replied, refused, write, reverted_as, has_failed, Act, order_of_writer}
+use Rattle.promises.proofs.Words.{enabled, answer_reply, step_reply, reply, idle_now, after, state, is_fine, is_pending, state-append, set_failure, begins_session, begins, result_by, result_after}
+use Rattle.promises.proofs.Words.{result_if, result_from, last_result, Covers, ChangesNothing, changes_session, covered, after_enabled, after_not_enabled, some_same, append_nothing, and-false}
 use Rattle.std.proofs.Common.{◌≡◌, ◌∙◌, ℕ, List, [], ◌∷◌, ◌++◌, Option, Some, None, refl, Bool, true, false, ap, sym, subst, inl, inr, fold}
 use Rattle.std.specs.Prelude.{◌&&◌, ◌||◌, not, option_map, if◌then◌else◌, length}
-use Rattle.std.proofs.lemmas.Bool.{and_left}
-use Rattle.vss_names.specs.declared.context.Context.{Context}
-use Rattle.vss_names.specs.declared.vss_result.VssResult.{VssResult}
-use Rattle.vss_names.specs.declared.vss_result.VssResult.TheVariants.{AsyncFinished, AsyncPending, AsyncCancelled, BadState}
-use Rattle.write_history.specs.declared.mark.Mark.{Mark}
-use Rattle.write_history.specs.declared.mark.Mark.TheVariants.{Clean}
-use Rattle.write_history.specs.History.{Write}
-use Rattle.writer_calls.specs.Script.{said_of}
 use Rattle.set_agenda.specs.declared.kind.Kind.TheVariants as kind
-use Rattle.set_agenda.specs.Agenda.{open_group, next_volume}
-use Rattle.set_agenda.specs.Course.{Course, prepared, snapshot_begun}
-use Rattle.component_doc.specs.Selection.{takers}
-use Rattle.requestor.specs.Session.{Session, makes_set, opened, started as session_started, agenda_ended, set_failed}
-use Rattle.scenario.specs.declared.op.Op.{Op}
 use Rattle.scenario.specs.declared.op.Op.TheVariants as op
-use Rattle.scenario.specs.Bounds.{is_begin, begins_agenda}
-use Rattle.scenario.specs.Calls.{Target, target_of}
-use Rattle.scenario.specs.Plan.{Plan}
-use Rattle.vss_model.specs.declared.event.Event.{Event}
 use Rattle.vss_model.specs.declared.event.Event.TheVariants.{Line, Answer as AnswerEvent, Provider, Idle}
-use Rattle.vss_model.specs.Reply.{Reply, Fine, Coded, Deleted, Idled}
-use Rattle.vss_model.specs.State.{State, start, in_progress, left_now}
-use Rattle.vss_model.specs.Ending.{runs, failed}
-use Rattle.vss_model.specs.Images.{Replied, refused, write, reverted_as}
 use Rattle.vss_model.specs.Sessions.{selected, start_set, has_no_volume, volumes_of, pending, new_number, closed}
-use Rattle.vss_model.specs.Facts.{has_failed}
-use Rattle.vss_model.specs.Acts.{Act, order_of_writer, enabled, answer_reply, step_reply, reply, idle_now, after, state}
-use Rattle.vss_model.specs.Replies.{is_fine, is_pending}
-use Rattle.vss_model.proofs.Appending.{state-append}
-use Rattle.promises.specs.Awaited.{set_failure, begins_session, begins, result_by, result_after, result_if, result_from, last_result}
 use Rattle.promises.proofs.Turns.{Turn, quiet_turn, write_turn, revert_turn, begun_turn, answer_turn, tick_turn, step_turn, abort_turn, add_turn, none_started}
-use Rattle.vss_model.proofs.ByEvent.{Covers, ChangesNothing, changes_session, covered, after_enabled, after_not_enabled, some_same}
 use Rattle.promises.proofs.CalmCourses.{calm_begun}
 use Rattle.promises.proofs.SetFailures.{failure_at}
-use Rattle.vss_model.proofs.CutAppend.{append_nothing}
-use Rattle.set_agenda.proofs.WriterSets.{and-false}
 
 -- ## lines that end nothing
 

@@ -1,40 +1,15 @@
 -- The levels and the freeze time-outs of the writers' rows, and the levels of the participants, are those that the scenario gives the writers.
+use Rattle.promises.proofs.Words.{Context, Level, Order, VssResult, AsyncCancelled, Said, WriterRow, is_failed, stable_again, one_more, row_after, row_aborted, row_gathered, row_ended, Mark, Clean}
+use Rattle.promises.proofs.Words.{Write, Group, Kind, Gather, Prepare, Snapshot, Complete, Member, open_group, is_among, IsKeptInCourse, course_answered as kept_answered}
+use Rattle.promises.proofs.Words.{course_stepped as kept_stepped, course_timed as kept_timed, course_begun as kept_begun, Session, Plan, WriterPlan, State, SetRow, Kept, start, row_of_writer}
+use Rattle.promises.proofs.Words.{in_progress, left_now, put, reverted_as, Act, after, state, IsKeptByChanges, IsKeptByWrites, on_after, timeout_in, timeout_of, HasItsNumbers, level_in, level_of}
+use Rattle.promises.proofs.Words.{by_if}
 use Rattle.std.proofs.Common.{◌≡◌, ◌∙◌, ℕ, ◌+◌, ◌≤◌, zero, suc, sym, List, [], ◌∷◌, ◌++◌, Option, Some, None, refl, Bool, true, false, ap, map, fold, arith}
-use Rattle.std.specs.Prelude.{◌&&◌, not, if◌then◌else◌, slice_get}
-use Rattle.vss_names.specs.declared.context.Context.{Context}
-use Rattle.vss_names.specs.declared.level.Level.{Level}
-use Rattle.vss_names.specs.declared.order.Order.{Order}
-use Rattle.vss_names.specs.declared.vss_result.VssResult.{VssResult}
-use Rattle.vss_names.specs.declared.vss_result.VssResult.TheVariants.{AsyncCancelled}
-use Rattle.writer_state.specs.declared.said.Said.{Said}
-use Rattle.writer_state.specs.declared.said.Said.TheVariants.{Lost}
-use Rattle.writer_state.specs.declared.writer_row.WriterRow.{WriterRow}
-use Rattle.writer_state.specs.WriterState.{is_failed, is_ok, stable_again}
-use Rattle.writer_state.specs.WriterRow.{one_more, row_after, row_aborted, row_gathered, row_ended}
-use Rattle.write_history.specs.declared.mark.Mark.{Mark}
-use Rattle.write_history.specs.declared.mark.Mark.TheVariants.{Clean, Fault, FaultAfter}
-use Rattle.write_history.specs.History.{Write}
-use Rattle.set_agenda.specs.declared.group.Group.{Group}
-use Rattle.set_agenda.specs.declared.kind.Kind.{Kind}
-use Rattle.set_agenda.specs.declared.kind.Kind.TheVariants.{Gather, Prepare, Snapshot, Complete}
-use Rattle.set_agenda.specs.declared.limit.Limit.{Limit}
-use Rattle.set_agenda.specs.declared.limit.Limit.TheVariants.{Hold as HoldLimit, Freeze as FreezeLimit, Answer as AnswerLimit}
-use Rattle.set_agenda.specs.declared.member.Member.{Member}
-use Rattle.set_agenda.specs.Agenda.{Agenda, groups_left, left, open_group, open_order, order_now, waits_now, is_done, is_among}
-use Rattle.set_agenda.specs.Limits.{Running as RunningLimit, spent_of}
-use Rattle.set_agenda.specs.Course.{Course, posted, rows_where, row_if, member_if, members_from, is_member, failed as course_failed, settled_if, settled_in, settled, begun, is_decisive, told, decided, answered_to, answered as course_answered, worked, stepped_as as course_stepped_as, stepped as course_stepped, limits_now, lost_to, lost, fails_set, lost_decided, treated_as, treated, timed as course_timed, released}
-use Rattle.requestor.specs.Session.{Session}
-use Rattle.scenario.specs.Plan.{Plan, WriterPlan}
-use Rattle.vss_model.specs.State.{State, SetRow, Kept, start, row_of_writer, in_progress, left_now}
-use Rattle.vss_model.specs.Ending.{Ending, NothingEnds, AgendaEnds, SetFails, ending, concluded, followed, runs, failed_in, failed}
-use Rattle.vss_model.specs.Images.{Replied, put, reverted_as}
+use Rattle.std.specs.Prelude.{if◌then◌else◌, slice_get}
+use Rattle.set_agenda.specs.Course.{Course, posted, rows_where, row_if, member_if, members_from, is_member, failed as course_failed, begun, told, worked, released}
+use Rattle.vss_model.specs.Ending.{Ending, NothingEnds, ending, concluded, followed, runs, failed_in, failed}
 use Rattle.vss_model.specs.Sessions.{begin_in, has_no_volume, closed}
 use Rattle.vss_model.specs.Steps.{answered, step_made, is_flush, is_failed_step, stepped_as, stepped, ticked, later}
-use Rattle.vss_model.specs.Acts.{Act, after, state}
-use Rattle.vss_model.specs.Laws.{IsKeptByChanges, IsKeptByWrites}
-use Rattle.vss_model.proofs.Rule.{on_after}
-use Rattle.promises.specs.Numbers.{timeout_in, timeout_of, HasItsNumbers}
-use Rattle.promises.specs.Way.{level_in, level_of}
 use Rattle.promises.proofs.Truth.{no_less}
 use Rattle.promises.proofs.Members.{one_on}
 
@@ -114,18 +89,6 @@ module _ (l : ℕ → Level) (limit : ℕ → ℕ) where
   unfolding course_failed
   lev_failed why c h = record { rows = rows_some row_aborted aborted_same (is_member c.members) 0 0 c.rows h.rows; members = h.members; distinct = h.distinct }
 
-  lev_settled_if : (b : Bool) (k : Kind) (c : Course) → Leveled c → Leveled (settled_if b k c)
-  lev_settled_if true k c h = record { rows = h.rows; members = h.members; distinct = h.distinct }
-  lev_settled_if false k c h = h
-
-  lev_settled_in : (a : Option Agenda) (c : Course) → Leveled c → Leveled (settled_in a c)
-  lev_settled_in None c h = h
-  lev_settled_in (Some a) c h = lev_settled_if (is_done (groups_left a)) a.kind c h
-
-  lev_settled : (c : Course) → Leveled c → Leveled (settled c)
-  unfolding settled
-  lev_settled c h = lev_settled_in c.agenda c h
-
   lev_told : (o : Order) (said : Said) (now : ℕ) (ws : List ℕ) (c : Course) → Leveled c → Leveled (told o said now ws c)
   unfolding told
   lev_told o said now ws c h = record { rows = rows_some (row_after o said) (λ r. (refl, refl)) (λ w. is_among w ws) 0 0 c.rows h.rows; members = h.members; distinct = h.distinct }
@@ -134,48 +97,17 @@ module _ (l : ℕ → Level) (limit : ℕ → ℕ) where
   unfolding worked
   lev_worked now c h = record { rows = h.rows; members = h.members; distinct = h.distinct }
 
+  lev_kept : IsKeptInCourse Leveled
+  lev_kept = record {
+    posts = lev_posted;
+    says = lev_told;
+    works = lev_worked;
+    fails = lev_failed;
+    closes = λ k c h. record { rows = h.rows; members = h.members; distinct = h.distinct };
+  }
+
   lev_begun : (k : Kind) (ms : List Member) (vs : List ℕ) (now : ℕ) (c : Course) → Leveled c → Leveled (begun k ms vs now c)
-  unfolding begun
-  lev_begun k ms vs now c h =
-      lev_posted c _ (lev_settled (record c { agenda = Some (record { kind = k; members = ms; volumes = vs; begun = now; log = [] }) }) (record { rows = h.rows; members = h.members; distinct = h.distinct }))
-
-  lev_decided : (b : Bool) (said : Said) (c : Course) → Leveled c → Leveled (decided b said c)
-  lev_decided true said c h = lev_failed _ c h
-  lev_decided false said c h = lev_settled c h
-
-  lev_answered_to : (o : Option Order) (w : ℕ) (said : Said) (now : ℕ) (c : Course) → Leveled c → Leveled (answered_to o w said now c)
-  lev_answered_to None w said now c h = h
-  lev_answered_to (Some o) w said now c h = lev_decided (is_decisive o && not (is_ok said)) said (told o said now (w ∷ []) c) (lev_told o said now (w ∷ []) c h)
-
-  lev_answered : (w : ℕ) (said : Said) (now : ℕ) (c : Course) → Leveled c → Leveled (course_answered w said now c)
-  lev_answered w said now c h = lev_posted c _ (lev_answered_to (open_order (left c.agenda) w) w said now c h)
-
-  lev_stepped_as : (ok : Bool) (now : ℕ) (c : Course) → Leveled c → Leveled (course_stepped_as ok now c)
-  lev_stepped_as true now c h = lev_settled (worked now c) (lev_worked now c h)
-  lev_stepped_as false now c h = lev_failed _ c h
-
-  lev_stepped : (ok : Bool) (now : ℕ) (c : Course) → Leveled c → Leveled (course_stepped ok now c)
-  lev_stepped ok now c h = lev_posted c _ (lev_stepped_as ok now c h)
-
-  lev_lost_to : (o : Option Order) (now : ℕ) (c : Course) → Leveled c → Leveled (lost_to o now c)
-  lev_lost_to None now c h = h
-  lev_lost_to (Some o) now c h = lev_told o Lost now (waits_now (left c.agenda)) c h
-
-  lev_lost_decided : (b : Bool) (c : Course) → Leveled c → Leveled (lost_decided b c)
-  lev_lost_decided true c h = lev_failed _ c h
-  lev_lost_decided false c h = lev_settled c h
-
-  lev_treated_as : (x : Limit) (now : ℕ) (c : Course) → Leveled c → Leveled (treated_as x now c)
-  lev_treated_as HoldLimit now c h = lev_failed _ c h
-  lev_treated_as FreezeLimit now c h = lev_failed _ (lost now c) (lev_lost_to (order_now (left c.agenda)) now c h)
-  lev_treated_as AnswerLimit now c h = lev_lost_decided (fails_set (order_now (left c.agenda))) (lost now c) (lev_lost_to (order_now (left c.agenda)) now c h)
-
-  lev_treated : (o : Option RunningLimit) (now : ℕ) (c : Course) → Leveled c → Leveled (treated o now c)
-  lev_treated None now c h = h
-  lev_treated (Some x) now c h = lev_treated_as x.limit now c h
-
-  lev_timed : (now : ℕ) (c : Course) → Leveled c → Leveled (course_timed now c)
-  lev_timed now c h = lev_posted c _ (lev_treated (spent_of now (limits_now c)) now c h)
+  lev_begun k ms vs now c h = kept_begun Leveled lev_kept k ms vs now c (record { rows = h.rows; members = h.members; distinct = h.distinct })
 
   lev_released : (c : Course) → Leveled c → Leveled (released c)
   unfolding released
@@ -188,8 +120,7 @@ module _ (l : ℕ → Level) (limit : ℕ → ℕ) where
 
   on_concluded : (e : Ending) (st : State) → Holds st → Holds (concluded e st)
   on_concluded NothingEnds st h = h
-  on_concluded AgendaEnds st h = h
-  on_concluded (SetFails why) st h = h
+  on_concluded _ st h = h
 
   on_followed : (ran : Bool) (c : Course) (st : State) → Leveled c → Holds (followed ran c st)
   unfolding followed
@@ -197,11 +128,11 @@ module _ (l : ℕ → Level) (limit : ℕ → ℕ) where
 
   on_answers : (w : ℕ) (said : Said) (st : State) → Holds st → Holds (answered w said st)
   unfolding answered
-  on_answers w said st h = on_followed (runs st) _ st (lev_answered w said st.clock st.course h)
+  on_answers w said st h = on_followed (runs st) _ st (kept_answered Leveled lev_kept w said st.clock st.course h)
 
   on_stepped_as : (fails : Bool) (g : Option Group) (st : State) → Holds st → Holds (stepped_as fails g st)
-  on_stepped_as true g st h = on_followed (runs st) _ st (lev_stepped false st.clock st.course h)
-  on_stepped_as false g st h = on_followed (runs st) _ (step_made g st) (lev_stepped true st.clock st.course h)
+  on_stepped_as true g st h = on_followed (runs st) _ st (kept_stepped Leveled lev_kept false st.clock st.course h)
+  on_stepped_as false g st h = on_followed (runs st) _ (step_made g st) (kept_stepped Leveled lev_kept true st.clock st.course h)
 
   on_steps : (mark : Mark) (st : State) → Holds st → Holds (stepped mark st)
   unfolding stepped
@@ -209,7 +140,7 @@ module _ (l : ℕ → Level) (limit : ℕ → ℕ) where
 
   on_ticks : (n : ℕ) (st : State) → Holds st → Holds (ticked n st)
   unfolding ticked
-  on_ticks n st h = on_followed (runs st) _ (later n st) (lev_timed (st.clock + n) st.course h)
+  on_ticks n st h = on_followed (runs st) _ (later n st) (kept_timed Leveled lev_kept (st.clock + n) st.course h)
 
   on_failed_in : (o : Option SetRow) (why : VssResult) (st : State) → Holds st → Holds (failed_in o why st)
   on_failed_in None why st h = h
@@ -218,10 +149,6 @@ module _ (l : ℕ → Level) (limit : ℕ → ℕ) where
   on_begin : (lane : ℕ) (all : Bool) (c : Option Context) (st : State) → Holds st → Holds (begin_in lane all c st).1
   on_begin lane all None st h = h
   on_begin lane all (Some c) st h = h
-
-  either : (b : Bool) (x y : Replied) → Holds x.1 → Holds y.1 → Holds (if b then x else y).1
-  either true x y h i = h
-  either false x y h i = i
 
   on_closes : (q : Session) (st : State) → Holds st → Holds (closed q st)
   unfolding closed
@@ -234,8 +161,8 @@ module _ (l : ℕ → Level) (limit : ℕ → ℕ) where
     ticks = on_ticks;
     fails = λ why st h. on_failed_in (in_progress st) why st h;
     gathers = λ s q st e h. on_followed true _ st (lev_begun Gather _ [] st.clock _ (record { rows = rows_map row_gathered (λ r. (refl, refl)) 0 st.course.rows h.rows; members = h.members; distinct = h.distinct }));
-    prepares = λ s q st e h. either (has_no_volume (in_progress st)) _ _ h (on_followed true _ st (lev_begun Prepare _ [] st.clock _ (record { rows = h.rows; members = members_of_rows _ 0 st.course.rows h.rows; distinct = ascend_of_rows _ 0 st.course.rows })));
-    snapshots = λ q st e h. either (has_no_volume (in_progress st)) _ _ h (on_followed true _ st (lev_begun Snapshot st.course.members _ st.clock st.course h));
+    prepares = λ s q st e h. by_if (λ r. Holds r.1) (has_no_volume (in_progress st)) _ _ h (on_followed true _ st (lev_begun Prepare _ [] st.clock _ (record { rows = h.rows; members = members_of_rows _ 0 st.course.rows h.rows; distinct = ascend_of_rows _ 0 st.course.rows })));
+    snapshots = λ q st e h. by_if (λ r. Holds r.1) (has_no_volume (in_progress st)) _ _ h (on_followed true _ st (lev_begun Snapshot st.course.members _ st.clock st.course h));
     completes = λ q st e h. on_followed true _ st (lev_begun Complete _ [] st.clock st.course h);
     clears = λ s v b st h. h;
     deletes_set = λ n st h. h;
@@ -250,13 +177,11 @@ module _ (l : ℕ → Level) (limit : ℕ → ℕ) where
 
   on_puts : (v : ℕ) (w : Write) (mark : Mark) (x : State) → Holds x → Holds (put v w mark x)
   on_puts v w Clean x h = h
-  on_puts v w Fault x h = h
-  on_puts v w (FaultAfter n) x h = h
+  on_puts v w _ x h = h
 
   on_reverts : (s : Plan) (v : ℕ) (x : Kept) (mark : Mark) (st : State) → Holds st → Holds (reverted_as s v x mark st).1
   on_reverts s v x Clean st h = h
-  on_reverts s v x Fault st h = h
-  on_reverts s v x (FaultAfter n) st h = h
+  on_reverts s v x _ st h = h
 
   kept_by_writes : (st : State) → IsKeptByWrites Holds st
   kept_by_writes st = record {

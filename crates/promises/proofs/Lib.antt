@@ -1,3 +1,4 @@
+pub mod Words
 pub mod Clock
 pub mod Idle
 pub mod Speaks

@@ -1,24 +1,14 @@
 -- Where more than a limit has gone by that fails the set, time fails it. The limit of held writes is said of the first Hold step.
-use Rattle.std.proofs.Common.{◌≡◌, ◌∙◌, ℕ, ◌+◌, List, [], ◌∷◌, ◌++◌, Option, Some, None, refl, Bool, true, false, ap, sym, subst, filter, find, fold, min, arith}
-use Rattle.std.specs.Prelude.{◌&&◌, ◌||◌, not, nat_lt, ◌-◌, option_map, if◌then◌else◌, slice_get}
-use Rattle.std.specs.List.{list_any}
-use Rattle.vss_names.specs.declared.order.Order.{Order}
-use Rattle.vss_names.specs.declared.order.Order.TheVariants.{Identify, PrepareBackup, PrepareSnapshot, Freeze, Thaw, PostSnapshot, BackupComplete}
-use Rattle.writer_state.specs.declared.writer_row.WriterRow.{WriterRow}
-use Rattle.tick_limits.specs.Time.{answer_limit, hold_limit, default_freeze, is_spent}
-use Rattle.set_agenda.specs.declared.group.Group.{Group}
-use Rattle.set_agenda.specs.declared.group.Group.TheVariants.{Orders, PreCommit, Flush, Hold, Cut, Commit, Release, PostCommit}
-use Rattle.set_agenda.specs.declared.limit.Limit.{Limit}
+use Rattle.promises.proofs.Words.{list_any, Order, PrepareBackup, PrepareSnapshot, WriterRow, answer_limit, hold_limit, default_freeze, is_spent, Group, Orders, Limit, Member, Agenda, Entry, Open}
+use Rattle.promises.proofs.Words.{left, groups_left, order_of, order_now, Running, opened_at, freeze_opened_at, is_hold, first_time, first_hold, hold_runs, freeze_runs, answer_runs, runs_if}
+use Rattle.promises.proofs.Words.{hold_running, running_at, running_limits, spent_of, same_running, first_found, later_found, none_and_some, limit_found, hold_found, held_here, frozen_here}
+use Rattle.promises.proofs.Words.{asked_here, has_failed, has_passed, last_of, holds_volumes, is_hold_step, freezes_writers, prepares_snapshot, prepares_writers, frozen_too_long, unanswered_too_long}
+use Rattle.promises.proofs.Words.{Decides, same_hold, same_hold_step, same_freeze, freeze_since, answer_since}
+use Rattle.std.proofs.Common.{◌≡◌, ◌∙◌, ℕ, ◌+◌, List, [], ◌∷◌, ◌++◌, Option, Some, None, refl, Bool, true, false, sym, subst, filter, find, fold, min, arith}
+use Rattle.std.specs.Prelude.{◌&&◌, ◌||◌, nat_lt, ◌-◌, option_map, if◌then◌else◌, slice_get}
 use Rattle.set_agenda.specs.declared.limit.Limit.TheVariants.{Hold as HoldLimit, Freeze as FreezeLimit, Answer as AnswerLimit}
-use Rattle.set_agenda.specs.declared.member.Member.{Member}
-use Rattle.set_agenda.specs.Agenda.{Agenda, Entry, Open, left, groups_left, order_of, order_now, same_place}
-use Rattle.set_agenda.specs.Limits.{Running, last_time, opened_at, is_prepare_snapshot, freeze_opened_at, is_hold, first_time, first_hold, hold_runs, freeze_runs, answer_runs, runs_if, hold_running, running_at, running_limits, spent_of}
 use Rattle.set_agenda.specs.Course.{Course, posted, failed as course_failed, limit_of, freeze_limit, limits_now, fails_set as decides, lost, lost_decided, treated_as, treated, timed as course_timed}
-use Rattle.vss_model.specs.Facts.{has_failed}
-use Rattle.vss_model.specs.Causes.{has_passed, last_of, holds_volumes, is_hold_step, freezes_writers, prepares_snapshot, prepares_writers, is_elsewhere, frozen_too_long, unanswered_too_long}
-use Rattle.vss_model.proofs.Late.{Decides, same_prepare}
 use Rattle.promises.proofs.Truth.{both_parts}
-use Rattle.vss_model.proofs.ByEvent.{some_same}
 
 -- ## a limit has gone by
 
@@ -46,111 +36,24 @@ posted_fails before c e = e
 
 treated_fails : (x : Limit) (now : ℕ) (c : Course) → Decides x (order_now (left c.agenda)) → has_failed (treated_as x now c).outcome ≡ true
 unfolding course_failed
-treated_fails HoldLimit now c d = refl
-treated_fails FreezeLimit now c d = refl
 treated_fails AnswerLimit now c d = by_order (decides (order_now (left c.agenda))) d
   where
     by_order : (b : Bool) → b ≡ true → has_failed (lost_decided b (lost now c)).outcome ≡ true
     by_order true e = refl
     by_order false e = absurd cc
-
--- the tables of the causes
-pub same_hold : (g : Group) → holds_volumes g ≡ hold_runs g
-same_hold (Orders o) = refl
-same_hold PreCommit = refl
-same_hold Flush = refl
-same_hold Hold = refl
-same_hold Cut = refl
-same_hold Commit = refl
-same_hold Release = refl
-same_hold PostCommit = refl
-
-same_step : (g : Group) → is_hold_step g ≡ is_hold g
-same_step (Orders o) = refl
-same_step PreCommit = refl
-same_step Flush = refl
-same_step Hold = refl
-same_step Cut = refl
-same_step Commit = refl
-same_step Release = refl
-same_step PostCommit = refl
-
-same_freeze : (g : Group) → freezes_writers g ≡ freeze_runs g
-same_freeze (Orders Identify) = refl
-same_freeze (Orders PrepareBackup) = refl
-same_freeze (Orders PrepareSnapshot) = refl
-same_freeze (Orders Freeze) = refl
-same_freeze (Orders Thaw) = refl
-same_freeze (Orders PostSnapshot) = refl
-same_freeze (Orders BackupComplete) = refl
-same_freeze PreCommit = refl
-same_freeze Flush = refl
-same_freeze Hold = refl
-same_freeze Cut = refl
-same_freeze Commit = refl
-same_freeze Release = refl
-same_freeze PostCommit = refl
+treated_fails _ now c d = refl
 
 consent_runs : (g : Group) → prepares_writers g ≡ true → answer_runs g ≡ true
-consent_runs (Orders Identify) e = absurd cc
 consent_runs (Orders PrepareBackup) e = refl
 consent_runs (Orders PrepareSnapshot) e = refl
-consent_runs (Orders Freeze) e = absurd cc
-consent_runs (Orders Thaw) e = absurd cc
-consent_runs (Orders PostSnapshot) e = absurd cc
-consent_runs (Orders BackupComplete) e = absurd cc
-consent_runs PreCommit e = absurd cc
-consent_runs Flush e = absurd cc
-consent_runs Hold e = absurd cc
-consent_runs Cut e = absurd cc
-consent_runs Commit e = absurd cc
-consent_runs Release e = absurd cc
-consent_runs PostCommit e = absurd cc
+consent_runs (Orders _) e = absurd cc
+consent_runs _ e = absurd cc
 
 consent_decides : (g : Group) → prepares_writers g ≡ true → decides (order_of g) ≡ true
-consent_decides (Orders Identify) e = absurd cc
 consent_decides (Orders PrepareBackup) e = refl
 consent_decides (Orders PrepareSnapshot) e = refl
-consent_decides (Orders Freeze) e = absurd cc
-consent_decides (Orders Thaw) e = absurd cc
-consent_decides (Orders PostSnapshot) e = absurd cc
-consent_decides (Orders BackupComplete) e = absurd cc
-consent_decides PreCommit e = absurd cc
-consent_decides Flush e = absurd cc
-consent_decides Hold e = absurd cc
-consent_decides Cut e = absurd cc
-consent_decides Commit e = absurd cc
-consent_decides Release e = absurd cc
-consent_decides PostCommit e = absurd cc
-
--- since when
-last_time_is : (test : Entry → Bool) (t : ℕ) (log : List Entry) → last_time t (filter test log) ≡ fold (λ t (e : Entry). if test e then e.time else t) t log
-last_time_is test t [] = refl
-last_time_is test t (e ∷ log) = by_test (test e) (last_time_is test e.time log) (last_time_is test t log)
-  where
-    by_test : (b : Bool) → last_time e.time (filter test log) ≡ fold (λ t (x : Entry). if test x then x.time else t) e.time log → last_time t (filter test log) ≡ fold (λ t (x : Entry). if test x then x.time else t) t log
-        → last_time t (if b then e ∷ filter test log else filter test log) ≡ fold (λ t (x : Entry). if test x then x.time else t) (if b then e.time else t) log
-    by_test true f g = f
-    by_test false f g = g
-
-fold_along : (f g : Entry → Bool) → ((e : Entry) → f e ≡ g e) → (t : ℕ) (log : List Entry) → fold (λ t (e : Entry). if f e then e.time else t) t log ≡ fold (λ t (e : Entry). if g e then e.time else t) t log
-fold_along f g same t [] = refl
-fold_along f g same t (e ∷ log) =
-    fold_along f g same (if f e then e.time else t) log ∙ ap (λ b. fold (λ t (x : Entry). if g x then x.time else t) (if b then e.time else t) log) (same e)
-
-not_is : (b : Bool) → not b ≡ (if b then false else true)
-not_is true = refl
-not_is false = refl
-
-pub freeze_since : (a : Agenda) → last_of (λ e. prepares_snapshot e.place.group) a ≡ freeze_opened_at a
-freeze_since a =
-    sym (last_time_is (λ e. is_prepare_snapshot e.place.group) a.begun a.log
-    ∙ fold_along (λ e. is_prepare_snapshot e.place.group) (λ e. prepares_snapshot e.place.group) (λ e. same_prepare e.place.group) a.begun a.log)
-
-pub answer_since : (a : Agenda) (o : Open) → last_of (is_elsewhere o.place) a ≡ opened_at a o
-answer_since a o =
-    sym (last_time_is (λ e. not (same_place e.place o.place)) a.begun a.log
-    ∙ fold_along (λ e. not (same_place e.place o.place)) (is_elsewhere o.place) (λ e. not_is (same_place e.place o.place)) a.begun a.log)
+consent_decides (Orders _) e = absurd cc
+consent_decides _ e = absurd cc
 
 pub passed_spent : (now since limit : ℕ) → has_passed limit since now ≡ true → is_spent now since limit ≡ true
 passed_spent now since limit e = over (nat_lt (since + limit) now) limit now since refl e
@@ -171,44 +74,19 @@ finds_one : (now : ℕ) (b : Bool) (x : Limit) (since ticks : ℕ) → b ≡ tru
 finds_one now false x since ticks e f = absurd cc
 finds_one now true x since ticks e f = record { one = record { limit = x; since = since; ticks = ticks }; is = rw f refl; limit = refl }
 
--- the first limit of the list that is spent is one of these
-pub first_found : (now : ℕ) (xs ys : List Running) (l : Running) → spent_of now xs ≡ Some l → spent_of now (xs ++ ys) ≡ Some l
-first_found now [] ys l e = absurd cc
-first_found now (x ∷ xs) ys l e = by_test (is_spent now x.since x.ticks) e (first_found now xs ys l)
-  where
-    by_test : (b : Bool) → (if b then Some x else spent_of now xs) ≡ Some l → (spent_of now xs ≡ Some l → spent_of now (xs ++ ys) ≡ Some l) → (if b then Some x else spent_of now (xs ++ ys)) ≡ Some l
-    by_test true e ih = e
-    by_test false e ih = ih e
+pub spent_runs : (now : ℕ) (b : Bool) (x : Limit) (since ticks : ℕ) (l : Running) → spent_of now (runs_if b x since ticks) ≡ Some l → b ≡ true
+spent_runs now true x since ticks l e = refl
+spent_runs now false x since ticks l e = absurd cc
 
-pub later_found : (now : ℕ) (xs ys : List Running) → spent_of now xs ≡ None → spent_of now (xs ++ ys) ≡ spent_of now ys
-later_found now [] ys e = refl
-later_found now (x ∷ xs) ys e = by_test (is_spent now x.since x.ticks) e (later_found now xs ys)
-  where
-    by_test : (b : Bool) → (if b then Some x else spent_of now xs) ≡ None → (spent_of now xs ≡ None → spent_of now (xs ++ ys) ≡ spent_of now ys) → (if b then Some x else spent_of now (xs ++ ys)) ≡ spent_of now ys
-    by_test true e ih = absurd cc
-    by_test false e ih = ih e
-
-pub none_and_some : {X : Type 0} (o : Option Running) (l : Running) → o ≡ None → o ≡ Some l → X
-none_and_some None l e f = absurd cc
-none_and_some (Some x) l e f = absurd cc
-
-pub limit_found : (now : ℕ) (b : Bool) (x : Limit) (since ticks : ℕ) (l : Running) → spent_of now (runs_if b x since ticks) ≡ Some l → l.limit ≡ x
-limit_found now false x since ticks l e = absurd cc
-limit_found now true x since ticks l e = by_test (is_spent now since ticks) e
-  where
-    by_test : (b : Bool) → (if b then Some (record { limit = x; since = since; ticks = ticks }) else None) ≡ Some l → l.limit ≡ x
-    by_test true f = ap (λ (y : Running). y.limit) (sym (some_same (record { limit = x; since = since; ticks = ticks }) l f))
-    by_test false f = absurd cc
-
-pub hold_found : (now : ℕ) (g : Group) (o : Option ℕ) (l : Running) → spent_of now (hold_running g o) ≡ Some l → l.limit ≡ HoldLimit
-hold_found now g None l e = absurd cc
-hold_found now g (Some since) l e = limit_found now (hold_runs g) HoldLimit since hold_limit l e
+pub spent_holds : (now : ℕ) (g : Group) (t : Option ℕ) (l : Running) → spent_of now (hold_running g t) ≡ Some l → hold_runs g ≡ true
+spent_holds now g None l e = absurd cc
+spent_holds now g (Some t) l e = spent_runs now (hold_runs g) HoldLimit t hold_limit l e
 
 -- ## held
 
 first_is : (log : List Entry) → first_time (filter (λ e. is_hold e.place.group) log) ≡ option_map (λ (e : Entry). e.time) (find (λ (e : Entry). is_hold_step e.place.group) log)
 first_is [] = refl
-first_is (x ∷ log) = by_test (is_hold x.place.group) (is_hold_step x.place.group) (sym (same_step x.place.group)) (first_is log)
+first_is (x ∷ log) = by_test (is_hold x.place.group) (is_hold_step x.place.group) (same_hold_step x.place.group) (first_is log)
   where
     by_test : (b c : Bool) → b ≡ c → first_time (filter (λ e. is_hold e.place.group) log) ≡ option_map (λ (e : Entry). e.time) (find (λ (e : Entry). is_hold_step e.place.group) log)
         → first_time (if b then x ∷ filter (λ e. is_hold e.place.group) log else filter (λ e. is_hold e.place.group) log) ≡ option_map (λ (e : Entry). e.time) (if c then Some x else find (λ (e : Entry). is_hold_step e.place.group) log)
@@ -222,7 +100,7 @@ held_finds now g a e f = subst (λ o. Finds now (hold_running g o) HoldLimit) (s
   where
     by_first : (o : Option Entry) → passed_since now o ≡ true → Finds now (hold_running g (option_map (λ (x : Entry). x.time) o)) HoldLimit
     by_first None h = absurd cc
-    by_first (Some x) h = finds_one now (hold_runs g) HoldLimit x.time hold_limit (sym (same_hold g) ∙ e) (passed_spent now x.time hold_limit h)
+    by_first (Some x) h = finds_one now (hold_runs g) HoldLimit x.time hold_limit (same_hold g ∙ e) (passed_spent now x.time hold_limit h)
 
 -- ## frozen
 
@@ -250,8 +128,8 @@ least_spent now since least rows (m ∷ ms) e =
 pub frozen_finds : (now : ℕ) (g : Group) (c : Course) (a : Agenda) → frozen_too_long now g c a ≡ true → Finds now (runs_if (freeze_runs g) FreezeLimit (freeze_opened_at a) (freeze_limit c)) FreezeLimit
 frozen_finds now g c a e =
     let parts = both_parts (freezes_writers g) _ e in
-    finds_one now (freeze_runs g) FreezeLimit (freeze_opened_at a) (freeze_limit c) (sym (same_freeze g) ∙ parts.0)
-    (subst (λ t. is_spent now t (freeze_limit c) ≡ true) (freeze_since a) (least_spent now (last_of (λ x. prepares_snapshot x.place.group) a) default_freeze c.rows c.members parts.1))
+    finds_one now (freeze_runs g) FreezeLimit (freeze_opened_at a) (freeze_limit c) (same_freeze g ∙ parts.0)
+    (subst (λ t. is_spent now t (freeze_limit c) ≡ true) (sym (freeze_since a)) (least_spent now (last_of (λ x. prepares_snapshot x.place.group) a) default_freeze c.rows c.members parts.1))
 
 -- ## unanswered
 
@@ -259,7 +137,7 @@ answer_finds : (now : ℕ) (a : Agenda) (o : Open) → unanswered_too_long now o
 answer_finds now a o e =
     let parts = both_parts (prepares_writers o.place.group) _ e in
     finds_one now (answer_runs o.place.group) AnswerLimit (opened_at a o) answer_limit (consent_runs o.place.group parts.0)
-    (passed_spent now (opened_at a o) answer_limit (subst (λ t. has_passed answer_limit t now ≡ true) (answer_since a o) parts.1))
+    (passed_spent now (opened_at a o) answer_limit (subst (λ t. has_passed answer_limit t now ≡ true) (sym (answer_since a o)) parts.1))
 
 -- ## the spent limit fails the set
 
@@ -278,36 +156,27 @@ pub none_found : (now : ℕ) (ls : List Running) (x : Limit) → spent_of now ls
 none_found now ls x e f = none_and_some (spent_of now ls) f.one e f.is
 
 module _ (now : ℕ) (c : Course) (a : Agenda) (o : Open) where
-  abbrev H : List Running
-  H = hold_running o.place.group (first_hold a.log)
-
-  abbrev F : List Running
-  F = runs_if (freeze_runs o.place.group) FreezeLimit (freeze_opened_at a) (freeze_limit c)
-
-  abbrev A : List Running
-  A = runs_if (answer_runs o.place.group) AnswerLimit (opened_at a o) answer_limit
-
-  by_limits : (h f : Option Running) → spent_of now H ≡ h → spent_of now F ≡ f → (b d u : Bool) → (holds_volumes o.place.group && held_since_first now a) ≡ b → frozen_too_long now o.place.group c a ≡ d → unanswered_too_long now o.place a ≡ u
-      → (b || d || u) ≡ true → Spends now (H ++ F ++ A) (order_of o.place.group)
-  by_limits (Some l) f e g b d u i j k due = spends_hold now (H ++ F ++ A) (order_of o.place.group) l (first_found now (H ++ F) A l (first_found now H F l e)) (hold_found now o.place.group (first_hold a.log) l e)
+  by_limits : (h f : Option Running) → spent_of now (held_here a o) ≡ h → spent_of now (frozen_here (freeze_limit c) a o) ≡ f → (b d u : Bool) → (holds_volumes o.place.group && held_since_first now a) ≡ b → frozen_too_long now o.place.group c a ≡ d → unanswered_too_long now o.place a ≡ u
+      → (b || d || u) ≡ true → Spends now (held_here a o ++ frozen_here (freeze_limit c) a o ++ asked_here a o) (order_of o.place.group)
+  by_limits (Some l) f e g b d u i j k due = spends_hold now (held_here a o ++ frozen_here (freeze_limit c) a o ++ asked_here a o) (order_of o.place.group) l (first_found now (held_here a o ++ frozen_here (freeze_limit c) a o) (asked_here a o) l (first_found now (held_here a o) (frozen_here (freeze_limit c) a o) l e)) (hold_found now o.place.group (first_hold a.log) l e)
   by_limits None (Some l) e g b d u i j k due =
-      spends_freeze now (H ++ F ++ A) (order_of o.place.group) l (first_found now (H ++ F) A l (later_found now H F e ∙ g)) (limit_found now (freeze_runs o.place.group) FreezeLimit (freeze_opened_at a) (freeze_limit c) l g)
+      spends_freeze now (held_here a o ++ frozen_here (freeze_limit c) a o ++ asked_here a o) (order_of o.place.group) l (first_found now (held_here a o ++ frozen_here (freeze_limit c) a o) (asked_here a o) l (later_found now (held_here a o) (frozen_here (freeze_limit c) a o) e ∙ g)) (limit_found now (freeze_runs o.place.group) FreezeLimit (freeze_opened_at a) (freeze_limit c) l g)
   by_limits None None e g true d u i j k due =
       let parts = both_parts (holds_volumes o.place.group) (held_since_first now a) i in
-      absurd (none_found now H HoldLimit e (held_finds now o.place.group a parts.0 parts.1))
-  by_limits None None e g false true u i j k due = absurd (none_found now F FreezeLimit g (frozen_finds now o.place.group c a j))
+      absurd (none_found now (held_here a o) HoldLimit e (held_finds now o.place.group a parts.0 parts.1))
+  by_limits None None e g false true u i j k due = absurd (none_found now (frozen_here (freeze_limit c) a o) FreezeLimit g (frozen_finds now o.place.group c a j))
   by_limits None None e g false false true i j k due =
       let found = answer_finds now a o k in
       record {
         one = found.one;
-        is = later_found now (H ++ F) A (later_found now H F e ∙ g) ∙ found.is;
+        is = later_found now (held_here a o ++ frozen_here (freeze_limit c) a o) (asked_here a o) (later_found now (held_here a o) (frozen_here (freeze_limit c) a o) e ∙ g) ∙ found.is;
         fails = subst (λ x. Decides x (order_of o.place.group)) (sym found.limit) (consent_decides o.place.group (both_parts (prepares_writers o.place.group) _ k).0);
       }
   by_limits None None e g false false false i j k due = absurd cc
 
   due_open : (os : List Open) → is_due_at now c a (o ∷ os) ≡ true → Spends now (running_at (freeze_limit c) a (o ∷ os)) (order_of o.place.group)
   due_open os e =
-      by_limits (spent_of now H) (spent_of now F) refl refl (holds_volumes o.place.group && held_since_first now a) (frozen_too_long now o.place.group c a) (unanswered_too_long now o.place a) refl refl refl e
+      by_limits (spent_of now (held_here a o)) (spent_of now (frozen_here (freeze_limit c) a o)) refl refl (holds_volumes o.place.group && held_since_first now a) (frozen_too_long now o.place.group c a) (unanswered_too_long now o.place a) refl refl refl e
 
 due_left : (now : ℕ) (c : Course) (a : Agenda) (os : List Open) → is_due_at now c a os ≡ true → Spends now (running_at (freeze_limit c) a os) (order_now os)
 due_left now c a [] e = absurd cc
@@ -319,7 +188,7 @@ due_in now c (Some a) e = due_left now c a (groups_left a) e
 
 treats : (o : Option Running) (l : Running) (now : ℕ) (c : Course) → o ≡ Some l → Decides l.limit (order_now (left c.agenda)) → has_failed (treated o now c).outcome ≡ true
 treats None l now c e d = absurd cc
-treats (Some x) l now c e d = treated_fails x.limit now c (subst (λ (y : Running). Decides y.limit (order_now (left c.agenda))) (sym (some_same x l e)) d)
+treats (Some x) l now c e d = treated_fails x.limit now c (subst (λ (y : Running). Decides y.limit (order_now (left c.agenda))) (sym (same_running x l e)) d)
 
 pub timed_fails : (now : ℕ) (c : Course) → is_due_in now c c.agenda ≡ true → has_failed (course_timed now c).outcome ≡ true
 timed_fails now c e =

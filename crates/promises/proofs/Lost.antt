@@ -1,28 +1,14 @@
 -- Exactly the writers whose time is over are lost.
+use Rattle.promises.proofs.Words.{list_any, Order, Identify, PrepareBackup, PrepareSnapshot, Freeze, Thaw, PostSnapshot, BackupComplete, WriterRow, answer_limit, default_freeze, is_spent, Group}
+use Rattle.promises.proofs.Words.{Orders, PreCommit, Flush, Hold, Cut, Commit, Release, PostCommit, Limit, Member, Agenda, Open, groups_left, left, order_of, order_now, waits_now, is_among, is_orders}
+use Rattle.promises.proofs.Words.{is_asked, order_if, open_order, Running as RunningLimit, opened_at, freeze_opened_at, first_hold, freeze_runs, answer_runs, runs_if, hold_running, running_at}
+use Rattle.promises.proofs.Words.{running_limits, spent_of, Course, limit_of, freeze_limit, lost_at, Plan, State, left_now, Act, state, has_passed, last_of, is_elsewhere, ticks_of, lost_after}
+use Rattle.promises.proofs.Words.{lost_order_if, is_over, is_over_at, is_over_in, is_over_after, LosesTheLate, freeze_since, answer_since}
 use Rattle.std.proofs.Common.{◌≡◌, ◌∙◌, ℕ, ◌+◌, ◌-◌, List, [], ◌∷◌, ◌++◌, Option, Some, None, refl, Bool, true, false, ap, sym, fold, arith}
 use Rattle.std.specs.Prelude.{◌&&◌, ◌||◌, is_some, if◌then◌else◌, min, nat_lt, slice_get}
-use Rattle.std.specs.List.{list_any}
-use Rattle.vss_names.specs.declared.order.Order.{Order}
-use Rattle.vss_names.specs.declared.order.Order.TheVariants.{Identify, PrepareBackup, PrepareSnapshot, Freeze, Thaw, PostSnapshot, BackupComplete}
-use Rattle.writer_state.specs.declared.writer_row.WriterRow.{WriterRow}
-use Rattle.tick_limits.specs.Time.{answer_limit, default_freeze, is_spent}
-use Rattle.set_agenda.specs.declared.group.Group.{Group}
-use Rattle.set_agenda.specs.declared.group.Group.TheVariants.{Orders, PreCommit, Flush, Hold, Cut, Commit, Release, PostCommit}
-use Rattle.set_agenda.specs.declared.limit.Limit.{Limit}
 use Rattle.set_agenda.specs.declared.limit.Limit.TheVariants.{Freeze as FreezeLimit, Answer as AnswerLimit}
-use Rattle.set_agenda.specs.declared.member.Member.{Member}
-use Rattle.set_agenda.specs.Agenda.{Agenda, Open, groups_left, left, order_of, order_now, waits_now, is_among, is_orders, is_asked, order_if, open_order}
-use Rattle.set_agenda.specs.Limits.{Running as RunningLimit, opened_at, freeze_opened_at, first_hold, freeze_runs, answer_runs, runs_if, hold_running, running_at, running_limits, spent_of}
-use Rattle.set_agenda.specs.Course.{Course, limit_of, freeze_limit, lost_at}
-use Rattle.scenario.specs.Plan.{Plan}
-use Rattle.vss_model.specs.State.{State, left_now}
-use Rattle.vss_model.specs.Acts.{Act, state}
-use Rattle.vss_model.specs.Causes.{has_passed, last_of, is_elsewhere}
-use Rattle.vss_model.specs.Effects.{ticks_of, lost_after, lost_order_if}
-use Rattle.promises.specs.Lost.{is_over, is_over_at, is_over_in, is_over_after, LosesTheLate}
 use Rattle.promises.proofs.Truth.{first_both}
 use Rattle.promises.proofs.BusyAgendas.{none_held}
-use Rattle.promises.proofs.Limits.{freeze_since, answer_since}
 use Rattle.promises.proofs.Participants.{off}
 
 -- ## the limit of the open order is spent
@@ -79,10 +65,10 @@ module _ (now : ℕ) (c : Course) (a : Agenda) (o : Open) where
       ∙ one_spent now FreezeLimit (freeze_opened_at a) (freeze_limit c)
       ∙ spent_is now (freeze_opened_at a) (freeze_limit c)
       ∙ least_is now (freeze_opened_at a) default_freeze c.rows c.members
-      ∙ ap (λ t. has_passed default_freeze t now || list_any (λ (m : Member). has_passed (limit_of (slice_get c.rows m.writer)) t now) c.members) (sym (freeze_since a))
+      ∙ ap (λ t. has_passed default_freeze t now || list_any (λ (m : Member). has_passed (limit_of (slice_get c.rows m.writer)) t now) c.members) (freeze_since a)
 
   answer_spent : is_some (spent_of now (runs_if true AnswerLimit (opened_at a o) answer_limit)) ≡ has_passed answer_limit (last_of (is_elsewhere o.place) a) now
-  answer_spent = one_spent now AnswerLimit (opened_at a o) answer_limit ∙ spent_is now (opened_at a o) answer_limit ∙ ap (λ t. has_passed answer_limit t now) (sym (answer_since a o))
+  answer_spent = one_spent now AnswerLimit (opened_at a o) answer_limit ∙ spent_is now (opened_at a o) answer_limit ∙ ap (λ t. has_passed answer_limit t now) (answer_since a o)
 
   order_spent : (x : Order) → is_some (spent_of now (running_of (freeze_limit c) a o (Orders x))) ≡ is_over now c a o (Some x)
   order_spent Identify = asking Identify ∙ answer_spent

@@ -1,21 +1,9 @@
 -- Whom a choice makes take part: of the writers that pass a test exactly those are members, and exactly those takers, that have a row.
+use Rattle.promises.proofs.Words.{list_any, range_with_len, list_any-append, and_left, WriterRow, Member, is_among, is_member, member_if, members_from, is_taker, known_from as numbers_known, takers}
+use Rattle.promises.proofs.Words.{Mode, Components, All, Plan, WriterPlan, Pair, State, is_writer}
 use Rattle.std.proofs.Common.{◌≡◌, ◌∙◌, ℕ, ◌+◌, ◌==◌, ◌<◌, ◌≤◌, zero, suc, List, [], ◌∷◌, refl, Bool, true, false, ap, sym, filter, length, arith}
 use Rattle.std.specs.Prelude.{◌&&◌, ◌||◌, if◌then◌else◌, nat_lt}
-use Rattle.std.specs.List.{list_any, range_with_len}
-use Rattle.std.proofs.lemmas.List.Folds.{list_any-append}
-use Rattle.std.proofs.lemmas.Bool.{and_left}
-use Rattle.writer_state.specs.declared.writer_row.WriterRow.{WriterRow}
-use Rattle.set_agenda.specs.declared.member.Member.{Member}
-use Rattle.set_agenda.specs.Agenda.{is_among}
-use Rattle.set_agenda.specs.Course.{is_member, member_if, members_from}
-use Rattle.component_doc.specs.Selection.{is_taker, known_from as numbers_known, takers}
-use Rattle.requestor.specs.declared.mode.Mode.{Mode}
-use Rattle.requestor.specs.declared.mode.Mode.TheVariants.{Components, All}
-use Rattle.scenario.specs.Plan.{Plan, WriterPlan}
-use Rattle.component_doc.specs.Selection.{Pair}
-use Rattle.vss_model.specs.State.{State}
 use Rattle.vss_model.specs.Sessions.{is_known, meta_if, known_from, selected_in}
-use Rattle.promises.specs.Participants.{is_writer}
 use Rattle.promises.proofs.Truth.{equal, or_false}
 
 -- ## numbers in order

@@ -1,10 +1,7 @@
 -- How many blocks writes name, and which parts of them name no more.
+use Rattle.promises.proofs.Words.{range_with_len, drop-append-le, take-append-le, length-drop, list_any-append, Write, names, blocks_named, to_restore, restoring}
 use Rattle.std.proofs.Common.{◌≡◌, ◌∙◌, ℕ, ◌+◌, ◌-◌, ◌==◌, ◌≤◌, ◌<◌, zero, suc, List, [], ◌∷◌, ◌++◌, ◌⊎◌, refl, Bool, true, false, ap, sym, subst, inl, inr, map, filter, length, take, drop, arith}
 use Rattle.std.specs.Prelude.{◌||◌, if◌then◌else◌, slice_range}
-use Rattle.std.specs.List.{range_with_len}
-use Rattle.std.proofs.lemmas.List.{drop-append-le, take-append-le, length-drop}
-use Rattle.std.proofs.lemmas.List.Folds.{list_any-append}
-use Rattle.write_history.specs.History.{Write, names, blocks_named, to_restore, restoring}
 use Rattle.promises.proofs.Truth.{chain, equal, right_part}
 
 -- whatever these writes name, those do

@@ -1,19 +1,11 @@
 -- Limits that are not spent, and the stages in which they run.
+use Rattle.promises.proofs.Words.{Level, System, Order, PrepareBackup, PrepareSnapshot, Freeze, Thaw, PostSnapshot, hold_limit, is_spent, Group, Orders, PreCommit, Flush}
+use Rattle.promises.proofs.Words.{Hold, Cut, Commit, Release, PostCommit, Limit, Running as RunningLimit, is_prepare_snapshot, is_hold, hold_runs, freeze_runs, runs_if, hold_running, spent_of}
+use Rattle.promises.proofs.Words.{is_decisive, later_found}
 use Rattle.std.proofs.Common.{◌≡◌, ◌∙◌, ℕ, ◌+◌, ◌≤◌, List, [], ◌∷◌, ◌++◌, Option, Some, None, refl, Bool, true, false, arith}
 use Rattle.std.specs.Prelude.{not, nat_lt, ◌-◌, if◌then◌else◌}
-use Rattle.vss_names.specs.declared.level.Level.{Level}
-use Rattle.vss_names.specs.declared.level.Level.TheVariants.{System, BackEnd, FrontEnd}
-use Rattle.vss_names.specs.declared.order.Order.{Order}
-use Rattle.vss_names.specs.declared.order.Order.TheVariants.{Identify, PrepareBackup, PrepareSnapshot, Freeze, Thaw, PostSnapshot, BackupComplete}
-use Rattle.tick_limits.specs.Time.{hold_limit, is_spent}
-use Rattle.set_agenda.specs.declared.group.Group.{Group}
-use Rattle.set_agenda.specs.declared.group.Group.TheVariants.{Orders, PreCommit, Flush, Hold, Cut, Commit, Release, PostCommit}
-use Rattle.set_agenda.specs.declared.limit.Limit.{Limit}
 use Rattle.set_agenda.specs.declared.limit.Limit.TheVariants.{Hold as HoldLimit}
-use Rattle.set_agenda.specs.Limits.{Running as RunningLimit, is_prepare_snapshot, is_hold, hold_runs, freeze_runs, runs_if, hold_running, spent_of}
-use Rattle.set_agenda.specs.Course.{is_decisive}
 use Rattle.promises.proofs.Truth.{chain}
-use Rattle.promises.proofs.Limits.{later_found}
 use Rattle.promises.proofs.Stages.{group_stage}
 
 -- ## limits that are not spent
@@ -70,41 +62,27 @@ unspent_hold now g (Some since) h = unspent_if (hold_runs g) HoldLimit since hol
 
 -- a limit of these loses the writers, and the set goes on
 abbrev pub is_mild : Group → Bool
-is_mild (Orders Identify) = true
 is_mild (Orders PrepareBackup) = false
 is_mild (Orders PrepareSnapshot) = false
 is_mild (Orders Freeze) = false
-is_mild (Orders Thaw) = true
-is_mild (Orders PostSnapshot) = true
-is_mild (Orders BackupComplete) = true
-is_mild PreCommit = false
-is_mild Flush = false
-is_mild Hold = false
-is_mild Cut = false
-is_mild Commit = false
-is_mild Release = false
-is_mild PostCommit = false
+is_mild (Orders _) = true
+is_mild _ = false
 
 pub mild_order : (o : Order) → is_decisive o ≡ false → is_mild (Orders o) ≡ true
-mild_order Identify e = refl
 mild_order PrepareBackup e = absurd cc
 mild_order PrepareSnapshot e = absurd cc
 mild_order Freeze e = absurd cc
-mild_order Thaw e = refl
-mild_order PostSnapshot e = refl
-mild_order BackupComplete e = refl
+mild_order _ e = refl
 
 -- ## stages
 
 pub freeze_low : (x : Level) → group_stage (Orders Freeze) (Some x) ≤ 5
 freeze_low System = omega arith
-freeze_low BackEnd = omega arith
-freeze_low FrontEnd = omega arith
+freeze_low _ = omega arith
 
 pub thaw_high : (x : Level) → 11 ≤ group_stage (Orders Thaw) (Some x)
 thaw_high System = omega arith
-thaw_high BackEnd = omega arith
-thaw_high FrontEnd = omega arith
+thaw_high _ = omega arith
 
 pub freeze_at : (l : Option Level) → group_stage (Orders Freeze) l ≤ 5
 freeze_at None = omega arith
@@ -122,91 +100,53 @@ hold_six Hold l e = omega arith
 hold_six g l e = absurd cc
 
 pub hold_nine : (g : Group) (l : Option Level) → hold_runs g ≡ true → group_stage g l ≤ 9
-hold_nine (Orders o) l e = absurd cc
-hold_nine PreCommit l e = absurd cc
-hold_nine Flush l e = absurd cc
 hold_nine Hold l e = omega arith
 hold_nine Cut l e = omega arith
 hold_nine Commit l e = omega arith
 hold_nine Release l e = omega arith
-hold_nine PostCommit l e = absurd cc
+hold_nine _ l e = absurd cc
 
 pub hold_between : (g : Group) (l : Option Level) → 6 ≤ group_stage g l → group_stage g l ≤ 9 → hold_runs g ≡ true
-hold_between (Orders Identify) l h i = absurd (apart 15 9 15 i (omega arith) (omega arith))
-hold_between (Orders PrepareBackup) l h i = absurd (apart 15 9 15 i (omega arith) (omega arith))
 hold_between (Orders PrepareSnapshot) l h i = absurd (apart 0 5 6 (omega arith) (omega arith) h)
 hold_between (Orders Freeze) l h i = absurd (apart (group_stage (Orders Freeze) l) 5 6 (freeze_at l) (omega arith) h)
 hold_between (Orders Thaw) l h i = absurd (apart (group_stage (Orders Thaw) l) 9 11 i (omega arith) (thaw_at l))
 hold_between (Orders PostSnapshot) l h i = absurd (apart 14 9 14 i (omega arith) (omega arith))
-hold_between (Orders BackupComplete) l h i = absurd (apart 15 9 15 i (omega arith) (omega arith))
+hold_between (Orders _) l h i = absurd (apart 15 9 15 i (omega arith) (omega arith))
 hold_between PreCommit l h i = absurd (apart 4 5 6 (omega arith) (omega arith) h)
 hold_between Flush l h i = absurd (apart 5 5 6 (omega arith) (omega arith) h)
-hold_between Hold l h i = refl
-hold_between Cut l h i = refl
-hold_between Commit l h i = refl
-hold_between Release l h i = refl
 hold_between PostCommit l h i = absurd (apart 10 9 10 i (omega arith) (omega arith))
+hold_between _ l h i = refl
 
 pub freeze_ten : (g : Group) (l : Option Level) → freeze_runs g ≡ true → group_stage g l ≤ 10
-freeze_ten (Orders Identify) l e = absurd cc
-freeze_ten (Orders PrepareBackup) l e = absurd cc
-freeze_ten (Orders PrepareSnapshot) l e = absurd cc
 freeze_ten (Orders Freeze) l e = chain (group_stage (Orders Freeze) l) 5 10 (freeze_at l) (omega arith)
-freeze_ten (Orders Thaw) l e = absurd cc
-freeze_ten (Orders PostSnapshot) l e = absurd cc
-freeze_ten (Orders BackupComplete) l e = absurd cc
-freeze_ten PreCommit l e = omega arith
-freeze_ten Flush l e = omega arith
-freeze_ten Hold l e = omega arith
-freeze_ten Cut l e = omega arith
-freeze_ten Commit l e = omega arith
-freeze_ten Release l e = omega arith
-freeze_ten PostCommit l e = omega arith
+freeze_ten (Orders _) l e = absurd cc
+freeze_ten _ l e = omega arith
 
 pub freeze_between : (g : Group) (l : Option Level) → is_prepare_snapshot g ≡ false → group_stage g l ≤ 10 → freeze_runs g ≡ true
-freeze_between (Orders Identify) l h i = absurd (apart 15 10 15 i (omega arith) (omega arith))
-freeze_between (Orders PrepareBackup) l h i = absurd (apart 15 10 15 i (omega arith) (omega arith))
 freeze_between (Orders PrepareSnapshot) l h i = absurd cc
-freeze_between (Orders Freeze) l h i = refl
 freeze_between (Orders Thaw) l h i = absurd (apart (group_stage (Orders Thaw) l) 10 11 i (omega arith) (thaw_at l))
 freeze_between (Orders PostSnapshot) l h i = absurd (apart 14 10 14 i (omega arith) (omega arith))
-freeze_between (Orders BackupComplete) l h i = absurd (apart 15 10 15 i (omega arith) (omega arith))
-freeze_between PreCommit l h i = refl
-freeze_between Flush l h i = refl
-freeze_between Hold l h i = refl
-freeze_between Cut l h i = refl
-freeze_between Commit l h i = refl
-freeze_between Release l h i = refl
-freeze_between PostCommit l h i = refl
+freeze_between (Orders Freeze) l h i = refl
+freeze_between (Orders _) l h i = absurd (apart 15 10 15 i (omega arith) (omega arith))
+freeze_between _ l h i = refl
 
 pub mild_high : (g : Group) (l : Option Level) → is_mild g ≡ true → 11 ≤ group_stage g l
-mild_high (Orders Identify) l e = omega arith
 mild_high (Orders PrepareBackup) l e = absurd cc
 mild_high (Orders PrepareSnapshot) l e = absurd cc
 mild_high (Orders Freeze) l e = absurd cc
 mild_high (Orders Thaw) l e = thaw_at l
-mild_high (Orders PostSnapshot) l e = omega arith
-mild_high (Orders BackupComplete) l e = omega arith
-mild_high PreCommit l e = absurd cc
-mild_high Flush l e = absurd cc
-mild_high Hold l e = absurd cc
-mild_high Cut l e = absurd cc
-mild_high Commit l e = absurd cc
-mild_high Release l e = absurd cc
-mild_high PostCommit l e = absurd cc
+mild_high (Orders _) l e = omega arith
+mild_high _ l e = absurd cc
 
 abbrev pub is_backup_order : Group → Bool
 is_backup_order (Orders PrepareBackup) = true
 is_backup_order _ = false
 
 pub high_mild : (g : Group) (l : Option Level) → not (is_backup_order g) ≡ true → 11 ≤ group_stage g l → is_mild g ≡ true
-high_mild (Orders Identify) l h i = refl
 high_mild (Orders PrepareBackup) l h i = absurd cc
 high_mild (Orders PrepareSnapshot) l h i = absurd (apart 0 10 11 (omega arith) (omega arith) i)
 high_mild (Orders Freeze) l h i = absurd (apart (group_stage (Orders Freeze) l) 5 11 (freeze_at l) (omega arith) i)
-high_mild (Orders Thaw) l h i = refl
-high_mild (Orders PostSnapshot) l h i = refl
-high_mild (Orders BackupComplete) l h i = refl
+high_mild (Orders _) l h i = refl
 high_mild PreCommit l h i = absurd (apart 4 10 11 (omega arith) (omega arith) i)
 high_mild Flush l h i = absurd (apart 5 10 11 (omega arith) (omega arith) i)
 high_mild Hold l h i = absurd (apart 6 10 11 (omega arith) (omega arith) i)

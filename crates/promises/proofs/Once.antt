@@ -1,22 +1,9 @@
 -- No step is made twice, and nobody is heard twice to an order.
+use Rattle.promises.proofs.Words.{list_any, list_any-append, or_parts, Level, Order, Identify, Freeze, Thaw, PostSnapshot, Said, Group, Orders, Snapshot, Member, Place, true_not_false, among_filter}
+use Rattle.promises.proofs.Words.{Deed, is_heard, is_again, AreOnce, heard, Spoke}
 use Rattle.std.proofs.Common.{◌≡◌, ◌∙◌, ℕ, ◌==◌, ◌≤◌, ◌<◌, List, [], ◌∷◌, ◌++◌, Option, Some, None, refl, Bool, true, false, ap, sym, subst, map, filter, arith, ◌+◌}
 use Rattle.std.specs.Prelude.{◌&&◌, ◌||◌, not, is_some, if◌then◌else◌}
-use Rattle.std.specs.List.{list_any}
-use Rattle.std.proofs.lemmas.List.Folds.{list_any-append}
-use Rattle.std.proofs.lemmas.Bool.{or_parts}
-use Rattle.vss_names.specs.declared.level.Level.{Level}
-use Rattle.vss_names.specs.declared.order.Order.{Order}
-use Rattle.vss_names.specs.declared.order.Order.TheVariants.{Identify, PrepareBackup, PrepareSnapshot, Freeze, Thaw, PostSnapshot, BackupComplete}
-use Rattle.writer_state.specs.declared.said.Said.{Said}
-use Rattle.set_agenda.specs.declared.group.Group.{Group}
-use Rattle.set_agenda.specs.declared.group.Group.TheVariants.{Orders}
-use Rattle.set_agenda.specs.declared.kind.Kind.TheVariants.{Snapshot}
-use Rattle.set_agenda.specs.declared.member.Member.{Member}
-use Rattle.set_agenda.specs.declared.place.Place.{Place}
 use Rattle.set_agenda.specs.Agenda.{Agenda, Open, places, same_order, has_failed, has_said, is_at, writers_at, members_of, waited_for, with_group, left_from, open_place, is_among, waits_now}
-use Rattle.vss_model.proofs.Orderly.{true_not_false}
-use Rattle.vss_model.proofs.Spoken.{among_filter}
-use Rattle.promises.specs.Way.{Deed, is_heard, is_again, AreOnce, heard, Spoke}
 use Rattle.promises.proofs.Truth.{equal, false_of, left_part, right_part, same_number}
 use Rattle.promises.proofs.Levels.{Ascends}
 use Rattle.promises.proofs.Stages.{level_or, leveled}
@@ -106,13 +93,8 @@ apart_writers w (m ∷ ms) l h = by_head (is_at l m.level) (apart_writers (m.wri
     by_head false ih = ih
 
 pub apart_members : (o : Order) (a : Agenda) (l : Option Level) → Ascends 0 a.members → Apart (members_of a (Orders o) l)
-apart_members Identify a l h = apart_writers 0 a.members l h
-apart_members PrepareBackup a l h = apart_writers 0 a.members l h
-apart_members PrepareSnapshot a l h = apart_writers 0 a.members l h
-apart_members Freeze a l h = apart_writers 0 a.members l h
-apart_members Thaw a l h = apart_writers 0 a.members l h
 apart_members PostSnapshot a l h = apart_filter (λ x. not (has_failed a.log x)) (writers_at a.members l) (apart_writers 0 a.members l h)
-apart_members BackupComplete a l h = apart_writers 0 a.members l h
+apart_members _ a l h = apart_writers 0 a.members l h
 
 pub waits_apart : (a : Agenda) (ps : List Place) (o : Order) → Ascends 0 a.members → (open_place (left_from a ps)).group ≡ Orders o → Apart (waits_now (left_from a ps))
 waits_apart a [] o h e = tt
@@ -152,18 +134,9 @@ is_order_place o x q e f g = both_same q (order_place o x).group (order_place o 
 
     group_is : (o : Order) → (order_place o x).group ≡ Orders o
     group_is Identify = refl
-    group_is PrepareBackup = refl
-    group_is PrepareSnapshot = refl
-    group_is Freeze = refl
-    group_is Thaw = refl
-    group_is PostSnapshot = refl
-    group_is BackupComplete = refl
+    group_is _ = refl
 
     level_is : (o : Order) → q.group ≡ Orders o → (leveled q.group ≡ true → q.level ≡ Some x) → (leveled q.group ≡ false → q.level ≡ None) → q.level ≡ (order_place o x).level
-    level_is Identify e f g = g (ap leveled e)
-    level_is PrepareBackup e f g = g (ap leveled e)
-    level_is PrepareSnapshot e f g = g (ap leveled e)
     level_is Freeze e f g = f (ap leveled e)
     level_is Thaw e f g = f (ap leveled e)
-    level_is PostSnapshot e f g = g (ap leveled e)
-    level_is BackupComplete e f g = g (ap leveled e)
+    level_is _ e f g = g (ap leveled e)

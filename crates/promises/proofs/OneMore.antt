@@ -1,16 +1,10 @@
 -- One more is said: it leaves no limit outrun.
+use Rattle.promises.proofs.Words.{list_any-append, Said, answer_limit, hold_limit, is_spent, Group, Kind, Gather, Prepare, Snapshot, Complete, Place, Agenda, Entry, Open, places, group_code}
+use Rattle.promises.proofs.Words.{level_code, same_place, left_from, groups_left, open_place, at_place, all_say, Running as RunningLimit, last_time, opened_at, is_prepare_snapshot, freeze_opened_at}
+use Rattle.promises.proofs.Words.{is_hold, first_hold, hold_runs, freeze_runs, answer_runs, runs_if, hold_running, running_at, spent_of}
 use Rattle.std.proofs.Common.{◌≡◌, ◌∙◌, ℕ, ◌==◌, ◌≤◌, List, [], ◌∷◌, ◌++◌, Option, Some, None, refl, Bool, true, false, ap, sym, subst, map, filter}
 use Rattle.std.specs.Prelude.{◌&&◌, ◌||◌, not}
-use Rattle.std.proofs.lemmas.List.Folds.{list_any-append}
-use Rattle.writer_state.specs.declared.said.Said.{Said}
-use Rattle.tick_limits.specs.Time.{answer_limit, hold_limit, is_spent}
-use Rattle.set_agenda.specs.declared.group.Group.{Group}
-use Rattle.set_agenda.specs.declared.kind.Kind.{Kind}
-use Rattle.set_agenda.specs.declared.kind.Kind.TheVariants.{Gather, Prepare, Snapshot, Complete}
 use Rattle.set_agenda.specs.declared.limit.Limit.TheVariants.{Hold as HoldLimit, Freeze as FreezeLimit, Answer as AnswerLimit}
-use Rattle.set_agenda.specs.declared.place.Place.{Place}
-use Rattle.set_agenda.specs.Agenda.{Agenda, Entry, Open, places, group_code, level_code, same_place, left_from, groups_left, open_place, at_place, all_say}
-use Rattle.set_agenda.specs.Limits.{Running as RunningLimit, last_time, opened_at, is_prepare_snapshot, freeze_opened_at, is_hold, first_hold, hold_runs, freeze_runs, answer_runs, runs_if, hold_running, running_at, spent_of}
 use Rattle.promises.proofs.Truth.{both_parts, chain, equal, not_itself}
 use Rattle.promises.proofs.Speaks.{Speaks}
 use Rattle.promises.proofs.Stages.{group_stage, open_stage, closed_stays, goes_up, snapshot_from}

@@ -1,14 +1,8 @@
 -- The open group, and what it adds to the log.
+use Rattle.promises.proofs.Words.{list_any, Said, Kind, Place, Agenda, Entry, Open, places, is_orders, waited_for, with_group, left_from, groups_left, open_place, waits_now, is_among, head_or_0}
+use Rattle.promises.proofs.Words.{at_place, last_time, is_hold, first_time, first_hold, after, WaitsWell, waits-left_from}
 use Rattle.std.proofs.Common.{◌≡◌, ◌∙◌, ℕ, List, [], ◌∷◌, ◌++◌, Some, None, refl, Bool, true, false, ap, sym, subst, inl, inr, map, filter}
 use Rattle.std.specs.Prelude.{◌&&◌, ◌||◌, if◌then◌else◌}
-use Rattle.std.specs.List.{list_any}
-use Rattle.writer_state.specs.declared.said.Said.{Said}
-use Rattle.set_agenda.specs.declared.kind.Kind.{Kind}
-use Rattle.set_agenda.specs.declared.place.Place.{Place}
-use Rattle.set_agenda.specs.Agenda.{Agenda, Entry, Open, places, is_orders, waited_for, with_group, left_from, groups_left, open_place, waits_now, is_among, head_or_0, at_place}
-use Rattle.set_agenda.specs.Limits.{last_time, is_hold, first_time, first_hold}
-use Rattle.vss_model.specs.Acts.{after}
-use Rattle.vss_model.proofs.Waiting.{WaitsWell, waits-left_from}
 use Rattle.promises.proofs.Truth.{both_parts}
 use Rattle.promises.proofs.Speaks.{Speaks}
 

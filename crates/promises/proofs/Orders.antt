@@ -1,21 +1,10 @@
 -- Orders and levels: each participant is heard at its own.
+use Rattle.promises.proofs.Words.{Level, System, BackEnd, FrontEnd, Order, Identify, PrepareSnapshot, Freeze, Thaw, PostSnapshot, Said, is_ok, Group, Orders, PreCommit, Snapshot, Member, Place}
+use Rattle.promises.proofs.Words.{is_member, fails_set, Plan}
 use Rattle.std.proofs.Common.{◌≡◌, ◌∙◌, ℕ, ◌==◌, ◌≤◌, ◌<◌, List, [], ◌∷◌, Option, Some, None, refl, Bool, true, false, ap, sym, map, filter, arith}
 use Rattle.std.specs.Prelude.{◌&&◌, ◌||◌, not, is_some, if◌then◌else◌}
-use Rattle.vss_names.specs.declared.level.Level.{Level}
-use Rattle.vss_names.specs.declared.level.Level.TheVariants.{System, BackEnd, FrontEnd}
 use Rattle.vss_names.specs.Level.{number_of}
-use Rattle.vss_names.specs.declared.order.Order.{Order}
-use Rattle.vss_names.specs.declared.order.Order.TheVariants.{Identify, PrepareBackup, PrepareSnapshot, Freeze, Thaw, PostSnapshot, BackupComplete}
-use Rattle.writer_state.specs.declared.said.Said.{Said}
-use Rattle.writer_state.specs.WriterState.{is_ok}
-use Rattle.set_agenda.specs.declared.group.Group.{Group}
-use Rattle.set_agenda.specs.declared.group.Group.TheVariants.{Orders, PreCommit, Flush, Hold, Cut, Commit, Release, PostCommit}
-use Rattle.set_agenda.specs.declared.kind.Kind.TheVariants.{Snapshot}
-use Rattle.set_agenda.specs.declared.member.Member.{Member}
-use Rattle.set_agenda.specs.declared.place.Place.{Place}
 use Rattle.set_agenda.specs.Agenda.{Agenda, Entry, Open, places, same_order, order_code, group_code, level_code, order_of, is_orders, has_failed, is_at, writers_at, members_of, waited_for, with_group, left_from, open_place, is_among}
-use Rattle.set_agenda.specs.Course.{is_member, fails_set}
-use Rattle.scenario.specs.Plan.{Plan}
 use Rattle.promises.specs.Way.{level_of, is_heard, is_agreed, heard, agreed, failed}
 use Rattle.promises.proofs.Truth.{both_are, both_parts, equal, left_part, right_part, same_number}
 use Rattle.promises.proofs.Levels.{MembersOf}
@@ -27,12 +16,7 @@ use Rattle.promises.proofs.Heard.{said_all, same_group, said_deed}
 
 pub order_codes : (o : Order) → group_code (Orders o) ≡ order_code o
 order_codes Identify = refl
-order_codes PrepareBackup = refl
-order_codes PrepareSnapshot = refl
-order_codes Freeze = refl
-order_codes Thaw = refl
-order_codes PostSnapshot = refl
-order_codes BackupComplete = refl
+order_codes _ = refl
 
 pub same_orders : (o p : Order) → same_order o p ≡ true → o ≡ p
 same_orders o p e = inner (same_group (Orders o) (Orders p) (ap (λ n. n == group_code (Orders p)) (order_codes o) ∙ ap (λ n. order_code o == n) (order_codes p) ∙ e))
@@ -52,36 +36,21 @@ agreed_at (Orders o) order w u said now e mild d =
     ok_of true false e m = absurd cc
     ok_of false k e m = absurd cc
 agreed_at PreCommit order w u said now e mild d = absurd cc
-agreed_at Flush order w u said now e mild d = absurd cc
-agreed_at Hold order w u said now e mild d = absurd cc
-agreed_at Cut order w u said now e mild d = absurd cc
-agreed_at Commit order w u said now e mild d = absurd cc
-agreed_at Release order w u said now e mild d = absurd cc
-agreed_at PostCommit order w u said now e mild d = absurd cc
+agreed_at _ order w u said now e mild d = absurd cc
 
 pub post_group : (h : Group) (w u : ℕ) (said : Said) (now : ℕ) → is_heard PostSnapshot w (deed_at h u said now) ≡ true → (h ≡ Orders PostSnapshot) × (u ≡ w)
 post_group (Orders o) w u said now e =
     let parts = both_parts (same_order o PostSnapshot) (u == w) e in
     (ap Orders (same_orders o PostSnapshot parts.0), equal u w parts.1)
 post_group PreCommit w u said now e = absurd cc
-post_group Flush w u said now e = absurd cc
-post_group Hold w u said now e = absurd cc
-post_group Cut w u said now e = absurd cc
-post_group Commit w u said now e = absurd cc
-post_group Release w u said now e = absurd cc
-post_group PostCommit w u said now e = absurd cc
+post_group _ w u said now e = absurd cc
 
 pub heard_group : (order : Order) (h : Group) (w u : ℕ) (said : Said) (now : ℕ) → is_heard order w (deed_at h u said now) ≡ true → (h ≡ Orders order) × (u ≡ w)
 heard_group order (Orders o) w u said now e =
     let parts = both_parts (same_order o order) (u == w) e in
     (ap Orders (same_orders o order parts.0), equal u w parts.1)
 heard_group order PreCommit w u said now e = absurd cc
-heard_group order Flush w u said now e = absurd cc
-heard_group order Hold w u said now e = absurd cc
-heard_group order Cut w u said now e = absurd cc
-heard_group order Commit w u said now e = absurd cc
-heard_group order Release w u said now e = absurd cc
-heard_group order PostCommit w u said now e = absurd cc
+heard_group order _ w u said now e = absurd cc
 
 -- who was heard at Thaw and has not failed said ok
 pub heard_agreed : (log : List Entry) (w : ℕ) → has_failed log w ≡ false → heard Thaw w (map deed_in log) ≡ true → agreed Thaw w (map deed_in log) ≡ true
@@ -100,13 +69,7 @@ heard_agreed (x ∷ log) w e f = at_group x.place.group x.who x.said x.time e f 
     at_group : (h : Group) (u : ℕ) (said : Said) (now : ℕ) → ((is_orders h && not (is_ok said) && (u == w)) || has_failed log w) ≡ false → (is_heard Thaw w (deed_at h u said now) || heard Thaw w (map deed_in log)) ≡ true
         → (has_failed log w ≡ false → heard Thaw w (map deed_in log) ≡ true → agreed Thaw w (map deed_in log) ≡ true) → (is_agreed Thaw w (deed_at h u said now) || agreed Thaw w (map deed_in log)) ≡ true
     at_group (Orders o) u said now e f ih = by_parts (same_order o Thaw) (is_ok said) (u == w) (has_failed log w) (heard Thaw w (map deed_in log)) (agreed Thaw w (map deed_in log)) e f ih
-    at_group PreCommit u said now e f ih = ih e f
-    at_group Flush u said now e f ih = ih e f
-    at_group Hold u said now e f ih = ih e f
-    at_group Cut u said now e f ih = ih e f
-    at_group Commit u said now e f ih = ih e f
-    at_group Release u said now e f ih = ih e f
-    at_group PostCommit u said now e f ih = ih e f
+    at_group _ u said now e f ih = ih e f
 
 -- each member is of a level
 pub at_some_level : (ms : List Member) (w : ℕ) (X : Type 0) → ((l : Level) → is_among w (writers_at ms (Some l)) ≡ true → X) → is_member ms w ≡ true → X

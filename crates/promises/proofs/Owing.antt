@@ -1,75 +1,31 @@
 -- Nobody owes an answer once the agenda that asked for it is over: while it runs, whoever owes one is waited for; and it ends only where
 -- nobody is.
+use Rattle.promises.proofs.Words.{list_any, list_any-append, Context, Backup, AppRollback, NasRollback, Order, SetOutcome, VssResult, AsyncCancelled, AsyncPending, BadState, InsufficientStorage, Said}
+use Rattle.promises.proofs.Words.{Lost, is_ok, row_gathered, WriterRow, Mark, Clean, Fault, Write, takers, said_of, Group, Orders, Kind, Gather, Prepare, Snapshot, Complete, Member, Place, Agenda}
+use Rattle.promises.proofs.Words.{Entry, Open, plain, places, order_of, has_said, same_place, writers_at, waited_for, with_group, left_from, groups_left, left, open_group, open_place, is_among}
+use Rattle.promises.proofs.Words.{is_working, is_done, at_place, all_say, order_now, same_order, waits_now, order_code, spent_of, Stage, Session, opened, started as session_started, has_writers}
+use Rattle.promises.proofs.Words.{stage_after, agenda_ended, set_failed, is_stage, Op, begins_agenda, Target, target_of, Plan, runs, followed, failed_in, failed, SetRow, State, Kept, in_progress}
+use Rattle.promises.proofs.Words.{left_now, Event, Reply, Fine, Coded, Deleted, has_failed, WaitsFor, IsAgendaOf, line_ticks, lost_after, lost_order_if, Act, enabled, order_of_writer, idle_now}
+use Rattle.promises.proofs.Words.{answer_reply, reply, after, state, LetsGo, is_pending, Settles, among_filter, state-append, append_nothing, orderly, Deed, Spoke, deeds_lost, Asking, ToIdentify}
+use Rattle.promises.proofs.Words.{ForConsent, AtCompletion, order_for, asks, step_for, is_asked_of, counts, is_reply, owes_after, owes_if, owes_from, owes, NobodyOwes, Step, ByGather, ByPrepare}
+use Rattle.promises.proofs.Words.{ByComplete, progress, is_step, is_writer, choosing, Covers, covered, after_enabled, after_not_enabled, some_same, by_if, none_runs}
 use Rattle.std.proofs.Common.{◌≡◌, ◌∙◌, ℕ, ◌+◌, ◌==◌, List, [], ◌∷◌, ◌++◌, Option, Some, None, refl, Bool, true, false, ap, sym, subst, inl, inr, map, filter, length, arith}
 use Rattle.std.specs.Prelude.{◌&&◌, ◌||◌, not, is_some, option_map, if◌then◌else◌, nat_lt}
-use Rattle.std.specs.List.{list_any}
-use Rattle.std.proofs.lemmas.List.Folds.{list_any-append}
-use Rattle.vss_names.specs.declared.context.Context.{Context}
-use Rattle.vss_names.specs.declared.context.Context.TheVariants.{Backup, AppRollback, NasRollback}
-use Rattle.vss_names.specs.declared.order.Order.{Order}
-use Rattle.vss_names.specs.declared.set_outcome.SetOutcome.{SetOutcome}
-use Rattle.vss_names.specs.declared.vss_result.VssResult.{VssResult}
-use Rattle.vss_names.specs.declared.vss_result.VssResult.TheVariants.{AsyncCancelled, AsyncPending, BadState, InsufficientStorage}
-use Rattle.writer_state.specs.declared.said.Said.{Said}
-use Rattle.writer_state.specs.declared.said.Said.TheVariants.{Lost}
-use Rattle.writer_state.specs.WriterState.{is_ok}
-use Rattle.writer_state.specs.WriterRow.{row_gathered}
-use Rattle.writer_state.specs.declared.writer_row.WriterRow.{WriterRow}
-use Rattle.write_history.specs.declared.mark.Mark.{Mark}
-use Rattle.write_history.specs.declared.mark.Mark.TheVariants.{Clean, Fault, FaultAfter}
-use Rattle.write_history.specs.History.{Write}
-use Rattle.component_doc.specs.Selection.{takers}
 use Rattle.writer_calls.specs.declared.answer.Answer.{Answer}
-use Rattle.writer_calls.specs.Script.{said_of}
-use Rattle.set_agenda.specs.declared.group.Group.{Group}
-use Rattle.set_agenda.specs.declared.group.Group.TheVariants.{Orders}
-use Rattle.set_agenda.specs.declared.kind.Kind.{Kind}
-use Rattle.set_agenda.specs.declared.kind.Kind.TheVariants.{Gather, Prepare, Snapshot, Complete}
-use Rattle.set_agenda.specs.declared.member.Member.{Member}
-use Rattle.set_agenda.specs.declared.place.Place.{Place}
-use Rattle.set_agenda.specs.Agenda.{Agenda, Entry, Open, plain, places, order_of, has_said, same_place, writers_at, waited_for, with_group, left_from, groups_left, left, open_group, open_place}
-use Rattle.set_agenda.specs.Agenda.{is_among, is_working, is_done, at_place, all_say, order_now, same_order, waits_now, order_code}
 use Rattle.set_agenda.specs.Course.{Course, is_member, fails_set, begun, answered as course_answered, stepped as course_stepped, timed as course_timed, settled, settled_if, posted}
 use Rattle.set_agenda.specs.Course.{failed as course_failed, released, limits_now, lost_at, members_from, has_row_failed, prepared as course_prepared}
-use Rattle.set_agenda.specs.Limits.{spent_of}
-use Rattle.requestor.specs.declared.stage.Stage.{Stage}
 use Rattle.requestor.specs.declared.stage.Stage.TheVariants.{Opened, Gathered, Started, Prepared, Done, Finished, Failed}
-use Rattle.requestor.specs.Session.{Session, opened, started as session_started, has_writers, stage_after, agenda_ended, set_failed}
-use Rattle.requestor.specs.Check.{is_stage}
 use Rattle.requestor.specs.declared.session_call.SessionCall.TheVariants as call
-use Rattle.scenario.specs.declared.op.Op.{Op}
 use Rattle.scenario.specs.declared.op.Op.TheVariants as op
-use Rattle.scenario.specs.Bounds.{begins_agenda}
-use Rattle.scenario.specs.Calls.{Target, target_of}
-use Rattle.scenario.specs.Plan.{Plan}
-use Rattle.vss_model.specs.Ending.{runs, followed, failed_in, failed}
-use Rattle.vss_model.specs.State.{SetRow, State, Kept, in_progress, left_now}
-use Rattle.vss_model.specs.declared.event.Event.{Event}
 use Rattle.vss_model.specs.declared.event.Event.TheVariants.{Line, Answer as AnswerEvent, Provider}
-use Rattle.vss_model.specs.Reply.{Reply, Fine, Coded, Deleted}
 use Rattle.vss_model.specs.Images.{Replied, refused, cleared, set_loses_image, with_room_if, put, write, reverted_as}
 use Rattle.vss_model.specs.Sessions.{disable, new_number, start_set, has_no_volume, closed, is_disabled, selected, pending, gather, complete}
 use Rattle.vss_model.specs.Steps.{answered, step_made, is_flush, is_failed_step, stepped_as, stepped, ticked, later}
-use Rattle.vss_model.specs.Facts.{has_failed, WaitsFor, IsAgendaOf}
-use Rattle.vss_model.specs.Effects.{line_ticks, lost_after, lost_order_if}
-use Rattle.vss_model.specs.Acts.{Act, enabled, order_of_writer, idle_now, answer_reply, reply, after, state}
-use Rattle.vss_model.specs.Laws.{LetsGo}
-use Rattle.vss_model.specs.Replies.{is_pending}
-use Rattle.vss_model.proofs.CourseCalls.{Settles}
 use Rattle.vss_model.proofs.LogRule.{Running, unspoken}
-use Rattle.vss_model.proofs.Spoken.{among_filter}
-use Rattle.vss_model.proofs.Appending.{state-append}
-use Rattle.vss_model.proofs.CutAppend.{append_nothing}
-use Rattle.vss_model.proofs.OrderlyActs.{orderly}
-use Rattle.promises.specs.Way.{Deed, Spoke, deeds_lost}
-use Rattle.promises.specs.Owed.{Asking, ToIdentify, ForConsent, AtCompletion, order_for, asks, step_for, is_asked_of, counts, is_reply, owes_after, owes_if, owes_from, owes, NobodyOwes}
-use Rattle.promises.specs.InOrder.{Step, ByGather, ByPrepare, ByComplete, progress, is_step}
-use Rattle.promises.specs.Participants.{is_writer, choosing}
 use Rattle.promises.proofs.Truth.{and_true, both_are, both_parts, equal, false_of, left_part, not_false, not_true, right_part, same_number}
 use Rattle.promises.proofs.Scripts.{kept_test, kept_among}
 use Rattle.promises.proofs.Speaks.{deed_at, deed_in, said_at, Grows, made_now, lost_told, grows_answered, grows_stepped, grows_timed}
 use Rattle.promises.proofs.BusyAgendas.{course_followed}
-use Rattle.vss_model.proofs.ByEvent.{Covers, covered, after_enabled, after_not_enabled, some_same}
 use Rattle.promises.proofs.CalmCourses.{calm_begun}
 use Rattle.promises.proofs.Clock.{write_ticks}
 use Rattle.promises.proofs.Progress.{stage_of, StandsAt, stands_all, is_opened, is_started, is_done as is_done_stage, snapshots}
@@ -77,7 +33,6 @@ use Rattle.promises.proofs.Turns.{Turn, begun_turn, answer_turn, tick_turn, step
 use Rattle.promises.proofs.Members.{members_from_are}
 use Rattle.promises.proofs.CalmStages.{IsCalm, calm_kept, calm_always}
 use Rattle.promises.proofs.Participants.{Follows, follows_all, standing, asked_by, asked_are}
-use Rattle.vss_model.proofs.Rows.{none_runs}
 
 abbrev p0 : Asking → Place
 p0 i = plain (Orders (order_for i))
@@ -89,8 +44,7 @@ kind_for AtCompletion = Complete
 
 single : (i : Asking) → places (kind_for i) ≡ p0 i ∷ []
 single ToIdentify = refl
-single ForConsent = refl
-single AtCompletion = refl
+single _ = refl
 
 -- those of its one group that are not heard
 abbrev waiting : Asking → Agenda → List ℕ
@@ -98,8 +52,7 @@ waiting i a = filter (λ who. not (has_said a.log (p0 i) who)) (writers_at a.mem
 
 waiting_is : (i : Asking) (a : Agenda) → waited_for a (p0 i) ≡ waiting i a
 waiting_is ToIdentify a = refl
-waiting_is ForConsent a = refl
-waiting_is AtCompletion a = refl
+waiting_is _ a = refl
 
 -- ## the agenda
 
@@ -149,9 +102,8 @@ both b e f = absurd cc
 
 -- what is said at the open place counts, where it fails no set
 counts_at : (i : Asking) (g : Group) (said : Said) → g ≡ Orders (order_for i) → (fails_set (order_of g) && not (is_ok said)) ≡ false → counts i said ≡ true
-counts_at ToIdentify g said e f = refl
 counts_at ForConsent g said e f = not_false (is_ok said) (ap (λ x. fails_set (order_of x) && not (is_ok said)) (sym e) ∙ f)
-counts_at AtCompletion g said e f = refl
+counts_at _ g said e f = refl
 
 own_reply : (i : Asking) (g : Group) (said : Said) (now u w : ℕ) → g ≡ Orders (order_for i) → (fails_set (order_of g) && not (is_ok said)) ≡ false → (u == w) ≡ true
     → is_reply i w (deed_at g u said now) ≡ true
@@ -332,53 +284,43 @@ waits_for i k c t h e = only i k (sym (leads k c t h) ∙ e)
 
 not_failed : (i : Asking) → Failed ≡ stage_for i → ⊥
 not_failed ToIdentify e = cc
-not_failed ForConsent e = cc
-not_failed AtCompletion e = cc
+not_failed _ e = cc
 
 not_opened : (i : Asking) → Opened ≡ stage_for i → ⊥
 not_opened ToIdentify e = cc
-not_opened ForConsent e = cc
-not_opened AtCompletion e = cc
+not_opened _ e = cc
 
 not_started : (i : Asking) → Started ≡ stage_for i → ⊥
 not_started ToIdentify e = cc
-not_started ForConsent e = cc
-not_started AtCompletion e = cc
+not_started _ e = cc
 
 not_done : (i : Asking) → Done ≡ stage_for i → ⊥
 not_done ToIdentify e = cc
-not_done ForConsent e = cc
-not_done AtCompletion e = cc
+not_done _ e = cc
 
 gather_is : (i : Asking) → asks op.Gather i ≡ true → i ≡ ToIdentify
 gather_is ToIdentify e = refl
-gather_is ForConsent e = absurd cc
-gather_is AtCompletion e = absurd cc
+gather_is _ e = absurd cc
 
 gather_not : (i : Asking) → asks op.Gather i ≡ false → (Gather ≡ kind_for i → ⊥) × (Gathered ≡ stage_for i → ⊥)
 gather_not ToIdentify e = absurd cc
-gather_not ForConsent e = (λ f. cc, λ f. cc)
-gather_not AtCompletion e = (λ f. cc, λ f. cc)
+gather_not _ e = (λ f. cc, λ f. cc)
 
 prepare_is : (i : Asking) → asks op.Prepare i ≡ true → i ≡ ForConsent
-prepare_is ToIdentify e = absurd cc
 prepare_is ForConsent e = refl
-prepare_is AtCompletion e = absurd cc
+prepare_is _ e = absurd cc
 
 prepare_not : (i : Asking) → asks op.Prepare i ≡ false → (Prepare ≡ kind_for i → ⊥) × (Prepared ≡ stage_for i → ⊥)
-prepare_not ToIdentify e = (λ f. cc, λ f. cc)
 prepare_not ForConsent e = absurd cc
-prepare_not AtCompletion e = (λ f. cc, λ f. cc)
+prepare_not _ e = (λ f. cc, λ f. cc)
 
 complete_is : (i : Asking) → asks op.Complete i ≡ true → i ≡ AtCompletion
-complete_is ToIdentify e = absurd cc
-complete_is ForConsent e = absurd cc
 complete_is AtCompletion e = refl
+complete_is _ e = absurd cc
 
 complete_not : (i : Asking) → asks op.Complete i ≡ false → (Complete ≡ kind_for i → ⊥) × (Finished ≡ stage_for i → ⊥)
-complete_not ToIdentify e = (λ f. cc, λ f. cc)
-complete_not ForConsent e = (λ f. cc, λ f. cc)
 complete_not AtCompletion e = absurd cc
+complete_not _ e = (λ f. cc, λ f. cc)
 
 opened_now : (q : Session) → (is_stage q.stage Opened && has_writers q.context) ≡ true → q.stage ≡ Opened
 opened_now q e = is_opened q.stage (both_parts (is_stage q.stage Opened) (has_writers q.context) e).0
@@ -391,8 +333,7 @@ done_now q e = is_done_stage q.stage (both_parts (is_stage q.stage Done) (has_wr
 
 not_snapshot : (i : Asking) → Snapshot ≡ kind_for i → ⊥
 not_snapshot ToIdentify e = cc
-not_snapshot ForConsent e = cc
-not_snapshot AtCompletion e = cc
+not_snapshot _ e = cc
 
 failed_stage : {X : Type 0} (i : Asking) (why : VssResult) (o : Option Session) (q : Session) → option_map (set_failed why) o ≡ Some q → q.stage ≡ stage_for i → X
 failed_stage i why None q e f = absurd cc
@@ -443,17 +384,15 @@ module _ (s : Plan) (so_far : List Act) (i : Asking) (w : ℕ) where
 
     on_put : (v : ℕ) (b : Write) (mark : Mark) (x : State) → Stands i w x c → Stands i w (put v b mark x) c
     on_put v b Clean x k = record { running = k.running; done = k.done }
-    on_put v b Fault x k = k
-    on_put v b (FaultAfter n) x k = k
+    on_put v b _ x k = k
 
     on_write : (v : ℕ) (b : Write) (mark : Mark) → Stands i w (write s v b mark st).1 c
     unfolding write
     on_write v b mark = on_put v b mark _ (on_room (set_loses_image (in_progress st) st.volumes (cleared s v b.block st).volumes) (cleared s v b.block st) refl refl)
 
     on_reverts : (v : ℕ) (k : Kept) (mark : Mark) → Stands i w (reverted_as s v k mark st).1 c
-    on_reverts v k Clean = same _ refl refl
     on_reverts v k Fault = h
-    on_reverts v k (FaultAfter n) = same _ refl refl
+    on_reverts v k _ = same _ refl refl
 
     on_close : (q : Session) (x : State) → Stands i w (closed q x) c
     unfolding closed released
@@ -577,10 +516,6 @@ module _ (s : Plan) (so_far : List Act) (i : Asking) (w : ℕ) where
         done_by q g stage (inr (inl t)) = own.1 (ap (λ (z : Course). z.agenda) (sym is) ∙ quiet_none x t.quiet)
         done_by q g stage (inr (inr t)) = absurd (never q (sym t.session ∙ g) stage)
 
-    either : (event : Event) (mark : Mark) (b : Bool) (x y : Replied) → Next event mark x → Next event mark y → Next event mark (if b then x else y)
-    either event mark true x y k j = k
-    either event mark false x y k j = j
-
     -- the session's stage
     at_stage : (q : Session) (t : Stage) → st.session ≡ Some q → q.stage ≡ t → (t ≡ stage_for i → ⊥) → (p : Session) → st.session ≡ Some p → p.stage ≡ stage_for i → ⊥
     at_stage q t e f never p g k = never (sym f ∙ ap (λ (z : Session). z.stage) (some_same q p (sym e ∙ g)) ∙ k)
@@ -694,9 +629,9 @@ module _ (s : Plan) (so_far : List Act) (i : Asking) (w : ℕ) where
       starts = λ lane q mark g e. tells_none lane op.Start mark (start_set q st).0 (start_set q st).1 refl refl
           (beside (start_set q st).1 refl (λ p f k. in_stage (session_started (new_number st) q) p Started f refl (not_started i) k));
       adds = λ lane v r q mark g e f. tells_none lane (op.Add v) mark Fine _ refl refl (same _ refl refl);
-      prepares = λ lane q mark g. either (Line lane op.Prepare) mark (has_no_volume (in_progress st)) (refused BadState st) _
+      prepares = λ lane q mark g. by_if (Next (Line lane op.Prepare) mark) (has_no_volume (in_progress st)) (refused BadState st) _
           (tells_none lane op.Prepare mark (Coded BadState) st refl (not_asked op.Prepare (Coded BadState) (λ e. refl)) h) (on_prepares lane q mark g (asks op.Prepare i) refl);
-      snapshots = λ lane q mark g. either (Line lane op.Snapshot) mark (has_no_volume (in_progress st)) (refused BadState st) _ (tells_none lane op.Snapshot mark (Coded BadState) st refl refl h)
+      snapshots = λ lane q mark g. by_if (Next (Line lane op.Snapshot) mark) (has_no_volume (in_progress st)) (refused BadState st) _ (tells_none lane op.Snapshot mark (Coded BadState) st refl refl h)
           (begins_other lane op.Snapshot mark Snapshot st.course.members _ st.course refl refl (λ e. not_snapshot i e)
           (begun_turn s so_far _ (calm_begun Snapshot st.course.members _ st.clock st.course))
           (to_stage q Done g.stands (snapshots q.context q.stage g.allowed) (not_done i)));

@@ -1,29 +1,13 @@
 -- A write fails the set in progress just where it has no slot unless the set's image goes.
+use Rattle.promises.proofs.Words.{range_with_len, ltb-false, ltb-true, or_right, History, Placed, lacks_slot, gone_up_to, evicted_up_to, Op, Target, target_of, Plan, slots_of, group_of, Line, State}
+use Rattle.promises.proofs.Words.{SetRow, in_progress, has_image, going_up_to, cleared, has_lost_image, set_loses_image, NumberedFrom, Act, state, loses_own_image, gives_cause, true_not_false}
+use Rattle.promises.proofs.Words.{orderly, at, HasNoSlot, WritesFailForSlots, within, some_same}
 use Rattle.std.proofs.Common.{◌≡◌, ◌∙◌, ℕ, ◌+◌, ◌<◌, ◌≤◌, zero, suc, List, [], ◌∷◌, Option, Some, None, refl, Bool, true, false, ap, sym, subst, find, length, arith}
 use Rattle.std.specs.Prelude.{◌&&◌, ◌||◌, not, nat_lt, unwrap_or, if◌then◌else◌, slice_get}
-use Rattle.std.specs.List.{range_with_len}
-use Rattle.std.proofs.lemmas.Bool.{ltb-false, ltb-true, or_right}
-use Rattle.write_history.specs.History.{History}
-use Rattle.write_history.specs.Slots.{Placed, lacks_slot, gone_up_to, evicted_up_to}
-use Rattle.scenario.specs.declared.op.Op.{Op}
 use Rattle.scenario.specs.declared.op.Op.TheVariants as op
-use Rattle.scenario.specs.Calls.{Target, target_of}
-use Rattle.scenario.specs.Plan.{Plan, slots_of, group_of}
-use Rattle.vss_model.specs.declared.event.Event.TheVariants.{Line}
-use Rattle.vss_model.specs.State.{State, SetRow, in_progress, has_image}
-use Rattle.vss_model.specs.Images.{going_up_to, cleared, has_lost_image, set_loses_image}
-use Rattle.vss_model.specs.Facts.{NumberedFrom}
-use Rattle.vss_model.specs.Acts.{Act, state}
-use Rattle.vss_model.specs.Causes.{loses_own_image, gives_cause}
-use Rattle.vss_model.proofs.Orderly.{true_not_false}
-use Rattle.vss_model.proofs.OrderlyActs.{orderly}
-use Rattle.vss_model.proofs.Volumes.{at}
-use Rattle.promises.specs.Failing.{HasNoSlot, WritesFailForSlots}
-use Rattle.promises.specs.Gone.{within}
 use Rattle.promises.proofs.Truth.{false_of}
 use Rattle.promises.proofs.Failing.{fails_for_cause}
 use Rattle.promises.proofs.GoneImages.{gone_group, left_in_group, least_sets}
-use Rattle.vss_model.proofs.ByEvent.{some_same}
 
 -- ## an image that goes
 

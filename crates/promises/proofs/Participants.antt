@@ -1,42 +1,20 @@
 -- Who takes part: along the acts of a session the participants are those that its `prepare` chose, of what its lines have said.
+use Rattle.promises.proofs.Words.{list_any, length-map, list_any-append, Context, BadState, AsyncCancelled, row_gathered, row_ended, Mark, said_of, Meta, Member, is_among, Pair, Names, naming}
+use Rattle.promises.proofs.Words.{naming_of, naming_found, naming_if, has_pair, found_in, with_pair, comes_before, takers, Mode, Components, All, Session, mode_of, opened, Op, Target, target_of, Plan}
+use Rattle.promises.proofs.Words.{class_of, token, Event, Line, Reply, State, start, in_progress, row_of_writer, followed, failed, Replied, refused, write, Act, enabled, idle_now, after, state}
+use Rattle.promises.proofs.Words.{is_fine, is_pending, Choosing, unsaid, is_chosen, line_says, event_says, is_unfit, choosing_if, choosing_from, choosing, is_writer, ChosenTakePart, Covers}
+use Rattle.promises.proofs.Words.{ChangesNothing, covered, after_enabled, after_not_enabled}
 use Rattle.std.proofs.Common.{◌≡◌, ◌∙◌, ℕ, ◌==◌, List, [], ◌∷◌, ◌++◌, Option, Some, None, refl, Bool, true, false, ap, ap₂, sym, subst, map, fold, length}
 use Rattle.std.specs.Prelude.{◌&&◌, ◌||◌, not, if◌then◌else◌, slice_get}
-use Rattle.std.specs.List.{list_any}
-use Rattle.std.proofs.lemmas.List.{length-map}
-use Rattle.std.proofs.lemmas.List.Folds.{list_any-append}
-use Rattle.vss_names.specs.declared.context.Context.{Context}
-use Rattle.vss_names.specs.declared.vss_result.VssResult.TheVariants.{BadState, AsyncCancelled}
 use Rattle.vss_names.specs.declared.writer_state.WriterState.{WriterState}
 use Rattle.vss_names.specs.declared.writer_state.WriterState.TheVariants.{FailedAtIdentify}
 use Rattle.writer_state.specs.declared.writer_row.WriterRow.{WriterRow}
-use Rattle.writer_state.specs.WriterRow.{row_gathered, row_ended}
-use Rattle.write_history.specs.declared.mark.Mark.{Mark}
-use Rattle.writer_calls.specs.Script.{said_of}
-use Rattle.writer_meta.specs.Metadata.{Meta}
 use Rattle.set_agenda.specs.declared.kind.Kind.TheVariants as kind
-use Rattle.set_agenda.specs.declared.member.Member.{Member}
-use Rattle.set_agenda.specs.Agenda.{is_among}
 use Rattle.set_agenda.specs.Course.{Course, begun, is_member, members_from, prepared as course_prepared, snapshot_begun, released}
-use Rattle.component_doc.specs.Selection.{Pair, Names, naming, naming_of, naming_found, naming_if, has_pair, found_in, with_pair, comes_before, takers}
-use Rattle.requestor.specs.declared.mode.Mode.{Mode}
-use Rattle.requestor.specs.declared.mode.Mode.TheVariants.{Components, All}
-use Rattle.requestor.specs.Session.{Session, mode_of, opened}
-use Rattle.scenario.specs.declared.op.Op.{Op}
 use Rattle.scenario.specs.declared.op.Op.TheVariants.{Begin, Disable, Component, Prepare, Snapshot}
-use Rattle.scenario.specs.Calls.{Target, target_of}
-use Rattle.scenario.specs.Plan.{Plan, class_of, token}
-use Rattle.vss_model.specs.declared.event.Event.{Event}
-use Rattle.vss_model.specs.declared.event.Event.TheVariants.{Line}
-use Rattle.vss_model.specs.Reply.{Reply}
-use Rattle.vss_model.specs.State.{State, start, in_progress, row_of_writer}
-use Rattle.vss_model.specs.Ending.{followed, failed}
-use Rattle.vss_model.specs.Images.{Replied, refused, write}
 use Rattle.vss_model.specs.Sessions.{is_disabled, is_identify_failure, has_failed_identify, known_metas, disable, pending, selected, has_no_volume, volumes_of, closed}
-use Rattle.vss_model.specs.Acts.{Act, enabled, idle_now, after, state}
-use Rattle.vss_model.specs.Replies.{is_fine, is_pending}
-use Rattle.promises.specs.Participants.{Choosing, unsaid, is_chosen, line_says, event_says, is_unfit_state, is_unfit_row, is_unfit, choosing_if, choosing_from, choosing, is_writer, ChosenTakePart}
+use Rattle.promises.specs.Participants.{is_unfit_state, is_unfit_row}
 use Rattle.promises.proofs.Truth.{or_false}
-use Rattle.vss_model.proofs.ByEvent.{Covers, ChangesNothing, covered, after_enabled, after_not_enabled}
 use Rattle.promises.proofs.Members.{is_selected, selected_are}
 use Rattle.promises.proofs.SameChoice.{same_course, SameChoice, same_choice, same_beside, mode_in, on_begun, on_agenda_begun, on_followed, on_failed_in, on_answered, on_ticked, on_stepped, on_write, on_revert}
 

@@ -1,38 +1,14 @@
 -- An accepted `prepare` makes the chosen writers take part, none of a disabled class; and nothing else changes who does.
+use Rattle.promises.proofs.Words.{list_any, list_all, length-map, AsyncPending, BadState, AsyncCancelled, row_gathered, Mark, said_of, Course, begun, is_member, prepared as course_prepared}
+use Rattle.promises.proofs.Words.{snapshot_begun, names_selectable, is_ascending, Pair, takers, Mode, Session, mode_of, Op, begins_agenda, Target, target_of, Plan, Event, Line, Reply, Coded, State}
+use Rattle.promises.proofs.Words.{SetRow, in_progress, followed, failed, Replied, refused, Act, enabled, reply, idle_now, after, state, is_pending, named_known_components, known_at, named_known}
+use Rattle.promises.proofs.Words.{AreOver, none_after, Choosing, is_chosen, is_unfit, choosing, is_writer, is_prepare, TakesPart, Covers, ChangesNothing, covered, after_enabled, after_not_enabled}
 use Rattle.std.proofs.Common.{◌≡◌, ◌∙◌, ℕ, ◌+◌, ◌==◌, List, [], Option, Some, None, refl, Bool, true, false, ap, sym, subst, map, length, arith}
 use Rattle.std.specs.Prelude.{◌&&◌, not, if◌then◌else◌, slice_get}
-use Rattle.std.specs.List.{list_any, list_all}
-use Rattle.std.proofs.lemmas.List.{length-map}
-use Rattle.vss_names.specs.declared.vss_result.VssResult.TheVariants.{AsyncPending, BadState, AsyncCancelled}
-use Rattle.writer_state.specs.WriterRow.{row_gathered}
-use Rattle.write_history.specs.declared.mark.Mark.{Mark}
-use Rattle.writer_calls.specs.Script.{said_of}
 use Rattle.set_agenda.specs.declared.kind.Kind.TheVariants as kind
-use Rattle.set_agenda.specs.Course.{Course, begun, is_member, prepared as course_prepared, snapshot_begun}
-use Rattle.component_doc.specs.Over.{names_selectable, is_ascending}
-use Rattle.component_doc.specs.Selection.{Pair, takers}
-use Rattle.requestor.specs.declared.mode.Mode.{Mode}
-use Rattle.requestor.specs.Session.{Session, mode_of}
-use Rattle.scenario.specs.declared.op.Op.{Op}
 use Rattle.scenario.specs.declared.op.Op.TheVariants.{Prepare}
-use Rattle.scenario.specs.Bounds.{begins_agenda}
-use Rattle.scenario.specs.Calls.{Target, target_of}
-use Rattle.scenario.specs.Plan.{Plan}
-use Rattle.vss_model.specs.declared.event.Event.{Event}
-use Rattle.vss_model.specs.declared.event.Event.TheVariants.{Line}
-use Rattle.vss_model.specs.Reply.{Reply, Coded}
-use Rattle.vss_model.specs.State.{State, SetRow, in_progress}
-use Rattle.vss_model.specs.Ending.{followed, failed}
-use Rattle.vss_model.specs.Images.{Replied, refused}
 use Rattle.vss_model.specs.Sessions.{is_disabled, is_known, known_metas, has_failed_identify, pending, selected, has_no_volume, volumes_of, closed}
-use Rattle.vss_model.specs.Acts.{Act, enabled, reply, idle_now, after, state}
-use Rattle.vss_model.specs.Replies.{is_pending}
-use Rattle.vss_model.proofs.Gathered.{named_known_components, known_at, named_known}
-use Rattle.vss_model.proofs.Named.{AreOver}
-use Rattle.vss_model.proofs.OrderlyActs.{none_after}
-use Rattle.promises.specs.Participants.{Choosing, is_chosen, is_unfit, choosing, is_writer, is_prepare, TakesPart}
 use Rattle.promises.proofs.Truth.{first_both, not_true, second_both}
-use Rattle.vss_model.proofs.ByEvent.{Covers, ChangesNothing, covered, after_enabled, after_not_enabled}
 use Rattle.promises.proofs.SameChoice.{same_course, same_choice, on_begun, on_agenda_begun, on_followed, on_failed_in, on_answered, on_ticked, on_stepped, on_write, on_revert}
 use Rattle.promises.proofs.Participants.{Follows, standing, asked_by, asked_are, follows_all}
 

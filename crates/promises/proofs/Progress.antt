@@ -1,51 +1,24 @@
 -- A session stands where its accepted lines have brought it.
+use Rattle.promises.proofs.Words.{Context, Backup, AppRollback, NasRollback, SetOutcome, VssResult, AsyncPending, AsyncCancelled, BadState, number_of, context_of_number, IsLookUp-context_of_number}
+use Rattle.promises.proofs.Words.{Mark, Clean, said_of, open_group, next_volume, Course, prepared, snapshot_begun, takers, Stage, Session, has_writers, makes_set, context_of, context_if, without_all}
+use Rattle.promises.proofs.Words.{mode_of, opened, started as session_started, stage_after, agenda_ended, set_failed, is_stage, Op, Target, target_of, Plan, Event, Reply, Fine, Coded, Deleted, Idled}
+use Rattle.promises.proofs.Words.{State, SetRow, start, in_progress, left_now, row_of, followed, runs, failed, Replied, refused, write, reverted_as, LetsGo, IsAgendaOf, IsOfSession, has_failed, Act}
+use Rattle.promises.proofs.Words.{order_of_writer, enabled, answer_reply, step_reply, reply, idle_now, after, state, state-append, orderly, failure_of, failure_in, set_failure, Step, ByBegin}
+use Rattle.promises.proofs.Words.{ByGather, ByStart, ByPrepare, BySnapshot, ByComplete, ByFailure, Progress, line_brings, event_brings, lost_if, progress_after, progress_if, progress_from, progress}
+use Rattle.promises.proofs.Words.{HasItsContext, row_fails, set_fails, Covers, ChangesNothing, covered, after_enabled, after_not_enabled, some_same, append_nothing}
 use Rattle.std.proofs.Common.{◌≡◌, ◌∙◌, ℕ, List, [], ◌∷◌, ◌++◌, Option, Some, None, refl, Bool, true, false, ap, sym, subst, inl, inr, fold}
 use Rattle.std.specs.Prelude.{is_some, option_map, option_and_then, if◌then◌else◌, length}
-use Rattle.vss_names.specs.declared.context.Context.{Context}
-use Rattle.vss_names.specs.declared.context.Context.TheVariants.{Backup, AppRollback, NasRollback}
-use Rattle.vss_names.specs.declared.set_outcome.SetOutcome.{SetOutcome}
-use Rattle.vss_names.specs.declared.set_outcome.SetOutcome.TheVariants.{Running, Complete as CompleteSet, Failed as FailedSet}
-use Rattle.vss_names.specs.declared.vss_result.VssResult.{VssResult}
-use Rattle.vss_names.specs.declared.vss_result.VssResult.TheVariants.{AsyncPending, AsyncCancelled, BadState}
-use Rattle.vss_names.specs.Context.{number_of, context_of_number}
-use Rattle.vss_names.proofs.ContextRows.{IsLookUp-context_of_number}
-use Rattle.write_history.specs.declared.mark.Mark.{Mark}
-use Rattle.write_history.specs.declared.mark.Mark.TheVariants.{Clean}
-use Rattle.writer_calls.specs.Script.{said_of}
+use Rattle.vss_names.specs.declared.set_outcome.SetOutcome.TheVariants.{Running}
 use Rattle.set_agenda.specs.declared.kind.Kind.TheVariants as kind
-use Rattle.set_agenda.specs.Agenda.{open_group, next_volume}
-use Rattle.set_agenda.specs.Course.{Course, prepared, snapshot_begun}
-use Rattle.component_doc.specs.Selection.{takers}
-use Rattle.requestor.specs.declared.stage.Stage.{Stage}
 use Rattle.requestor.specs.declared.stage.Stage.TheVariants.{Opened, Gathered, Started, Prepared, Done, Finished, Failed}
 use Rattle.requestor.specs.declared.session_call.SessionCall.TheVariants as call
-use Rattle.requestor.specs.Session.{Session, has_writers, makes_set, context_of, context_if, without_all, mode_of, opened, started as session_started, stage_after, agenda_ended, set_failed}
-use Rattle.requestor.specs.Check.{is_stage}
-use Rattle.scenario.specs.declared.op.Op.{Op}
 use Rattle.scenario.specs.declared.op.Op.TheVariants as op
-use Rattle.scenario.specs.Calls.{Target, target_of}
-use Rattle.scenario.specs.Plan.{Plan}
-use Rattle.vss_model.specs.declared.event.Event.{Event}
 use Rattle.vss_model.specs.declared.event.Event.TheVariants.{Line, Answer as AnswerEvent, Provider, Idle}
-use Rattle.vss_model.specs.Reply.{Reply, Fine, Coded, Deleted, Idled}
-use Rattle.vss_model.specs.State.{State, SetRow, start, in_progress, left_now, row_of}
-use Rattle.vss_model.specs.Ending.{followed, runs, failed}
-use Rattle.vss_model.specs.Images.{Replied, refused, write, reverted_as}
 use Rattle.vss_model.specs.Sessions.{selected, start_set, has_no_volume, volumes_of, pending, new_number, closed}
-use Rattle.vss_model.specs.Laws.{LetsGo}
-use Rattle.vss_model.specs.Facts.{IsAgendaOf, IsOfSession, has_failed}
-use Rattle.vss_model.specs.Acts.{Act, order_of_writer, enabled, answer_reply, step_reply, reply, idle_now, after, state}
-use Rattle.vss_model.proofs.Appending.{state-append}
-use Rattle.vss_model.proofs.OrderlyActs.{orderly}
-use Rattle.promises.specs.Awaited.{failure_of, failure_in, set_failure}
-use Rattle.promises.specs.InOrder.{Step, ByBegin, ByGather, ByStart, ByPrepare, BySnapshot, ByComplete, ByFailure, Progress, line_brings, event_brings, lost_if, progress_after, progress_if, progress_from, progress, HasItsContext}
-use Rattle.promises.specs.Rows.{row_fails, set_fails}
 use Rattle.promises.proofs.Truth.{both_parts}
-use Rattle.vss_model.proofs.ByEvent.{Covers, ChangesNothing, covered, after_enabled, after_not_enabled, some_same}
 use Rattle.promises.proofs.CalmCourses.{calm_begun}
 use Rattle.promises.proofs.SetFailures.{failure_at}
 use Rattle.promises.proofs.Turns.{Turn, quiet_turn, write_turn, revert_turn, begun_turn, answer_turn, tick_turn, step_turn, abort_turn, add_turn, none_started}
-use Rattle.vss_model.proofs.CutAppend.{append_nothing}
 
 -- ## where a session stands
 
@@ -72,8 +45,7 @@ pub record StandsAt (q : Session) (busy : Bool) (p : Progress) : Type 0 where
 
 fails_so : (o : SetOutcome) → has_failed o ≡ is_some (failure_of o)
 fails_so Running = refl
-fails_so CompleteSet = refl
-fails_so (FailedSet why) = refl
+fails_so _ = refl
 
 row_so : (o : Option SetRow) → row_fails o ≡ is_some (failure_in o)
 row_so None = refl
@@ -130,9 +102,8 @@ is_done Done e = refl
 is_done t e = absurd cc
 
 prepares : (c : Context) → has_writers c ≡ true → stage_after c Started ≡ Prepared
-prepares Backup e = refl
-prepares AppRollback e = refl
 prepares NasRollback e = absurd cc
+prepares _ e = refl
 
 pub snapshots : (c : Context) (t : Stage) → (if has_writers c then is_stage t Prepared else is_stage t Started) ≡ true → stage_after c t ≡ Done
 snapshots Backup t e = ap (stage_after Backup) (is_prepared t e)

@@ -1,8 +1,6 @@
 -- The promises together.
+use Rattle.promises.proofs.Words.{Move, Plan, IsAsPromised}
 use Rattle.std.proofs.Common.{List}
-use Rattle.write_history.specs.declared.move_item.Move.{Move}
-use Rattle.scenario.specs.Plan.{Plan}
-use Rattle.promises.specs.Promises.{IsAsPromised}
 use Rattle.promises.proofs.Accepted.{accepts_in_order}
 use Rattle.promises.proofs.Answers.{answers_say}
 use Rattle.promises.proofs.Asked.{asks_its_own}
@@ -16,7 +14,6 @@ use Rattle.promises.proofs.ContextZero.{backups_end}
 use Rattle.promises.proofs.Copies.{copies_hold}
 use Rattle.promises.proofs.Done.{is_done}
 use Rattle.promises.proofs.Evicted.{tells_evicted}
-use Rattle.promises.proofs.Failing.{fails_for_cause}
 use Rattle.promises.proofs.Idle.{idles_shortest}
 use Rattle.promises.proofs.Images.{images_go_for_cause}
 use Rattle.promises.proofs.Kept.{finds_the_kept}
@@ -48,7 +45,6 @@ as_promised s trail = record {
   each_act = λ so_far rest act e. record {
     participants = takes_part s so_far act;
     completes = complete_by_the_way s so_far act;
-    fails = fails_for_cause s so_far act;
     code = fails_by_code s so_far act;
     full = writes_fail_for_slots s so_far act;
     sets = keeps_rows s so_far act;

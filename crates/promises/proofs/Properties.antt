@@ -1,20 +1,11 @@
 -- `properties` tells a kept image: its set's context, the clock at the cut, and the slots that it uses.
+use Rattle.promises.proofs.Words.{Write, Image, point_in, named, used_by, Plan, blocks_of, Line, PropertiesOf, State, SetRow, Kept, kept_at, kept_if, kept_of, kept_image, row_of, history_of}
+use Rattle.promises.proofs.Words.{is_complete, properties, Act, happens, reply, state, row_number, TellsTheImage, PropertiesTell, some_same}
 use Rattle.std.proofs.Common.{◌≡◌, ◌∙◌, ℕ, ◌==◌, List, [], ◌∷◌, Option, Some, None, refl, Bool, true, false, ap, sym}
 use Rattle.std.specs.Prelude.{is_some, option_map, unwrap_or, if◌then◌else◌, length}
-use Rattle.write_history.specs.History.{Write, Image, point_in}
-use Rattle.write_history.specs.Slots.{named, used_by}
 use Rattle.scenario.specs.declared.op.Op.TheVariants as op
-use Rattle.scenario.specs.Plan.{Plan, blocks_of}
-use Rattle.vss_model.specs.declared.event.Event.TheVariants.{Line}
-use Rattle.vss_model.specs.Reply.{PropertiesOf}
-use Rattle.vss_model.specs.State.{State, SetRow, Kept, kept_at, kept_if, kept_of, kept_image, row_of, history_of, is_complete}
-use Rattle.vss_model.specs.Images.{properties}
-use Rattle.vss_model.specs.Acts.{Act, happens, reply, state}
-use Rattle.vss_model.proofs.OneCut.{row_number}
-use Rattle.promises.specs.Properties.{TellsTheImage, PropertiesTell}
 use Rattle.promises.proofs.CutTimes.{cut_time}
 use Rattle.promises.proofs.Replies.{point_of, at_the_cut}
-use Rattle.vss_model.proofs.ByEvent.{some_same}
 
 -- ## the row of a kept image
 

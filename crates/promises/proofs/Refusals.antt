@@ -1,39 +1,18 @@
 -- What a session call is answered that is not accepted.
+use Rattle.promises.proofs.Words.{bytes_eq, Context, BadState, UnsupportedContext, SnapshotSetInProgress, ObjectAlreadyExists, MaximumNumberOfVolumesReached, MaximumNumberOfSnapshotsReached, Mark}
+use Rattle.promises.proofs.Words.{Part, Meta, full_name, is_among, Pair, has_pair, found_from, naming_if, naming_found, naming_of, Mode, SessionCall, Started, Session, has_writers, makes_set, mode_of}
+use Rattle.promises.proofs.Words.{context_of, check, check_begin, begin_verdict, check_other, owner_only, verdict_of, allows, is_stage, goes_beside_agenda, is_start, is_await, Op, Plan, token, Line}
+use Rattle.promises.proofs.Words.{Reply, Coded, NotSelectable, State, SetRow, in_progress, history_of, runs, Replied, begin_in, known_metas, named_as, component_in, most_volumes, most_images, add_to}
+use Rattle.promises.proofs.Words.{add, has_no_volume, judged, line_in, session_line, Act, happens, state, owns, is_fine, is_ordered, is_accepted, ByBegin, ByGather, ByStart, BySnapshot, Progress}
+use Rattle.promises.proofs.Words.{progress, is_step, asks_writers, comes_now, name_refusal_in, name_refusal, place_refusal, want_refusal, order_refusal, RefusesForCause, true_not_false}
 use Rattle.std.proofs.Common.{◌≡◌, ◌∙◌, ℕ, ◌+◌, ◌==◌, List, [], ◌∷◌, Option, Some, None, refl, Bool, true, false, ap, sym, subst, length, arith}
 use Rattle.std.specs.Prelude.{◌&&◌, ◌||◌, not, nat_le, nat_lt, is_some, is_none, slice_get, if◌then◌else◌}
-use Rattle.std.specs.Str.{bytes_eq}
-use Rattle.vss_names.specs.declared.context.Context.{Context}
-use Rattle.vss_names.specs.declared.vss_result.VssResult.TheVariants.{BadState, UnsupportedContext, SnapshotSetInProgress, ObjectAlreadyExists, MaximumNumberOfVolumesReached, MaximumNumberOfSnapshotsReached}
-use Rattle.write_history.specs.declared.mark.Mark.{Mark}
-use Rattle.writer_meta.specs.Metadata.{Part, Meta, full_name}
-use Rattle.set_agenda.specs.Agenda.{is_among}
-use Rattle.component_doc.specs.Selection.{Pair, has_pair, found_from, naming_if, naming_found, naming_of}
-use Rattle.requestor.specs.declared.mode.Mode.{Mode}
-use Rattle.requestor.specs.declared.session_call.SessionCall.{SessionCall}
 use Rattle.requestor.specs.declared.session_call.SessionCall.TheVariants as call
-use Rattle.requestor.specs.declared.stage.Stage.TheVariants.{Started}
-use Rattle.requestor.specs.Session.{Session, has_writers, makes_set, mode_of, context_of}
-use Rattle.requestor.specs.Check.{check, check_begin, begin_verdict, check_other, owner_only, verdict_of, allows, is_stage, goes_beside_agenda, is_start, is_await}
-use Rattle.scenario.specs.declared.op.Op.{Op}
 use Rattle.scenario.specs.declared.op.Op.TheVariants as op
-use Rattle.scenario.specs.Plan.{Plan, token}
-use Rattle.vss_model.specs.declared.event.Event.TheVariants.{Line}
-use Rattle.vss_model.specs.Reply.{Reply, Coded, NotSelectable}
-use Rattle.vss_model.specs.State.{State, SetRow, in_progress, history_of}
-use Rattle.vss_model.specs.Ending.{runs}
-use Rattle.vss_model.specs.Images.{Replied}
-use Rattle.vss_model.specs.Sessions.{begin_in, known_metas, named_as, component_in, most_volumes, most_images, add_to, add, has_no_volume, judged, line_in, session_line}
 use Rattle.vss_model.specs.Lines.{called}
-use Rattle.vss_model.specs.Acts.{Act, happens, state}
-use Rattle.vss_model.specs.Causes.{owns}
-use Rattle.vss_model.specs.Replies.{is_fine}
-use Rattle.promises.specs.Accepted.{is_ordered, is_accepted}
-use Rattle.promises.specs.InOrder.{ByBegin, ByGather, ByStart, BySnapshot, Progress, progress, is_step, asks_writers, comes_now}
-use Rattle.promises.specs.Refusing.{name_refusal_in, name_refusal, place_refusal, want_refusal, order_refusal, RefusesForCause}
 use Rattle.promises.proofs.Truth.{not_both}
 use Rattle.promises.proofs.Accepted.{allowed_in, same_stage, start_stage, either_stage, writers_asked, makes_its_set, line_reply}
 use Rattle.promises.proofs.Progress.{stage_of, StandsAt, stands_all}
-use Rattle.vss_model.proofs.Orderly.{true_not_false}
 
 -- ## what a call wants
 
@@ -58,9 +37,8 @@ module _ (s : Plan) (st : State) where
 
   name_of : (w : ℕ) (name : List ℕ) (m : Option (Option Meta)) → is_accepted (named_as (naming_of w name m st.explicit) st).0 ≡ false
       → (named_as (naming_of w name m st.explicit) st).0 ≡ name_refusal name m
-  name_of w name None e = refl
-  name_of w name (Some None) e = refl
   name_of w name (Some (Some m)) e = name_in w st.explicit name 0 m.parts e
+  name_of w name _ e = refl
 
   component_refused : (w : ℕ) (name : List ℕ) (mode : Mode) (all : Bool) → mode ≡ mode_of all → is_accepted (component_in mode s w name st).0 ≡ false
       → (component_in mode s w name st).0 ≡ (if all then Coded BadState else name_refusal name (slice_get (known_metas s st) w))

@@ -1,21 +1,10 @@
 -- A refusal changes nothing, and neither does a line that only looks.
+use Rattle.promises.proofs.Words.{Mark, Clean, Write, Order, Group, open_group, next_volume, Plan, Event, State, Kept, in_progress, left_now, has_no_volume, Act, enabled, order_of_writer}
+use Rattle.promises.proofs.Words.{answer_reply, step_reply, reply, after, state, leaves_all, RefusalsChangeNothing, Covers, covered, after_enabled, after_not_enabled}
 use Rattle.std.proofs.Common.{◌≡◌, ◌∙◌, ℕ, List, Option, Some, None, refl, Bool, true, false}
 use Rattle.std.specs.Prelude.{if◌then◌else◌}
-use Rattle.write_history.specs.declared.mark.Mark.{Mark}
-use Rattle.write_history.specs.declared.mark.Mark.TheVariants.{Clean, Fault, FaultAfter}
-use Rattle.write_history.specs.History.{Write}
 use Rattle.writer_calls.specs.declared.answer.Answer.{Answer}
-use Rattle.vss_names.specs.declared.order.Order.{Order}
-use Rattle.set_agenda.specs.declared.group.Group.{Group}
-use Rattle.set_agenda.specs.Agenda.{open_group, next_volume}
-use Rattle.scenario.specs.Plan.{Plan}
-use Rattle.vss_model.specs.declared.event.Event.{Event}
-use Rattle.vss_model.specs.State.{State, Kept, in_progress, left_now}
 use Rattle.vss_model.specs.Images.{Replied, write, reverted_as}
-use Rattle.vss_model.specs.Sessions.{has_no_volume}
-use Rattle.vss_model.specs.Acts.{Act, enabled, order_of_writer, answer_reply, step_reply, reply, after, state}
-use Rattle.promises.specs.Refused.{leaves_all, RefusalsChangeNothing}
-use Rattle.vss_model.proofs.ByEvent.{Covers, covered, after_enabled, after_not_enabled}
 
 module _ (s : Plan) (st : State) where
   abbrev Alone : Event → Mark → Replied → Type 0
@@ -24,13 +13,11 @@ module _ (s : Plan) (st : State) where
   in_write : (v : ℕ) (w : Write) (mark : Mark) → leaves_all (write s v w mark st).0 ≡ true → (write s v w mark st).1 ≡ st
   unfolding write
   in_write v w Clean e = absurd cc
-  in_write v w Fault e = absurd cc
-  in_write v w (FaultAfter k) e = absurd cc
+  in_write v w _ e = absurd cc
 
   in_revert : (v : ℕ) (k : Kept) (mark : Mark) → leaves_all (reverted_as s v k mark st).0 ≡ true → (reverted_as s v k mark st).1 ≡ st
   in_revert v k Clean e = absurd cc
-  in_revert v k Fault e = absurd cc
-  in_revert v k (FaultAfter n) e = absurd cc
+  in_revert v k _ e = absurd cc
 
   in_answer : (o : Option Order) (answer : Answer) (x : State) → leaves_all (answer_reply o answer) ≡ true → x ≡ st
   in_answer None answer x e = absurd cc

@@ -1,28 +1,11 @@
 -- Replies tell what stands.
+use Rattle.promises.proofs.Words.{range_with_len, Mark, Clean, Image, AreLater, AreInTime, content, point_in, sets_of, is_among, Op, Read, ImageDigest, ImageBlock, Query, Plan, blocks_of, Line}
+use Rattle.promises.proofs.Words.{BlockOf, BlocksOf, State, SetRow, Kept, history_of, is_kept_set, kept, kept_at, kept_if, kept_of, kept_image, is_complete, row_of, image_block, image_blocks, line}
+use Rattle.promises.proofs.Words.{Act, happens, reply, state, ReadsAsAtTheCut, reads_as_at_cut, block_now, images_in_time, IsBelow, AreRising, TellsTheCut, RepliesTell, some_same}
 use Rattle.std.proofs.Common.{◌≡◌, ◌∙◌, ℕ, ◌==◌, List, [], ◌∷◌, Option, Some, None, refl, Bool, true, false, ap, sym, map, filter}
 use Rattle.std.specs.Prelude.{◌&&◌, ◌||◌, is_some, if◌then◌else◌}
-use Rattle.std.specs.List.{range_with_len}
-use Rattle.write_history.specs.declared.mark.Mark.{Mark}
-use Rattle.write_history.specs.declared.mark.Mark.TheVariants.{Clean}
-use Rattle.write_history.specs.History.{Image, AreLater, AreInTime, content, point_in, sets_of}
-use Rattle.set_agenda.specs.Agenda.{is_among}
-use Rattle.scenario.specs.declared.op.Op.{Op}
-use Rattle.scenario.specs.declared.op.Op.TheVariants.{Read, ImageDigest, ImageBlock, Query}
-use Rattle.scenario.specs.Plan.{Plan, blocks_of}
-use Rattle.vss_model.specs.declared.event.Event.TheVariants.{Line}
-use Rattle.vss_model.specs.Reply.{BlockOf, BlocksOf}
-use Rattle.vss_model.specs.State.{State, SetRow, Kept, history_of, is_kept_set, kept, kept_at, kept_if, kept_of, kept_image, is_complete, row_of}
-use Rattle.vss_model.specs.Images.{image_block, image_blocks}
-use Rattle.vss_model.specs.Lines.{line}
-use Rattle.vss_model.specs.Acts.{Act, happens, reply, state}
-use Rattle.vss_model.specs.Headline.{ReadsAsAtTheCut}
-use Rattle.vss_model.proofs.Headline.{reads_as_at_cut}
-use Rattle.promises.specs.Contents.{block_now}
-use Rattle.vss_model.proofs.OneCut.{images_in_time}
-use Rattle.promises.specs.Replies.{IsBelow, AreRising, TellsTheCut, RepliesTell}
 use Rattle.promises.proofs.Truth.{equal}
 use Rattle.promises.proofs.Participants.{off}
-use Rattle.vss_model.proofs.ByEvent.{some_same}
 
 -- ## the point of a kept image
 

@@ -1,10 +1,7 @@
 -- What stands in a block after some blocks were brought back.
+use Rattle.promises.proofs.Words.{take-length, zeros, Write, last_bytes, content, restoring, is_among}
 use Rattle.std.proofs.Common.{◌≡◌, ◌∙◌, ℕ, ◌==◌, List, [], ◌∷◌, ◌++◌, refl, Bool, true, false, ap, sym, map, length}
 use Rattle.std.specs.Prelude.{◌||◌, if◌then◌else◌}
-use Rattle.std.proofs.Math.Seq.{take-length}
-use Rattle.block_data.specs.Runs.{zeros}
-use Rattle.write_history.specs.History.{Write, last_bytes, content, restoring}
-use Rattle.set_agenda.specs.Agenda.{is_among}
 use Rattle.promises.proofs.Truth.{equal}
 
 last_append : (b : ℕ) (before : List ℕ) (ws us : List Write) → last_bytes b before (ws ++ us) ≡ last_bytes b (last_bytes b before ws) us

@@ -1,57 +1,26 @@
 -- A writer's row changes by what is said, by its set's failure, by `gather` and by `end`, and by nothing else.
+use Rattle.promises.proofs.Words.{SetOutcome, VssResult, InsufficientStorage, AsyncCancelled, AsyncPending, BadState, Timeout, WriterState, Unknown, Order, Identify, Said, WriterRow, is_ok, is_failed}
+use Rattle.promises.proofs.Words.{after_ok, failed_at, stable_again, row_after, row_aborted, row_ended, row_gathered, one_more, Mark, Clean, Fault, FaultAfter, Write, said_of, Group, Orders}
+use Rattle.promises.proofs.Words.{PreCommit, Flush, Hold, Cut, Commit, Release, PostCommit, Gather, Prepare, Snapshot, Complete, Open, open_group, open_order, next_volume, order_of, order_if}
+use Rattle.promises.proofs.Words.{order_now, is_among, is_asked, is_orders, is_working, waits_now, Running as RunningLimit, spent_of, Session, Op, Target, target_of, Plan, Event, State, SetRow, Kept}
+use Rattle.promises.proofs.Words.{is_running, in_progress, left_now, row_of, row_settled, followed, runs, failed_in, failed, Reply, Fine, Coded, Deleted, Idled, line_ticks, lost_after, Act}
+use Rattle.promises.proofs.Words.{order_of_writer, answer_reply, step_reply, reply, idle_now, after, state, is_veto, is_refused, is_late, is_fault, is_flush_step, loses_own_image, gives_cause}
+use Rattle.promises.proofs.Words.{NumberedFrom, has_failed, IsFailed, outcome_is_running, orderly, running_found, row_running, row_fails, set_fails, row_said, at_rest, row_told, row_asked, row_over}
+use Rattle.promises.proofs.Words.{state_at_ok, state_at_failure, speaks, said_by, asks_anew, ends_session, row_by, row_next, RowsChange, Covers, ChangesNothing, covered, after_enabled, by_if}
 use Rattle.std.proofs.Common.{◌≡◌, ◌∙◌, ℕ, ◌+◌, List, [], ◌∷◌, Option, Some, None, refl, Bool, true, false, ap, sym, subst, inl, inr, map}
 use Rattle.std.specs.Prelude.{◌&&◌, not, is_some, find, ◌==◌, if◌then◌else◌, slice_get}
-use Rattle.vss_names.specs.declared.set_outcome.SetOutcome.{SetOutcome}
-use Rattle.vss_names.specs.declared.set_outcome.SetOutcome.TheVariants.{Running as RunningSet, Complete as CompleteSet, Failed as FailedSet}
-use Rattle.vss_names.specs.declared.vss_result.VssResult.{VssResult}
-use Rattle.vss_names.specs.declared.vss_result.VssResult.TheVariants.{InsufficientStorage, AsyncCancelled, AsyncPending, BadState}
-use Rattle.vss_names.specs.declared.writer_error.WriterError.TheVariants.{Timeout}
-use Rattle.vss_names.specs.declared.writer_state.WriterState.{WriterState}
-use Rattle.vss_names.specs.declared.writer_state.WriterState.TheVariants.{Unknown, Stable, WaitingForFreeze, WaitingForThaw, WaitingForPostSnapshot, WaitingForBackupComplete, FailedAtIdentify, FailedAtPrepareBackup, FailedAtPrepareSnapshot, FailedAtFreeze, FailedAtThaw, FailedAtPostSnapshot, FailedAtBackupComplete, FailedAtPreRestore, FailedAtPostRestore, FailedAtBackupShutdown}
-use Rattle.vss_names.specs.declared.order.Order.{Order}
-use Rattle.vss_names.specs.declared.order.Order.TheVariants.{Identify, PrepareBackup, PrepareSnapshot, Freeze, Thaw, PostSnapshot, BackupComplete}
-use Rattle.writer_state.specs.declared.said.Said.{Said}
+use Rattle.vss_names.specs.declared.set_outcome.SetOutcome.TheVariants.{Running as RunningSet}
 use Rattle.writer_state.specs.declared.said.Said.TheVariants.{Ok, Veto, Lost}
-use Rattle.writer_state.specs.declared.writer_row.WriterRow.{WriterRow}
-use Rattle.writer_state.specs.WriterState.{is_ok, is_failed, after_ok, failed_at, stable_again}
-use Rattle.writer_state.specs.WriterRow.{row_after, row_aborted, row_ended, row_gathered, one_more}
-use Rattle.write_history.specs.declared.mark.Mark.{Mark}
-use Rattle.write_history.specs.declared.mark.Mark.TheVariants.{Clean, Fault, FaultAfter}
-use Rattle.write_history.specs.History.{Write}
 use Rattle.writer_calls.specs.declared.answer.Answer.{Answer}
-use Rattle.writer_calls.specs.Script.{said_of}
-use Rattle.set_agenda.specs.declared.group.Group.{Group}
-use Rattle.set_agenda.specs.declared.group.Group.TheVariants.{Orders, PreCommit, Flush, Hold, Cut, Commit, Release, PostCommit}
-use Rattle.set_agenda.specs.declared.kind.Kind.TheVariants.{Gather, Prepare, Snapshot, Complete}
-use Rattle.set_agenda.specs.Agenda.{Open, open_group, open_order, next_volume, order_of, order_if, order_now, is_among, is_asked, is_orders, is_working, waits_now}
-use Rattle.set_agenda.specs.Limits.{Running as RunningLimit, spent_of}
 use Rattle.set_agenda.specs.Course.{Course, posted, failed as course_failed, released, row_if, limits_now, lost_at, is_member, is_decisive, answered as course_answered, stepped as course_stepped, timed as course_timed}
-use Rattle.requestor.specs.Session.{Session}
-use Rattle.scenario.specs.declared.op.Op.{Op}
 use Rattle.scenario.specs.declared.op.Op.TheVariants as op
-use Rattle.scenario.specs.Calls.{Target, target_of}
-use Rattle.scenario.specs.Plan.{Plan}
-use Rattle.vss_model.specs.declared.event.Event.{Event}
 use Rattle.vss_model.specs.declared.event.Event.TheVariants.{Line, Answer as AnswerEvent, Provider, Idle}
-use Rattle.vss_model.specs.State.{State, SetRow, Kept, is_running, in_progress, left_now, row_of}
-use Rattle.vss_model.specs.Ending.{row_settled, followed, runs, failed_in, failed}
 use Rattle.vss_model.specs.Images.{Replied, refused, cleared, set_loses_image, with_room_if, put, write, reverted_as}
 use Rattle.vss_model.specs.Sessions.{disable, has_no_volume, start_set, closed, end_session}
 use Rattle.vss_model.specs.Steps.{answered, step_made, is_flush, is_failed_step, stepped_as, stepped, ticked, later}
-use Rattle.vss_model.specs.Reply.{Reply, Fine, Coded, Deleted, Idled}
-use Rattle.vss_model.specs.Effects.{line_ticks, lost_after}
-use Rattle.vss_model.specs.Acts.{Act, order_of_writer, answer_reply, step_reply, reply, idle_now, after, state}
-use Rattle.vss_model.specs.Causes.{is_veto, is_refused, is_late, is_fault, is_flush_step, loses_own_image, gives_cause}
-use Rattle.vss_model.specs.Facts.{NumberedFrom, has_failed}
-use Rattle.vss_model.specs.Headline.{IsFailed}
-use Rattle.vss_model.proofs.FlushFails.{outcome_is_running}
-use Rattle.vss_model.proofs.OrderlyActs.{orderly}
-use Rattle.vss_model.proofs.Rows.{running_found, row_running}
-use Rattle.promises.specs.Rows.{row_fails, set_fails, row_said, at_rest, row_told, row_asked, row_over, state_at_ok, state_at_failure, speaks, said_by, asks_anew, ends_session, row_by, row_next, RowsChange}
 use Rattle.promises.proofs.Truth.{both_parts, equal, false_of, not_both, or_false}
 use Rattle.promises.proofs.CourseRows.{Becomes, as_it_is, and_told, same_rows, rows_map_are, rise_failed, stay_begun, say_to, refuses, comes_answered, Comes, stay_stepped, rise_stepped, lost_by, PassesOrFails, over_timed}
 use Rattle.promises.proofs.BusyAgendas.{IsBusy, busy_order, busy_step, busy_set, course_followed}
-use Rattle.vss_model.proofs.ByEvent.{Covers, ChangesNothing, covered, after_enabled}
 use Rattle.promises.proofs.Failing.{fails_for_cause, same_consent, same_veto, refused_fails, falls, followed_sets, failed_fails, write_fails}
 use Rattle.promises.proofs.Limits.{timed_fails}
 use Rattle.promises.proofs.Times.{late_is_due}
@@ -105,8 +74,7 @@ module _ (s : Plan) (so_far : List Act) where
 
   running_calm : (o : SetOutcome) → is_running o ≡ true → has_failed o ≡ false
   running_calm RunningSet e = refl
-  running_calm CompleteSet e = absurd cc
-  running_calm (FailedSet why) e = absurd cc
+  running_calm _ e = absurd cc
 
   calm_at : (x : State) (o : Option SetRow) → in_progress st ≡ o → x.sets ≡ st.sets → set_fails o x ≡ false
   calm_at x None e f = refl
@@ -168,13 +136,11 @@ module _ (s : Plan) (so_far : List Act) where
 
   course_put : (v : ℕ) (w : Write) (mark : Mark) (x : State) → (put v w mark x).course ≡ x.course
   course_put v w Clean x = refl
-  course_put v w Fault x = refl
-  course_put v w (FaultAfter k) x = refl
+  course_put v w _ x = refl
 
   sets_put : (v : ℕ) (w : Write) (mark : Mark) (x : State) → (put v w mark x).sets ≡ x.sets
   sets_put v w Clean x = refl
-  sets_put v w Fault x = refl
-  sets_put v w (FaultAfter k) x = refl
+  sets_put v w _ x = refl
 
   write_falls : (v : ℕ) (w : Write) (mark : Mark) (r : SetRow) (e : in_progress st ≡ Some r) (num : NumberedFrom 1 st.sets) (run : st.course.outcome ≡ RunningSet) → loses_own_image s st v w.block ≡ true
       → IsFailed (put v w mark (with_room_if (loses_own_image s st v w.block) (cleared s v w.block st))) r.number
@@ -301,21 +267,7 @@ module _ (s : Plan) (so_far : List Act) where
 
   rests : (x : WriterState) → stable_again x ≡ at_rest x
   rests Unknown = refl
-  rests Stable = refl
-  rests WaitingForFreeze = refl
-  rests WaitingForThaw = refl
-  rests WaitingForPostSnapshot = refl
-  rests WaitingForBackupComplete = refl
-  rests FailedAtIdentify = refl
-  rests FailedAtPrepareBackup = refl
-  rests FailedAtPrepareSnapshot = refl
-  rests FailedAtFreeze = refl
-  rests FailedAtThaw = refl
-  rests FailedAtPostSnapshot = refl
-  rests FailedAtBackupComplete = refl
-  rests FailedAtPreRestore = refl
-  rests FailedAtPostRestore = refl
-  rests FailedAtBackupShutdown = refl
+  rests _ = refl
 
   over_is : (r : WriterRow) → row_ended r ≡ row_over r
   over_is r = ap (λ x. record r { state = x }) (rests r.state)
@@ -329,21 +281,11 @@ module _ (s : Plan) (so_far : List Act) where
 
   at_ok : (o : Order) → after_ok o ≡ state_at_ok o
   at_ok Identify = refl
-  at_ok PrepareBackup = refl
-  at_ok PrepareSnapshot = refl
-  at_ok Freeze = refl
-  at_ok Thaw = refl
-  at_ok PostSnapshot = refl
-  at_ok BackupComplete = refl
+  at_ok _ = refl
 
   at_failure : (o : Order) → failed_at o ≡ state_at_failure o
   at_failure Identify = refl
-  at_failure PrepareBackup = refl
-  at_failure PrepareSnapshot = refl
-  at_failure Freeze = refl
-  at_failure Thaw = refl
-  at_failure PostSnapshot = refl
-  at_failure BackupComplete = refl
+  at_failure _ = refl
 
   said_is : (o : Order) (said : Said) (r : WriterRow) → row_after o said r ≡ row_said (Some o) said r
   said_is o Ok r = ap (λ x. record r { state = x; code = None }) (at_ok o)
@@ -369,13 +311,7 @@ module _ (s : Plan) (so_far : List Act) where
 
       by_group : (g : Group) (ws : List ℕ) → say_to (order_of g) Lost ws w r ≡ row_by (is_among w (lost_at (Some l) (order_of g) ws)) (row_said (order_if (is_orders g && is_among w ws) (order_of g)) Lost) r
       by_group (Orders p) ws = by_test p (is_among w ws)
-      by_group PreCommit ws = refl
-      by_group Flush ws = refl
-      by_group Hold ws = refl
-      by_group Cut ws = refl
-      by_group Commit ws = refl
-      by_group Release ws = refl
-      by_group PostCommit ws = refl
+      by_group _ ws = refl
 
       by_list : (os : List Open) → say_to (order_now os) Lost (waits_now os) w r ≡ row_by (is_among w (lost_at (Some l) (order_now os) (waits_now os))) (row_said (open_order os w) Lost) r
       by_list [] = refl
@@ -448,10 +384,6 @@ module _ (s : Plan) (so_far : List Act) where
       by_end q (failed AsyncCancelled st) (by_abort (in_progress st) AsyncCancelled refl) w r f
       ∙ ap Some (over_by (falls_in (closed q (failed AsyncCancelled st)) && is_member st.course.members w) true r)
 
-  either : (event : Event) (mark : Mark) (b : Bool) (x y : Replied) → Next event mark x → Next event mark y → Next event mark (if b then x else y)
-  either event mark true x y h i = h
-  either event mark false x y h i = i
-
   changes : Covers Next s st
   changes = record {
     stays = λ lane o mark told e f i. same_line lane o told st e (asks_none lane o told f) (ends_none lane o told f) refl refl;
@@ -467,9 +399,9 @@ module _ (s : Plan) (so_far : List Act) where
     names = λ lane w full q explicit mark g named i. same_line lane (op.Component w full) Fine _ refl refl refl refl refl;
     starts = λ lane q mark g e i. by_line lane op.Start (start_set q st).0 _ refl refl refl (told_none as_it_is _ (no_cause (Line lane op.Start) mark _ i refl) (same_rows rows));
     adds = λ lane v r q mark g e f i. by_line lane (op.Add v) Fine _ refl refl refl (told_none as_it_is _ (no_cause (Line lane (op.Add v)) mark _ i refl) (same_rows rows));
-    prepares = λ lane q mark g. either (Line lane op.Prepare) mark (has_no_volume (in_progress st)) (refused BadState st) _ (λ i. same_line lane op.Prepare (Coded BadState) st refl refl refl refl refl)
+    prepares = λ lane q mark g. by_if (Next (Line lane op.Prepare) mark) (has_no_volume (in_progress st)) (refused BadState st) _ (λ i. same_line lane op.Prepare (Coded BadState) st refl refl refl refl refl)
         (λ i. by_line lane op.Prepare (Coded AsyncPending) _ refl refl refl (quiet_course as_it_is (Line lane op.Prepare) mark true _ st refl (stay_begun as_it_is Prepare _ _ st.clock st.course _ (same_rows rows)) i));
-    snapshots = λ lane q mark g. either (Line lane op.Snapshot) mark (has_no_volume (in_progress st)) (refused BadState st) _ (λ i. same_line lane op.Snapshot (Coded BadState) st refl refl refl refl refl)
+    snapshots = λ lane q mark g. by_if (Next (Line lane op.Snapshot) mark) (has_no_volume (in_progress st)) (refused BadState st) _ (λ i. same_line lane op.Snapshot (Coded BadState) st refl refl refl refl refl)
         (λ i. by_line lane op.Snapshot (Coded AsyncPending) _ refl refl refl (quiet_course as_it_is (Line lane op.Snapshot) mark true _ st refl (stay_begun as_it_is Snapshot _ _ st.clock st.course _ (same_rows rows)) i));
     completes = λ lane q mark g i. by_line lane op.Complete (Coded AsyncPending) _ refl refl refl (quiet_course as_it_is (Line lane op.Complete) mark true _ st refl (stay_begun as_it_is Complete _ _ st.clock st.course _ (same_rows rows)) i);
     aborts = λ lane q mark e i. by_line lane op.Abort Fine _ refl refl refl (by_abort (in_progress st) AsyncCancelled refl);

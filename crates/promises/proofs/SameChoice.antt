@@ -1,34 +1,14 @@
 -- What keeps the choice of writers: answers, steps, ticks, failures and agendas change neither who takes part, nor which classes are
 -- disabled, nor what is named, nor whether the session takes all; and each writer keeps a row.
-use Rattle.std.proofs.Common.{◌≡◌, ◌∙◌, ℕ, ◌+◌, List, [], ◌∷◌, Option, Some, None, refl, Bool, true, false, ap, length}
-use Rattle.std.specs.Prelude.{◌&&◌, not, option_map}
-use Rattle.vss_names.specs.declared.order.Order.{Order}
-use Rattle.vss_names.specs.declared.vss_result.VssResult.{VssResult}
-use Rattle.vss_names.specs.declared.vss_result.VssResult.TheVariants.{InsufficientStorage}
-use Rattle.write_history.specs.declared.mark.Mark.{Mark}
-use Rattle.write_history.specs.declared.mark.Mark.TheVariants.{Clean, Fault, FaultAfter}
-use Rattle.write_history.specs.History.{Write}
-use Rattle.writer_state.specs.declared.said.Said.{Said}
-use Rattle.writer_state.specs.declared.said.Said.TheVariants.{Lost}
-use Rattle.writer_state.specs.WriterState.{is_ok}
-use Rattle.writer_state.specs.WriterRow.{row_after, row_aborted}
-use Rattle.set_agenda.specs.declared.group.Group.{Group}
-use Rattle.set_agenda.specs.declared.group.Group.TheVariants.{Orders, PreCommit, Flush, Hold, Cut, Commit, Release, PostCommit}
-use Rattle.set_agenda.specs.declared.kind.Kind.{Kind}
-use Rattle.set_agenda.specs.declared.limit.Limit.{Limit}
-use Rattle.set_agenda.specs.declared.limit.Limit.TheVariants.{Hold as HoldLimit, Freeze as FreezeLimit, Answer as AnswerLimit}
-use Rattle.set_agenda.specs.declared.member.Member.{Member}
-use Rattle.set_agenda.specs.Agenda.{Agenda, is_among, is_done, groups_left, left, open_group, open_order, order_now, waits_now}
-use Rattle.set_agenda.specs.Limits.{Running as RunningLimit, spent_of}
-use Rattle.set_agenda.specs.Course.{Course, is_member, posted, failed as course_failed, settled_if, settled_in, settled, begun, is_decisive, told, decided, answered_to, answered as course_answered, worked, stepped_as as course_stepped_as, stepped as course_stepped, limits_now, lost_to, fails_set, lost_decided, treated_as, treated, timed as course_timed}
-use Rattle.requestor.specs.declared.mode.Mode.{Mode}
-use Rattle.requestor.specs.Session.{Session, agenda_ended, set_failed}
-use Rattle.scenario.specs.Plan.{Plan}
-use Rattle.vss_model.specs.State.{State, SetRow, Kept, in_progress, left_now}
+use Rattle.promises.proofs.Words.{Order, VssResult, InsufficientStorage, Mark, Clean, Fault, Write, Said, row_after, row_aborted, Group, Orders, PreCommit, Flush, Hold, Cut, Commit, Release}
+use Rattle.promises.proofs.Words.{PostCommit, Kind, Member, Agenda, is_among, open_group, IsKeptFrom, from_settled, from_begun, from_answered, from_timed, Mode, Session, agenda_ended, set_failed}
+use Rattle.promises.proofs.Words.{Plan, State, SetRow, Kept, in_progress, left_now, length-rows_where}
+use Rattle.std.proofs.Common.{◌≡◌, ◌∙◌, ℕ, ◌+◌, List, [], Option, Some, None, refl, Bool, true, false, ap, length}
+use Rattle.std.specs.Prelude.{option_map}
+use Rattle.set_agenda.specs.Course.{Course, is_member, posted, failed as course_failed, begun, told, answered as course_answered, worked, stepped as course_stepped, timed as course_timed}
 use Rattle.vss_model.specs.Ending.{Ending, NothingEnds, AgendaEnds, SetFails, ending, concluded, followed, runs, failed_in}
 use Rattle.vss_model.specs.Images.{cleared, set_loses_image, with_room_if, put, write, reverted_as}
 use Rattle.vss_model.specs.Steps.{answered, cut_set, step_made, is_flush, is_failed_step, stepped_as, stepped, ticked, later}
-use Rattle.vss_model.proofs.FewTurns.{length-rows_where}
 
 -- ## the course
 
@@ -47,18 +27,6 @@ on_failed : (why : VssResult) (c : Course) → SameCourse c (course_failed why c
 unfolding course_failed
 on_failed why c = record { disabled = refl; members = refl; rows = length-rows_where row_aborted (is_member c.members) 0 c.rows }
 
-on_settled_if : (b : Bool) (k : Kind) (c : Course) → SameCourse c (settled_if b k c)
-on_settled_if true k c = record { disabled = refl; members = refl; rows = refl }
-on_settled_if false k c = same_course c
-
-on_settled_in : (o : Option Agenda) (c : Course) → SameCourse c (settled_in o c)
-on_settled_in None c = same_course c
-on_settled_in (Some a) c = on_settled_if (is_done (groups_left a)) a.kind c
-
-on_settled : (c : Course) → SameCourse c (settled c)
-unfolding settled
-on_settled c = on_settled_in c.agenda c
-
 on_told : (o : Order) (said : Said) (now : ℕ) (ws : List ℕ) (c : Course) → SameCourse c (told o said now ws c)
 unfolding told
 on_told o said now ws c = record { disabled = refl; members = refl; rows = length-rows_where (row_after o said) (λ w. is_among w ws) 0 c.rows }
@@ -71,57 +39,31 @@ on_posted : (before c d : Course) → SameCourse c d → SameCourse c (posted be
 unfolding posted
 on_posted before c d h = record { disabled = h.disabled; members = h.members; rows = h.rows }
 
-on_decided : (b : Bool) (said : Said) (c : Course) → SameCourse c (decided b said c)
-on_decided true said c = on_failed _ c
-on_decided false said c = on_settled c
-
-on_answered_to : (o : Option Order) (w : ℕ) (said : Said) (now : ℕ) (c : Course) → SameCourse c (answered_to o w said now c)
-on_answered_to None w said now c = same_course c
-on_answered_to (Some o) w said now c =
-    let d = told o said now (w ∷ []) c in
-    course_then c d (decided (is_decisive o && not (is_ok said)) said d) (on_told o said now (w ∷ []) c) (on_decided (is_decisive o && not (is_ok said)) said d)
+same_kept : (c : Course) → IsKeptFrom (SameCourse c) c
+same_kept c = record {
+  stays = same_course c;
+  posts = λ before d h. on_posted before c d h;
+  says = λ o said now ws e. on_told o said now ws c;
+  works = λ now. on_worked now c;
+  fails = λ why d e h. course_then c d (course_failed why d) h (on_failed why d);
+  closes = λ a d e f h. record { disabled = h.disabled; members = h.members; rows = h.rows };
+}
 
 pub on_course_answered : (w : ℕ) (said : Said) (now : ℕ) (c : Course) → SameCourse c (course_answered w said now c)
-on_course_answered w said now c = on_posted c c _ (on_answered_to (open_order (left c.agenda) w) w said now c)
-
-on_stepped_as : (ok : Bool) (now : ℕ) (c : Course) → SameCourse c (course_stepped_as ok now c)
-on_stepped_as true now c = course_then c (worked now c) (course_stepped_as true now c) (on_worked now c) (on_settled (worked now c))
-on_stepped_as false now c = on_failed _ c
+on_course_answered w said now c = from_answered (SameCourse c) c (same_kept c) w said now
 
 pub on_course_stepped : (ok : Bool) (now : ℕ) (c : Course) → SameCourse c (course_stepped ok now c)
-on_course_stepped ok now c = on_posted c c _ (on_stepped_as ok now c)
-
-on_lost_to : (o : Option Order) (now : ℕ) (c : Course) → SameCourse c (lost_to o now c)
-on_lost_to None now c = same_course c
-on_lost_to (Some o) now c = on_told o Lost now (waits_now (left c.agenda)) c
-
-on_lost_decided : (b : Bool) (c : Course) → SameCourse c (lost_decided b c)
-on_lost_decided true c = on_failed _ c
-on_lost_decided false c = on_settled c
-
-on_treated_as : (l : Limit) (now : ℕ) (c : Course) → SameCourse c (treated_as l now c)
-on_treated_as HoldLimit now c = on_failed _ c
-on_treated_as FreezeLimit now c =
-    let d = lost_to (order_now (left c.agenda)) now c in course_then c d (treated_as FreezeLimit now c) (on_lost_to (order_now (left c.agenda)) now c) (on_failed _ d)
-on_treated_as AnswerLimit now c =
-    let d = lost_to (order_now (left c.agenda)) now c in
-    course_then c d (treated_as AnswerLimit now c) (on_lost_to (order_now (left c.agenda)) now c) (on_lost_decided (fails_set (order_now (left c.agenda))) d)
-
-on_treated : (l : Option RunningLimit) (now : ℕ) (c : Course) → SameCourse c (treated l now c)
-on_treated None now c = same_course c
-on_treated (Some l) now c = on_treated_as l.limit now c
+on_course_stepped true now c = on_posted c c _ (from_settled (SameCourse c) c (same_kept c) _ (on_worked now c))
+on_course_stepped false now c = on_posted c c _ (on_failed _ c)
 
 pub on_course_timed : (now : ℕ) (c : Course) → SameCourse c (course_timed now c)
-on_course_timed now c = on_posted c c _ (on_treated (spent_of now (limits_now c)) now c)
+on_course_timed now c = from_timed (SameCourse c) c (same_kept c) now
 
 on_agenda : (a : Option Agenda) (c : Course) → SameCourse c (record c { agenda = a })
 on_agenda a c = record { disabled = refl; members = refl; rows = refl }
 
 pub on_begun : (k : Kind) (ms : List Member) (vs : List ℕ) (now : ℕ) (c : Course) → SameCourse c (begun k ms vs now c)
-unfolding begun
-on_begun k ms vs now c =
-    let d = record c { agenda = Some (record { kind = k; members = ms; volumes = vs; begun = now; log = [] }) } in
-    on_posted c c (settled d) (course_then c d (settled d) (on_agenda (Some (record { kind = k; members = ms; volumes = vs; begun = now; log = [] })) c) (on_settled d))
+on_begun k ms vs now c = from_begun (SameCourse c) c (same_kept c) k ms vs now c (on_agenda (Some (record { kind = k; members = ms; volumes = vs; begun = now; log = [] })) c)
 
 -- ## the state
 
@@ -214,17 +156,15 @@ on_room false st x h = h
 
 on_put : (v : ℕ) (w : Write) (mark : Mark) (st x : State) → SameChoice st x → SameChoice st (put v w mark x)
 on_put v w Clean st x h = record { explicit = h.explicit; course = h.course; mode = h.mode }
-on_put v w Fault st x h = h
-on_put v w (FaultAfter k) st x h = h
+on_put v w _ st x h = h
 
 pub on_write : (s : Plan) (v : ℕ) (w : Write) (mark : Mark) (st : State) → SameChoice st (write s v w mark st).1
 unfolding write
 on_write s v w mark st = on_put v w mark st _ (on_room (set_loses_image (in_progress st) st.volumes (cleared s v w.block st).volumes) st (cleared s v w.block st) (record { explicit = refl; course = same_course st.course; mode = refl }))
 
 pub on_revert : (s : Plan) (v : ℕ) (k : Kept) (mark : Mark) (st : State) → SameChoice st (reverted_as s v k mark st).1
-on_revert s v k Clean st = record { explicit = refl; course = same_course st.course; mode = refl }
 on_revert s v k Fault st = same_choice st
-on_revert s v k (FaultAfter n) st = record { explicit = refl; course = same_course st.course; mode = refl }
+on_revert s v k _ st = record { explicit = refl; course = same_course st.course; mode = refl }
 
 -- a change of sets, volumes and the clock
 pub same_beside : (st x : State) → x.explicit ≡ st.explicit → x.course ≡ st.course → mode_in x.session ≡ mode_in st.session → SameChoice st x

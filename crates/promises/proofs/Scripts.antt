@@ -1,60 +1,24 @@
 -- A writer answers by its script: how often it was asked, as the acts tell it, is how many groups of that order have opened for it.
+use Rattle.promises.proofs.Words.{list_any, sum_by-append, Level, Order, VssResult, InsufficientStorage, AsyncCancelled, BadState, SetOutcome, Said, is_ok, row_gathered, Mark, Clean, Writer, Move}
+use Rattle.promises.proofs.Words.{Write, Scripted, said_of, answer_in, is_row_for, scripted_answer, Group, Orders, PreCommit, Flush, Hold, Cut, Commit, Release, PostCommit, Freeze, PostSnapshot, Kind}
+use Rattle.promises.proofs.Words.{Limit, Member, Place, Running as RunningLimit, spent_of, Session, Plan, script_of, Event, State, SetRow, start, in_progress, left_now, followed, runs, failed_in}
+use Rattle.promises.proofs.Words.{failed, Act, enabled, order_of_writer, idle_now, after, state, run, acts, acts_if, answer_event, script_event, event_of, state-run, acts-append, Settles, said_stays}
+use Rattle.promises.proofs.Words.{among_filter, is_owed, is_asked_anew, asked_from, times_asked, written_in, AnswersByScript, Deed, Covers, covered, after_enabled, after_not_enabled, by_if}
+use Rattle.promises.proofs.Words.{append_nothing, and-false, none_runs}
 use Rattle.std.proofs.Common.{◌≡◌, ◌∙◌, ℕ, ◌+◌, ◌==◌, List, [], ◌∷◌, ◌++◌, Option, Some, None, refl, Bool, true, false, cond, ap, sym, subst, inl, inr, map, filter, find, fold, arith}
 use Rattle.std.specs.Prelude.{◌&&◌, ◌||◌, not, is_some, count_by, if◌then◌else◌}
-use Rattle.std.specs.List.{list_any}
-use Rattle.std.proofs.lemmas.List.Sums.{sum_by-append}
-use Rattle.vss_names.specs.declared.level.Level.{Level}
-use Rattle.vss_names.specs.declared.order.Order.{Order}
-use Rattle.vss_names.specs.declared.vss_result.VssResult.{VssResult}
-use Rattle.vss_names.specs.declared.vss_result.VssResult.TheVariants.{InsufficientStorage, AsyncCancelled, BadState}
-use Rattle.vss_names.specs.declared.set_outcome.SetOutcome.{SetOutcome}
-use Rattle.writer_state.specs.declared.said.Said.{Said}
-use Rattle.writer_state.specs.WriterState.{is_ok}
-use Rattle.writer_state.specs.WriterRow.{row_gathered}
-use Rattle.write_history.specs.declared.mark.Mark.{Mark}
-use Rattle.write_history.specs.declared.mark.Mark.TheVariants.{Clean, Fault, FaultAfter}
-use Rattle.write_history.specs.declared.actor.Actor.TheVariants.{Writer}
-use Rattle.write_history.specs.declared.move_item.Move.{Move}
-use Rattle.write_history.specs.History.{Write}
-use Rattle.writer_calls.specs.declared.scripted.Scripted.{Scripted}
-use Rattle.writer_calls.specs.Script.{said_of, answer_in, is_row_for, scripted_answer}
-use Rattle.set_agenda.specs.declared.group.Group.{Group}
-use Rattle.set_agenda.specs.declared.group.Group.TheVariants.{Orders, PreCommit, Flush, Hold, Cut, Commit, Release, PostCommit}
-use Rattle.vss_names.specs.declared.order.Order.TheVariants.{Freeze, PostSnapshot}
-use Rattle.set_agenda.specs.declared.kind.Kind.{Kind}
 use Rattle.set_agenda.specs.declared.kind.Kind.TheVariants as kind
-use Rattle.set_agenda.specs.declared.limit.Limit.{Limit}
 use Rattle.set_agenda.specs.declared.limit.Limit.TheVariants.{Hold as HoldLimit, Freeze as FreezeLimit, Answer as AnswerLimit}
-use Rattle.set_agenda.specs.declared.member.Member.{Member}
-use Rattle.set_agenda.specs.declared.place.Place.{Place}
 use Rattle.set_agenda.specs.Agenda.{Agenda, Entry, Open, places, group_code, level_code, same_order, same_place, order_of, is_orders, has_failed, has_said, writers_at, members_of, waited_for, with_group, left_from, groups_left, left, open_group, open_place, waits_now, order_now, is_among, order_if, open_order, is_working, is_done, all_say}
-use Rattle.set_agenda.specs.Limits.{Running as RunningLimit, spent_of}
 use Rattle.set_agenda.specs.Course.{OrderGroup, Course, group_of_orders, opens, posted, sent, failed as course_failed, settled_if, settled_in, settled, begun, told, is_decisive, decided, answered_to, answered as course_answered, worked, stepped_as as course_stepped_as, stepped as course_stepped, limits_now, lost, lost_to, fails_set, lost_decided, treated_as, treated, timed as course_timed, released}
-use Rattle.requestor.specs.Session.{Session}
-use Rattle.scenario.specs.Plan.{Plan, script_of}
-use Rattle.vss_model.specs.declared.event.Event.{Event}
-use Rattle.vss_model.specs.State.{State, SetRow, start, in_progress, left_now}
-use Rattle.vss_model.specs.Ending.{followed, runs, failed_in, failed}
 use Rattle.vss_model.specs.Images.{Replied, refused, cleared, set_loses_image, with_room_if, put, write, reverted_as}
 use Rattle.vss_model.specs.Sessions.{has_no_volume, closed}
 use Rattle.vss_model.specs.Steps.{answered, step_made, is_flush, is_failed_step, stepped_as, stepped, ticked, later}
-use Rattle.vss_model.specs.Acts.{Act, enabled, order_of_writer, idle_now, after, state}
-use Rattle.vss_model.specs.Trail.{run, acts, acts_if, answer_event, script_event, event_of}
-use Rattle.vss_model.proofs.Appending.{state-run, acts-append}
-use Rattle.vss_model.proofs.CourseCalls.{Settles}
-use Rattle.vss_model.proofs.CutLog.{said_stays}
-use Rattle.vss_model.proofs.Spoken.{among_filter}
-use Rattle.promises.specs.Scripted.{is_owed, is_asked_anew, asked_from, times_asked, written_in, AnswersByScript}
-use Rattle.promises.specs.Way.{Deed}
 use Rattle.promises.proofs.Truth.{both_are, both_parts, equal, left_part, not_itself, right_part, same_number}
 use Rattle.promises.proofs.BusyAgendas.{course_followed}
-use Rattle.vss_model.proofs.ByEvent.{Covers, covered, after_enabled, after_not_enabled}
 use Rattle.promises.proofs.Heard.{same_group}
 use Rattle.promises.proofs.Speaks.{Grows, grows_answered, grows_stepped, grows_timed}
 use Rattle.promises.proofs.Stages.{failed_stays, closed_stays, grown, new_log}
-use Rattle.vss_model.proofs.CutAppend.{append_nothing}
-use Rattle.set_agenda.proofs.WriterSets.{and-false}
-use Rattle.vss_model.proofs.Rows.{none_runs}
 
 -- ## who waits at a place does not begin to wait there
 
@@ -119,9 +83,7 @@ are_apart (p ∷ ps) = not (list_any (same_place p) ps) && are_apart ps
 
 kinds_apart : (k : Kind) → are_apart (places k) ≡ true
 kinds_apart kind.Gather = refl
-kinds_apart kind.Prepare = refl
-kinds_apart kind.Snapshot = refl
-kinds_apart kind.Complete = refl
+kinds_apart _ = refl
 
 -- whoever is waited for at the same place was waited for there
 abbrev Shrinks : ℕ → List Open → List Open → Type 0
@@ -189,13 +151,7 @@ module _ (w : ℕ) (o : Order) where
       by_among : (b c : Bool) → (same_order x o && b) ≡ (is_owed o (order_if b (Some x)) && true)
       by_among true c = refl
       by_among false c = and-false (same_order x o)
-  new_group gs PreCommit ws = no_group gs
-  new_group gs Flush ws = no_group gs
-  new_group gs Hold ws = no_group gs
-  new_group gs Cut ws = no_group gs
-  new_group gs Commit ws = no_group gs
-  new_group gs Release ws = no_group gs
-  new_group gs PostCommit ws = no_group gs
+  new_group gs _ ws = no_group gs
 
   -- at the same place nobody is asked anew
   same_owed : (x p : Open) (xs ps : List Open) → same_place x.place p.place ≡ true → Shrinks w (x ∷ xs) (p ∷ ps) → is_owed o (open_order (p ∷ ps) w) ≡ true
@@ -415,8 +371,7 @@ module _ (s : Plan) (w : ℕ) (o : Order) (st : State) where
 
   on_put : (v : ℕ) (b : Write) (mark : Mark) (x : State) → To x.course → To (put v b mark x).course
   on_put v b Clean x h = h
-  on_put v b Fault x h = h
-  on_put v b (FaultAfter n) x h = h
+  on_put v b _ x h = h
 
   on_write : (v : ℕ) (b : Write) (mark : Mark) → To (write s v b mark st).1.course
   unfolding write
@@ -424,8 +379,7 @@ module _ (s : Plan) (w : ℕ) (o : Order) (st : State) where
 
   on_reverts : (v : ℕ) (k : _) (mark : Mark) → To (reverted_as s v k mark st).1.course
   on_reverts v k Clean = as_it_was
-  on_reverts v k Fault = as_it_was
-  on_reverts v k (FaultAfter n) = as_it_was
+  on_reverts v k _ = as_it_was
 
   on_end : (q : Session) → To (closed q (failed AsyncCancelled st)).course
   on_end q =
@@ -452,10 +406,6 @@ module _ (s : Plan) (w : ℕ) (o : Order) (st : State) where
       → To (followed true (begun k ms vs st.clock c) st).course
   begins k ms vs c e f g = on_followed true (begun k ms vs st.clock c) st (asks_begun w o k ms vs st.clock st.course c (none_runs st.course.agenda e) (f ∙ none_runs st.course.agenda e) g)
 
-  either : (b : Bool) (x y : Replied) → To x.1.course → To y.1.course → To (if b then x else y).1.course
-  either true x y h i = h
-  either false x y h i = i
-
   every_act : Covers Next s st
   every_act = record {
     stays = λ lane p mark said e f. as_it_was;
@@ -470,8 +420,8 @@ module _ (s : Plan) (w : ℕ) (o : Order) (st : State) where
     names = λ lane u full q explicit mark g named. as_it_was;
     starts = λ lane q mark g e. as_it_was;
     adds = λ lane v r q mark g e f. as_it_was;
-    prepares = λ lane q mark g. either (has_no_volume (in_progress st)) (refused BadState st) _ as_it_was (begins kind.Prepare _ [] (record st.course { members = _ }) g.quiet refl refl);
-    snapshots = λ lane q mark g. either (has_no_volume (in_progress st)) (refused BadState st) _ as_it_was (begins kind.Snapshot st.course.members _ st.course g.quiet refl refl);
+    prepares = λ lane q mark g. by_if (λ r. To r.1.course) (has_no_volume (in_progress st)) (refused BadState st) _ as_it_was (begins kind.Prepare _ [] (record st.course { members = _ }) g.quiet refl refl);
+    snapshots = λ lane q mark g. by_if (λ r. To r.1.course) (has_no_volume (in_progress st)) (refused BadState st) _ as_it_was (begins kind.Snapshot st.course.members _ st.course g.quiet refl refl);
     completes = λ lane q mark g. begins kind.Complete _ [] st.course g.quiet refl refl;
     aborts = λ lane q mark e. on_failed (in_progress st) AsyncCancelled st refl;
     ends = λ lane q mark e. on_end q;

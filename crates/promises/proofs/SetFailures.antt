@@ -1,15 +1,9 @@
 -- Whether the rows say of a set that it has failed, and what keeps that.
+use Rattle.promises.proofs.Words.{SetOutcome, VssResult, Group, Orders, PreCommit, Flush, Hold, Cut, Commit, Release, PostCommit, State, SetRow, is_running, in_progress, row_changed, row_settled}
+use Rattle.promises.proofs.Words.{with_cut, cut_set, step_made, failure_of, failure_in}
 use Rattle.std.proofs.Common.{◌≡◌, ◌∙◌, ℕ, ◌==◌, List, [], ◌∷◌, Option, Some, None, refl, Bool, true, false, ap, sym, map, find}
 use Rattle.std.specs.Prelude.{if◌then◌else◌}
-use Rattle.vss_names.specs.declared.set_outcome.SetOutcome.{SetOutcome}
-use Rattle.vss_names.specs.declared.set_outcome.SetOutcome.TheVariants.{Running as RunningSet, Complete as CompleteSet, Failed as FailedSet}
-use Rattle.vss_names.specs.declared.vss_result.VssResult.{VssResult}
-use Rattle.set_agenda.specs.declared.group.Group.{Group}
-use Rattle.set_agenda.specs.declared.group.Group.TheVariants.{Orders, PreCommit, Flush, Hold, Cut, Commit, Release, PostCommit}
-use Rattle.vss_model.specs.State.{State, SetRow, is_running, in_progress, row_changed}
-use Rattle.vss_model.specs.Ending.{row_settled}
-use Rattle.vss_model.specs.Steps.{with_cut, cut_set, step_made}
-use Rattle.promises.specs.Awaited.{failure_of, failure_in}
+use Rattle.vss_names.specs.declared.set_outcome.SetOutcome.TheVariants.{Running as RunningSet}
 use Rattle.promises.proofs.Contexts.{changed_number}
 
 abbrev pub failure_at : List SetRow → ℕ → Option VssResult
@@ -28,8 +22,7 @@ failure_map f num res (r ∷ rows) n = by_head (r.number == n) ((f r).number == 
 
 pub running_calm : (o : SetOutcome) → is_running o ≡ true → failure_of o ≡ None
 running_calm RunningSet e = refl
-running_calm CompleteSet e = absurd cc
-running_calm (FailedSet why) e = absurd cc
+running_calm _ e = absurd cc
 
 pub settled_calm : (p : SetOutcome) → failure_of p ≡ None → (r : SetRow) → failure_of (row_settled p r).result ≡ failure_of r.result
 settled_calm p e r = by_running (is_running r.result) refl

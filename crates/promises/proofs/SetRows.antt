@@ -1,37 +1,16 @@
 -- The rows of sets go on: no act loses one, and one that is over stays as it is.
+use Rattle.promises.proofs.Words.{append_assoc, list_any-append, SetOutcome, VssResult, InsufficientStorage, AsyncCancelled, Said, Mark, Clean, Write, said_of, Group, Orders, PreCommit, Flush, Hold}
+use Rattle.promises.proofs.Words.{Cut, Commit, Release, PostCommit, is_among, open_group, Session, Plan, Event, State, SetRow, Kept, is_running, in_progress, row_changed, left_now, NumberedFrom, Act}
+use Rattle.promises.proofs.Words.{enabled, idle_now, after, state, state-append, orderly, found_above, IsLaterRow, HasLaterRow, KeepsRows, Covers, covered, after_enabled, after_not_enabled, some_same}
+use Rattle.promises.proofs.Words.{by_if, append_nothing}
 use Rattle.std.proofs.Common.{◌≡◌, ◌∙◌, ℕ, ◌+◌, ◌==◌, ◌<◌, ◌≤◌, List, [], ◌∷◌, ◌++◌, Option, Some, None, refl, Bool, true, false, ap, sym, subst, map, find, arith}
 use Rattle.std.specs.Prelude.{◌||◌, if◌then◌else◌}
-use Rattle.std.proofs.lemmas.List.{append_assoc}
-use Rattle.std.proofs.lemmas.List.Folds.{list_any-append}
-use Rattle.vss_names.specs.declared.set_outcome.SetOutcome.{SetOutcome}
-use Rattle.vss_names.specs.declared.vss_result.VssResult.{VssResult}
-use Rattle.vss_names.specs.declared.vss_result.VssResult.TheVariants.{InsufficientStorage, AsyncCancelled}
-use Rattle.writer_state.specs.declared.said.Said.{Said}
-use Rattle.write_history.specs.declared.mark.Mark.{Mark}
-use Rattle.write_history.specs.declared.mark.Mark.TheVariants.{Clean, Fault, FaultAfter}
-use Rattle.write_history.specs.History.{Write}
-use Rattle.writer_calls.specs.Script.{said_of}
-use Rattle.set_agenda.specs.declared.group.Group.{Group}
-use Rattle.set_agenda.specs.declared.group.Group.TheVariants.{Orders, PreCommit, Flush, Hold, Cut, Commit, Release, PostCommit}
-use Rattle.set_agenda.specs.Agenda.{is_among, open_group}
 use Rattle.set_agenda.specs.Course.{Course, answered as course_answered, stepped as course_stepped, timed as course_timed}
-use Rattle.requestor.specs.Session.{Session}
-use Rattle.scenario.specs.Plan.{Plan}
-use Rattle.vss_model.specs.declared.event.Event.{Event}
-use Rattle.vss_model.specs.State.{State, SetRow, Kept, is_running, in_progress, row_changed, left_now}
-use Rattle.vss_model.specs.Ending.{Ending, NothingEnds, AgendaEnds, SetFails, ending, row_settled, concluded, followed, runs, failed_in, failed}
+use Rattle.vss_model.specs.Ending.{Ending, NothingEnds, ending, row_settled, concluded, followed, runs, failed_in, failed}
 use Rattle.vss_model.specs.Images.{Replied, cleared, set_loses_image, with_room_if, put, write, reverted_as}
 use Rattle.vss_model.specs.Sessions.{new_set, new_number, with_volume, has_no_volume, closed}
 use Rattle.vss_model.specs.Steps.{answered, with_cut, cut_set, step_made, is_flush, is_failed_step, stepped_as, stepped, ticked, later}
-use Rattle.vss_model.specs.Facts.{NumberedFrom}
-use Rattle.vss_model.specs.Acts.{Act, enabled, idle_now, after, state}
-use Rattle.vss_model.proofs.Appending.{state-append}
-use Rattle.vss_model.proofs.OrderlyActs.{orderly}
-use Rattle.vss_model.proofs.Rows.{found_above}
-use Rattle.promises.specs.Ends.{IsLaterRow, HasLaterRow, KeepsRows}
 use Rattle.promises.proofs.Truth.{equal, left_part}
-use Rattle.vss_model.proofs.ByEvent.{Covers, covered, after_enabled, after_not_enabled, some_same}
-use Rattle.vss_model.proofs.CutAppend.{append_nothing}
 use Rattle.promises.proofs.Members.{still_less}
 
 -- ## one row
@@ -147,8 +126,7 @@ changed_in_progress k f (q ∷ rows) r num e h = by_head (is_running q.result) r
 module _ (s : Plan) (st : State) (num : NumberedFrom 1 st.sets) where
   in_concluded : (e : Ending) (x : State) → GoOn st.sets x.sets → GoOn st.sets (concluded e x).sets
   in_concluded NothingEnds x g = g
-  in_concluded AgendaEnds x g = go_on_again st.sets x.sets _ g (go_on_settled x.course.outcome x.sets)
-  in_concluded (SetFails why) x g = go_on_again st.sets x.sets _ g (go_on_settled x.course.outcome x.sets)
+  in_concluded _ x g = go_on_again st.sets x.sets _ g (go_on_settled x.course.outcome x.sets)
 
   in_followed : (ran : Bool) (c : Course) (x : State) → GoOn st.sets x.sets → GoOn st.sets (followed ran c x).sets
   unfolding followed
@@ -164,8 +142,7 @@ module _ (s : Plan) (st : State) (num : NumberedFrom 1 st.sets) where
 
   in_put : (v : ℕ) (w : Write) (mark : Mark) (x : State) → GoOn st.sets x.sets → GoOn st.sets (put v w mark x).sets
   in_put v w Clean x g = g
-  in_put v w Fault x g = g
-  in_put v w (FaultAfter k) x g = g
+  in_put v w _ x g = g
 
   in_write : (v : ℕ) (w : Write) (mark : Mark) → GoOn st.sets (write s v w mark st).1.sets
   unfolding write
@@ -173,8 +150,7 @@ module _ (s : Plan) (st : State) (num : NumberedFrom 1 st.sets) where
 
   in_revert : (v : ℕ) (k : Kept) (mark : Mark) → GoOn st.sets (reverted_as s v k mark st).1.sets
   in_revert v k Clean = go_on_same st.sets
-  in_revert v k Fault = go_on_same st.sets
-  in_revert v k (FaultAfter n) = go_on_same st.sets
+  in_revert v k _ = go_on_same st.sets
 
   in_closed : (q : Session) (x : State) → GoOn st.sets x.sets → GoOn st.sets (closed q x).sets
   unfolding closed
@@ -214,10 +190,6 @@ module _ (s : Plan) (st : State) (num : NumberedFrom 1 st.sets) where
   abbrev RowsGoOn : Event → Mark → Replied → Type 0
   RowsGoOn event mark x = GoOn st.sets x.1.sets
 
-  either : (b : Bool) (x y : Replied) → GoOn st.sets x.1.sets → GoOn st.sets y.1.sets → GoOn st.sets (if b then x else y).1.sets
-  either true x y g h = g
-  either false x y g h = h
-
   rows_go_on : Covers RowsGoOn s st
   rows_go_on = record {
     stays = λ lane o mark told e f. go_on_same st.sets;
@@ -232,8 +204,8 @@ module _ (s : Plan) (st : State) (num : NumberedFrom 1 st.sets) where
     names = λ lane w full q explicit mark g named. go_on_same st.sets;
     starts = λ lane q mark g e. go_on_more st.sets (new_set (new_number st) q.context);
     adds = λ lane v r q mark g e f. changed_in_progress 1 (with_volume v) st.sets r num e (more_volumes v);
-    prepares = λ lane q mark g. either (has_no_volume (in_progress st)) _ _ (go_on_same st.sets) (in_followed true _ st (go_on_same st.sets));
-    snapshots = λ lane q mark g. either (has_no_volume (in_progress st)) _ _ (go_on_same st.sets) (in_followed true _ st (go_on_same st.sets));
+    prepares = λ lane q mark g. by_if (λ r. GoOn st.sets r.1.sets) (has_no_volume (in_progress st)) _ _ (go_on_same st.sets) (in_followed true _ st (go_on_same st.sets));
+    snapshots = λ lane q mark g. by_if (λ r. GoOn st.sets r.1.sets) (has_no_volume (in_progress st)) _ _ (go_on_same st.sets) (in_followed true _ st (go_on_same st.sets));
     completes = λ lane q mark g. in_followed true _ st (go_on_same st.sets);
     aborts = λ lane q mark e. in_failed (in_progress st) AsyncCancelled st (go_on_same st.sets);
     ends = λ lane q mark e. in_closed q (failed AsyncCancelled st) (in_failed (in_progress st) AsyncCancelled st (go_on_same st.sets));

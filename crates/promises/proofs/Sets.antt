@@ -1,36 +1,15 @@
 -- No volume is twice in a set.
+use Rattle.promises.proofs.Words.{list_any-append, SetOutcome, VssResult, InsufficientStorage, AsyncCancelled, ObjectAlreadyExists, MaximumNumberOfVolumesReached, MaximumNumberOfSnapshotsReached}
+use Rattle.promises.proofs.Words.{Said, Mark, Clean, Write, said_of, Group, Orders, PreCommit, Flush, Hold, Cut, Commit, Release, PostCommit, is_among, open_group, are_distinct, Session, Plan, Event}
+use Rattle.promises.proofs.Words.{State, SetRow, Kept, is_running, in_progress, row_changed, left_now, history_of, NumberedFrom, Act, enabled, idle_now, after, state, state-append, orderly}
+use Rattle.promises.proofs.Words.{row_running, VolumesAreDistinct, Covers, covered, after_enabled, after_not_enabled, some_same, by_if, other_way}
 use Rattle.std.proofs.Common.{◌≡◌, ◌∙◌, ℕ, ◌+◌, ◌==◌, ◌<◌, List, [], ◌∷◌, ◌++◌, Option, Some, None, refl, Bool, true, false, ap, sym, subst, map, find, fold, arith}
 use Rattle.std.specs.Prelude.{◌&&◌, ◌||◌, not, nat_le, length, if◌then◌else◌}
-use Rattle.std.proofs.lemmas.List.Folds.{list_any-append}
-use Rattle.vss_names.specs.declared.set_outcome.SetOutcome.{SetOutcome}
-use Rattle.vss_names.specs.declared.vss_result.VssResult.{VssResult}
-use Rattle.vss_names.specs.declared.vss_result.VssResult.TheVariants.{InsufficientStorage, AsyncCancelled, ObjectAlreadyExists, MaximumNumberOfVolumesReached, MaximumNumberOfSnapshotsReached}
-use Rattle.writer_state.specs.declared.said.Said.{Said}
-use Rattle.write_history.specs.declared.mark.Mark.{Mark}
-use Rattle.write_history.specs.declared.mark.Mark.TheVariants.{Clean, Fault, FaultAfter}
-use Rattle.write_history.specs.History.{Write}
-use Rattle.writer_calls.specs.Script.{said_of}
-use Rattle.set_agenda.specs.declared.group.Group.{Group}
-use Rattle.set_agenda.specs.declared.group.Group.TheVariants.{Orders, PreCommit, Flush, Hold, Cut, Commit, Release, PostCommit}
-use Rattle.set_agenda.specs.Agenda.{is_among, open_group}
-use Rattle.set_agenda.specs.Begin.{are_distinct}
 use Rattle.set_agenda.specs.Course.{Course, answered as course_answered, stepped as course_stepped, timed as course_timed}
-use Rattle.requestor.specs.Session.{Session}
-use Rattle.scenario.specs.Plan.{Plan}
-use Rattle.vss_model.specs.declared.event.Event.{Event}
-use Rattle.vss_model.specs.State.{State, SetRow, Kept, is_running, in_progress, row_changed, left_now, history_of}
-use Rattle.vss_model.specs.Ending.{Ending, NothingEnds, AgendaEnds, SetFails, ending, row_settled, concluded, followed, runs, failed_in, failed}
+use Rattle.vss_model.specs.Ending.{Ending, NothingEnds, ending, row_settled, concluded, followed, runs, failed_in, failed}
 use Rattle.vss_model.specs.Images.{Replied, cleared, set_loses_image, with_room_if, put, write, reverted_as, is_in_set}
 use Rattle.vss_model.specs.Sessions.{most_volumes, most_images, new_set, new_number, with_volume, add_refusal, has_no_volume, closed}
 use Rattle.vss_model.specs.Steps.{answered, with_cut, row_cut, cut_set, step_made, is_flush, is_failed_step, stepped_as, stepped, ticked, later}
-use Rattle.vss_model.specs.Facts.{NumberedFrom}
-use Rattle.vss_model.specs.Acts.{Act, enabled, idle_now, after, state}
-use Rattle.vss_model.proofs.Appending.{state-append}
-use Rattle.vss_model.proofs.OrderlyActs.{orderly}
-use Rattle.vss_model.proofs.Rows.{row_running}
-use Rattle.promises.specs.Sets.{VolumesAreDistinct}
-use Rattle.vss_model.proofs.ByEvent.{Covers, covered, after_enabled, after_not_enabled, some_same}
-use Rattle.vss_model.proofs.Orderly.{other_way}
 use Rattle.promises.proofs.Members.{still_less}
 
 abbrev AllDistinct : List SetRow → Type 0
@@ -130,8 +109,7 @@ cut_volumes n now r = by_number (r.number == n)
 module _ (s : Plan) (st : State) (num : NumberedFrom 1 st.sets) (h : AllDistinct st.sets) where
   in_ended : (e : Ending) (x : State) → AllDistinct x.sets → AllDistinct (concluded e x).sets
   in_ended NothingEnds x d = d
-  in_ended AgendaEnds x d = distinct_map (row_settled x.course.outcome) (settled_volumes x.course.outcome) x.sets d
-  in_ended (SetFails why) x d = distinct_map (row_settled x.course.outcome) (settled_volumes x.course.outcome) x.sets d
+  in_ended _ x d = distinct_map (row_settled x.course.outcome) (settled_volumes x.course.outcome) x.sets d
 
   in_followed : (ran : Bool) (c : Course) (x : State) → AllDistinct x.sets → AllDistinct (followed ran c x).sets
   unfolding followed
@@ -147,8 +125,7 @@ module _ (s : Plan) (st : State) (num : NumberedFrom 1 st.sets) (h : AllDistinct
 
   in_put : (v : ℕ) (w : Write) (mark : Mark) (x : State) → AllDistinct x.sets → AllDistinct (put v w mark x).sets
   in_put v w Clean x d = d
-  in_put v w Fault x d = d
-  in_put v w (FaultAfter k) x d = d
+  in_put v w _ x d = d
 
   in_write : (v : ℕ) (w : Write) (mark : Mark) → AllDistinct (write s v w mark st).1.sets
   unfolding write
@@ -156,8 +133,7 @@ module _ (s : Plan) (st : State) (num : NumberedFrom 1 st.sets) (h : AllDistinct
 
   in_revert : (v : ℕ) (k : Kept) (mark : Mark) → AllDistinct (reverted_as s v k mark st).1.sets
   in_revert v k Clean = h
-  in_revert v k Fault = h
-  in_revert v k (FaultAfter n) = h
+  in_revert v k _ = h
 
   in_closed : (q : Session) (x : State) → AllDistinct x.sets → AllDistinct (closed q x).sets
   unfolding closed
@@ -197,10 +173,6 @@ module _ (s : Plan) (st : State) (num : NumberedFrom 1 st.sets) (h : AllDistinct
   abbrev Distinct : Event → Mark → Replied → Type 0
   Distinct event mark x = AllDistinct x.1.sets
 
-  either : (b : Bool) (x y : Replied) → AllDistinct x.1.sets → AllDistinct y.1.sets → AllDistinct (if b then x else y).1.sets
-  either true x y d e = d
-  either false x y d e = e
-
   on_add : (v : ℕ) (r : SetRow) → in_progress st ≡ Some r → add_refusal v r st ≡ None → AllDistinct (map (row_changed r.number (with_volume v)) st.sets)
   on_add v r e f = added 1 st.sets r v num (row_running 1 st.sets r num e) (not_in_set (is_in_set v (Some r)) (nat_le most_volumes (length r.volumes)) (nat_le most_images (length (history_of st v).images)) ObjectAlreadyExists MaximumNumberOfVolumesReached MaximumNumberOfSnapshotsReached f) h
 
@@ -218,8 +190,8 @@ module _ (s : Plan) (st : State) (num : NumberedFrom 1 st.sets) (h : AllDistinct
     names = λ lane w full q explicit mark g named. h;
     starts = λ lane q mark g e. distinct_append st.sets (new_set (new_number st) q.context) h refl;
     adds = λ lane v r q mark g e f. on_add v r e f;
-    prepares = λ lane q mark g. either (has_no_volume (in_progress st)) _ _ h (in_followed true _ st h);
-    snapshots = λ lane q mark g. either (has_no_volume (in_progress st)) _ _ h (in_followed true _ st h);
+    prepares = λ lane q mark g. by_if (λ r. AllDistinct r.1.sets) (has_no_volume (in_progress st)) _ _ h (in_followed true _ st h);
+    snapshots = λ lane q mark g. by_if (λ r. AllDistinct r.1.sets) (has_no_volume (in_progress st)) _ _ h (in_followed true _ st h);
     completes = λ lane q mark g. in_followed true _ st h;
     aborts = λ lane q mark e. in_failed (in_progress st) AsyncCancelled st h;
     ends = λ lane q mark e. in_closed q (failed AsyncCancelled st) (in_failed (in_progress st) AsyncCancelled st h);

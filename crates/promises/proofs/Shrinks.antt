@@ -1,17 +1,8 @@
 -- Volumes with fewer images use no more slots, and no write needs a slot there that needed none before.
+use Rattle.promises.proofs.Words.{Context, Backup, AppRollback, NasRollback, Image, History, dropped, after_set, Placed, used, needs_slot, gone_up_to, is_among, change_at, SetRow, images_dropped}
+use Rattle.promises.proofs.Words.{images_released, cut_if, cut_each, at, Each, each_map, each_change, each_gone, as_many_map, as_many_change, as_many_gone, as_many_cut}
 use Rattle.std.proofs.Common.{◌≡◌, ◌∙◌, ℕ, ◌+◌, ◌==◌, ◌≤◌, zero, suc, List, [], ◌∷◌, Option, Some, None, refl, Bool, true, false, sym, subst, map, filter, length}
 use Rattle.std.specs.Prelude.{not, nat_lt}
-use Rattle.vss_names.specs.declared.context.Context.{Context}
-use Rattle.vss_names.specs.declared.context.Context.TheVariants.{Backup, AppRollback, NasRollback}
-use Rattle.write_history.specs.History.{Image, History, dropped, after_set}
-use Rattle.write_history.specs.Slots.{Placed, used, needs_slot, gone_up_to}
-use Rattle.set_agenda.specs.Agenda.{is_among}
-use Rattle.set_agenda.specs.Course.{change_at}
-use Rattle.vss_model.specs.State.{SetRow}
-use Rattle.vss_model.specs.Ending.{images_dropped}
-use Rattle.vss_model.specs.Sessions.{images_released}
-use Rattle.vss_model.specs.Steps.{cut_if, cut_each}
-use Rattle.vss_model.proofs.Volumes.{at, Each, each_map, each_change, each_gone, as_many_map, as_many_change, as_many_gone, as_many_cut}
 use Rattle.promises.proofs.Truth.{chain, no_less}
 use Rattle.promises.proofs.Used.{Rising, rising_fewer, rising_cut, fewer_used, fewer_need, cut_used}
 

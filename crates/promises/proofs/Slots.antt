@@ -1,39 +1,17 @@
 -- Images never use more slots than their group has: of each change of the volumes, that it leaves it so.
+use Rattle.promises.proofs.Words.{slice_get_within, get_or_from_slice_get, slice_get-map, VssResult, InsufficientStorage, AsyncCancelled, Said, Mark, Clean, Fault, FaultAfter, Write, Image, History}
+use Rattle.promises.proofs.Words.{fresh, point_in, written, reverted, reverted_in_part, AreInTime, Placed, Copy, named, copy_of, copies_of, copies_from, group_used, used, needs_slot, said_of, Group}
+use Rattle.promises.proofs.Words.{Orders, PreCommit, Flush, Hold, Cut, Commit, Release, PostCommit, open_group, Session, VolumeRow, IsPlan, group_slots, Plan, slots_in, slots_of, placed, placed_in}
+use Rattle.promises.proofs.Words.{group_of, blocks_of, Event, State, SetRow, Kept, in_progress, row_of, left_now, history_of, kept_image, Act, enabled, idle_now, after, state, state-append, UpTo}
+use Rattle.promises.proofs.Words.{images_up_to, kept_point, row_number, images_in_time, orderly, at, as_many_change, within, SlotsSuffice, Covers, covered, after_enabled, after_not_enabled}
 use Rattle.std.proofs.Common.{◌≡◌, ◌∙◌, ℕ, ◌+◌, ◌==◌, ◌≤◌, ◌<◌, suc, List, [], ◌∷◌, ◌++◌, Option, Some, None, refl, Bool, true, false, ap, sym, subst, map, fold, length, arith}
 use Rattle.std.specs.Prelude.{if◌then◌else◌, slice_get, option_map}
-use Rattle.std.proofs.lemmas.Option.{slice_get_within, get_or_from_slice_get, slice_get-map}
-use Rattle.vss_names.specs.declared.vss_result.VssResult.{VssResult}
-use Rattle.vss_names.specs.declared.vss_result.VssResult.TheVariants.{InsufficientStorage, AsyncCancelled}
-use Rattle.writer_state.specs.declared.said.Said.{Said}
-use Rattle.write_history.specs.declared.mark.Mark.{Mark}
-use Rattle.write_history.specs.declared.mark.Mark.TheVariants.{Clean, Fault, FaultAfter}
-use Rattle.write_history.specs.History.{Write, Image, History, fresh, point_in, written, reverted, reverted_in_part, AreInTime}
-use Rattle.write_history.specs.Slots.{Placed, Copy, named, copy_of, copies_of, copies_from, group_used, used, needs_slot}
-use Rattle.writer_calls.specs.Script.{said_of}
-use Rattle.set_agenda.specs.declared.group.Group.{Group}
-use Rattle.set_agenda.specs.declared.group.Group.TheVariants.{Orders, PreCommit, Flush, Hold, Cut, Commit, Release, PostCommit}
-use Rattle.set_agenda.specs.Agenda.{open_group}
 use Rattle.set_agenda.specs.Course.{Course, answered as course_answered, stepped as course_stepped, timed as course_timed, change_at}
-use Rattle.requestor.specs.Session.{Session}
-use Rattle.scenario.specs.declared.volume_row.VolumeRow.{VolumeRow}
-use Rattle.scenario.specs.Bounds.{IsPlan, group_slots}
-use Rattle.scenario.specs.Plan.{Plan, slots_in, slots_of, placed, placed_in, group_of, blocks_of}
-use Rattle.vss_model.specs.declared.event.Event.{Event}
-use Rattle.vss_model.specs.State.{State, SetRow, Kept, in_progress, row_of, left_now, history_of, kept_image}
-use Rattle.vss_model.specs.Ending.{Ending, NothingEnds, AgendaEnds, SetFails, ending, concluded, followed, runs, failed_in, failed}
+use Rattle.vss_model.specs.Ending.{Ending, SetFails, ending, concluded, followed, runs, failed_in, failed}
 use Rattle.vss_model.specs.Images.{Replied, going_up_to, cleared, set_loses_image, with_room_if, put, write, reverted_as}
 use Rattle.vss_model.specs.Sessions.{has_no_volume, closed}
 use Rattle.vss_model.specs.Steps.{answered, cut_set, step_made, is_flush, is_failed_step, stepped_as, stepped, ticked, later}
-use Rattle.vss_model.specs.Acts.{Act, enabled, idle_now, after, state}
-use Rattle.vss_model.proofs.Appending.{state-append}
-use Rattle.vss_model.proofs.NewestImage.{UpTo, images_up_to}
-use Rattle.vss_model.proofs.OneCut.{kept_point, row_number, images_in_time}
-use Rattle.vss_model.proofs.OrderlyActs.{orderly}
-use Rattle.vss_model.proofs.Volumes.{at, as_many_change}
-use Rattle.promises.specs.Gone.{within}
-use Rattle.promises.specs.Slots.{SlotsSuffice}
 use Rattle.promises.proofs.Truth.{chain, equal, same_number}
-use Rattle.vss_model.proofs.ByEvent.{Covers, covered, after_enabled, after_not_enabled}
 use Rattle.promises.proofs.GroupUsed.{group_less, group_other, group_more, changed_uses, enough_goes, one_left}
 use Rattle.promises.proofs.Shrinks.{InTime, used_in, LessIn, less_in_same, less_in_over, less_in_map, less_in_change, less_in_gone, less_images_dropped, less_released, UsesNoMore, uses_less, uses_over, uses_cut}
 use Rattle.promises.proofs.Used.{rising, one_if, written_used, reverted_used, restored_used}
@@ -74,9 +52,8 @@ module _ (s : Plan) (plan : IsPlan s) (st : State) (time : (v : ℕ) → AreInTi
     -- ## what ends
 
     less_ended : (e : Ending) (x : State) → LessIn x.volumes (concluded e x).volumes
-    less_ended NothingEnds x = less_in_same x.volumes
-    less_ended AgendaEnds x = less_in_same x.volumes
     less_ended (SetFails why) x = less_images_dropped (in_progress x) x.volumes
+    less_ended _ x = less_in_same x.volumes
 
     less_followed : (ran : Bool) (c : Course) (x : State) → LessIn x.volumes (followed ran c x).volumes
     unfolding followed
@@ -162,8 +139,7 @@ module _ (s : Plan) (plan : IsPlan s) (st : State) (time : (v : ℕ) → AreInTi
 
       fit_put : (b : Bool) (mark : Mark) → Fit (put v w mark (with_room_if b roomy)).volumes
       fit_put b Clean x = fit_put_at b x (slice_get s.volumes x) (slice_get s.volumes v) refl refl
-      fit_put b Fault x = fit_room b x
-      fit_put b (FaultAfter k) x = fit_room b x
+      fit_put b _ x = fit_room b x
 
     fit_write : (v : ℕ) (w : Write) (mark : Mark) → Fit (write s v w mark st).1.volumes
     unfolding write

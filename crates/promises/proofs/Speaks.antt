@@ -1,25 +1,13 @@
 -- What a call does to a running agenda, with the deeds that it tells: the agenda stops and the set fails; or it rests, and nothing
 -- is told; or one member that is waited for, or all of them, say the same at the open place, and that is told.
+use Rattle.promises.proofs.Words.{Order, SetOutcome, VssResult, Said, Ok, Lost, is_ok, Group, Orders, PreCommit, Flush, Hold, Cut, Commit, Release, PostCommit, Limit, Place, Agenda, Entry, Open}
+use Rattle.promises.proofs.Words.{order_of, is_orders, is_over_volumes, with_group, waited_for, left_from, places, groups_left, left, open_group, open_place, is_asked, is_among, order_if, open_order}
+use Rattle.promises.proofs.Words.{order_now, waits_now, head_or_0, next_member, volume_if, next_volume, is_done, is_working, at_place, all_say, Running as RunningLimit, running_limits, spent_of}
+use Rattle.promises.proofs.Words.{lost_order_if, Settles, Stops, asked_if, asked_waits, first_among, not_ok_of_ok, Deed, Spoke, Made, deeds_lost, now_if}
 use Rattle.std.proofs.Common.{◌≡◌, ◌∙◌, ℕ, List, [], ◌∷◌, ◌⊎◌, Option, Some, None, refl, Bool, true, false, ap, sym, subst, inl, inr, map}
 use Rattle.std.specs.Prelude.{option_map, ◌&&◌, not}
-use Rattle.vss_names.specs.declared.order.Order.{Order}
-use Rattle.vss_names.specs.declared.set_outcome.SetOutcome.{SetOutcome}
-use Rattle.vss_names.specs.declared.vss_result.VssResult.{VssResult}
-use Rattle.writer_state.specs.declared.said.Said.{Said}
-use Rattle.writer_state.specs.declared.said.Said.TheVariants.{Ok, Lost}
-use Rattle.writer_state.specs.WriterState.{is_ok}
-use Rattle.set_agenda.specs.declared.group.Group.{Group}
-use Rattle.set_agenda.specs.declared.group.Group.TheVariants.{Orders, PreCommit, Flush, Hold, Cut, Commit, Release, PostCommit}
-use Rattle.set_agenda.specs.declared.limit.Limit.{Limit}
 use Rattle.set_agenda.specs.declared.limit.Limit.TheVariants.{Hold as HoldLimit, Freeze as FreezeLimit, Answer as AnswerLimit}
-use Rattle.set_agenda.specs.declared.place.Place.{Place}
-use Rattle.set_agenda.specs.Agenda.{Agenda, Entry, Open, order_of, is_orders, is_over_volumes, with_group, waited_for, left_from, places, groups_left, left, open_group, open_place, is_asked, is_among, order_if, open_order, order_now, waits_now, head_or_0, next_member, volume_if, next_volume, is_done, is_working, at_place, all_say}
-use Rattle.set_agenda.specs.Limits.{Running as RunningLimit, running_limits, spent_of}
 use Rattle.set_agenda.specs.Course.{Course, posted, outcome_after, failed as course_failed, settled_if, settled_in, settled, is_decisive, told, decided, answered_to, answered as course_answered, worked, stepped_as as course_stepped_as, stepped as course_stepped, freeze_limit, limits_now, lost_at, lost_to, lost, fails_set, lost_decided, treated_as, treated, timed as course_timed}
-use Rattle.vss_model.specs.Effects.{lost_order_if}
-use Rattle.vss_model.proofs.CourseCalls.{Settles, Stops, asked_if, asked_waits, first_among, not_ok_of_ok}
-use Rattle.promises.specs.Way.{Deed, Spoke, Made, deeds_lost}
-use Rattle.set_agenda.proofs.CourseRule.{now_if}
 
 -- ## deeds in a log
 
@@ -113,13 +101,7 @@ along a c d news e h = subst (λ x. Grows x c.outcome d.agenda d.outcome news) (
 
 group_of_order : (g : Group) (o : Order) → order_of g ≡ Some o → g ≡ Orders o
 group_of_order (Orders x) o e = cc
-group_of_order PreCommit o e = absurd cc
-group_of_order Flush o e = absurd cc
-group_of_order Hold o e = absurd cc
-group_of_order Cut o e = absurd cc
-group_of_order Commit o e = absurd cc
-group_of_order Release o e = absurd cc
-group_of_order PostCommit o e = absurd cc
+group_of_order _ o e = absurd cc
 
 pub now_group : (os : List Open) (o : Order) → order_now os ≡ Some o → (open_place os).group ≡ Orders o
 now_group [] o e = absurd cc
@@ -178,13 +160,7 @@ made_now os now (Some g) = Made g (next_volume os) now ∷ []
 
 made_at : (g : Group) (who now : ℕ) → not (is_orders g) ≡ true → Made g (volume_if (is_over_volumes g) who) now ≡ deed_at g who Ok now
 made_at (Orders o) who now e = absurd cc
-made_at PreCommit who now e = refl
-made_at Flush who now e = refl
-made_at Hold who now e = refl
-made_at Cut who now e = refl
-made_at Commit who now e = refl
-made_at Release who now e = refl
-made_at PostCommit who now e = refl
+made_at _ who now e = refl
 
 step_told : (os : List Open) (now : ℕ) → is_working os ≡ true → made_now os now (open_group os) ≡ map deed_in (said_at os Ok now (next_member os ∷ []))
 step_told [] now e = absurd cc

@@ -1,24 +1,10 @@
 -- The stages of a snapshot's sequence in its agenda: groups stay closed, the stage of the open group does not fall, and what is said
 -- belongs to it.
+use Rattle.promises.proofs.Words.{list_any, list_any-append, Level, System, Identify, PrepareBackup, PrepareSnapshot, Freeze, Thaw, PostSnapshot, BackupComplete, Said, is_ok, Group, Orders, PreCommit}
+use Rattle.promises.proofs.Words.{Flush, Hold, Cut, Commit, Release, PostCommit, Snapshot, Place, Plan, after, said_stays, true_not_false, Deed, level_of, order_stage, stage, Rising}
 use Rattle.std.proofs.Common.{◌≡◌, ◌∙◌, ℕ, ◌==◌, ◌≤◌, ◌<◌, List, [], ◌∷◌, ◌++◌, Option, Some, None, refl, Bool, true, false, ap, sym, map, filter, arith}
 use Rattle.std.specs.Prelude.{◌&&◌, ◌||◌, not, if◌then◌else◌}
-use Rattle.std.specs.List.{list_any}
-use Rattle.std.proofs.lemmas.List.Folds.{list_any-append}
-use Rattle.vss_names.specs.declared.level.Level.{Level}
-use Rattle.vss_names.specs.declared.level.Level.TheVariants.{System}
-use Rattle.vss_names.specs.declared.order.Order.TheVariants.{Identify, PrepareBackup, PrepareSnapshot, Freeze, Thaw, PostSnapshot, BackupComplete}
-use Rattle.writer_state.specs.declared.said.Said.{Said}
-use Rattle.writer_state.specs.WriterState.{is_ok}
-use Rattle.set_agenda.specs.declared.group.Group.{Group}
-use Rattle.set_agenda.specs.declared.group.Group.TheVariants.{Orders, PreCommit, Flush, Hold, Cut, Commit, Release, PostCommit}
-use Rattle.set_agenda.specs.declared.kind.Kind.TheVariants.{Snapshot}
-use Rattle.set_agenda.specs.declared.place.Place.{Place}
 use Rattle.set_agenda.specs.Agenda.{Agenda, Entry, Open, places, is_orders, has_failed, has_said, writers_at, members_of, waited_for, with_group, left_from, groups_left, is_among, at_place, all_say}
-use Rattle.scenario.specs.Plan.{Plan}
-use Rattle.vss_model.specs.Acts.{after}
-use Rattle.vss_model.proofs.CutLog.{said_stays}
-use Rattle.vss_model.proofs.Orderly.{true_not_false}
-use Rattle.promises.specs.Way.{Deed, level_of, order_stage, stage, Rising}
 use Rattle.promises.proofs.Truth.{chain, left_part, no_less, right_part, same_number}
 use Rattle.promises.proofs.Speaks.{deed_at, deed_in, said_at}
 
@@ -68,40 +54,20 @@ place_stage p = group_stage p.group p.level
 
 -- the groups that go by levels
 abbrev pub leveled : Group → Bool
-leveled (Orders Identify) = false
-leveled (Orders PrepareBackup) = false
-leveled (Orders PrepareSnapshot) = false
 leveled (Orders Freeze) = true
 leveled (Orders Thaw) = true
-leveled (Orders PostSnapshot) = false
-leveled (Orders BackupComplete) = false
-leveled PreCommit = false
-leveled Flush = false
-leveled Hold = false
-leveled Cut = false
-leveled Commit = false
-leveled Release = false
-leveled PostCommit = false
+leveled (Orders _) = false
+leveled _ = false
 
 -- in a group that goes by levels the writer is of the group's level
 abbrev pub IsOfLevel : Plan → Place → ℕ → Type 0
 IsOfLevel s p w = leveled p.group ≡ true → level_of s w ≡ level_or p.level
 
 pub stage_at : (s : Plan) (g : Group) (l : Option Level) (who : ℕ) (said : Said) (now : ℕ) → (leveled g ≡ true → level_of s who ≡ level_or l) → stage s (deed_at g who said now) ≡ group_stage g l
-stage_at s (Orders Identify) l who said now h = refl
-stage_at s (Orders PrepareBackup) l who said now h = refl
-stage_at s (Orders PrepareSnapshot) l who said now h = refl
 stage_at s (Orders Freeze) l who said now h = ap (order_stage Freeze) (h refl)
 stage_at s (Orders Thaw) l who said now h = ap (order_stage Thaw) (h refl)
-stage_at s (Orders PostSnapshot) l who said now h = refl
-stage_at s (Orders BackupComplete) l who said now h = refl
-stage_at s PreCommit l who said now h = refl
-stage_at s Flush l who said now h = refl
-stage_at s Hold l who said now h = refl
-stage_at s Cut l who said now h = refl
-stage_at s Commit l who said now h = refl
-stage_at s Release l who said now h = refl
-stage_at s PostCommit l who said now h = refl
+stage_at s (Orders _) l who said now h = refl
+stage_at s _ l who said now h = refl
 
 abbrev pub open_stage : List Open → ℕ
 open_stage [] = 15

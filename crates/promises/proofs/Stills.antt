@@ -1,28 +1,12 @@
 -- What is held and frozen, as the deeds since the `snapshot` line tell it: they are those of the log of the agenda that runs.
+use Rattle.promises.proofs.Words.{Context, Backup, AppRollback, NasRollback, Identify, PrepareBackup, PrepareSnapshot, Freeze, Thaw, PostSnapshot, BackupComplete, Said, is_ok, Group, Orders}
+use Rattle.promises.proofs.Words.{PreCommit, Flush, Hold, Cut, Commit, Release, PostCommit, Kind, Gather, Prepare, Snapshot, Complete, Stage, Done, Session, has_writers, stage_after, is_stage, Plan}
+use Rattle.promises.proofs.Words.{WaitsFor, IsAgendaOf, Act, state, orderly, BySnapshot, is_step, progress, StandsStill, takes_snapshot, Deed, is_agreed, is_heard, is_made, agreed, heard, made, way}
+use Rattle.promises.proofs.Words.{kind_is}
 use Rattle.std.proofs.Common.{◌≡◌, ◌∙◌, ℕ, ◌==◌, List, [], ◌∷◌, Option, Some, None, refl, Bool, true, false, ap, sym, subst, map}
 use Rattle.std.specs.Prelude.{is_some, ◌&&◌, ◌||◌, not}
-use Rattle.vss_names.specs.declared.context.Context.{Context}
-use Rattle.vss_names.specs.declared.context.Context.TheVariants.{Backup, AppRollback, NasRollback}
-use Rattle.vss_names.specs.declared.order.Order.TheVariants.{Identify, PrepareBackup, PrepareSnapshot, Freeze, Thaw, PostSnapshot, BackupComplete}
-use Rattle.writer_state.specs.declared.said.Said.{Said}
-use Rattle.writer_state.specs.WriterState.{is_ok}
-use Rattle.set_agenda.specs.declared.group.Group.{Group}
-use Rattle.set_agenda.specs.declared.group.Group.TheVariants.{Orders, PreCommit, Flush, Hold, Cut, Commit, Release, PostCommit}
-use Rattle.set_agenda.specs.declared.kind.Kind.{Kind}
-use Rattle.set_agenda.specs.declared.kind.Kind.TheVariants.{Gather, Prepare, Snapshot, Complete}
 use Rattle.set_agenda.specs.Agenda.{Agenda, Entry, plain, has_said, is_snapshot, is_freeze, is_thaw, has_frozen, has_thawed, is_held as holds, is_frozen as freezes}
-use Rattle.requestor.specs.declared.stage.Stage.{Stage}
-use Rattle.requestor.specs.declared.stage.Stage.TheVariants.{Done}
-use Rattle.requestor.specs.Session.{Session, has_writers, stage_after}
-use Rattle.requestor.specs.Check.{is_stage}
-use Rattle.scenario.specs.Plan.{Plan}
-use Rattle.vss_model.specs.Facts.{WaitsFor, IsAgendaOf}
-use Rattle.vss_model.specs.Acts.{Act, state}
 use Rattle.vss_model.proofs.LogRule.{Running}
-use Rattle.vss_model.proofs.OrderlyActs.{orderly}
-use Rattle.promises.specs.InOrder.{BySnapshot, is_step, progress}
-use Rattle.promises.specs.Still.{StandsStill, takes_snapshot}
-use Rattle.promises.specs.Way.{Deed, is_agreed, is_heard, is_made, agreed, heard, made, way}
 use Rattle.promises.proofs.Truth.{both_ways}
 use Rattle.promises.proofs.Accepted.{same_stage}
 use Rattle.promises.proofs.Along.{along}
@@ -30,7 +14,6 @@ use Rattle.promises.proofs.Heard.{Good, said_deed}
 use Rattle.promises.proofs.Progress.{StandsAt, stands_all}
 use Rattle.promises.proofs.Speaks.{deed_at, deed_in}
 use Rattle.promises.proofs.Whole.{good_along}
-use Rattle.vss_model.proofs.Rows.{kind_is}
 
 -- ## the agenda that runs is the one of `snapshot`
 

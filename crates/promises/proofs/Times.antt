@@ -1,28 +1,13 @@
 -- The times in a snapshot's log rise. So where more than a limit has gone by since some Hold step, it has since the first.
+use Rattle.promises.proofs.Words.{list_any, Order, Identify, PrepareBackup, BackupComplete, hold_limit, Group, Orders, Kind, Gather, Prepare, Snapshot, Complete, Place, Agenda, Entry, Open, plain}
+use Rattle.promises.proofs.Words.{places, waited_for, with_group, left_from, groups_left, Course, Plan, Event, Reply, Answered, Stepped, State, start, Act, enabled, reply, after, state, has_passed}
+use Rattle.promises.proofs.Words.{holds_volumes, is_hold_step, held_too_long, frozen_too_long, unanswered_too_long, is_late_at, is_late_in, ticks_if, Deed, Spoke, Made, steps_told, deeds_told}
+use Rattle.promises.proofs.Words.{deeds_lost, deeds_if, deeds, begins_snapshot, Rising, way_after, way_from, way}
 use Rattle.std.proofs.Common.{◌≡◌, ◌∙◌, ℕ, ◌+◌, ◌≤◌, List, [], ◌∷◌, ◌++◌, Option, Some, None, refl, Bool, true, false, ap, sym, subst, map, find, fold, arith}
 use Rattle.std.specs.Prelude.{◌&&◌, ◌||◌, nat_lt, if◌then◌else◌}
-use Rattle.std.specs.List.{list_any}
-use Rattle.vss_names.specs.declared.order.Order.{Order}
-use Rattle.vss_names.specs.declared.order.Order.TheVariants.{Identify, PrepareBackup, BackupComplete}
-use Rattle.tick_limits.specs.Time.{hold_limit}
-use Rattle.set_agenda.specs.declared.group.Group.{Group}
-use Rattle.set_agenda.specs.declared.group.Group.TheVariants.{Orders, PreCommit, Flush, Hold, Cut, Commit, Release, PostCommit}
-use Rattle.set_agenda.specs.declared.kind.Kind.{Kind}
-use Rattle.set_agenda.specs.declared.kind.Kind.TheVariants.{Gather, Prepare, Snapshot, Complete}
-use Rattle.set_agenda.specs.declared.place.Place.{Place}
-use Rattle.set_agenda.specs.Agenda.{Agenda, Entry, Open, plain, places, waited_for, with_group, left_from, groups_left}
-use Rattle.set_agenda.specs.Course.{Course}
-use Rattle.scenario.specs.Plan.{Plan}
-use Rattle.vss_model.specs.declared.event.Event.{Event}
 use Rattle.vss_model.specs.declared.event.Event.TheVariants.{Line, Answer as AnswerEvent, Provider, Idle}
-use Rattle.vss_model.specs.Reply.{Reply, Answered, Stepped}
-use Rattle.vss_model.specs.State.{State, start}
-use Rattle.vss_model.specs.Acts.{Act, enabled, reply, after, state}
 use Rattle.vss_model.specs.Effects.{lost, lost_order}
-use Rattle.vss_model.specs.Causes.{has_passed, holds_volumes, is_hold_step, held_too_long, frozen_too_long, unanswered_too_long, is_late_at, is_late_in}
 use Rattle.vss_model.proofs.LogRule.{Running}
-use Rattle.promises.specs.Clock.{ticks_if}
-use Rattle.promises.specs.Way.{Deed, Spoke, Made, steps_told, deeds_told, deeds_lost, deeds_if, deeds, begins_snapshot, Rising, way_after, way_from, way}
 use Rattle.promises.proofs.Truth.{both_are, both_parts, not_both}
 use Rattle.promises.proofs.Along.{along}
 use Rattle.promises.proofs.Clock.{clock_after}
@@ -38,13 +23,7 @@ time_of (Made g v now) = now
 
 entry_time : (g : Group) (e : Entry) → time_of (deed_at g e.who e.said e.time) ≡ e.time
 entry_time (Orders o) e = refl
-entry_time PreCommit e = refl
-entry_time Flush e = refl
-entry_time Hold e = refl
-entry_time Cut e = refl
-entry_time Commit e = refl
-entry_time Release e = refl
-entry_time PostCommit e = refl
+entry_time _ e = refl
 
 -- ## what one act tells
 

@@ -1,31 +1,15 @@
 -- What an act makes of a session: its set fails, its agenda ends, or it stays as it is.
+use Rattle.promises.proofs.Words.{SetOutcome, VssResult, AsyncCancelled, InsufficientStorage, Said, Mark, Clean, Fault, FaultAfter, Write, Group, Agenda, open_group, is_working, Session, makes_set}
+use Rattle.promises.proofs.Words.{agenda_ended, set_failed, Plan, State, SetRow, Kept, is_running, in_progress, row_changed, left_now, change_set, with_volume, IsOfSession, has_failed, Act, state}
+use Rattle.promises.proofs.Words.{outcome_is_running, course-step_made, Moves, MovesOn, moves_answered, moves_stepped, moves_timed, orderly, running_found, row_running, row_settles, result-settled}
+use Rattle.promises.proofs.Words.{failure_of, failure_in, set_failure}
 use Rattle.std.proofs.Common.{◌≡◌, ◌∙◌, ℕ, ◌+◌, List, ◌⊎◌, Option, Some, None, refl, Bool, true, false, ap, sym, subst, inl, inr, map}
 use Rattle.std.specs.Prelude.{is_some, option_map}
-use Rattle.vss_names.specs.declared.set_outcome.SetOutcome.{SetOutcome}
 use Rattle.vss_names.specs.declared.set_outcome.SetOutcome.TheVariants.{Running as RunningSet, Complete as CompleteSet, Failed as FailedSet}
-use Rattle.vss_names.specs.declared.vss_result.VssResult.{VssResult}
-use Rattle.vss_names.specs.declared.vss_result.VssResult.TheVariants.{AsyncCancelled, InsufficientStorage}
-use Rattle.writer_state.specs.declared.said.Said.{Said}
-use Rattle.write_history.specs.declared.mark.Mark.{Mark}
-use Rattle.write_history.specs.declared.mark.Mark.TheVariants.{Clean, Fault, FaultAfter}
-use Rattle.write_history.specs.History.{Write}
-use Rattle.set_agenda.specs.declared.group.Group.{Group}
-use Rattle.set_agenda.specs.Agenda.{Agenda, open_group, is_working}
 use Rattle.set_agenda.specs.Course.{Course, failed as course_failed, answered as course_answered, stepped as course_stepped, timed as course_timed}
-use Rattle.requestor.specs.Session.{Session, makes_set, agenda_ended, set_failed}
-use Rattle.scenario.specs.Plan.{Plan}
-use Rattle.vss_model.specs.State.{State, SetRow, Kept, is_running, in_progress, row_changed, left_now}
 use Rattle.vss_model.specs.Ending.{AgendaEnds, SetFails, ending, row_settled, concluded, followed, runs, failed_in, failed}
 use Rattle.vss_model.specs.Images.{cleared, set_loses_image, with_room_if, put, write, reverted_as}
-use Rattle.vss_model.specs.Sessions.{change_set, with_volume}
 use Rattle.vss_model.specs.Steps.{answered, step_made, is_flush, is_failed_step, stepped_as, stepped, ticked, later}
-use Rattle.vss_model.specs.Facts.{IsOfSession, has_failed}
-use Rattle.vss_model.specs.Acts.{Act, state}
-use Rattle.vss_model.proofs.FlushFails.{outcome_is_running}
-use Rattle.vss_model.proofs.LogRule.{course-step_made}
-use Rattle.vss_model.proofs.OrderlyActs.{Moves, MovesOn, moves_answered, moves_stepped, moves_timed, orderly}
-use Rattle.vss_model.proofs.Rows.{running_found, row_running, row_settles, result-settled}
-use Rattle.promises.specs.Awaited.{failure_of, failure_in, set_failure}
 use Rattle.promises.proofs.Truth.{not_both}
 use Rattle.promises.proofs.BusyAgendas.{IsBusy, busy_set, busy_step}
 use Rattle.promises.proofs.CalmCourses.{CalmOrBusy, calm_answered, calm_stepped, calm_timed}
@@ -190,9 +174,8 @@ module _ (s : Plan) (so_far : List Act) where
   write_turn v w mark = put_turn v w mark _ (room_turn v w.block (set_loses_image (in_progress st) st.volumes (cleared s v w.block st).volumes))
 
   pub revert_turn : (v : ℕ) (k : Kept) (mark : Mark) → Turn st (reverted_as s v k mark st).1 (runs st)
-  revert_turn v k Clean = quiet_turn _ refl (λ m. refl) refl
   revert_turn v k Fault = quiet_turn st refl (λ m. refl) refl
-  revert_turn v k (FaultAfter j) = quiet_turn _ refl (λ m. refl) refl
+  revert_turn v k _ = quiet_turn _ refl (λ m. refl) refl
 
   -- ## agendas
 

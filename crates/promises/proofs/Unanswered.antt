@@ -1,47 +1,29 @@
 -- No order is open for more than the answer limit.
-use Rattle.std.proofs.Common.{◌≡◌, ℕ, List, [], ◌∷◌, ◌++◌, Option, Some, None, refl, true, false, subst}
-use Rattle.vss_names.specs.declared.order.Order.TheVariants.{Identify, PrepareBackup, PrepareSnapshot, Freeze, Thaw, PostSnapshot, BackupComplete}
-use Rattle.tick_limits.specs.Time.{answer_limit}
-use Rattle.set_agenda.specs.declared.group.Group.{Group}
-use Rattle.set_agenda.specs.declared.group.Group.TheVariants.{Orders, PreCommit, Flush, Hold, Cut, Commit, Release, PostCommit}
+use Rattle.promises.proofs.Words.{PrepareBackup, PrepareSnapshot, Freeze, answer_limit, Group, Orders}
+use Rattle.promises.proofs.Words.{Agenda, Open, groups_left, opened_at, freeze_opened_at, first_hold, freeze_runs, answer_runs, runs_if, hold_running, running_at, spent_of, freeze_limit}
+use Rattle.promises.proofs.Words.{Plan, Act, state, has_passed, last_of, is_elsewhere, true_not_false, informs_writers, is_overdue_at, is_overdue_in, OrdersEnd, answer_since}
+use Rattle.std.proofs.Common.{sym, ◌≡◌, ℕ, List, [], ◌∷◌, ◌++◌, Option, Some, None, refl, true, false, subst}
 use Rattle.set_agenda.specs.declared.limit.Limit.TheVariants.{Freeze as FreezeLimit, Answer as AnswerLimit}
-use Rattle.set_agenda.specs.Agenda.{Agenda, Open, groups_left}
-use Rattle.set_agenda.specs.Limits.{opened_at, freeze_opened_at, first_hold, freeze_runs, answer_runs, runs_if, hold_running, running_at, spent_of}
-use Rattle.set_agenda.specs.Course.{freeze_limit}
-use Rattle.scenario.specs.Plan.{Plan}
-use Rattle.vss_model.specs.Acts.{Act, state}
-use Rattle.vss_model.specs.Causes.{has_passed, last_of, is_elsewhere}
 use Rattle.vss_model.proofs.LogRule.{Running}
-use Rattle.vss_model.proofs.Orderly.{true_not_false}
-use Rattle.promises.specs.Unanswered.{informs_writers, is_overdue_at, is_overdue_in, OrdersEnd}
 use Rattle.promises.proofs.Truth.{both_parts, false_of}
-use Rattle.promises.proofs.Limits.{passed_spent, answer_since}
+use Rattle.promises.proofs.Limits.{passed_spent}
 use Rattle.promises.proofs.NotSpent.{none_second, is_unspent}
 use Rattle.promises.proofs.OneMore.{InTime}
 use Rattle.promises.proofs.Within.{none_spent}
 
 informing_runs : (g : Group) → informs_writers g ≡ true → answer_runs g ≡ true
-informing_runs (Orders Identify) e = refl
 informing_runs (Orders PrepareBackup) e = absurd cc
 informing_runs (Orders PrepareSnapshot) e = absurd cc
 informing_runs (Orders Freeze) e = absurd cc
-informing_runs (Orders Thaw) e = refl
-informing_runs (Orders PostSnapshot) e = refl
-informing_runs (Orders BackupComplete) e = refl
-informing_runs PreCommit e = absurd cc
-informing_runs Flush e = absurd cc
-informing_runs Hold e = absurd cc
-informing_runs Cut e = absurd cc
-informing_runs Commit e = absurd cc
-informing_runs Release e = absurd cc
-informing_runs PostCommit e = absurd cc
+informing_runs (Orders _) e = refl
+informing_runs _ e = absurd cc
 
 not_overdue_at : (now f : ℕ) (a : Agenda) (os : List Open) → spent_of now (running_at f a os) ≡ None → is_overdue_at now a os ≡ false
 not_overdue_at now f a [] e = refl
 not_overdue_at now f a (o ∷ os) e =
     false_of _ (λ late.
     let parts = both_parts (informs_writers o.place.group) (has_passed answer_limit (last_of (is_elsewhere o.place) a) now) late in
-    let spent = passed_spent now (opened_at a o) answer_limit (subst (λ t. has_passed answer_limit t now ≡ true) (answer_since a o) parts.1) in
+    let spent = passed_spent now (opened_at a o) answer_limit (subst (λ t. has_passed answer_limit t now ≡ true) (sym (answer_since a o)) parts.1) in
     let answer = none_second now (hold_running o.place.group (first_hold a.log) ++ runs_if (freeze_runs o.place.group) FreezeLimit (freeze_opened_at a) f) (runs_if (answer_runs o.place.group) AnswerLimit (opened_at a o) answer_limit) e in
     true_not_false _ spent (is_unspent (answer_runs o.place.group) AnswerLimit (opened_at a o) answer_limit now answer (informing_runs o.place.group parts.0)))
 

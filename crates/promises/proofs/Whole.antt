@@ -1,26 +1,9 @@
 -- A set that completes has come the whole way: what its agenda's log keeps in order, and that nothing of it is left out.
+use Rattle.promises.proofs.Words.{list_any, list_any-append, Order, PrepareSnapshot, Freeze, Thaw, PostSnapshot, Said, is_ok, Group, Orders, PreCommit, Flush, Hold, Cut, Commit, Release, PostCommit}
+use Rattle.promises.proofs.Words.{Snapshot, Member, Place, is_member, fails_set, Plan, in_progress, Act, state, said_stays, IsOf, Tied, tied, true_not_false, waits_members}
 use Rattle.std.proofs.Common.{◌≡◌, ◌∙◌, ℕ, ◌==◌, ◌≤◌, List, [], ◌∷◌, ◌++◌, ◌⊎◌, Option, Some, None, refl, Bool, true, false, ap, sym, subst, inl, inr, map, arith}
 use Rattle.std.specs.Prelude.{◌&&◌, ◌||◌, not, is_some}
-use Rattle.std.specs.List.{list_any}
-use Rattle.std.proofs.lemmas.List.Folds.{list_any-append}
-use Rattle.vss_names.specs.declared.order.Order.{Order}
-use Rattle.vss_names.specs.declared.order.Order.TheVariants.{PrepareSnapshot, Freeze, Thaw, PostSnapshot}
-use Rattle.writer_state.specs.declared.said.Said.{Said}
-use Rattle.writer_state.specs.WriterState.{is_ok}
-use Rattle.set_agenda.specs.declared.group.Group.{Group}
-use Rattle.set_agenda.specs.declared.group.Group.TheVariants.{Orders, PreCommit, Flush, Hold, Cut, Commit, Release, PostCommit}
-use Rattle.set_agenda.specs.declared.kind.Kind.TheVariants.{Snapshot}
-use Rattle.set_agenda.specs.declared.member.Member.{Member}
-use Rattle.set_agenda.specs.declared.place.Place.{Place}
 use Rattle.set_agenda.specs.Agenda.{Agenda, Entry, Open, plain, places, group_code, level_code, same_place, order_of, is_orders, has_failed, has_said, writers_at, members_of, waited_for, left_from, groups_left, open_place, is_among, waits_now, is_done, at_place, all_say}
-use Rattle.set_agenda.specs.Course.{is_member, fails_set}
-use Rattle.scenario.specs.Plan.{Plan}
-use Rattle.vss_model.specs.State.{in_progress}
-use Rattle.vss_model.specs.Acts.{Act, state}
-use Rattle.vss_model.proofs.CutLog.{said_stays}
-use Rattle.vss_model.proofs.HeldOfSet.{IsOf, Tied, tied}
-use Rattle.vss_model.proofs.Orderly.{true_not_false}
-use Rattle.vss_model.proofs.Spoken.{waits_members}
 use Rattle.promises.specs.Way.{Deed, level_of, stage, Rising, is_heard, is_agreed, is_made, is_again, AreOnce, is_failure, heard, agreed, failed, made, IsWholeWay, CompletesByTheWay, Spoke}
 use Rattle.promises.proofs.Truth.{both_are, equal, false_of, left_part, not_true, right_part, same_number}
 use Rattle.promises.proofs.Along.{IsKeptAlong, last_stand}

@@ -1,45 +1,21 @@
 -- No limit that would fail the set is outrun as the clock stands.
-use Rattle.std.proofs.Common.{◌≡◌, ◌∙◌, ℕ, ◌+◌, zero, suc, List, [], ◌∷◌, ◌++◌, Option, Some, None, refl, Bool, true, false, ap, sym, subst, inl, fold, min, arith}
-use Rattle.std.specs.Prelude.{◌&&◌, not, option_map, if◌then◌else◌, slice_get}
-use Rattle.vss_names.specs.declared.order.Order.{Order}
-use Rattle.vss_names.specs.declared.vss_result.VssResult.{VssResult}
-use Rattle.vss_names.specs.declared.vss_result.VssResult.TheVariants.{InsufficientStorage, AsyncCancelled}
-use Rattle.writer_state.specs.declared.said.Said.{Said}
-use Rattle.writer_state.specs.declared.said.Said.TheVariants.{Ok, Lost}
-use Rattle.writer_state.specs.declared.writer_row.WriterRow.{WriterRow}
-use Rattle.writer_state.specs.WriterState.{is_ok}
-use Rattle.writer_state.specs.WriterRow.{row_after}
-use Rattle.tick_limits.specs.Time.{answer_limit, default_freeze}
-use Rattle.write_history.specs.declared.mark.Mark.{Mark}
-use Rattle.write_history.specs.declared.mark.Mark.TheVariants.{Clean, Fault, FaultAfter}
-use Rattle.write_history.specs.History.{Write}
-use Rattle.writer_calls.specs.Script.{said_of}
-use Rattle.set_agenda.specs.declared.group.Group.{Group}
-use Rattle.set_agenda.specs.declared.group.Group.TheVariants.{Orders, PreCommit, Flush, Hold, Cut, Commit, Release, PostCommit}
-use Rattle.set_agenda.specs.declared.kind.Kind.{Kind}
-use Rattle.set_agenda.specs.declared.limit.Limit.{Limit}
+use Rattle.promises.proofs.Words.{Order, VssResult, InsufficientStorage, AsyncCancelled, Said, Ok, Lost, WriterRow, is_ok, row_after, answer_limit, default_freeze, Mark, Clean, Write, said_of, Group}
+use Rattle.promises.proofs.Words.{Orders, Kind, Limit, Member, Agenda, Open, places, order_of, is_orders, groups_left, left, open_group, waits_now, order_now, is_among, is_asked, open_order}
+use Rattle.promises.proofs.Words.{is_working, next_member, is_done, all_say, Running as RunningLimit, opened_at, freeze_runs, answer_runs, runs_if, running_at, running_limits, spent_of, none_and_some}
+use Rattle.promises.proofs.Words.{IsSpentHere, spent_here, Session, Plan, Event, State, SetRow, Kept, start, in_progress, left_now, Act, enabled, idle_now, after, state, is_late_in, asked_if}
+use Rattle.promises.proofs.Words.{asked_waits, StandsWithinLimits, Covers, covered, after_enabled, after_not_enabled, by_if}
+use Rattle.std.proofs.Common.{◌≡◌, ◌∙◌, ℕ, ◌+◌, zero, suc, List, [], ◌∷◌, Option, Some, None, refl, Bool, true, false, ap, sym, subst, inl, fold, min, arith}
+use Rattle.std.specs.Prelude.{◌&&◌, not, option_map, slice_get}
 use Rattle.set_agenda.specs.declared.limit.Limit.TheVariants.{Hold as HoldLimit, Freeze as FreezeLimit, Answer as AnswerLimit}
-use Rattle.set_agenda.specs.declared.member.Member.{Member}
-use Rattle.set_agenda.specs.Agenda.{Agenda, Open, places, order_of, is_orders, groups_left, left, open_group, waits_now, order_now, is_among, is_asked, open_order, is_working, next_member, is_done, all_say}
-use Rattle.set_agenda.specs.Limits.{Running as RunningLimit, opened_at, freeze_opened_at, first_hold, freeze_runs, answer_runs, runs_if, hold_running, running_at, running_limits, spent_of}
 use Rattle.set_agenda.specs.Course.{Course, posted, failed as course_failed, rows_where, row_if, limit_of, freeze_limit, limits_now, settled_if, settled_in, settled, begun, told, is_decisive, decided, answered_to, answered as course_answered, worked, stepped as course_stepped, lost_to, lost, fails_set, lost_decided, treated_as, treated, timed as course_timed, released}
-use Rattle.requestor.specs.Session.{Session}
-use Rattle.scenario.specs.Plan.{Plan}
-use Rattle.vss_model.specs.declared.event.Event.{Event}
-use Rattle.vss_model.specs.State.{State, SetRow, Kept, start, in_progress, left_now}
-use Rattle.vss_model.specs.Ending.{Ending, NothingEnds, AgendaEnds, SetFails, ending, concluded, followed, runs, failed_in, failed}
+use Rattle.vss_model.specs.Ending.{Ending, NothingEnds, ending, concluded, followed, runs, failed_in, failed}
 use Rattle.vss_model.specs.Images.{Replied, cleared, set_loses_image, with_room_if, put, write, reverted_as}
 use Rattle.vss_model.specs.Sessions.{has_no_volume, closed}
 use Rattle.vss_model.specs.Steps.{answered, step_made, is_flush, is_failed_step, stepped_as, stepped, ticked, later}
-use Rattle.vss_model.specs.Acts.{Act, enabled, idle_now, after, state}
-use Rattle.vss_model.specs.Causes.{is_late_in}
-use Rattle.vss_model.proofs.CourseCalls.{asked_if, asked_waits}
 use Rattle.vss_model.proofs.LogRule.{Running, unspoken}
-use Rattle.promises.specs.Within.{StandsWithinLimits}
 use Rattle.promises.proofs.Truth.{false_of}
-use Rattle.vss_model.proofs.ByEvent.{Covers, covered, after_enabled, after_not_enabled}
 use Rattle.promises.proofs.Clock.{clock-made}
-use Rattle.promises.proofs.Limits.{is_due_in, due_in, later_found, first_found, hold_found, limit_found, none_and_some}
+use Rattle.promises.proofs.Limits.{is_due_in, due_in, spent_runs}
 use Rattle.promises.proofs.Speaks.{Speaks, now_group, head_waits}
 use Rattle.promises.proofs.Times.{late_is_due}
 use Rattle.promises.proofs.NotSpent.{at_once, none_both, unspent_if, is_mild, mild_order}
@@ -142,51 +118,12 @@ goes_by now f None e h = tt
 goes_by now f (Some a) e h = record { unspent = e; ordered = h }
 
 -- where the answer limit is spent, writers are asked
-module _ (now f : ℕ) (a : Agenda) (o : Open) where
-  abbrev hold_now : List RunningLimit
-  hold_now = hold_running o.place.group (first_hold a.log)
-
-  abbrev freeze_now : List RunningLimit
-  freeze_now = runs_if (freeze_runs o.place.group) FreezeLimit (freeze_opened_at a) f
-
-  abbrev answer_now : List RunningLimit
-  answer_now = runs_if (answer_runs o.place.group) AnswerLimit (opened_at a o) answer_limit
-
-  some_limit : (x y : RunningLimit) → Some x ≡ Some y → x ≡ y
-  some_limit x y e = cc
-
-  not_hold : HoldLimit ≡ AnswerLimit → ⊥
-  not_hold e = cc
-
-  not_freeze : FreezeLimit ≡ AnswerLimit → ⊥
-  not_freeze e = cc
-
-  runs_it : (b : Bool) (x : Limit) (since ticks : ℕ) (l : RunningLimit) → spent_of now (runs_if b x since ticks) ≡ Some l → b ≡ true
-  runs_it true x since ticks l e = refl
-  runs_it false x since ticks l e = absurd cc
-
-  by_limits : (l : RunningLimit) → spent_of now (hold_now ++ freeze_now ++ answer_now) ≡ Some l → l.limit ≡ AnswerLimit → (h g : Option RunningLimit) → spent_of now hold_now ≡ h → spent_of now freeze_now ≡ g → answer_runs o.place.group ≡ true
-  by_limits l e k (Some x) g i j =
-      let same = some_limit x l (sym (first_found now (hold_now ++ freeze_now) answer_now x (first_found now hold_now freeze_now x i)) ∙ e) in
-      absurd (not_hold (sym (hold_found now o.place.group (first_hold a.log) x i) ∙ ap (λ (y : RunningLimit). y.limit) same ∙ k))
-  by_limits l e k None (Some x) i j =
-      let same = some_limit x l (sym (first_found now (hold_now ++ freeze_now) answer_now x (later_found now hold_now freeze_now i ∙ j)) ∙ e) in
-      absurd (not_freeze (sym (limit_found now (freeze_runs o.place.group) FreezeLimit (freeze_opened_at a) f x j) ∙ ap (λ (y : RunningLimit). y.limit) same ∙ k))
-  by_limits l e k None None i j =
-      runs_it (answer_runs o.place.group) AnswerLimit (opened_at a o) answer_limit l (sym (later_found now (hold_now ++ freeze_now) answer_now (later_found now hold_now freeze_now i ∙ j)) ∙ e)
-
-  asks : (os : List Open) (l : RunningLimit) → spent_of now (running_at f a (o ∷ os)) ≡ Some l → l.limit ≡ AnswerLimit → answer_runs o.place.group ≡ true
-  asks os l e k = by_limits l e k (spent_of now hold_now) (spent_of now freeze_now) refl refl
+asks : (now f : ℕ) (a : Agenda) (o : Open) (os : List Open) (l : RunningLimit) → spent_of now (running_at f a (o ∷ os)) ≡ Some l → l.limit ≡ AnswerLimit → answer_runs o.place.group ≡ true
+asks now f a o os l e k = spent_runs now (answer_runs o.place.group) AnswerLimit (opened_at a o) answer_limit l (subst (λ x. IsSpentHere now f a o l x) k (spent_here now f a o os l e)).2
 
 answers_order : (g : Group) → answer_runs g ≡ true → order_of g ≡ None → ⊥
 answers_order (Orders o) e f = cc
-answers_order PreCommit e f = cc
-answers_order Flush e f = cc
-answers_order Hold e f = cc
-answers_order Cut e f = cc
-answers_order Commit e f = cc
-answers_order Release e f = cc
-answers_order PostCommit e f = cc
+answers_order _ e f = cc
 
 nobody_asked : (now f : ℕ) (x : Option Agenda) (l : RunningLimit) → spent_of now (running_limits f x) ≡ Some l → l.limit ≡ AnswerLimit → order_now (left x) ≡ None → ⊥
 nobody_asked now f None l e k i = none_and_some None l refl e
@@ -244,8 +181,7 @@ InTimeNow st = Keeps st.clock st.course
 
 ended_in_time : (e : Ending) (x : State) → InTimeNow x → InTimeNow (concluded e x)
 ended_in_time NothingEnds x h = h
-ended_in_time AgendaEnds x h = h
-ended_in_time (SetFails why) x h = h
+ended_in_time _ x h = h
 
 followed_in_time : (ran : Bool) (c : Course) (x : State) → Keeps x.clock c → InTimeNow (followed ran c x)
 unfolding followed
@@ -261,8 +197,7 @@ room_in_time false x h = h
 
 put_in_time : (v : ℕ) (w : Write) (mark : Mark) (x : State) → InTimeNow x → InTimeNow (put v w mark x)
 put_in_time v w Clean x h = h
-put_in_time v w Fault x h = h
-put_in_time v w (FaultAfter k) x h = h
+put_in_time v w _ x h = h
 
 module _ (s : Plan) (st : State) (h : InTimeNow st) where
   on_write : (v : ℕ) (w : Write) (mark : Mark) → InTimeNow (write s v w mark st).1
@@ -271,8 +206,7 @@ module _ (s : Plan) (st : State) (h : InTimeNow st) where
 
   on_revert : (v : ℕ) (k : Kept) (mark : Mark) → InTimeNow (reverted_as s v k mark st).1
   on_revert v k Clean = h
-  on_revert v k Fault = h
-  on_revert v k (FaultAfter n) = h
+  on_revert v k _ = h
 
   on_close : (q : Session) (x : State) → InTimeNow (closed q x)
   unfolding closed released
@@ -299,10 +233,6 @@ module _ (s : Plan) (st : State) (h : InTimeNow st) where
   abbrev Next : Event → Mark → Replied → Type 0
   Next event mark x = InTimeNow x.1
 
-  either : (b : Bool) (x y : Replied) → InTimeNow x.1 → InTimeNow y.1 → InTimeNow (if b then x else y).1
-  either true x y d e = d
-  either false x y d e = e
-
   in_time : Covers Next s st
   in_time = record {
     stays = λ lane o mark told e f. h;
@@ -317,8 +247,8 @@ module _ (s : Plan) (st : State) (h : InTimeNow st) where
     names = λ lane w full q explicit mark g named. h;
     starts = λ lane q mark g e. h;
     adds = λ lane v r q mark g e f. h;
-    prepares = λ lane q mark g. either (has_no_volume (in_progress st)) _ _ h (followed_in_time true _ st (keeps_begun _ _ _ st.clock _));
-    snapshots = λ lane q mark g. either (has_no_volume (in_progress st)) _ _ h (followed_in_time true _ st (keeps_begun _ _ _ st.clock _));
+    prepares = λ lane q mark g. by_if (λ r. InTimeNow r.1) (has_no_volume (in_progress st)) _ _ h (followed_in_time true _ st (keeps_begun _ _ _ st.clock _));
+    snapshots = λ lane q mark g. by_if (λ r. InTimeNow r.1) (has_no_volume (in_progress st)) _ _ h (followed_in_time true _ st (keeps_begun _ _ _ st.clock _));
     completes = λ lane q mark g. followed_in_time true _ st (keeps_begun _ _ _ st.clock _);
     aborts = λ lane q mark e. failed_in_time (in_progress st) AsyncCancelled st h;
     ends = λ lane q mark e. on_close q (failed AsyncCancelled st);

@@ -18,7 +18,7 @@ use Rattle.promises.specs.Copies.{CopiesHold, KeepsCopies}
 use Rattle.promises.specs.Done.{IsDone}
 use Rattle.promises.specs.Ends.{KeepsRows}
 use Rattle.promises.specs.Evicted.{TellsEvicted}
-use Rattle.promises.specs.Failing.{FailsForCause, WritesFailForSlots}
+use Rattle.promises.specs.Failing.{WritesFailForSlots}
 use Rattle.promises.specs.Gone.{ImagesGoForCause}
 use Rattle.promises.specs.Idle.{IdlesShortest}
 use Rattle.promises.specs.InOrder.{HasItsContext}
@@ -45,7 +45,6 @@ use Rattle.promises.specs.Owed.{NobodyOwes}
 pub record IsActAsPromised (s : Plan) (so_far : List Act) (act : Act) : Type 0 where
   pub participants : TakesPart s so_far act
   pub completes : CompletesByTheWay s so_far act
-  pub fails : FailsForCause s so_far act
   pub code : FailsByCode s so_far act
   pub full : WritesFailForSlots s so_far act
   pub sets : KeepsRows s so_far act

@@ -10,6 +10,7 @@ use Rattle.vss_model.specs.declared.event.Event.{Event}
 use Rattle.vss_model.specs.State.{State, start}
 use Rattle.vss_model.specs.Acts.{Act, after, state}
 use Rattle.vss_model.specs.Trail.{Run, begin, event_of, acts_if, after_event, moved, run_from, run, acts_from, acts, is_legal_move, is_legal_from, is_legal, is_fault, faults}
+use Rattle.set_agenda.proofs.WriterSets.{and-true}
 
 pub state-append : (s : Plan) (before : List Act) (act : Act) → state s (before ++ act ∷ []) ≡ after s (state s before) act
 state-append s before act = fold-append (after s) (start s) before (act ∷ [])
@@ -59,16 +60,13 @@ pub acts-append : (s : Plan) (trail : List Move) (m : Move) → acts s (trail ++
 acts-append s trail m = acts_from-append s (begin s) trail m
 
 -- the legality of one more move
-and_true : (b : Bool) → (b && true) ≡ b
-and_true true = refl
-and_true false = refl
 
 and_assoc : (a b c : Bool) → (a && (b && c)) ≡ (a && b && c)
 and_assoc true b c = refl
 and_assoc false b c = refl
 
 is_legal_from-append : (s : Plan) (r : Run) (ms : List Move) (m : Move) → is_legal_from s r (ms ++ m ∷ []) ≡ (is_legal_from s r ms && is_legal_move s (run_from s r ms) m)
-is_legal_from-append s r [] m = and_true (is_legal_move s r m)
+is_legal_from-append s r [] m = and-true (is_legal_move s r m)
 is_legal_from-append s r (n ∷ ms) m =
     ap (λ b. is_legal_move s r n && b) (is_legal_from-append s (moved s r n) ms m)
     ∙ and_assoc (is_legal_move s r n) (is_legal_from s (moved s r n) ms) (is_legal_move s (run_from s (moved s r n) ms) m)

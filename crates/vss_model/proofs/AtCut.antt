@@ -1,7 +1,8 @@
 -- Where the Cut step is the next one, every volume of the set is held and every participant stands frozen.
-use Rattle.std.proofs.Common.{◌≡◌, ℕ, ◌==◌, List, [], ◌∷◌, Option, Some, None, refl, Bool, true, false, map, filter, ap, sym, ◌∙◌, subst, arith}
+use Rattle.std.proofs.Common.{◌≡◌, ℕ, ◌==◌, List, [], ◌∷◌, Option, Some, None, refl, Bool, true, false, map, filter, ap, sym, ◌∙◌, subst}
 use Rattle.std.specs.Prelude.{◌&&◌, ◌||◌, not, if◌then◌else◌}
 use Rattle.std.specs.List.{list_any}
+use Rattle.std.proofs.lemmas.Bool.{and_parts, eqb-true, or_parts, or_right}
 use Rattle.vss_names.specs.declared.level.Level.{Level}
 use Rattle.vss_names.specs.declared.level.Level.TheVariants.{System, BackEnd, FrontEnd}
 use Rattle.vss_names.specs.declared.order.Order.TheVariants.{Identify, PrepareBackup, PrepareSnapshot, Freeze, Thaw, PostSnapshot, BackupComplete}
@@ -108,15 +109,12 @@ kind_at_cut Snapshot a h = refl
 
 -- ## held
 
-equal : (a b : ℕ) → (a == b) ≡ true → a ≡ b
-equal a b e = grind arith
-
 said_if : (b : Bool) (log : List Entry) (p : Place) (x who : ℕ) (xs rest : List ℕ) → has_said log p x ≡ b → (if not b then x ∷ rest else rest) ≡ [] → ((x == who) || is_among who xs) ≡ true → (rest ≡ [] → is_among who xs ≡ true → has_said log p who ≡ true) → has_said log p who ≡ true
 said_if false log p x who xs rest e f g ih = absurd cc
 said_if true log p x who xs rest e f g ih = by_cases (x == who) refl g
   where
     by_cases : (c : Bool) → (x == who) ≡ c → (c || is_among who xs) ≡ true → has_said log p who ≡ true
-    by_cases true i j = subst (λ y. has_said log p y ≡ true) (equal x who i) e
+    by_cases true i j = subst (λ y. has_said log p y ≡ true) (eqb-true x who i) e
     by_cases false i j = ih f j
 
 -- where nobody is waited for, all have said something
@@ -126,39 +124,14 @@ all_said log p (x ∷ xs) who e f = said_if (has_said log p x) log p x who xs _ 
 
 release_undoes : (g : Group) → (group_code g == 12) ≡ true → undoes g ≡ true
 release_undoes (Orders Identify) e = absurd cc
-release_undoes (Orders PrepareBackup) e = absurd cc
-release_undoes (Orders PrepareSnapshot) e = absurd cc
-release_undoes (Orders Freeze) e = absurd cc
-release_undoes (Orders Thaw) e = absurd cc
-release_undoes (Orders PostSnapshot) e = absurd cc
-release_undoes (Orders BackupComplete) e = absurd cc
-release_undoes PreCommit e = absurd cc
-release_undoes Flush e = absurd cc
-release_undoes Hold e = absurd cc
-release_undoes Cut e = absurd cc
-release_undoes Commit e = absurd cc
+release_undoes (Orders _) e = absurd cc
 release_undoes Release e = refl
-release_undoes PostCommit e = absurd cc
+release_undoes _ e = absurd cc
 
 thaw_undoes : (g : Group) → is_thaw g ≡ true → undoes g ≡ true
-thaw_undoes (Orders Identify) e = absurd cc
-thaw_undoes (Orders PrepareBackup) e = absurd cc
-thaw_undoes (Orders PrepareSnapshot) e = absurd cc
-thaw_undoes (Orders Freeze) e = absurd cc
 thaw_undoes (Orders Thaw) e = refl
-thaw_undoes (Orders PostSnapshot) e = absurd cc
-thaw_undoes (Orders BackupComplete) e = absurd cc
-thaw_undoes PreCommit e = absurd cc
-thaw_undoes Flush e = absurd cc
-thaw_undoes Hold e = absurd cc
-thaw_undoes Cut e = absurd cc
-thaw_undoes Commit e = absurd cc
-thaw_undoes Release e = absurd cc
-thaw_undoes PostCommit e = absurd cc
-
-and_first : (a b : Bool) → (a && b) ≡ true → a ≡ true
-and_first true b e = refl
-and_first false b e = absurd cc
+thaw_undoes (Orders _) e = absurd cc
+thaw_undoes _ e = absurd cc
 
 -- one test follows from another, so where the other finds nothing, neither does it
 none_found : (test wider : Entry → Bool) → ((x : Entry) → test x ≡ true → wider x ≡ true) → (log : List Entry) → list_any wider log ≡ false → list_any test log ≡ false
@@ -188,7 +161,7 @@ and_three false b c e f g = absurd cc
 pub release_not : (log : List Entry) (v : ℕ) → IsSound log → is_cut_made log ≡ false → has_said log (plain Release) v ≡ false
 release_not log v h e =
     none_found (λ (x : Entry). same_place x.place (plain Release) && (x.who == v)) is_undoing
-    (λ x g. release_undoes x.place.group (and_first (group_code x.place.group == 12) (level_code x.place.level == 0) (and_first (same_place x.place (plain Release)) (x.who == v) g)))
+    (λ x g. release_undoes x.place.group (and_parts (group_code x.place.group == 12) (level_code x.place.level == 0) (and_parts (same_place x.place (plain Release)) (x.who == v) g).0).0)
     log (undone_not log h e)
 
 held_in : (a : Agenda) (v : ℕ) → a.kind ≡ Snapshot → IsAtCut a → IsSound a.log → is_among v a.volumes ≡ true → holds (Some a) v ≡ true
@@ -201,20 +174,9 @@ held_in a v k c h e =
 -- ## frozen
 
 freeze_coded : (g : Group) → (group_code g == 3) ≡ true → is_freeze g ≡ true
-freeze_coded (Orders Identify) e = absurd cc
-freeze_coded (Orders PrepareBackup) e = absurd cc
-freeze_coded (Orders PrepareSnapshot) e = absurd cc
 freeze_coded (Orders Freeze) e = refl
-freeze_coded (Orders Thaw) e = absurd cc
-freeze_coded (Orders PostSnapshot) e = absurd cc
-freeze_coded (Orders BackupComplete) e = absurd cc
-freeze_coded PreCommit e = absurd cc
-freeze_coded Flush e = absurd cc
-freeze_coded Hold e = absurd cc
-freeze_coded Cut e = absurd cc
-freeze_coded Commit e = absurd cc
-freeze_coded Release e = absurd cc
-freeze_coded PostCommit e = absurd cc
+freeze_coded (Orders _) e = absurd cc
+freeze_coded _ e = absurd cc
 
 -- what was said at Freeze was ok
 ok_head : (coded level freeze ok who more said : Bool) → (coded ≡ true → freeze ≡ true) → (freeze && not ok) ≡ false → (((coded && level) && who) || said) ≡ true → (said ≡ true → more ≡ true) → ((freeze && ok && who) || more) ≡ true
@@ -233,32 +195,23 @@ ok_head false level freeze ok who more said f e g ih = weaken (freeze && ok && w
     weaken true b e = refl
     weaken false b e = e
 
-or_none : (a b : Bool) → (a || b) ≡ false → (a ≡ false) × (b ≡ false)
-or_none true b e = absurd cc
-or_none false b e = (refl, e)
-
 said_is_ok : (log : List Entry) (l : Level) (w : ℕ) → list_any is_refusal log ≡ false → has_said log (at_level Freeze l) w ≡ true → has_frozen log w ≡ true
 said_is_ok [] l w e f = absurd cc
 said_is_ok (x ∷ log) l w e f =
-    let parts = or_none (is_refusal x) (list_any is_refusal log) e in
+    let parts = or_parts (is_refusal x) (list_any is_refusal log) e in
     ok_head (group_code x.place.group == 3) (level_code x.place.level == level_code (Some l)) (is_freeze x.place.group) (is_ok x.said) (x.who == w) (has_frozen log w) (has_said log (at_level Freeze l) w)
     (freeze_coded x.place.group) parts.0 f (said_is_ok log l w parts.1)
 
 is_at_own : (l : Level) → is_at (Some l) l ≡ true
 is_at_own System = refl
-is_at_own BackEnd = refl
-is_at_own FrontEnd = refl
+is_at_own _ = refl
 
 among_head : (b c : Bool) (m : Member) (w : ℕ) (ms : List Member) → b ≡ true → (m.writer == w) ≡ true → is_among w (map (λ x. x.writer) (if b then m ∷ ms else ms)) ≡ true
 among_head true c m w ms e f = rw f refl
 among_head false c m w ms e f = absurd cc
 
 among_more : (b : Bool) (m : Member) (w : ℕ) (ms : List Member) → is_among w (map (λ x. x.writer) ms) ≡ true → is_among w (map (λ x. x.writer) (if b then m ∷ ms else ms)) ≡ true
-among_more true m w ms e = weaken (m.writer == w) _ e
-  where
-    weaken : (a b : Bool) → b ≡ true → (a || b) ≡ true
-    weaken true b e = refl
-    weaken false b e = e
+among_more true m w ms e = or_right (m.writer == w) _ e
 among_more false m w ms e = e
 
 -- what holds of the writers of each level holds of all
@@ -282,7 +235,7 @@ frozen_in a w k c h e =
     (ap is_snapshot k)
     (member_of_level a.log a.members w (frozen_at a w c h) e)
     (none_found (λ (x : Entry). is_thaw x.place.group && (x.who == w)) is_undoing
-    (λ x g. thaw_undoes x.place.group (and_first (is_thaw x.place.group) (x.who == w) g))
+    (λ x g. thaw_undoes x.place.group (and_parts (is_thaw x.place.group) (x.who == w) g).0)
     a.log (undone_not a.log h c.cut))
 
 -- ## in the state

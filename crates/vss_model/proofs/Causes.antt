@@ -3,7 +3,7 @@ use Rattle.std.proofs.Common.{◌≡◌, ℕ, ◌+◌, ◌==◌, List, [], ◌�
 use Rattle.std.specs.Prelude.{◌&&◌, not, if◌then◌else◌}
 use Rattle.vss_names.specs.declared.context.Context.{Context}
 use Rattle.vss_names.specs.declared.order.Order.{Order}
-use Rattle.vss_names.specs.declared.order.Order.TheVariants.{Identify, PrepareBackup, PrepareSnapshot, Freeze, Thaw, PostSnapshot, BackupComplete}
+use Rattle.vss_names.specs.declared.order.Order.TheVariants.{Identify}
 use Rattle.vss_names.specs.declared.set_outcome.SetOutcome.{SetOutcome}
 use Rattle.vss_names.specs.declared.set_outcome.SetOutcome.TheVariants.{Running, Complete as CompleteSet, Failed as FailedSet}
 use Rattle.vss_names.specs.declared.vss_result.VssResult.{VssResult}
@@ -18,20 +18,20 @@ use Rattle.writer_calls.specs.declared.answer.Answer.TheVariants.{Ok as AnswerOk
 use Rattle.set_agenda.specs.declared.group.Group.{Group}
 use Rattle.set_agenda.specs.declared.group.Group.TheVariants.{Orders, PreCommit, Flush, Hold, Cut, Commit, Release, PostCommit}
 use Rattle.set_agenda.specs.declared.limit.Limit.{Limit}
-use Rattle.set_agenda.specs.declared.limit.Limit.TheVariants.{Hold as HoldLimit, Freeze as FreezeLimit, Answer as AnswerLimit}
+use Rattle.set_agenda.specs.declared.limit.Limit.TheVariants.{Answer as AnswerLimit}
 use Rattle.set_agenda.specs.declared.kind.Kind.{Kind}
 use Rattle.set_agenda.specs.declared.kind.Kind.TheVariants.{Gather, Prepare, Snapshot, Complete}
 use Rattle.set_agenda.specs.declared.member.Member.{Member}
 use Rattle.set_agenda.specs.Agenda.{Agenda, left, groups_left, is_done, open_order, open_group, order_now, waits_now}
 use Rattle.set_agenda.specs.Limits.{Running as RunningLimit, spent_of}
 use Rattle.set_agenda.specs.Course.{Course, posted, settled_if, settled_in, settled, outcome_after, begun, is_decisive, told, decided, answered_to, answered as course_answered, worked, stepped as course_stepped, limits_now, lost_to, lost, fails_set, lost_decided, treated_as, treated, timed as course_timed}
-use Rattle.component_doc.specs.Selection.{Naming, IsNotFound, IsNotSelectable, IsNamedAlready, Names, naming}
+use Rattle.component_doc.specs.Selection.{Naming, IsNotFound, naming}
 use Rattle.requestor.specs.declared.mode.Mode.{Mode}
 use Rattle.requestor.specs.declared.mode.Mode.TheVariants.{Components, All}
 use Rattle.requestor.specs.declared.session_call.SessionCall.{SessionCall}
 use Rattle.requestor.specs.declared.session_call.SessionCall.TheVariants as call
 use Rattle.requestor.specs.declared.verdict.Verdict.{Verdict}
-use Rattle.requestor.specs.declared.verdict.Verdict.TheVariants.{Go, Blocked, Refused}
+use Rattle.requestor.specs.declared.verdict.Verdict.TheVariants.{Go}
 use Rattle.requestor.specs.Session.{Session, context_of}
 use Rattle.requestor.specs.Check.{check, check_other, check_owner, owner_only}
 use Rattle.scenario.specs.declared.op.Op.{Op}
@@ -41,7 +41,7 @@ use Rattle.vss_model.specs.declared.event.Event.{Event}
 use Rattle.vss_model.specs.declared.event.Event.TheVariants.{Line, Answer as AnswerEvent, Provider, Idle}
 use Rattle.vss_model.specs.State.{State, SetRow, Kept, in_progress, row_of, row_changed, left_now, kept_image}
 use Rattle.vss_model.specs.Ending.{ending, concluded, followed, runs}
-use Rattle.vss_model.specs.Images.{Replied, cleared, set_loses_image, with_room_if, put, write, image_block, image_blocks, properties, delete_set, delete_kept, delete_image, revert_refusal, reverted_as, revert_to, revert}
+use Rattle.vss_model.specs.Images.{cleared, set_loses_image, with_room_if, put, write, image_block, image_blocks, properties, delete_set, delete_kept, delete_image, revert_refusal, reverted_as, revert_to, revert}
 use Rattle.vss_model.specs.Sessions.{begin_in, new_set, new_number, with_volume, named_as, component_in, known_metas, add_refusal, add_to, add, has_no_volume, await_last, line_in, session_line, judged}
 use Rattle.vss_model.specs.Steps.{with_cut, row_cut, cut_set, step_made, is_flush, is_failed_step, answered, stepped_as, stepped, ticked, later}
 use Rattle.vss_model.specs.Lines.{called, line}
@@ -53,6 +53,7 @@ use Rattle.vss_model.proofs.Appending.{state-append}
 use Rattle.vss_model.proofs.Failures.{failed_not_live}
 use Rattle.vss_model.proofs.Orderly.{live-map, live-settled, live_append, live_found, true_not_false}
 use Rattle.vss_model.proofs.OrderlyActs.{orderly, same_changed}
+use Rattle.vss_model.proofs.ByEvent.{by_if}
 
 -- ## courses
 
@@ -64,10 +65,8 @@ unfolding posted
 none_posted before c h = h
 
 pub none_outcome : (k : Kind) (o : SetOutcome) → has_failed o ≡ false → has_failed (outcome_after k o) ≡ false
-none_outcome Gather o h = h
-none_outcome Prepare o h = h
 none_outcome Snapshot o h = refl
-none_outcome Complete o h = h
+none_outcome _ o h = h
 
 none_settled_if : (b : Bool) (k : Kind) (c : Course) → Fails c ≡ false → Fails (settled_if b k c) ≡ false
 none_settled_if true k c h = none_outcome k c.outcome h
@@ -77,7 +76,7 @@ none_settled_in : (o : Option Agenda) (c : Course) → Fails c ≡ false → Fai
 none_settled_in None c h = h
 none_settled_in (Some a) c h = none_settled_if (is_done (groups_left a)) a.kind c h
 
-none_settled : (c : Course) → Fails c ≡ false → Fails (settled c) ≡ false
+pub none_settled : (c : Course) → Fails c ≡ false → Fails (settled c) ≡ false
 unfolding settled
 none_settled c h = none_settled_in c.agenda c h
 
@@ -96,12 +95,7 @@ none_decided false said c e h = none_settled c h
 -- a veto, in the words of the causes
 same_consent : (o : Order) → needs_consent o ≡ is_decisive o
 same_consent Identify = refl
-same_consent PrepareBackup = refl
-same_consent PrepareSnapshot = refl
-same_consent Freeze = refl
-same_consent Thaw = refl
-same_consent PostSnapshot = refl
-same_consent BackupComplete = refl
+same_consent _ = refl
 
 same_veto : (answer : Answer) → is_veto answer ≡ not (is_ok (said_of answer))
 same_veto AnswerOk = refl
@@ -135,9 +129,8 @@ none_lost true now c l d e f g h = absurd (true_not_false (is_late_in now c c.ag
 none_lost false now c l d e f g h = none_settled (lost now c) (none_lost_to (order_now (left c.agenda)) now c h)
 
 none_treated_as : (x : Limit) (now : ℕ) (c : Course) (l : RunningLimit) → l.limit ≡ x → spent_of now (limits_now c) ≡ Some l → is_late_in now c c.agenda ≡ false → Fails c ≡ false → Fails (treated_as x now c) ≡ false
-none_treated_as HoldLimit now c l f e g h = absurd (true_not_false (is_late_in now c c.agenda) (late now c c.agenda l e (subst (λ x. Decides x (order_now (left c.agenda))) (sym f) tt)) g)
-none_treated_as FreezeLimit now c l f e g h = absurd (true_not_false (is_late_in now c c.agenda) (late now c c.agenda l e (subst (λ x. Decides x (order_now (left c.agenda))) (sym f) tt)) g)
 none_treated_as AnswerLimit now c l f e g h = none_lost (fails_set (order_now (left c.agenda))) now c l refl e f g h
+none_treated_as _ now c l f e g h = absurd (true_not_false (is_late_in now c c.agenda) (late now c c.agenda l e (subst (λ x. Decides x (order_now (left c.agenda))) (sym f) tt)) g)
 
 none_treated : (o : Option RunningLimit) (now : ℕ) (c : Course) → spent_of now (limits_now c) ≡ o → is_late_in now c c.agenda ≡ false → Fails c ≡ false → Fails (treated o now c) ≡ false
 none_treated None now c e g h = h
@@ -257,8 +250,7 @@ module _ (n : ℕ) where
 
   live_put : (v : ℕ) (w : Write) (mark : Mark) (x : State) → IsLive n x → IsLive n (put v w mark x)
   live_put v w Clean x h = h
-  live_put v w Fault x h = h
-  live_put v w (FaultAfter k) x h = h
+  live_put v w _ x h = h
 
   live_write : (s : Plan) (v : ℕ) (w : Write) (mark : Mark) (st : State) → set_loses_image (in_progress st) st.volumes (cleared s v w.block st).volumes ≡ false → IsLive n st → IsLive n (write s v w mark st).1
   unfolding write
@@ -276,10 +268,6 @@ module _ (n : ℕ) where
   live_properties s v None st h = h
   live_properties s v (Some x) st h = h
 
-  either : (b : Bool) (x y : Replied) → IsLive n x.1 → IsLive n y.1 → IsLive n (if b then x else y).1
-  either true x y h i = h
-  either false x y h i = i
-
   live_delete_kept : (v : ℕ) (kept : Option Kept) (st : State) → IsLive n st → IsLive n (delete_kept v kept st).1
   live_delete_kept v None st h = h
   live_delete_kept v (Some x) st h = h
@@ -290,12 +278,11 @@ module _ (n : ℕ) where
 
   live_delete_set : (m : ℕ) (st : State) → IsLive n st → IsLive n (delete_set m st).1
   unfolding delete_set
-  live_delete_set m st h = either _ _ _ h h
+  live_delete_set m st h = by_if (λ r. IsLive n r.1) _ _ _ h h
 
   live_reverted : (s : Plan) (v : ℕ) (k : Kept) (mark : Mark) (st : State) → IsLive n st → IsLive n (reverted_as s v k mark st).1
   live_reverted s v k Clean st h = h
-  live_reverted s v k Fault st h = h
-  live_reverted s v k (FaultAfter m) st h = h
+  live_reverted s v k _ st h = h
 
   live_revert_to : (s : Plan) (v : ℕ) (refusal : Option VssResult) (kept : Option Kept) (mark : Mark) (st : State) → IsLive n st → IsLive n (revert_to s v refusal kept mark st).1
   live_revert_to s v (Some why) kept mark st h = h
@@ -312,9 +299,7 @@ module _ (n : ℕ) where
 
   live_named : (x : Naming) (st : State) → IsLive n st → IsLive n (named_as x st).1
   live_named IsNotFound st h = h
-  live_named IsNotSelectable st h = h
-  live_named IsNamedAlready st h = h
-  live_named (Names explicit) st h = h
+  live_named _ st h = h
 
   live_component : (mode : Mode) (s : Plan) (w : ℕ) (name : List ℕ) (st : State) → IsLive n st → IsLive n (component_in mode s w name st).1
   live_component All s w name st h = h
@@ -354,8 +339,8 @@ module _ (n : ℕ) where
   live_session_line s lane (Component w full) q st e f h = live_component q.mode s w (token s full) st h
   live_session_line s lane Start q st e f h = live_append st.sets (new_set (new_number st) q.context) n h
   live_session_line s lane (Add v) q st e f h = live_add v (in_progress st) st h
-  live_session_line s lane PrepareLine q st e f h = either (has_no_volume (in_progress st)) _ _ h (live_followed true _ st (none_begun Prepare _ [] st.clock _ f) h)
-  live_session_line s lane SnapshotLine q st e f h = either (has_no_volume (in_progress st)) _ _ h (live_followed true _ st (none_begun Snapshot st.course.members _ st.clock st.course f) h)
+  live_session_line s lane PrepareLine q st e f h = by_if (λ r. IsLive n r.1) (has_no_volume (in_progress st)) _ _ h (live_followed true _ st (none_begun Prepare _ [] st.clock _ f) h)
+  live_session_line s lane SnapshotLine q st e f h = by_if (λ r. IsLive n r.1) (has_no_volume (in_progress st)) _ _ h (live_followed true _ st (none_begun Snapshot st.course.members _ st.clock st.course f) h)
   live_session_line s lane Await q st e f h = live_await q.last st h
   live_session_line s lane CompleteLine q st e f h = live_followed true _ st (none_begun Complete _ [] st.clock _ f) h
   live_session_line s lane Abort q st e f h = absurd cc
@@ -369,8 +354,7 @@ module _ (n : ℕ) where
 
   live_judged : (v : Verdict) (s : Plan) (lane : ℕ) (op : Op) (st : State) → stops op ≡ false → Fails st.course ≡ false → IsLive n st → IsLive n (judged v s lane op st).1
   live_judged Go s lane op st e f h = live_line_in s lane op st.session st e f h
-  live_judged Blocked s lane op st e f h = h
-  live_judged (Refused why) s lane op st e f h = h
+  live_judged _ s lane op st e f h = h
 
   live_called : (c : SessionCall) (s : Plan) (lane : ℕ) (op : Op) (st : State) → stops op ≡ false → Fails st.course ≡ false → IsLive n st → IsLive n (called c s lane op st).1
   unfolding called

@@ -2,6 +2,7 @@
 use Rattle.std.proofs.Common.{◌≡◌, ℕ, ◌+◌, ◌==◌, ◌<◌, zero, suc, List, [], ◌∷◌, ◌++◌, ◌⊎◌, Option, Some, None, refl, Bool, true, false, map, filter, length, ap, sym, ◌∙◌, subst, find, fold, inl, inr, arith}
 use Rattle.std.specs.Prelude.{is_some, option_map, ◌&&◌, ◌||◌, not, if◌then◌else◌}
 use Rattle.std.proofs.lemmas.List.Folds.{list_any-append}
+use Rattle.std.proofs.lemmas.Bool.{and_parts, eq-eqb, or_parts}
 use Rattle.vss_names.specs.declared.context.Context.{Context}
 use Rattle.vss_names.specs.declared.level.Level.TheVariants.{System, BackEnd, FrontEnd}
 use Rattle.vss_names.specs.declared.order.Order.TheVariants.{PrepareSnapshot, Freeze}
@@ -26,17 +27,17 @@ use Rattle.requestor.specs.Session.{Session}
 use Rattle.scenario.specs.Plan.{Plan, blocks_of}
 use Rattle.writer_calls.specs.Script.{said_of}
 use Rattle.vss_model.specs.State.{State, SetRow, Kept, is_complete, in_progress, row_of, row_changed, history_of, left_now, has_image, kept_if, kept_of, kept_image}
-use Rattle.vss_model.specs.Ending.{Ending, NothingEnds, AgendaEnds, SetFails, ending, concluded, followed, runs, failed_in, failed}
-use Rattle.vss_model.specs.Images.{Replied, cleared, has_lost_image, set_loses_image, with_room_if, put, write, reverted_as, is_in_set}
+use Rattle.vss_model.specs.Ending.{Ending, NothingEnds, ending, concluded, followed, runs, failed_in, failed}
+use Rattle.vss_model.specs.Images.{cleared, has_lost_image, set_loses_image, with_room_if, put, write, reverted_as, is_in_set}
 use Rattle.vss_model.specs.Sessions.{begin_in, new_set, new_number, start_set, change_set, with_volume, has_no_volume, closed}
 use Rattle.vss_model.specs.Steps.{answered, cut_if as image_cut_if, cut_each, with_cut, row_cut, cut_set, is_flush, is_failed_step, stepped_as, stepped, ticked, later}
 use Rattle.vss_model.specs.Acts.{idle_now, Act, after, state}
 use Rattle.vss_model.specs.Cut.{is_cut_group}
 use Rattle.vss_model.specs.Facts.{NumberedFrom, has_failed}
 use Rattle.vss_model.proofs.Appending.{state-append}
-use Rattle.vss_model.proofs.ByEvent.{Covers, Next, after_covered}
+use Rattle.vss_model.proofs.ByEvent.{Covers, Next, after_covered, some_same, by_if}
 use Rattle.vss_model.proofs.Rule.{no_set_of}
-use Rattle.vss_model.proofs.Orderly.{true_not_false}
+use Rattle.vss_model.proofs.Orderly.{true_not_false, other_way}
 use Rattle.vss_model.proofs.OrderlyActs.{Moves, MovesOn, moves_answered, moves_stepped, moves_timed, ending_on, orderly}
 use Rattle.vss_model.proofs.CourseCalls.{Settles, Says, Call, call_answered, call_stepped, call_timed}
 use Rattle.vss_model.proofs.LogRule.{unspoken}
@@ -59,10 +60,6 @@ abbrev Made : Option Agenda → Type 0
 Made None = ⊥
 Made (Some a) = is_cut_made a.log ≡ true
 
-both_parts : (a b : Bool) → (a && b) ≡ true → (a ≡ true) × (b ≡ true)
-both_parts true b e = (refl, e)
-both_parts false b e = absurd cc
-
 -- what is said elsewhere is no Cut step
 made_back : (said : Said) (now : ℕ) (ws : List ℕ) (a : Agenda) → is_cut_group (open_group (groups_left a)) ≡ false → is_cut_made (all_say said now ws a).log ≡ true → is_cut_made a.log ≡ true
 made_back said now ws a e f =
@@ -73,7 +70,7 @@ made_back said now ws a e f =
     by_cases true c g h = refl
     by_cases false false g h = absurd cc
     by_cases false true g h =
-        let parts = both_parts (same_place (open_place (groups_left a)) (plain Cut)) (is_among 0 ws) (new_said (open_place (groups_left a)) (plain Cut) said now 0 ws g) in
+        let parts = and_parts (same_place (open_place (groups_left a)) (plain Cut)) (is_among 0 ws) (new_said (open_place (groups_left a)) (plain Cut) said now 0 ws g) in
         absurd (true_not_false (is_cut_group (open_group (groups_left a))) (cut_open (groups_left a) parts.0) e)
 
 -- where nothing is left of a snapshot's agenda, its Cut step is made
@@ -99,9 +96,7 @@ done_made a e =
 -- an agenda that completes the set is a snapshot's
 completes_snapshot : (k : Kind) (o p : SetOutcome) → o ≡ RunningSet → p ≡ outcome_after k o → is_complete p ≡ true → k ≡ Snapshot
 completes_snapshot Snapshot o p e f g = refl
-completes_snapshot Gather o p e f g = absurd (true_not_false (is_complete p) g (ap is_complete (f ∙ e)))
-completes_snapshot Prepare o p e f g = absurd (true_not_false (is_complete p) g (ap is_complete (f ∙ e)))
-completes_snapshot Complete o p e f g = absurd (true_not_false (is_complete p) g (ap is_complete (f ∙ e)))
+completes_snapshot _ o p e f g = absurd (true_not_false (is_complete p) g (ap is_complete (f ∙ e)))
 
 running_made : (done : Bool) (a : Agenda) (o : SetOutcome) (b : Option Agenda) (p : SetOutcome) → (done ≡ true → is_done (groups_left a) ≡ true) → o ≡ RunningSet → is_complete p ≡ true → Settles done a o b p → is_cut_made a.log ≡ true
 running_made false a o b p d e f s = absurd (true_not_false (is_complete p) f (ap is_complete (s.1 ∙ e)))
@@ -110,9 +105,8 @@ running_made true a o b p d e f s =
     done_made a (subst (λ x. is_done (left_from a (places x)) ≡ true) k (d refl))
 
 pub not_complete : (o : SetOutcome) → has_failed o ≡ true → is_complete o ≡ false
-not_complete RunningSet e = absurd cc
-not_complete CompleteSet e = absurd cc
 not_complete (FailedSet why) e = refl
+not_complete _ e = absurd cc
 
 -- the provider's Cut step is another matter
 abbrev NoCut : Bool → List Open → Type 0
@@ -212,19 +206,12 @@ none_lost n m (p ∷ ps) (x ∷ hs) e zero f = here (has_image n x) (has_image n
     here true true c e f = refl
     here true false c e f = absurd cc
     here false b c e f = absurd cc
-none_lost n m (p ∷ ps) (x ∷ hs) e (suc v) f = none_lost n m ps hs (later (has_image n x && not (has_image n (at (gone_up_to m (p ∷ ps) (x ∷ hs)) 0))) (has_lost_image n hs (gone_up_to m ps hs)) e) v f
-  where
-    later : (a b : Bool) → (a || b) ≡ false → b ≡ false
-    later true b e = absurd cc
-    later false b e = e
+none_lost n m (p ∷ ps) (x ∷ hs) e (suc v) f = none_lost n m ps hs (or_parts (has_image n x && not (has_image n (at (gone_up_to m (p ∷ ps) (x ∷ hs)) 0))) (has_lost_image n hs (gone_up_to m ps hs)) e).1 v f
 
 -- the images that the Cut step gives
 last_has : (images : List Image) (n p : ℕ) → is_some (point_in n (images ++ record { set = n; point = p } ∷ [])) ≡ true
-last_has [] n p = found (n == n) (own n)
+last_has [] n p = found (n == n) (eq-eqb n n refl)
   where
-    own : (a : ℕ) → (a == a) ≡ true
-    own a = grind arith
-
     found : (b : Bool) → b ≡ true → is_some (if b then Some p else None) ≡ true
     found true e = refl
     found false e = absurd cc
@@ -313,8 +300,6 @@ unfolding stepped
 imaged_steps mark st e w h = imaged_stepped_as (is_failed_step (is_flush (open_group (left_now st))) mark) (open_group (left_now st)) st e e w h
 
 -- the Cut step gives the images
-some_same : (q r : SetRow) → Some q ≡ Some r → q ≡ r
-some_same q r e = cc
 
 imaged_by_cut : (q : SetRow) (st : State) (r : SetRow) → in_progress st ≡ Some q → in_progress (cut_set (Some q) st) ≡ Some r → Imaged r.number r.volumes (cut_set (Some q) st).volumes
 imaged_by_cut q st r e f =
@@ -353,8 +338,7 @@ imaged_put : (v : ℕ) (w : Write) (mark : Mark) (x : State) → IsImaged x → 
 imaged_put v w Clean x h = λ r e m.
     imaged_along r.number r.volumes x.volumes (change_at v (written w) x.volumes) (as_many_change (written w) v x.volumes)
     (each_change (KeepsImage r.number) (keeps_same r.number) (written w) (λ y f. f) v x.volumes) (h r e m)
-imaged_put v w Fault x h = h
-imaged_put v w (FaultAfter k) x h = h
+imaged_put v w _ x h = h
 
 imaged_write : (s : Plan) (v : ℕ) (w : Write) (mark : Mark) (st : State) → IsImaged st → IsImaged (write s v w mark st).1
 unfolding write
@@ -373,10 +357,7 @@ imaged_revert s v k (FaultAfter n) st e h = imaged_other (reverted_in_part (bloc
 
 -- a complete set is not the one in progress
 complete_other : (st : State) (m : ℕ) (r : SetRow) → NumberedFrom 1 st.sets → in_progress st ≡ Some r → has_complete st.sets m ≡ true → (m == r.number) ≡ false
-complete_other st m r h e f = flip r.number m (apart (has_complete st.sets) r.number m (running_incomplete st.sets r h e) f)
-  where
-    flip : (a b : ℕ) → (a == b) ≡ false → (b == a) ≡ false
-    flip a b e = grind arith
+complete_other st m r h e f = other_way r.number m (apart (has_complete st.sets) r.number m (running_incomplete st.sets r h e) f)
 
 imaged_deletes_set : (n : ℕ) (st : State) → NumberedFrom 1 st.sets → has_complete st.sets n ≡ true → IsImaged st → IsImaged (record st { volumes = map (dropped n) st.volumes })
 imaged_deletes_set n st o e h r f m =
@@ -424,10 +405,6 @@ imaged_end : (q : Session) (st : State) → IsImaged (closed q st)
 unfolding closed released
 imaged_end q st r e m = absurd m
 
-imaged_either : (b : Bool) (x y : Replied) → IsImaged x.1 → IsImaged y.1 → IsImaged (if b then x else y).1
-imaged_either true x y h i = h
-imaged_either false x y h i = i
-
 imaged_at : (s : Plan) (st : State) → NumberedFrom 1 st.sets → IsImaged st → Covers (Next IsImaged) s st
 imaged_at s st o h = record {
   stays = λ lane op mark told e c. h;
@@ -445,8 +422,8 @@ imaged_at s st o h = record {
   ends = λ lane q mark f. imaged_end q (failed AsyncCancelled st);
   begins = λ lane m all c mark g f. imaged_begin lane all (Some c) st h;
   gathers = λ lane q mark g. imaged_begun Gather _ [] st.clock _ st;
-  prepares = λ lane q mark g. imaged_either (has_no_volume (in_progress st)) _ _ h (imaged_begun Prepare _ [] st.clock _ st);
-  snapshots = λ lane q mark g. imaged_either (has_no_volume (in_progress st)) _ _ h (imaged_begun Snapshot st.course.members _ st.clock st.course st);
+  prepares = λ lane q mark g. by_if (λ r. IsImaged r.1) (has_no_volume (in_progress st)) _ _ h (imaged_begun Prepare _ [] st.clock _ st);
+  snapshots = λ lane q mark g. by_if (λ r. IsImaged r.1) (has_no_volume (in_progress st)) _ _ h (imaged_begun Snapshot st.course.members _ st.clock st.course st);
   completes = λ lane q mark g. imaged_begun Complete _ [] st.clock _ st;
   answers = λ w answer mark g. imaged_answers w (said_of answer) st h;
   steps = λ mark g. imaged_step (is_cut_group (open_group (left_now st))) mark st refl g h;
@@ -482,8 +459,7 @@ volumes_ended (FailedSet why) CompleteSet false a x e = refl
 
 incomplete_ended : (e : Ending) (n : ℕ) (x : State) → is_complete x.course.outcome ≡ false → has_complete x.sets n ≡ false → has_complete (concluded e x).sets n ≡ false
 incomplete_ended NothingEnds n x e h = h
-incomplete_ended AgendaEnds n x e h = incomplete_settled x.course.outcome n x.sets e h
-incomplete_ended (SetFails why) n x e h = incomplete_settled x.course.outcome n x.sets e h
+incomplete_ended _ n x e h = incomplete_settled x.course.outcome n x.sets e h
 
 module _ (n : ℕ) (vs : List ℕ) where
   done_if : (b : Bool) (ran : Bool) (c : Course) (x : State) → is_complete c.outcome ≡ b → has_complete x.sets n ≡ false → (b ≡ true → Imaged n vs x.volumes) → Done n vs (concluded (ending x.course.outcome c.outcome ran c.agenda) (record x { course = c }))
@@ -505,8 +481,7 @@ module _ (n : ℕ) (vs : List ℕ) where
 
   done_put : (v : ℕ) (w : Write) (mark : Mark) (x : State) → has_complete x.sets n ≡ false → has_complete (put v w mark x).sets n ≡ false
   done_put v w Clean x h = h
-  done_put v w Fault x h = h
-  done_put v w (FaultAfter k) x h = h
+  done_put v w _ x h = h
 
   done_write : (s : Plan) (v : ℕ) (w : Write) (mark : Mark) (st : State) → has_complete st.sets n ≡ false → Done n vs (write s v w mark st).1
   unfolding write
@@ -514,8 +489,7 @@ module _ (n : ℕ) (vs : List ℕ) where
 
   done_revert : (s : Plan) (v : ℕ) (k : Kept) (mark : Mark) (st : State) → has_complete st.sets n ≡ false → Done n vs (reverted_as s v k mark st).1
   done_revert s v k Clean st h = inl h
-  done_revert s v k Fault st h = inl h
-  done_revert s v k (FaultAfter m) st h = inl h
+  done_revert s v k _ st h = inl h
 
   done_begin : (lane : ℕ) (all : Bool) (c : Option Context) (st : State) → has_complete st.sets n ≡ false → Done n vs (begin_in lane all c st).1
   done_begin lane all None st h = inl h
@@ -524,10 +498,6 @@ module _ (n : ℕ) (vs : List ℕ) where
   done_end : (q : Session) (x : State) → has_complete x.sets n ≡ false → Done n vs (closed q x)
   unfolding closed
   done_end q x h = inl h
-
-  done_either : (b : Bool) (x y : Replied) → Done n vs x.1 → Done n vs y.1 → Done n vs (if b then x else y).1
-  done_either true x y h i = h
-  done_either false x y h i = i
 
   done_answers : (w : ℕ) (said : Said) (st : State) → st.course.outcome ≡ RunningSet → has_complete st.sets n ≡ false → (Made st.course.agenda → Imaged n vs st.volumes) → Done n vs (answered w said st)
   unfolding answered
@@ -602,8 +572,8 @@ done_at s st r e run h images =
       ends = λ lane q mark f. done_end n us q (failed AsyncCancelled st) (done_failed n us (in_progress st) AsyncCancelled st h);
       begins = λ lane m all c mark g f. done_begin n us lane all (Some c) st h;
       gathers = λ lane q mark g. done_begun n us Gather _ [] st.clock _ st run h;
-      prepares = λ lane q mark g. done_either n us (has_no_volume (in_progress st)) _ _ (inl h) (done_begun n us Prepare _ [] st.clock _ st run h);
-      snapshots = λ lane q mark g. done_either n us (has_no_volume (in_progress st)) _ _ (inl h) (done_begun n us Snapshot st.course.members _ st.clock st.course st run h);
+      prepares = λ lane q mark g. by_if (λ r. Done n us r.1) (has_no_volume (in_progress st)) _ _ (inl h) (done_begun n us Prepare _ [] st.clock _ st run h);
+      snapshots = λ lane q mark g. by_if (λ r. Done n us r.1) (has_no_volume (in_progress st)) _ _ (inl h) (done_begun n us Snapshot st.course.members _ st.clock st.course st run h);
       completes = λ lane q mark g. done_begun n us Complete _ [] st.clock _ st run h;
       answers = λ w answer mark g. done_answers n us w (said_of answer) st run h images;
       steps = λ mark g. done_step (is_cut_group (open_group (left_now st))) r mark st refl g e run h images;

@@ -3,10 +3,12 @@ use Rattle.std.proofs.Common.{◌≡◌, ℕ, ◌+◌, ◌-◌, ◌==◌, ◌<�
 use Rattle.std.specs.Prelude.{not, if◌then◌else◌, nat_lt, slice_get}
 use Rattle.std.proofs.lemmas.List.{append_assoc}
 use Rattle.std.proofs.Math.Seq.{take-append-add}
+use Rattle.std.proofs.lemmas.Bool.{eqb-true, ltb-false, ltb-true}
 use Rattle.write_history.specs.History.{Write, Image, History, point_in, up_to_set, after_set, dropped, written, reverted, reverted_in_part, cut}
 use Rattle.write_history.specs.Slots.{Placed, gone_up_to}
 use Rattle.set_agenda.specs.Course.{change_at}
 use Rattle.vss_model.specs.State.{history_in}
+use Rattle.set_agenda.proofs.Closings.{unless}
 
 -- the volumes as they were at the cut of each set that was cut
 abbrev pub Known : Type 0
@@ -114,13 +116,10 @@ later_within i n p (j ∷ js) e h = ((λ f. absurd (past i.set n j.set e h.0 f))
 within_if : (b : Bool) (i : Image) (n p : ℕ) (images : List Image) → (i.set == n) ≡ b → (if b then Some i.point else point_in n images) ≡ Some p → Above i images → (point_in n images ≡ Some p → Within n p images) → Within n p (i ∷ images)
 within_if true i n p images e f h ih =
     let same : i.point ≡ p = cc in
-    ((λ g. subst (λ x. i.point ≤ x) same (own i.point)), later_within i n p images (equal i.set n e) h)
+    ((λ g. subst (λ x. i.point ≤ x) same (own i.point)), later_within i n p images (eqb-true i.set n e) h)
   where
     own : (a : ℕ) → a ≤ a
     own a = omega arith
-
-    equal : (a b : ℕ) → (a == b) ≡ true → a ≡ b
-    equal a b e = grind arith
 within_if false i n p images e f h ih = ((λ g. above_point i n p images h f), ih f)
 
 within : (k : Known) (v : ℕ) (ws : List Write) (n p : ℕ) (images : List Image) → Shown k v ws images → point_in n images ≡ Some p → Within n p images
@@ -131,13 +130,9 @@ back : (k : Known) (v : ℕ) (ws : List Write) (n p : ℕ) (images : List Image)
 back k v ws n p [] h l = tt
 back k v ws n p (i ∷ images) h l =
     shown_if (not (nat_lt n i.set)) k v (take p ws) i (up_to_set n images)
-    (λ e. in-take (k i.set) v i.point p ws (l.0 (not_true (nat_lt n i.set) e)) h.0)
+    (λ e. in-take (k i.set) v i.point p ws (l.0 (unless (nat_lt n i.set) e)) h.0)
     (above-filter (λ x. not (nat_lt n x.set)) i images h.1)
     (back k v ws n p images h.2 l.1)
-  where
-    not_true : (b : Bool) → not b ≡ true → b ≡ false
-    not_true true e = absurd cc
-    not_true false e = refl
 
 pub shown-reverted : (k : Known) (v n p : ℕ) (h : History) → point_in n h.images ≡ Some p → IsShown k v h → IsShown k v (reverted n p h)
 shown-reverted k v n p h e shown = back k v h.writes n p h.images shown (within k v h.writes n p h.images shown e)
@@ -223,21 +218,15 @@ below k v ws n [] none h = tt
 below k v ws n (i ∷ images) none h = (earlier (nat_lt i.set n) refl (k i.set) refl h.0, no_greater (k i.set) v i.point ws h.0, below k v ws n images none h.2)
   where
     earlier : (b : Bool) → nat_lt i.set n ≡ b → (o : Option (List History)) → k i.set ≡ o → ShownIn o v i.point ws → i.set < n
-    earlier true e o f g = less i.set n e
-      where
-        less : (a b : ℕ) → nat_lt a b ≡ true → a < b
-        less a b e = grind arith
+    earlier true e o f g = ltb-true i.set n e
     earlier false e None f g = absurd g
-    earlier false e (Some hs) f g = absurd (clash (k i.set) hs (none i.set (least i.set n e)) f)
+    earlier false e (Some hs) f g = absurd (clash (k i.set) hs (none i.set (ltb-false i.set n e)) f)
       where
-        least : (a b : ℕ) → nat_lt a b ≡ false → b ≤ a
-        least a b e = grind arith
-
         clash : (o : Option (List History)) (hs : List History) → o ≡ None → o ≡ Some hs → ⊥
         clash None hs e f = cc
         clash (Some x) hs e f = cc
 
-append_none : (ws : List Write) → ws ≡ ws ++ []
+pub append_none : (ws : List Write) → ws ≡ ws ++ []
 append_none [] = refl
 append_none (w ∷ ws) = ap (λ x. w ∷ x) (append_none ws)
 
@@ -254,11 +243,8 @@ below-known k v n h none shown = below k v h.writes n h.images none shown
 point_if : (b : Bool) (k : Known) (v n p : ℕ) (ws : List Write) (i : Image) (images : List Image) → (i.set == n) ≡ b → (if b then Some i.point else point_in n images) ≡ Some p → ShownIn (k i.set) v i.point ws → (point_in n images ≡ Some p → ShownIn (k n) v p ws) → ShownIn (k n) v p ws
 point_if true k v n p ws i images e f h ih =
     let point : i.point ≡ p = cc in
-    let set : i.set ≡ n = equal i.set n e in
+    let set : i.set ≡ n = eqb-true i.set n e in
     subst (λ x. ShownIn (k n) v x ws) point (subst (λ x. ShownIn (k x) v i.point ws) set h)
-  where
-    equal : (a b : ℕ) → (a == b) ≡ true → a ≡ b
-    equal a b e = grind arith
 point_if false k v n p ws i images e f h ih = ih f
 
 point_shown : (k : Known) (v n p : ℕ) (ws : List Write) (images : List Image) → point_in n images ≡ Some p → Shown k v ws images → ShownIn (k n) v p ws

@@ -4,12 +4,13 @@ use Rattle.std.proofs.Common.{◌≡◌, ℕ, ◌==◌, List, [], ◌∷◌, ◌
 use Rattle.std.specs.Prelude.{◌&&◌, ◌||◌, not, if◌then◌else◌}
 use Rattle.std.specs.List.{list_any}
 use Rattle.std.proofs.lemmas.List.Folds.{list_any-append}
+use Rattle.std.proofs.lemmas.Bool.{or_from, or_left}
 use Rattle.vss_names.specs.declared.level.Level.TheVariants.{System, BackEnd, FrontEnd}
-use Rattle.vss_names.specs.declared.order.Order.TheVariants.{Identify, PrepareBackup, PrepareSnapshot, Freeze, Thaw, PostSnapshot, BackupComplete}
+use Rattle.vss_names.specs.declared.order.Order.TheVariants.{Identify, PrepareBackup, PrepareSnapshot, Freeze, BackupComplete, Thaw}
 use Rattle.writer_state.specs.declared.said.Said.{Said}
 use Rattle.writer_state.specs.WriterState.{is_ok}
 use Rattle.set_agenda.specs.declared.group.Group.{Group}
-use Rattle.set_agenda.specs.declared.group.Group.TheVariants.{Orders, PreCommit, Flush, Hold, Cut, Commit, Release, PostCommit}
+use Rattle.set_agenda.specs.declared.group.Group.TheVariants.{Orders, PreCommit, Flush, Hold, Cut, Release}
 use Rattle.set_agenda.specs.declared.kind.Kind.{Kind}
 use Rattle.set_agenda.specs.declared.kind.Kind.TheVariants.{Gather, Prepare, Snapshot, Complete}
 use Rattle.set_agenda.specs.declared.place.Place.{Place}
@@ -23,20 +24,10 @@ use Rattle.vss_model.proofs.LogRule.{IsKeptInLog, Running, in_log}
 
 -- the groups that release a volume or thaw a writer
 abbrev pub undoes : Group → Bool
-undoes (Orders Identify) = false
-undoes (Orders PrepareBackup) = false
-undoes (Orders PrepareSnapshot) = false
-undoes (Orders Freeze) = false
 undoes (Orders Thaw) = true
-undoes (Orders PostSnapshot) = false
-undoes (Orders BackupComplete) = false
-undoes PreCommit = false
-undoes Flush = false
-undoes Hold = false
-undoes Cut = false
-undoes Commit = false
+undoes (Orders _) = false
 undoes Release = true
-undoes PostCommit = false
+undoes _ = false
 
 abbrev pub is_refusal : Entry → Bool
 is_refusal e = is_freeze e.place.group && not (is_ok e.said)
@@ -60,22 +51,14 @@ any-at_place : (test : Entry → Bool) (p : Place) (said : Said) (now : ℕ) (ws
 any-at_place test p said now [] e = refl
 any-at_place test p said now (w ∷ ws) e = rw (e w) (any-at_place test p said now ws e)
 
-neither : (a b : Bool) → a ≡ false → b ≡ false → (a || b) ≡ false
-neither true b e f = absurd cc
-neither false b e f = f
-
-either_way : (a b c : Bool) → (a || b) ≡ true → (a ≡ true → c ≡ true) → (b ≡ true → c ≡ true) → c ≡ true
+pub either_way : (a b c : Bool) → (a || b) ≡ true → (a ≡ true → c ≡ true) → (b ≡ true → c ≡ true) → c ≡ true
 either_way true b c e f g = f refl
 either_way false b c e f g = g e
-
-left_part : (a b : Bool) → a ≡ true → (a || b) ≡ true
-left_part true b e = refl
-left_part false b e = absurd cc
 
 -- what was said stays said
 pub said_stays : (log new : List Entry) (p : Place) (who : ℕ) → has_said log p who ≡ true → has_said (log ++ new) p who ≡ true
 said_stays log new p who e =
-    list_any-append (λ (x : Entry). same_place x.place p && (x.who == who)) log new ∙ left_part (has_said log p who) (has_said new p who) e
+    list_any-append (λ (x : Entry). same_place x.place p && (x.who == who)) log new ∙ or_left (has_said log p who) (has_said new p who) e
 
 cut_stays : (log new : List Entry) → is_cut_made log ≡ true → is_cut_made (log ++ new) ≡ true
 cut_stays log new e = said_stays log new (plain Cut) 0 e
@@ -113,7 +96,7 @@ sound-say said now ws a e h =
     let p = open_place (groups_left a) in
     let new = map (at_place p said now) ws in
     record {
-      freezes = list_any-append is_refusal a.log new ∙ neither (list_any is_refusal a.log) (list_any is_refusal new) h.freezes (any-at_place is_refusal p said now ws (λ w. e));
+      freezes = list_any-append is_refusal a.log new ∙ or_from (list_any is_refusal a.log) (list_any is_refusal new) h.freezes (any-at_place is_refusal p said now ws (λ w. e));
       cut_first = λ f. either_way (list_any is_undoing a.log) (list_any is_undoing new) (is_cut_made (a.log ++ new)) (sym (list_any-append is_undoing a.log new) ∙ f)
           (λ g. cut_stays a.log new (h.cut_first g))
           (λ g. cut_stays a.log new (cut_before_in a.kind a (all_false is_undoing p said now ws (undoes p.group) (λ w. refl) g)));

@@ -12,7 +12,7 @@ use Rattle.set_agenda.specs.Agenda.{Agenda, Open, is_orders, is_working, open_gr
 use Rattle.set_agenda.specs.Course.{stepped as course_stepped}
 use Rattle.scenario.specs.Plan.{Plan}
 use Rattle.vss_model.specs.declared.event.Event.{Event}
-use Rattle.vss_model.specs.declared.event.Event.TheVariants.{Line, Answer as AnswerEvent, Provider, Idle}
+use Rattle.vss_model.specs.declared.event.Event.TheVariants.{Provider}
 use Rattle.vss_model.specs.State.{State, SetRow, in_progress, left_now}
 use Rattle.vss_model.specs.Ending.{followed, runs}
 use Rattle.vss_model.specs.Steps.{cut_set, step_made, is_flush, is_failed_step, stepped_as, stepped}
@@ -79,16 +79,12 @@ working_at_cut (x ∷ os) e = in_group x.place.group e
     in_group PostCommit e = refl
 
 enabled_provider : (s : Plan) (st : State) (event : Event) → is_provider event ≡ true → is_working (left_now st) ≡ true → enabled s st event ≡ true
-enabled_provider s st (Line lane op) e w = absurd cc
-enabled_provider s st (AnswerEvent x answer) e w = absurd cc
 enabled_provider s st Provider e w = w
-enabled_provider s st Idle e w = absurd cc
+enabled_provider s st _ e w = absurd cc
 
 happens_provider : (s : Plan) (event : Event) (mark : Mark) (st : State) → is_provider event ≡ true → (happens s event mark st).1 ≡ stepped mark st
-happens_provider s (Line lane op) mark st e = absurd cc
-happens_provider s (AnswerEvent x answer) mark st e = absurd cc
 happens_provider s Provider mark st e = refl
-happens_provider s Idle mark st e = absurd cc
+happens_provider s _ mark st e = absurd cc
 
 pub after_provider : (s : Plan) (st : State) (act : Act) → is_provider act.event ≡ true → is_working (left_now st) ≡ true → after s st act ≡ stepped act.mark st
 unfolding after

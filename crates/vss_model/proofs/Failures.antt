@@ -2,6 +2,7 @@
 use Rattle.std.proofs.Common.{◌≡◌, ℕ, ◌+◌, ◌==◌, ◌<◌, zero, suc, List, [], ◌∷◌, Option, Some, None, refl, Bool, true, false, ap, sym, ◌∙◌, subst, find, arith}
 use Rattle.std.specs.Prelude.{◌++◌, map, ◌&&◌, ◌||◌, not, if◌then◌else◌, slice_get}
 use Rattle.std.proofs.lemmas.List.Folds.{list_any-append}
+use Rattle.std.proofs.lemmas.Bool.{eqb-true}
 use Rattle.write_history.specs.History.{Write, Image, History, point_in}
 use Rattle.write_history.specs.Slots.{Copy, Placed, named, copy_of, copies_of, copies_from, copies}
 use Rattle.scenario.specs.Plan.{Plan}
@@ -57,11 +58,8 @@ failed_not_live k n (q ∷ rows) r h e f =
 
 none_point_if : (b : Bool) (rows : List SetRow) (n : ℕ) (i : Image) (images : List Image) → (i.set == n) ≡ b → is_live rows n ≡ false → is_live rows i.set ≡ true → point_in n images ≡ None → (if b then Some i.point else point_in n images) ≡ None
 none_point_if true rows n i images e f g h =
-    let same : i.set ≡ n = equal i.set n e in
+    let same : i.set ≡ n = eqb-true i.set n e in
     absurd (true_not_false (is_live rows n) (ap (is_live rows) (sym same) ∙ g) f)
-  where
-    equal : (a b : ℕ) → (a == b) ≡ true → a ≡ b
-    equal a b e = grind arith
 none_point_if false rows n i images e f g h = h
 
 none_point : (rows : List SetRow) (n : ℕ) (images : List Image) → is_live rows n ≡ false → AreLive rows images → point_in n images ≡ None
@@ -87,11 +85,8 @@ none_in_either n xs ys e f = list_any-append (λ (c : Copy). c.set == n) xs ys �
 other_set : (rows : List SetRow) (n m : ℕ) → is_live rows n ≡ false → is_live rows m ≡ true → (m == n) ≡ false
 other_set rows n m f g = by_cases (m == n) refl
   where
-    equal : (a b : ℕ) → (a == b) ≡ true → a ≡ b
-    equal a b e = grind arith
-
     by_cases : (b : Bool) → (m == n) ≡ b → b ≡ false
-    by_cases true e = absurd (true_not_false (is_live rows n) (ap (is_live rows) (sym (equal m n e)) ∙ g) f)
+    by_cases true e = absurd (true_not_false (is_live rows n) (ap (is_live rows) (sym (eqb-true m n e)) ∙ g) f)
     by_cases false e = refl
 
 none_of_volume : (rows : List SetRow) (n v blocks : ℕ) (ws : List Write) (images : List Image) → is_live rows n ≡ false → AreLive rows images

@@ -12,7 +12,7 @@ use Rattle.writer_state.specs.declared.said.Said.{Said}
 use Rattle.writer_state.specs.declared.writer_row.WriterRow.{WriterRow}
 use Rattle.writer_state.specs.WriterRow.{row_after, row_aborted, row_gathered, row_ended}
 use Rattle.write_history.specs.declared.mark.Mark.{Mark}
-use Rattle.write_history.specs.declared.mark.Mark.TheVariants.{Clean, Fault, FaultAfter}
+use Rattle.write_history.specs.declared.mark.Mark.TheVariants.{Clean}
 use Rattle.write_history.specs.History.{Write}
 use Rattle.set_agenda.specs.declared.group.Group.{Group}
 use Rattle.set_agenda.specs.declared.group.Group.TheVariants.{Orders, PreCommit, Flush, Hold, Cut, Commit, Release, PostCommit}
@@ -25,14 +25,15 @@ use Rattle.requestor.specs.Session.{Session}
 use Rattle.scenario.specs.Bounds.{IsPlan}
 use Rattle.scenario.specs.Plan.{Plan}
 use Rattle.vss_model.specs.State.{State, SetRow, Kept, start, in_progress, is_running, row_changed, row_of_writer}
-use Rattle.vss_model.specs.Ending.{Ending, NothingEnds, AgendaEnds, SetFails, ending, row_settled, concluded, followed, runs, failed_in, failed}
-use Rattle.vss_model.specs.Images.{Replied, is_in_set, put, reverted_as}
+use Rattle.vss_model.specs.Ending.{Ending, NothingEnds, SetFails, ending, row_settled, concluded, followed, runs, failed_in, failed}
+use Rattle.vss_model.specs.Images.{is_in_set, put, reverted_as}
 use Rattle.vss_model.specs.Sessions.{begin_in, new_set, new_number, with_volume, add_refusal, has_no_volume, closed}
 use Rattle.vss_model.specs.Steps.{with_cut, row_cut, cut_set, step_made, answered, stepped_as, stepped, ticked, later}
 use Rattle.vss_model.specs.Acts.{Act, after, state}
 use Rattle.vss_model.specs.Laws.{IsKeptByChanges, IsKeptByWrites}
 use Rattle.set_agenda.proofs.CourseRule.{IsKeptInCourse, course_answered, course_stepped, course_timed, course_begun}
 use Rattle.vss_model.proofs.Rule.{on_after}
+use Rattle.vss_model.proofs.ByEvent.{by_if}
 
 -- ## writers
 
@@ -193,8 +194,7 @@ pub record IsFew (st : State) : Type 0 where
 
 few_concluded : (e : Ending) (st : State) → IsFew st → IsFew (concluded e st)
 few_concluded NothingEnds st h = h
-few_concluded AgendaEnds st h = record { writers = h.writers; volumes = few_row_settled st.course.outcome st.sets h.volumes }
-few_concluded (SetFails why) st h = record { writers = h.writers; volumes = few_row_settled st.course.outcome st.sets h.volumes }
+few_concluded _ st h = record { writers = h.writers; volumes = few_row_settled st.course.outcome st.sets h.volumes }
 
 few_followed : (ran : Bool) (c : Course) (st : State) → FewWriters c → FewVolumes (in_progress st) → IsFew (followed ran c st)
 unfolding followed
@@ -235,10 +235,6 @@ on_begins : (lane : ℕ) (all : Bool) (c : Option Context) (st : State) → IsFe
 on_begins lane all None st h = h
 on_begins lane all (Some c) st h = record { writers = h.writers; volumes = h.volumes }
 
-either_few : (b : Bool) (x y : Replied) → IsFew x.1 → IsFew y.1 → IsFew (if b then x else y).1
-either_few true x y h i = h
-either_few false x y h i = i
-
 on_closes : (q : Session) (st : State) → IsFew st → IsFew (closed q st)
 unfolding closed
 on_closes q st h = record { writers = few_released st.course h.writers; volumes = h.volumes }
@@ -256,8 +252,8 @@ kept_by_changes = record {
   ticks = on_ticks;
   fails = λ why st h. on_failed_in (in_progress st) why st h;
   gathers = λ s q st e h. few_followed true _ st (few_begun Gather _ [] st.clock _ (few_gathered st.course h.writers)) h.volumes;
-  prepares = λ s q st e h. either_few (has_no_volume (in_progress st)) _ _ h (few_followed true _ st (few_begun Prepare _ [] st.clock _ (few_prepared _ st.course h.writers)) h.volumes);
-  snapshots = λ q st e h. either_few (has_no_volume (in_progress st)) _ _ h (few_followed true _ st (few_begun Snapshot st.course.members _ st.clock st.course h.writers) h.volumes);
+  prepares = λ s q st e h. by_if (λ r. IsFew r.1) (has_no_volume (in_progress st)) _ _ h (few_followed true _ st (few_begun Prepare _ [] st.clock _ (few_prepared _ st.course h.writers)) h.volumes);
+  snapshots = λ q st e h. by_if (λ r. IsFew r.1) (has_no_volume (in_progress st)) _ _ h (few_followed true _ st (few_begun Snapshot st.course.members _ st.clock st.course h.writers) h.volumes);
   completes = λ q st e h. few_followed true _ st (few_begun Complete _ [] st.clock _ h.writers) h.volumes;
   clears = λ s v b st h. record { writers = h.writers; volumes = h.volumes };
   deletes_set = λ n st h. record { writers = h.writers; volumes = h.volumes };
@@ -272,13 +268,11 @@ kept_by_changes = record {
 
 on_puts : (v : ℕ) (w : Write) (mark : Mark) (x : State) → IsFew x → IsFew (put v w mark x)
 on_puts v w Clean x h = record { writers = h.writers; volumes = h.volumes }
-on_puts v w Fault x h = h
-on_puts v w (FaultAfter k) x h = h
+on_puts v w _ x h = h
 
 on_reverts : (s : Plan) (v : ℕ) (k : Kept) (mark : Mark) (st : State) → IsFew st → IsFew (reverted_as s v k mark st).1
 on_reverts s v k Clean st h = record { writers = h.writers; volumes = h.volumes }
-on_reverts s v k Fault st h = record { writers = h.writers; volumes = h.volumes }
-on_reverts s v k (FaultAfter n) st h = record { writers = h.writers; volumes = h.volumes }
+on_reverts s v k _ st h = record { writers = h.writers; volumes = h.volumes }
 
 kept_by_writes : (st : State) → IsKeptByWrites IsFew st
 kept_by_writes st = record {

@@ -16,8 +16,8 @@ use Rattle.requestor.specs.Session.{Session}
 use Rattle.scenario.specs.Plan.{Plan, blocks_of}
 use Rattle.scenario.specs.declared.volume_row.VolumeRow.{VolumeRow}
 use Rattle.vss_model.specs.State.{State, SetRow, Kept, start, in_progress, left_now}
-use Rattle.vss_model.specs.Ending.{Ending, NothingEnds, AgendaEnds, SetFails, ending, images_dropped, concluded, followed, runs, failed_in, failed}
-use Rattle.vss_model.specs.Images.{Replied, put, reverted_as}
+use Rattle.vss_model.specs.Ending.{Ending, SetFails, ending, images_dropped, concluded, followed, runs, failed_in, failed}
+use Rattle.vss_model.specs.Images.{put, reverted_as}
 use Rattle.vss_model.specs.Sessions.{begin_in, has_no_volume, images_released, closed}
 use Rattle.vss_model.specs.Steps.{answered, cut_set, is_flush, is_failed_step, stepped_as, stepped, ticked, later}
 use Rattle.vss_model.specs.Acts.{Act, after, state}
@@ -26,6 +26,7 @@ use Rattle.vss_model.specs.Cut.{is_provider, is_cut_group}
 use Rattle.vss_model.proofs.Rule.{IsKeptButSteps, on_after_steps}
 use Rattle.vss_model.proofs.CutStep.{second_not, both, step_made_same, after_cut}
 use Rattle.vss_model.proofs.Volumes.{FewerIn, fewer_in_same, fewer_in_over, fewer_in_map, fewer_in_change, fewer_in_gone, as_many_cut, fewer_dropped, fewer_written, fewer_reverted, fewer_in_part}
+use Rattle.vss_model.proofs.ByEvent.{by_if}
 
 pub fewer_images_dropped : (o : Option SetRow) (ks : List History) → FewerIn ks (images_dropped o ks)
 fewer_images_dropped None ks = fewer_in_same ks
@@ -46,9 +47,8 @@ module _ (hs : List History) where
   over ks ls h g = fewer_in_over hs ks ls h g
 
   on_concluded : (e : Ending) (st : State) → Has st → Has (concluded e st)
-  on_concluded NothingEnds st h = h
-  on_concluded AgendaEnds st h = h
   on_concluded (SetFails why) st h = over st.volumes _ h (fewer_images_dropped (in_progress st) st.volumes)
+  on_concluded _ st h = h
 
   on_followed : (ran : Bool) (c : Course) (st : State) → Has st → Has (followed ran c st)
   unfolding followed
@@ -82,18 +82,14 @@ module _ (hs : List History) where
   unfolding closed released
   on_closed q st h = over st.volumes _ h (fewer_released q.context q.set st.volumes)
 
-  either : (b : Bool) (x y : Replied) → Has x.1 → Has y.1 → Has (if b then x else y).1
-  either true x y h i = h
-  either false x y h i = i
-
   kept_but_steps : IsKeptButSteps Has
   kept_but_steps = record {
     answers = λ w said st e h. on_answers w said st h;
     ticks = on_ticks;
     fails = λ why st h. on_fails (in_progress st) why st h;
     gathers = λ s q st g h. on_followed true _ st h;
-    prepares = λ s q st g h. either (has_no_volume (in_progress st)) _ _ h (on_followed true _ st h);
-    snapshots = λ q st g h. either (has_no_volume (in_progress st)) _ _ h (on_followed true _ st h);
+    prepares = λ s q st g h. by_if (λ r. Has r.1) (has_no_volume (in_progress st)) _ _ h (on_followed true _ st h);
+    snapshots = λ q st g h. by_if (λ r. Has r.1) (has_no_volume (in_progress st)) _ _ h (on_followed true _ st h);
     completes = λ q st g h. on_followed true _ st h;
     clears = λ s v b st h. over st.volumes _ h (fewer_in_gone _ _ st.volumes);
     deletes_set = λ n st h. over st.volumes _ h (fewer_in_map (dropped n) (fewer_dropped n) st.volumes);
@@ -107,8 +103,7 @@ module _ (hs : List History) where
 
   on_puts : (v : ℕ) (w : Write) (mark : Mark) (x : State) → Has x → Has (put v w mark x)
   on_puts v w Clean x h = over x.volumes _ h (fewer_in_change (written w) (fewer_written w) v x.volumes)
-  on_puts v w Fault x h = h
-  on_puts v w (FaultAfter n) x h = h
+  on_puts v w _ x h = h
 
   on_reverts : (s : Plan) (v : ℕ) (k : Kept) (mark : Mark) (st : State) → Has st → Has (reverted_as s v k mark st).1
   on_reverts s v k Clean st h = over st.volumes _ h (fewer_in_change (reverted k.row.number k.point) (fewer_reverted k.row.number k.point) v st.volumes)

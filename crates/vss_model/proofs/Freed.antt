@@ -6,7 +6,7 @@ use Rattle.vss_names.specs.declared.vss_result.VssResult.{VssResult}
 use Rattle.vss_names.specs.declared.vss_result.VssResult.TheVariants.{InsufficientStorage, AsyncCancelled}
 use Rattle.writer_state.specs.declared.said.Said.{Said}
 use Rattle.write_history.specs.declared.mark.Mark.{Mark}
-use Rattle.write_history.specs.declared.mark.Mark.TheVariants.{Clean, Fault, FaultAfter}
+use Rattle.write_history.specs.declared.mark.Mark.TheVariants.{Clean}
 use Rattle.write_history.specs.History.{Write}
 use Rattle.set_agenda.specs.declared.group.Group.{Group}
 use Rattle.set_agenda.specs.declared.kind.Kind.TheVariants.{Gather, Prepare, Snapshot, Complete}
@@ -16,14 +16,14 @@ use Rattle.requestor.specs.Session.{Session}
 use Rattle.scenario.specs.Plan.{Plan}
 use Rattle.writer_calls.specs.Script.{said_of}
 use Rattle.vss_model.specs.State.{State, SetRow, Kept, in_progress, row_of, left_now, is_held, is_frozen}
-use Rattle.vss_model.specs.Ending.{Ending, NothingEnds, AgendaEnds, SetFails, ending, concluded, followed, runs, failed_in, failed}
-use Rattle.vss_model.specs.Images.{Replied, cleared, set_loses_image, with_room_if, put, write, reverted_as}
+use Rattle.vss_model.specs.Ending.{Ending, NothingEnds, ending, concluded, followed, runs, failed_in, failed}
+use Rattle.vss_model.specs.Images.{cleared, set_loses_image, with_room_if, put, write, reverted_as}
 use Rattle.vss_model.specs.Sessions.{begin_in, new_set, new_number, with_volume, has_no_volume, closed}
 use Rattle.vss_model.specs.Steps.{answered, is_flush, is_failed_step, stepped_as, stepped, ticked, later}
 use Rattle.vss_model.specs.Acts.{idle_now, Act, after, state}
 use Rattle.vss_model.specs.Facts.{NumberedFrom, IsOfSession, has_failed, is_live}
 use Rattle.vss_model.proofs.Appending.{state-append}
-use Rattle.vss_model.proofs.ByEvent.{Covers, Next, after_covered}
+use Rattle.vss_model.proofs.ByEvent.{Covers, Next, after_covered, by_if}
 use Rattle.vss_model.proofs.Orderly.{live-map, live_append, live_found, true_not_false}
 use Rattle.vss_model.proofs.OrderlyActs.{Moves, MovesOn, moves_answered, moves_stepped, moves_timed, ending_idle, ending_on, orderly, same_changed}
 use Rattle.vss_model.proofs.Failures.{failed_not_live}
@@ -35,8 +35,7 @@ LiveOrIdle n st = (is_live st.sets n ≡ true) ⊎ (st.course.agenda ≡ None)
 
 pub agenda-concluded : (e : Ending) (st : State) → (concluded e st).course.agenda ≡ st.course.agenda
 agenda-concluded NothingEnds st = refl
-agenda-concluded AgendaEnds st = refl
-agenda-concluded (SetFails why) st = refl
+agenda-concluded _ st = refl
 
 module _ (n : ℕ) where
   ends_idle : (a b : Option Agenda) (c : Course) (st : State) → c.agenda ≡ b → Moves a st.course.outcome b c.outcome → is_live st.sets n ≡ true → LiveOrIdle n (concluded (ending st.course.outcome c.outcome (is_some a) b) (record st { course = c }))
@@ -76,8 +75,7 @@ module _ (n : ℕ) where
 
   idle_put : (v : ℕ) (w : Write) (mark : Mark) (st : State) → LiveOrIdle n st → LiveOrIdle n (put v w mark st)
   idle_put v w Clean st h = h
-  idle_put v w Fault st h = h
-  idle_put v w (FaultAfter k) st h = h
+  idle_put v w _ st h = h
 
   idle_write : (s : Plan) (v : ℕ) (w : Write) (mark : Mark) (r : SetRow) (st : State) → in_progress st ≡ Some r → is_live st.sets n ≡ true → LiveOrIdle n (write s v w mark st).1
   unfolding write
@@ -85,8 +83,7 @@ module _ (n : ℕ) where
 
   idle_revert : (s : Plan) (v : ℕ) (k : Kept) (mark : Mark) (st : State) → is_live st.sets n ≡ true → LiveOrIdle n (reverted_as s v k mark st).1
   idle_revert s v k Clean st h = inl h
-  idle_revert s v k Fault st h = inl h
-  idle_revert s v k (FaultAfter m) st h = inl h
+  idle_revert s v k _ st h = inl h
 
   idle_begin : (lane : ℕ) (all : Bool) (c : Option Context) (st : State) → is_live st.sets n ≡ true → LiveOrIdle n (begin_in lane all c st).1
   idle_begin lane all None st h = inl h
@@ -95,10 +92,6 @@ module _ (n : ℕ) where
   idle_end : (q : Session) (st : State) → LiveOrIdle n (closed q st)
   unfolding closed released
   idle_end q st = inr refl
-
-  either : (b : Bool) (x y : Replied) → LiveOrIdle n x.1 → LiveOrIdle n y.1 → LiveOrIdle n (if b then x else y).1
-  either true x y h i = h
-  either false x y h i = i
 
   idle_at : (s : Plan) (st : State) (r : SetRow) → in_progress st ≡ Some r → Fails st.course ≡ false → is_live st.sets n ≡ true → Covers (Next (LiveOrIdle n)) s st
   idle_at s st r e f h = record {
@@ -117,8 +110,8 @@ module _ (n : ℕ) where
     ends = λ lane q mark i. idle_end q (failed AsyncCancelled st);
     begins = λ lane m all c mark g i. idle_begin lane all (Some c) st h;
     gathers = λ lane q mark g. inl (live_followed n true _ st (none_begun Gather _ [] st.clock _ f) h);
-    prepares = λ lane q mark g. either (has_no_volume (in_progress st)) _ _ (inl h) (inl (live_followed n true _ st (none_begun Prepare _ [] st.clock _ f) h));
-    snapshots = λ lane q mark g. either (has_no_volume (in_progress st)) _ _ (inl h) (inl (live_followed n true _ st (none_begun Snapshot st.course.members _ st.clock st.course f) h));
+    prepares = λ lane q mark g. by_if (λ r. LiveOrIdle n r.1) (has_no_volume (in_progress st)) _ _ (inl h) (inl (live_followed n true _ st (none_begun Prepare _ [] st.clock _ f) h));
+    snapshots = λ lane q mark g. by_if (λ r. LiveOrIdle n r.1) (has_no_volume (in_progress st)) _ _ (inl h) (inl (live_followed n true _ st (none_begun Snapshot st.course.members _ st.clock st.course f) h));
     completes = λ lane q mark g. inl (live_followed n true _ st (none_begun Complete _ [] st.clock _ f) h);
     answers = λ w answer mark g. idle_answers w (said_of answer) st h;
     steps = λ mark g. idle_steps mark st g f h;

@@ -16,6 +16,7 @@ use Rattle.writer_meta.specs.Metadata.{Meta}
 use Rattle.component_doc.specs.Selection.{Pair, naming, Names, is_taker, takers, known_from as known_of}
 use Rattle.component_doc.specs.Over.{meta_at, is_selectable_of, names_selectable}
 use Rattle.std.specs.List.{list_all}
+use Rattle.std.proofs.lemmas.Bool.{and_parts, eqb-true, or_from, or_right}
 use Rattle.set_agenda.specs.declared.group.Group.{Group}
 use Rattle.set_agenda.specs.declared.group.Group.TheVariants.{Orders, PreCommit, Flush, Hold, Cut, Commit, Release, PostCommit}
 use Rattle.set_agenda.specs.declared.kind.Kind.{Kind}
@@ -34,14 +35,14 @@ use Rattle.scenario.specs.Plan.{token, Plan, WriterPlan}
 use Rattle.writer_calls.specs.Script.{said_of}
 use Rattle.vss_model.specs.State.{State, SetRow, Kept, start, in_progress, left_now}
 use Rattle.vss_model.specs.Ending.{Ending, NothingEnds, AgendaEnds, SetFails, ending, concluded, followed, runs, failed_in, failed}
-use Rattle.vss_model.specs.Images.{Replied, cleared, set_loses_image, with_room_if, put, write, reverted_as}
+use Rattle.vss_model.specs.Images.{cleared, set_loses_image, with_room_if, put, write, reverted_as}
 use Rattle.vss_model.specs.Sessions.{begin_in, disable, has_failed_identify, has_no_volume, start_set, change_set, with_volume, selected_in, is_known, meta_if, known_from, known_metas, closed}
 use Rattle.vss_model.specs.Steps.{answered, cut_set, step_made, is_flush, is_failed_step, stepped_as, stepped, ticked, later}
 use Rattle.vss_model.specs.Acts.{idle_now, Act, after, state}
 use Rattle.vss_model.specs.Laws.{LetsGo}
 use Rattle.vss_model.specs.Facts.{WaitsFor, IsAgendaOf}
 use Rattle.vss_model.proofs.OrderlyActs.{orderly}
-use Rattle.vss_model.proofs.ByEvent.{Covers, Next, after_covered}
+use Rattle.vss_model.proofs.ByEvent.{Covers, Next, after_covered, by_if}
 use Rattle.vss_model.proofs.Rows.{none_runs}
 use Rattle.vss_model.proofs.Orderly.{true_not_false}
 use Rattle.vss_model.proofs.LogRule.{unspoken, course-step_made}
@@ -62,12 +63,7 @@ record IsBare (st : State) : Type 0 where
 
 abbrev pub is_late : Stage → Bool
 is_late Opened = false
-is_late Gathered = true
-is_late Started = true
-is_late Prepared = true
-is_late Done = true
-is_late Finished = true
-is_late Failed = true
+is_late _ = true
 
 abbrev LateIn : Option Session → Type 0
 LateIn None = ⊥
@@ -83,13 +79,11 @@ record IsGathered (s : Plan) (st : State) : Type 0 where
 
 explicit-concluded : (e : Ending) (st : State) → (concluded e st).explicit ≡ st.explicit
 explicit-concluded NothingEnds st = refl
-explicit-concluded AgendaEnds st = refl
-explicit-concluded (SetFails why) st = refl
+explicit-concluded _ st = refl
 
 course-concluded : (e : Ending) (st : State) → (concluded e st).course ≡ st.course
 course-concluded NothingEnds st = refl
-course-concluded AgendaEnds st = refl
-course-concluded (SetFails why) st = refl
+course-concluded _ st = refl
 
 late_ended : (c : Context) (x : Stage) → is_late x ≡ true → is_late (stage_after c x) ≡ true
 late_ended c Opened e = absurd cc
@@ -199,9 +193,6 @@ gathered_begun s k ms vs now st e fit h = gathered_followed s true (begun k ms v
 
 -- ## who takes part is known
 
-equal : (a b : ℕ) → (a == b) ≡ true → a ≡ b
-equal a b e = grind arith
-
 pub known_if : (b : Bool) (m : Meta) → is_some (meta_if b m) ≡ true → b ≡ true
 known_if true m e = refl
 known_if false m e = absurd cc
@@ -233,20 +224,12 @@ pub selectable_known : (i : ℕ) (o : Option Meta) → is_selectable_of i o ≡ 
 selectable_known i None e = absurd cc
 selectable_known i (Some m) e = refl
 
-and_left : (a b : Bool) → (a && b) ≡ true → a ≡ true
-and_left true b e = refl
-and_left false b e = absurd cc
-
-and_right : (a b : Bool) → (a && b) ≡ true → b ≡ true
-and_right true b e = e
-and_right false b e = absurd cc
-
 pub named_known : (ms : List (Option Meta)) (ps : List Pair) (w : ℕ) → list_all (names_selectable ms) ps ≡ true → list_any (λ (p : Pair). p.writer == w) ps ≡ true → is_some (meta_at (slice_get ms w)) ≡ true
 named_known ms [] w e f = absurd cc
-named_known ms (p ∷ ps) w e f = by_head (p.writer == w) refl f (named_known ms ps w (and_right (names_selectable ms p) (list_all (names_selectable ms) ps) e))
+named_known ms (p ∷ ps) w e f = by_head (p.writer == w) refl f (named_known ms ps w (and_parts (names_selectable ms p) (list_all (names_selectable ms) ps) e).1)
   where
     by_head : (b : Bool) → (p.writer == w) ≡ b → (b || list_any (λ (x : Pair). x.writer == w) ps) ≡ true → (list_any (λ (x : Pair). x.writer == w) ps ≡ true → is_some (meta_at (slice_get ms w)) ≡ true) → is_some (meta_at (slice_get ms w)) ≡ true
-    by_head true g h ih = subst (λ x. is_some (meta_at (slice_get ms x)) ≡ true) (equal p.writer w g) (selectable_known p.component (meta_at (slice_get ms p.writer)) (and_left (names_selectable ms p) (list_all (names_selectable ms) ps) e))
+    by_head true g h ih = subst (λ x. is_some (meta_at (slice_get ms x)) ≡ true) (eqb-true p.writer w g) (selectable_known p.component (meta_at (slice_get ms p.writer)) (and_parts (names_selectable ms p) (list_all (names_selectable ms) ps) e).0)
     by_head false g h ih = ih h
 
 -- the writers that are known, from number k on
@@ -256,17 +239,13 @@ none_known_below (None ∷ ms) k n l = none_known_below ms (k + 1) n (next n k l
   where
     next : (a b : ℕ) → a < b → a < b + 1
     next a b l = omega (arith, l)
-none_known_below (Some m ∷ ms) k n l = neither (k == n) (list_any (λ x. x == n) (known_of (k + 1) ms)) (differs k n l) (none_known_below ms (k + 1) n (next n k l))
+none_known_below (Some m ∷ ms) k n l = or_from (k == n) (list_any (λ x. x == n) (known_of (k + 1) ms)) (differs k n l) (none_known_below ms (k + 1) n (next n k l))
   where
     next : (a b : ℕ) → a < b → a < b + 1
     next a b l = omega (arith, l)
 
     differs : (a b : ℕ) → b < a → (a == b) ≡ false
     differs a b l = grind arith
-
-    neither : (a b : Bool) → a ≡ false → b ≡ false → (a || b) ≡ false
-    neither true b e f = absurd cc
-    neither false b e f = f
 
 pub all_known : (ms : List (Option Meta)) (k n w : ℕ) → n ≡ k + w → list_any (λ x. x == n) (known_of k ms) ≡ true → is_some (meta_at (slice_get ms w)) ≡ true
 all_known [] k n w e f = absurd cc
@@ -293,7 +272,7 @@ all_known (Some m ∷ ms) k n (suc w) e f = all_known ms (k + 1) n w (shift n k 
 
 taker_known : (mode : Mode) (s : Plan) (st : State) (w : ℕ) → AreOver (known_metas s st) st.explicit → is_taker (selected_in mode s st) w ≡ true → is_unfit st.course.rows w ≡ false
 taker_known Components s st w over e =
-    fit_of s st w (named_known (known_metas s st) st.explicit w (and_left (list_all (names_selectable (known_metas s st)) st.explicit) _ over) e)
+    fit_of s st w (named_known (known_metas s st) st.explicit w (and_parts (list_all (names_selectable (known_metas s st)) st.explicit) _ over).0 e)
 taker_known All s st w over e = fit_of s st w (all_known (known_metas s st) 0 w w (plus w) e)
   where
     plus : (a : ℕ) → a ≡ 0 + a
@@ -304,7 +283,7 @@ filter_passes test w [] e = absurd cc
 filter_passes test w (x ∷ xs) e = by_test (test x) refl e (filter_passes test w xs)
   where
     by_head : (b : Bool) → (x == w) ≡ b → test x ≡ true → (b || is_among w (filter test xs)) ≡ true → (is_among w (filter test xs) ≡ true → test w ≡ true) → test w ≡ true
-    by_head true f g h ih = subst (λ y. test y ≡ true) (equal x w f) g
+    by_head true f g h ih = subst (λ y. test y ≡ true) (eqb-true x w f) g
     by_head false f g h ih = ih h
 
     by_test : (b : Bool) → test x ≡ b → is_among w (if b then x ∷ filter test xs else filter test xs) ≡ true → (is_among w (filter test xs) ≡ true → test w ≡ true) → test w ≡ true
@@ -316,7 +295,7 @@ member_passes test k [] w e = absurd cc
 member_passes test k (r ∷ rows) w e = by_test (test k) refl e (member_passes test (k + 1) rows w)
   where
     by_head : (b : Bool) → (k == w) ≡ b → test k ≡ true → (b || is_member (members_from test (k + 1) rows) w) ≡ true → (is_member (members_from test (k + 1) rows) w ≡ true → test w ≡ true) → test w ≡ true
-    by_head true f g h ih = subst (λ y. test y ≡ true) (equal k w f) g
+    by_head true f g h ih = subst (λ y. test y ≡ true) (eqb-true k w f) g
     by_head false f g h ih = ih h
 
     by_test : (b : Bool) → test k ≡ b → is_member (member_if b k r ++ members_from test (k + 1) rows) w ≡ true → (is_member (members_from test (k + 1) rows) w ≡ true → test w ≡ true) → test w ≡ true
@@ -459,8 +438,7 @@ on_room s false x h = h
 
 on_put : (s : Plan) (v : ℕ) (w : Write) (mark : Mark) (x : State) → NamesKnown s x → NamesKnown s (put v w mark x)
 on_put s v w Clean x h = same s x (put v w Clean x) refl refl (λ l. l) h
-on_put s v w Fault x h = h
-on_put s v w (FaultAfter n) x h = h
+on_put s v w _ x h = h
 
 on_write : (s : Plan) (v : ℕ) (w : Write) (mark : Mark) (st : State) → NamesKnown s st → NamesKnown s (write s v w mark st).1
 unfolding write
@@ -479,30 +457,15 @@ late_at q x e h = subst LateIn e h
 
 opened_not_late : (x : Stage) (b : Bool) → (is_stage x Opened && b) ≡ true → is_late x ≡ true → ⊥
 opened_not_late Opened b e h = cc
-opened_not_late Gathered b e h = cc
-opened_not_late Started b e h = cc
-opened_not_late Prepared b e h = cc
-opened_not_late Done b e h = cc
-opened_not_late Finished b e h = cc
-opened_not_late Failed b e h = cc
+opened_not_late _ b e h = cc
 
 names_late : (x : Stage) (b : Bool) → ((is_stage x Gathered || is_stage x Started) && b) ≡ true → is_late x ≡ true
 names_late Opened b e = absurd cc
-names_late Gathered b e = refl
-names_late Started b e = refl
-names_late Prepared b e = refl
-names_late Done b e = refl
-names_late Finished b e = refl
-names_late Failed b e = refl
+names_late _ b e = refl
 
 prepares_late : (x : Stage) (b : Bool) → (is_stage x Started && b) ≡ true → is_late x ≡ true
 prepares_late Opened b e = absurd cc
-prepares_late Gathered b e = refl
-prepares_late Started b e = refl
-prepares_late Prepared b e = refl
-prepares_late Done b e = refl
-prepares_late Finished b e = refl
-prepares_late Failed b e = refl
+prepares_late _ b e = refl
 
 nobody : (ms : List Member) (w : ℕ) → ms ≡ [] → is_member ms w ≡ true → ⊥
 nobody [] w e f = cc
@@ -545,10 +508,6 @@ on_begin s lane all None st e h = h
 on_begin s lane all (Some c) st e (inl h) = inl (record { explicit = refl; members = h.members; agenda = h.agenda })
 on_begin s lane all (Some c) st e (inr h) = absurd (subst LateIn e h.late)
 
-either : (s : Plan) (b : Bool) (x y : Replied) → NamesKnown s x.1 → NamesKnown s y.1 → NamesKnown s (if b then x else y).1
-either s true x y h i = h
-either s false x y h i = i
-
 on_gather : (s : Plan) (q : Session) (ms : List Member) (c : Course) (st : State) → LetsGo call.Gather q st → c.members ≡ st.course.members → NamesKnown s st → NamesKnown s (followed true (begun Gather ms [] st.clock c) st)
 on_gather s q ms c st g e (inl h) = inl (bare_begun Gather ms [] st.clock c st (e ∙ h.members) (inl refl) h)
 on_gather s q ms c st g e (inr h) = absurd (opened_not_late q.stage (has_writers q.context) g.allowed (late_at st.session q g.stands h.late))
@@ -562,10 +521,6 @@ pub filter_member : (test : Member → Bool) (ms : List Member) (w : ℕ) → is
 filter_member test [] w e = e
 filter_member test (m ∷ ms) w e = by_test (test m) e (filter_member test ms w)
   where
-    or_right : (a b : Bool) → b ≡ true → (a || b) ≡ true
-    or_right true b e = refl
-    or_right false b e = e
-
     or_along : (a b c : Bool) → (b ≡ true → c ≡ true) → (a || b) ≡ true → (a || c) ≡ true
     or_along true b c f e = refl
     or_along false b c f e = f e
@@ -599,8 +554,8 @@ kept_at s st h = record {
   ends = λ lane q mark f. on_end s q (failed AsyncCancelled st);
   begins = λ lane m all c mark g f. on_begin s lane all (Some c) st g h;
   gathers = λ lane q mark g. on_gather s q _ _ st g refl h;
-  prepares = λ lane q mark g. either s (has_no_volume (in_progress st)) _ _ h (on_prepare s q st g h);
-  snapshots = λ lane q mark g. either s (has_no_volume (in_progress st)) _ _ h (on_all s Snapshot _ st refl h);
+  prepares = λ lane q mark g. by_if (λ r. NamesKnown s r.1) (has_no_volume (in_progress st)) _ _ h (on_prepare s q st g h);
+  snapshots = λ lane q mark g. by_if (λ r. NamesKnown s r.1) (has_no_volume (in_progress st)) _ _ h (on_all s Snapshot _ st refl h);
   completes = λ lane q mark g. on_part s Complete _ [] st refl h;
   answers = λ w answer mark g. on_answers s w (said_of answer) st h;
   steps = λ mark g. on_steps s mark st h;
@@ -692,8 +647,7 @@ module _ (s : Plan) (st : State) where
 
   knows_put : (v : ℕ) (w : Write) (mark : Mark) (x : State) → KnowsStill x → KnowsStill (put v w mark x)
   knows_put v w Clean x h = λ p e. known_same s x (put v w Clean x) refl (λ u. refl) ∙ h p e
-  knows_put v w Fault x h = h
-  knows_put v w (FaultAfter n) x h = h
+  knows_put v w _ x h = h
 
   knows_write : (v : ℕ) (w : Write) (mark : Mark) → KnowsStill (write s v w mark st).1
   unfolding write
@@ -707,10 +661,6 @@ module _ (s : Plan) (st : State) where
   knows_end : (q : Session) (x : State) → KnowsStill (closed q x)
   unfolding closed
   knows_end q x p e = absurd cc
-
-  knows_either : (b : Bool) (x y : Replied) → KnowsStill x.1 → KnowsStill y.1 → KnowsStill (if b then x else y).1
-  knows_either true x y h i = h
-  knows_either false x y h i = i
 
   knows_begun : (k : Kind) (ms : List Member) (vs : List ℕ) (now : ℕ) (c : Course) → c.disabled ≡ st.course.disabled → AsFit st.course.rows c.rows → KnowsStill (followed true (begun k ms vs now c) st)
   knows_begun k ms vs now c e f =
@@ -738,8 +688,8 @@ module _ (s : Plan) (st : State) where
     ends = λ lane x mark f. knows_end x (failed AsyncCancelled st);
     begins = λ lane m all c mark g f. absurd (no_begin st.session q e g);
     gathers = λ lane x mark g. absurd (opened_not_late x.stage (has_writers x.context) g.allowed (late_at st.session x g.stands (subst LateIn (sym e) l)));
-    prepares = λ lane x mark g. knows_either (has_no_volume (in_progress st)) _ _ (knows_same st refl) (knows_begun Prepare _ [] st.clock _ refl (λ w. refl));
-    snapshots = λ lane x mark g. knows_either (has_no_volume (in_progress st)) _ _ (knows_same st refl) (knows_begun Snapshot _ _ st.clock st.course refl (λ w. refl));
+    prepares = λ lane x mark g. by_if (λ r. KnowsStill r.1) (has_no_volume (in_progress st)) _ _ (knows_same st refl) (knows_begun Prepare _ [] st.clock _ refl (λ w. refl));
+    snapshots = λ lane x mark g. by_if (λ r. KnowsStill r.1) (has_no_volume (in_progress st)) _ _ (knows_same st refl) (knows_begun Snapshot _ _ st.clock st.course refl (λ w. refl));
     completes = λ lane x mark g. knows_begun Complete _ [] st.clock st.course refl (λ w. refl);
     answers = λ w answer mark g. knows_answers w (said_of answer) a;
     steps = λ mark g. knows_steps mark;
@@ -747,12 +697,7 @@ module _ (s : Plan) (st : State) where
 
 late_stage : (x : Stage) → is_stage x Opened ≡ false → is_late x ≡ true
 late_stage Opened e = absurd cc
-late_stage Gathered e = refl
-late_stage Started e = refl
-late_stage Prepared e = refl
-late_stage Done e = refl
-late_stage Finished e = refl
-late_stage Failed e = refl
+late_stage _ e = refl
 
 pub known_stay : (s : Plan) (acts : List Act) (act : Act) (q p : Session) → (state s acts).session ≡ Some q → is_stage q.stage Opened ≡ false → (after s (state s acts) act).session ≡ Some p
     → known_metas s (after s (state s acts) act) ≡ known_metas s (state s acts)

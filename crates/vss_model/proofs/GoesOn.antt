@@ -3,6 +3,7 @@ use Rattle.std.proofs.Common.{◌≡◌, ℕ, ◌+◌, ◌==◌, zero, suc, List
 use Rattle.std.proofs.lemmas.List.Sums.{sum_by-append}
 use Rattle.std.specs.Prelude.{◌⊎◌, option_map, is_some, is_none, length, ◌&&◌, ◌||◌, not, if◌then◌else◌, slice_get}
 use Rattle.std.specs.List.{list_all, range_with_len}
+use Rattle.std.proofs.lemmas.Bool.{and_from, and_parts, and_right, eq-eqb, eqb-true}
 use Rattle.vss_names.specs.declared.context.Context.{Context}
 use Rattle.vss_names.specs.declared.vss_result.VssResult.{VssResult}
 use Rattle.vss_names.specs.declared.vss_result.VssResult.TheVariants.{AsyncCancelled}
@@ -10,7 +11,7 @@ use Rattle.writer_state.specs.declared.said.Said.{Said}
 use Rattle.write_history.specs.declared.actor.Actor.{Actor}
 use Rattle.write_history.specs.declared.actor.Actor.TheVariants.{Lane, Writer, Advance, Idle as IdleActor}
 use Rattle.write_history.specs.declared.mark.Mark.{Mark}
-use Rattle.write_history.specs.declared.mark.Mark.TheVariants.{Clean, Fault, FaultAfter}
+use Rattle.write_history.specs.declared.mark.Mark.TheVariants.{Clean}
 use Rattle.write_history.specs.declared.move_item.Move.{Move}
 use Rattle.write_history.specs.History.{Write}
 use Rattle.set_agenda.specs.declared.group.Group.{Group}
@@ -31,8 +32,8 @@ use Rattle.scenario.specs.Plan.{Plan, LaneLine, lines_of, acts_as}
 use Rattle.vss_model.specs.declared.event.Event.{Event}
 use Rattle.vss_model.specs.declared.event.Event.TheVariants.{Line, Answer as AnswerEvent, Provider, Idle}
 use Rattle.vss_model.specs.State.{State, SetRow, Kept, in_progress, left_now, is_held}
-use Rattle.vss_model.specs.Ending.{Ending, NothingEnds, AgendaEnds, SetFails, ending, concluded, followed, runs, failed_in, failed}
-use Rattle.vss_model.specs.Images.{Replied, put, reverted_as}
+use Rattle.vss_model.specs.Ending.{Ending, NothingEnds, SetFails, ending, concluded, followed, runs, failed_in, failed}
+use Rattle.vss_model.specs.Images.{put, reverted_as}
 use Rattle.vss_model.specs.Sessions.{begin_in, has_no_volume, closed, line_in, judged}
 use Rattle.vss_model.specs.Lines.{called, line}
 use Rattle.vss_model.specs.Steps.{answered, cut_set, step_made, stepped_as, stepped, ticked, later}
@@ -41,7 +42,7 @@ use Rattle.vss_model.specs.Laws.{IsKeptByWrites}
 use Rattle.vss_model.specs.Trail.{Run, begin, is_lane, cursor, next_line, line_event, answer_event, script_event, event_of, act_of, after_event, moved, run_from, run, acts, event_enabled, can_act, none_can_act, may_move, allows as allows_mark, is_legal_move, is_legal_from, is_legal, is_used_up, is_complete}
 use Rattle.scenario.specs.Bounds.{is_begin, is_end, has_end, ends_sessions}
 use Rattle.vss_model.specs.GoesOn.{EndsSessions, CanGoOn}
-use Rattle.vss_model.proofs.ByEvent.{after_enabled}
+use Rattle.vss_model.proofs.ByEvent.{after_enabled, by_if}
 use Rattle.vss_model.proofs.Rows.{none_runs}
 use Rattle.vss_model.proofs.Rule.{IsKeptButSteps, begins_at, on_after_steps}
 use Rattle.vss_model.proofs.Appending.{state-run, moves-run}
@@ -52,6 +53,7 @@ use Rattle.writer_calls.specs.Script.{scripted_answer}
 use Rattle.set_agenda.specs.Course.{sent}
 use Rattle.scenario.specs.Plan.{script_of}
 use Rattle.vss_names.specs.declared.order.Order.{Order}
+use Rattle.vss_model.proofs.GoingOn.{running_off}
 
 -- ## whose session stands
 
@@ -69,8 +71,7 @@ owned_map o f same (Some q) h = same q ∙ h
 
 owned_concluded : (o : ℕ) (e : Ending) (st : State) → Owned o st → Owned o (concluded e st)
 owned_concluded o NothingEnds st h = h
-owned_concluded o AgendaEnds st h = owned_map o _ (λ q. refl) st.session h
-owned_concluded o (SetFails why) st h = owned_map o _ (λ q. refl) st.session h
+owned_concluded o _ st h = owned_map o _ (λ q. refl) st.session h
 
 owned_followed : (o : ℕ) (ran : Bool) (c : Course) (st : State) → Owned o st → Owned o (followed ran c st)
 unfolding followed
@@ -111,10 +112,6 @@ owned_failed_in : (o : ℕ) (r : Option SetRow) (why : VssResult) (st : State) �
 owned_failed_in o None why st h = h
 owned_failed_in o (Some r) why st h = owned_concluded o (SetFails why) (record st { course = course_failed why st.course }) h
 
-owned_either : (o : ℕ) (b : Bool) (x y : Replied) → Owned o x.1 → Owned o y.1 → Owned o (if b then x else y).1
-owned_either o true x y h i = h
-owned_either o false x y h i = i
-
 owned_closed : (o : ℕ) (q : Session) (st : State) → Owned o (closed q st)
 unfolding closed released
 owned_closed o q st = tt
@@ -128,8 +125,8 @@ owned_changes o = record {
   ticks = owned_ticked o;
   fails = λ why st h. owned_failed_in o (in_progress st) why st h;
   gathers = λ s q st g h. owned_followed o true _ st h;
-  prepares = λ s q st g h. owned_either o (has_no_volume (in_progress st)) _ _ h (owned_followed o true _ st h);
-  snapshots = λ q st g h. owned_either o (has_no_volume (in_progress st)) _ _ h (owned_followed o true _ st h);
+  prepares = λ s q st g h. by_if (λ r. Owned o r.1) (has_no_volume (in_progress st)) _ _ h (owned_followed o true _ st h);
+  snapshots = λ q st g h. by_if (λ r. Owned o r.1) (has_no_volume (in_progress st)) _ _ h (owned_followed o true _ st h);
   completes = λ q st g h. owned_followed o true _ st h;
   clears = λ s v b st h. h;
   deletes_set = λ n st h. h;
@@ -143,13 +140,11 @@ owned_changes o = record {
 
 owned_puts : (o v : ℕ) (w : Write) (mark : Mark) (x : State) → Owned o x → Owned o (put v w mark x)
 owned_puts o v w Clean x h = h
-owned_puts o v w Fault x h = h
-owned_puts o v w (FaultAfter n) x h = h
+owned_puts o v w _ x h = h
 
 owned_reverts : (o : ℕ) (s : Plan) (v : ℕ) (k : Kept) (mark : Mark) (st : State) → Owned o st → Owned o (reverted_as s v k mark st).1
 owned_reverts o s v k Clean st h = h
-owned_reverts o s v k Fault st h = h
-owned_reverts o s v k (FaultAfter n) st h = h
+owned_reverts o s v k _ st h = h
 
 owned_writes : (o : ℕ) (st : State) → IsKeptByWrites (Owned o) st
 owned_writes o st = record { puts = λ v e w mark x h. owned_puts o v w mark x h; reverts = λ s n v k mark e f h. owned_reverts o s v k mark st h }
@@ -213,11 +208,7 @@ ends_drop : (lines : List LaneLine) (n : ℕ) → ends_sessions lines ≡ true �
 ends_drop [] zero e = refl
 ends_drop [] (suc n) e = refl
 ends_drop (x ∷ lines) zero e = e
-ends_drop (x ∷ lines) (suc n) e = ends_drop lines n (second (not (is_begin x.op) || has_end lines) (ends_sessions lines) e)
-  where
-    second : (a b : Bool) → (a && b) ≡ true → b ≡ true
-    second true b e = e
-    second false b e = absurd cc
+ends_drop (x ∷ lines) (suc n) e = ends_drop lines n (and_parts (not (is_begin x.op) || has_end lines) (ends_sessions lines) e).1
 
 begin_has_end : (l : LaneLine) (lines : List LaneLine) → is_begin l.op ≡ true → ends_sessions (l ∷ lines) ≡ true → has_end lines ≡ true
 begin_has_end l lines e f = by_parts (is_begin l.op) (has_end lines) (ends_sessions lines) e f
@@ -243,23 +234,14 @@ end_goes q false = refl
 own_end : (s : Plan) (q : Session) (mark : Mark) (st : State) → st.session ≡ Some q → (line s q.owner End mark st).1.session ≡ None
 unfolding closed called
 own_end s q mark st e =
-    ap (λ v. (judged v s q.owner End st).1.session) (ap (λ x. check x (runs st) q.owner call.End) e ∙ ap (λ b. owner_only b (check_owner q (runs st) call.End)) (own q.owner) ∙ end_goes q (runs st))
+    ap (λ v. (judged v s q.owner End st).1.session) (ap (λ x. check x (runs st) q.owner call.End) e ∙ ap (λ b. owner_only b (check_owner q (runs st) call.End)) (eq-eqb q.owner q.owner refl) ∙ end_goes q (runs st))
     ∙ ap (λ x. (line_in s q.owner End x st).1.session) e
-  where
-    own : (a : ℕ) → (a == a) ≡ true
-    own a = grind arith
 
 -- ## a legal move keeps it
 
-and_first : (a b : Bool) → (a && b) ≡ true → a ≡ true
-and_first true b e = refl
-and_first false b e = absurd cc
-
 may_can : (s : Plan) (r : Run) (a : Actor) → may_move s r a ≡ true → can_act s r a ≡ true
-may_can s r (Lane i) e = e
-may_can s r (Writer w) e = e
-may_can s r Advance e = e
-may_can s r IdleActor e = and_first (can_act s r IdleActor) (none_can_act s r) e
+may_can s r IdleActor e = (and_parts (can_act s r IdleActor) (none_can_act s r) e).0
+may_can s r _ e = e
 
 -- the moves of others leave what a lane has left
 left_same : (s : Plan) (moves : List Move) (m : Move) (i : ℕ) → is_lane i m.actor ≡ false → has_end (rest_of s moves i) ≡ true → has_end (rest_of s (moves ++ m ∷ []) i) ≡ true
@@ -278,37 +260,27 @@ quiet_move s moves m st event (Some q) e never out h =
     (owned_after q.owner s st (act_of m.mark event) (λ lane f g. absurd (never lane f)) (subst (IsOf q.owner) (sym e) refl)) (out q.owner) h
 
 -- where lane i makes its next line
-none_some : (x : Option Session) (q : Session) → x ≡ Some q → x ≡ None → ⊥
+pub none_some : (x : Option Session) (q : Session) → x ≡ Some q → x ≡ None → ⊥
 none_some None q e f = cc
 none_some (Some p) q e f = cc
-
-equal : (a b : ℕ) → (a == b) ≡ true → a ≡ b
-equal a b e = grind arith
-
-same_number : (a : ℕ) → (a == a) ≡ true
-same_number a = grind arith
 
 lane_left : (s : Plan) (moves : List Move) (m : Move) (i : ℕ) (l : LaneLine) → m.actor ≡ Lane i → slice_get (lines_of s i) (cursor moves i) ≡ Some l → rest_of s moves i ≡ l ∷ rest_of s (moves ++ m ∷ []) i
 lane_left s moves m i l e f =
     drop_at (lines_of s i) (cursor moves i) l f
-    ∙ ap (λ n. l ∷ drop n (lines_of s i)) (sym (cursor_more moves m i (ap (is_lane i) e ∙ same_number i)))
+    ∙ ap (λ n. l ∷ drop n (lines_of s i)) (sym (cursor_more moves m i (ap (is_lane i) e ∙ eq-eqb i i refl)))
 
 -- no session stood
 from_none : (b : Bool) (s : Plan) (moves : List Move) (m : Move) (st : State) (i : ℕ) (l : LaneLine) → is_begin l.op ≡ b → EndsSessions s → m.actor ≡ Lane i → slice_get (lines_of s i) (cursor moves i) ≡ Some l → st.session ≡ None
     → EndsLeft s (moves ++ m ∷ []) (after s st (act_of m.mark (Line i l.op))).session
 from_none false s moves m st i l b good e f g =
-    subst (EndsLeft s (moves ++ m ∷ [])) (sym (none_stays s st (act_of m.mark (Line i l.op)) (λ lane h. true_not_false (is_begin l.op) (and_first (is_begin l.op) (i == lane) h) b) g)) tt
+    subst (EndsLeft s (moves ++ m ∷ [])) (sym (none_stays s st (act_of m.mark (Line i l.op)) (λ lane h. true_not_false (is_begin l.op) (and_parts (is_begin l.op) (i == lane) h).0 b) g)) tt
 from_none true s moves m st i l b good e f g = by_session (after s st act).session owned
   where
     act : Act
     act = act_of m.mark (Line i l.op)
 
-    second : (a b : Bool) → (a && b) ≡ true → b ≡ true
-    second true b e = e
-    second false b e = absurd cc
-
     owned : Owned i (after s st act)
-    owned = owned_after i s st act (λ lane h x. sym (equal i lane (second (is_begin l.op) (i == lane) h))) (subst (IsOf i) (sym g) tt)
+    owned = owned_after i s st act (λ lane h x. sym (eqb-true i lane (and_parts (is_begin l.op) (i == lane) h).1)) (subst (IsOf i) (sym g) tt)
 
     by_session : (x : Option Session) → IsOf i x → EndsLeft s (moves ++ m ∷ []) x
     by_session None o = tt
@@ -354,7 +326,7 @@ lane_move (Some q) s moves m st i l g good e f on h = by_owner (q.owner == i) re
 
     by_owner : (b : Bool) → (q.owner == i) ≡ b → EndsLeft s (moves ++ m ∷ []) (after s st act).session
     by_owner true j =
-        let same : q.owner ≡ i = equal q.owner i j in
+        let same : q.owner ≡ i = eqb-true q.owner i j in
         subst (λ n. EndsLeft s (moves ++ m ∷ []) (after s st (act_of m.mark (Line n l.op))).session) same
         (from_own (is_end l.op) s moves m st q l refl (e ∙ ap Lane (sym same)) (subst (λ n. slice_get (lines_of s n) (cursor moves n) ≡ Some l) (sym same) f) g (subst (λ n. enabled s st (Line n l.op) ≡ true) (sym same) on) h)
     by_owner false j =
@@ -387,16 +359,12 @@ on_move s r m (Writer w) good e on h = on_script_move s r m w (order_of_writer r
 on_move s r m Advance good e on h = quiet_move s r.moves m r.state Provider r.state.session refl (λ lane f. true_not_false false f refl) (λ i. ap (is_lane i) e) h
 on_move s r m IdleActor good e on h = quiet_move s r.moves m r.state Idle r.state.session refl (λ lane f. true_not_false false f refl) (λ i. ap (is_lane i) e) h
 
-and_second : (a b : Bool) → (a && b) ≡ true → b ≡ true
-and_second true b e = e
-and_second false b e = absurd cc
-
 pub legal_ends : (s : Plan) (r : Run) (ms : List Move) → EndsSessions s → EndsLeft s r.moves r.state.session → is_legal_from s r ms ≡ true → EndsLeft s (run_from s r ms).moves (run_from s r ms).state.session
 legal_ends s r [] good h e = h
 legal_ends s r (m ∷ ms) good h e =
     legal_ends s (moved s r m) ms good
-    (on_move s r m m.actor good refl (may_can s r m.actor (and_first (may_move s r m.actor) (allows_mark s r (event_of s r m.actor) m.mark) (and_first (is_legal_move s r m) (is_legal_from s (moved s r m) ms) e))) h)
-    (and_second (is_legal_move s r m) (is_legal_from s (moved s r m) ms) e)
+    (on_move s r m m.actor good refl (may_can s r m.actor (and_parts (may_move s r m.actor) (allows_mark s r (event_of s r m.actor) m.mark) (and_parts (is_legal_move s r m) (is_legal_from s (moved s r m) ms) e).0).0) h)
+    (and_parts (is_legal_move s r m) (is_legal_from s (moved s r m) ms) e).1
 
 -- in a legal trail the owner of the session that stands has an `end` line left
 pub owner_ends : (s : Plan) (trail : List Move) (q : Session) → EndsSessions s → is_legal s trail ≡ true → (run s trail).state.session ≡ Some q → has_end (drop (cursor trail q.owner) (lines_of s q.owner)) ≡ true
@@ -413,15 +381,10 @@ allowed_clean s r (Some (AnswerEvent w a)) e = refl
 allowed_clean s r (Some Provider) e = refl
 allowed_clean s r (Some Idle) e = refl
 
-and_both : (a b : Bool) → a ≡ true → b ≡ true → (a && b) ≡ true
-and_both true true e f = refl
-and_both true false e f = absurd cc
-and_both false b e f = absurd cc
-
 can_move : (s : Plan) (r : Run) (a : Actor) → may_move s r a ≡ true → CanGoOn s r
 can_move s r a e = record {
   actor = a;
-  legal = and_both (may_move s r a) (allows_mark s r (event_of s r a) Clean) e (allowed_clean s r (event_of s r a) (may_can s r a e));
+  legal = and_from (may_move s r a) (allows_mark s r (event_of s r a) Clean) e (allowed_clean s r (event_of s r a) (may_can s r a e));
 }
 
 line_can : (s : Plan) (r : Run) (i : ℕ) (l : LaneLine) → next_line s r i ≡ Some l → line_enabled s r.state i l.op ≡ true → CanGoOn s r
@@ -434,7 +397,7 @@ free_of st None e = refl
 free_of st (Some w) e = ap (λ a. not (freezes a w)) e
 
 quiet_write : (s : Plan) (st : State) (lane v : ℕ) → st.course.agenda ≡ None → (not (is_held st v) && is_free st (acts_as s lane)) ≡ true
-quiet_write s st lane v e = and_both (not (is_held st v)) (is_free st (acts_as s lane)) (ap (λ a. not (holds a v)) e) (free_of st (acts_as s lane) e)
+quiet_write s st lane v e = and_from (not (is_held st v)) (is_free st (acts_as s lane)) (ap (λ a. not (holds a v)) e) (free_of st (acts_as s lane) e)
 
 verdict_free : (a b c d : Bool) → d ≡ false → not (is_blocked (verdict_of a b c d)) ≡ true
 verdict_free true b c d e = refl
@@ -443,12 +406,8 @@ verdict_free false false false d e = refl
 verdict_free false false true true e = absurd cc
 verdict_free false false true false e = refl
 
-and_false : (a b : Bool) → b ≡ false → (a && b) ≡ false
-and_false true b e = e
-and_false false b e = refl
-
 owner_free : (b : Bool) (q : Session) (running : Bool) (c : SessionCall) → running ≡ false → not (is_blocked (owner_only b (check_owner q running c))) ≡ true
-owner_free true q running c e = verdict_free (is_start c && makes_set q.stage) (running && not (goes_beside_agenda c)) (allows q.stage (has_writers q.context) c) (is_await c && running) (and_false (is_await c) running e)
+owner_free true q running c e = verdict_free (is_start c && makes_set q.stage) (running && not (goes_beside_agenda c)) (allows q.stage (has_writers q.context) c) (is_await c && running) (and_right (is_await c) running e)
 owner_free false q running c e = refl
 
 quiet_call : (q : Option Session) (running : Bool) (lane : ℕ) (c : SessionCall) → running ≡ false → not (is_blocked (check_other q running lane c)) ≡ true
@@ -525,7 +484,7 @@ waits_for_owner s r None i l e f h g =
 waits_for_owner s r (Some q) i l e f h g =
     let next = next_left (lines_of s q.owner) (cursor r.moves q.owner) h in
     line_can s r q.owner next.line next.is
-    (line_or_begin (is_begin next.line.op) s r.state q.owner next.line.op refl f (λ p k. ap (λ n. n == q.owner) (own_session r.state.session q p e k) ∙ same_number q.owner))
+    (line_or_begin (is_begin next.line.op) s r.state q.owner next.line.op refl f (λ p k. ap (λ n. n == q.owner) (own_session r.state.session q p e k) ∙ eq-eqb q.owner q.owner refl))
 
 quiet_goes : (s : Plan) (r : Run) → r.state.course.agenda ≡ None → EndsLeft s r.moves r.state.session → list_all (is_used_up s r) (range_with_len 0 (length s.lanes)) ≡ false → CanGoOn s r
 quiet_goes s r e h f =
@@ -546,7 +505,7 @@ some_acts true true false s r e f g h = h refl
 some_acts true true true s r e f g h = absurd cc
 
 idle_or_other : (b : Bool) (s : Plan) (r : Run) → none_can_act s r ≡ b → is_asking (left_now r.state) ≡ true → CanGoOn s r
-idle_or_other true s r e a = can_move s r IdleActor (and_both (can_act s r IdleActor) (none_can_act s r) a e)
+idle_or_other true s r e a = can_move s r IdleActor (and_from (can_act s r IdleActor) (none_can_act s r) a e)
 idle_or_other false s r e a =
     some_acts
     (list_all (λ i. not (can_act s r (Lane i))) (range_with_len 0 (length s.lanes)))
@@ -560,10 +519,6 @@ running_goes : (s : Plan) (r : Run) → (is_working (left_now r.state) ≡ true)
 running_goes s r (inl w) = can_move s r Advance w
 running_goes s r (inr a) = idle_or_other (none_can_act s r) s r refl a
 
-used_not : (used running : Bool) → (used && not running) ≡ false → running ≡ false → used ≡ false
-used_not true running e f = absurd (true_not_false (not running) (ap not f) e)
-used_not false running e f = refl
-
 by_runs : (b : Bool) (s : Plan) (trail : List Move) → runs (run s trail).state ≡ b → EndsLeft s (run s trail).moves (run s trail).state.session → is_complete s trail ≡ false → CanGoOn s (run s trail)
 by_runs true s trail e h f =
     running_goes s (run s trail)
@@ -571,7 +526,7 @@ by_runs true s trail e h f =
     (working_or_asking s (acts s trail) (subst (λ st. runs st ≡ true) (state-run s trail) e)))
 by_runs false s trail e h f =
     let r = run s trail in
-    quiet_goes s r (none_runs r.state.course.agenda e) h (used_not (list_all (is_used_up s r) (range_with_len 0 (length s.lanes))) (runs r.state) f e)
+    quiet_goes s r (none_runs r.state.course.agenda e) h (running_off (list_all (is_used_up s r) (range_with_len 0 (length s.lanes))) (runs r.state) f e)
 
 pub can_go_on : (s : Plan) (trail : List Move) → EndsSessions s → is_legal s trail ≡ true → is_complete s trail ≡ false → CanGoOn s (run s trail)
 can_go_on s trail good e f = by_runs (runs (run s trail).state) s trail refl (legal_ends s (begin s) trail good tt e) f

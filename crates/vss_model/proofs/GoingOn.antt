@@ -32,7 +32,7 @@ owner_goes : (b : Bool) (v : Verdict) → owner_only b v ≡ Go → v ≡ Go
 owner_goes true v e = e
 owner_goes false v e = absurd cc
 
-running_off : (running beside : Bool) → (running && not beside) ≡ false → beside ≡ false → running ≡ false
+pub running_off : (running beside : Bool) → (running && not beside) ≡ false → beside ≡ false → running ≡ false
 running_off true true e f = absurd cc
 running_off true false e f = absurd cc
 running_off false beside e f = refl

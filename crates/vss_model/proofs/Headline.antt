@@ -5,7 +5,7 @@ use Rattle.std.specs.List.{list_all, range_with_len}
 use Rattle.std.proofs.lemmas.Bool.{and_parts, eqb-true}
 use Rattle.write_history.specs.History.{point_in}
 use Rattle.write_history.specs.declared.actor.Actor.{Actor}
-use Rattle.write_history.specs.declared.actor.Actor.TheVariants.{Lane, Writer, Advance, Idle}
+use Rattle.write_history.specs.declared.actor.Actor.TheVariants.{Lane}
 use Rattle.write_history.specs.declared.move_item.Move.{Move}
 use Rattle.set_agenda.specs.declared.group.Group.TheVariants.{Hold, Release}
 use Rattle.set_agenda.specs.Agenda.{Agenda, open_group, plain, is_snapshot, is_among, has_said, has_frozen, has_thawed, is_held as holds, is_frozen as freezes}
@@ -155,9 +155,7 @@ other_past s r m i e h = let less = cursor_same r.moves m i e in let here = h i 
 
 move_past : (s : Plan) (r : Run) (m : Move) (a : Actor) → m.actor ≡ a → may_move s r a ≡ true → NonePast s r.moves → NonePast s (r.moves ++ m ∷ [])
 move_past s r m (Lane j) e f h i = lane_past s r m j i e f h
-move_past s r m (Writer w) e f h i = other_past s r m i (ap (is_lane i) e) h
-move_past s r m Advance e f h i = other_past s r m i (ap (is_lane i) e) h
-move_past s r m Idle e f h i = other_past s r m i (ap (is_lane i) e) h
+move_past s r m _ e f h i = other_past s r m i (ap (is_lane i) e) h
 
 past_from : (s : Plan) (r : Run) (ms : List Move) → is_legal_from s r ms ≡ true → NonePast s r.moves → NonePast s (run_from s r ms).moves
 past_from s r [] e h = h

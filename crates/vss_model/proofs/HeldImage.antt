@@ -4,6 +4,7 @@ use Rattle.std.proofs.Common.{◌≡◌, ◌⊎◌, ℕ, ◌+◌, ◌==◌, ◌<
 use Rattle.std.specs.Prelude.{option_map, is_some, ◌&&◌, not, if◌then◌else◌, nat_lt, slice_get}
 use Rattle.std.specs.List.{range_with_len}
 use Rattle.std.proofs.Math.Seq.{drop-length}
+use Rattle.std.proofs.lemmas.Bool.{eq-eqb, eqb-true}
 use Rattle.vss_names.specs.declared.context.Context.{Context}
 use Rattle.vss_names.specs.declared.vss_result.VssResult.TheVariants.{AsyncCancelled}
 use Rattle.vss_names.specs.declared.set_outcome.SetOutcome.{SetOutcome}
@@ -22,7 +23,7 @@ use Rattle.requestor.specs.Session.{Session}
 use Rattle.scenario.specs.Plan.{Plan, blocks_of}
 use Rattle.vss_model.specs.State.{State, SetRow, Kept, is_running, in_progress, row_changed, history_in, history_of, left_now, is_held}
 use Rattle.vss_model.specs.Ending.{Ending, NothingEnds, AgendaEnds, SetFails, ending, row_settled, images_dropped, concluded, followed, runs, failed}
-use Rattle.vss_model.specs.Images.{Replied, put, is_in_set, reverted_as}
+use Rattle.vss_model.specs.Images.{put, is_in_set, reverted_as}
 use Rattle.vss_model.specs.Sessions.{begin_in, has_no_volume, start_set, new_set, with_volume, change_set, closed}
 use Rattle.vss_model.specs.Steps.{answered, cut_if, cut_each, row_cut, cut_set, is_flush, is_failed_step, stepped_as, stepped, ticked, later}
 use Rattle.vss_model.specs.Acts.{Act, after, state}
@@ -39,6 +40,8 @@ use Rattle.vss_model.proofs.AtCut.{CutsNow, cuts, held_at_cut}
 use Rattle.vss_model.proofs.CutStep.{second_not, both, step_made_same, working_at_cut, after_cut, has_set}
 use Rattle.vss_model.proofs.OneCut.{ends_settle, plain_kind, changed_number, changed_result, uncut_at_cut, images_in_time}
 use Rattle.vss_model.proofs.NewestImage.{UpTo, image_of, images_up_to, newest_image}
+use Rattle.vss_model.proofs.Rows.{apart as apart_below}
+use Rattle.vss_model.proofs.ByEvent.{by_if}
 
 -- ## the fact
 
@@ -85,9 +88,6 @@ record Fewer (m : Bool) (h k : History) : Type 0 where
 fewer_same : (m : Bool) (h : History) → Fewer m h h
 fewer_same m h = record { writes = λ e. refl; images = λ n p e. e }
 
-equal : (a b : ℕ) → (a == b) ≡ true → a ≡ b
-equal a b e = grind arith
-
 passed_over : (b c : Bool) (x : ℕ) (less rest : Option ℕ) → (c ≡ true → b ≡ true) → b ≡ false → less ≡ rest → (if c then Some x else less) ≡ rest
 passed_over b true x less rest f g h = absurd (true_not_false b (f refl) g)
 passed_over b false x less rest f g h = h
@@ -110,7 +110,7 @@ point_in-filter test n [] = by_test (test n)
     by_test true = refl
     by_test false = refl
 point_in-filter test n (i ∷ images) =
-    filter_head (test i.set) (test n) i n (filter (λ j. test j.set) images) images (λ e. ap test (equal i.set n e)) (point_in-filter test n images)
+    filter_head (test i.set) (test n) i n (filter (λ j. test j.set) images) images (λ e. ap test (eqb-true i.set n e)) (point_in-filter test n images)
 
 some_of : (b : Bool) (o less : Option ℕ) (p : ℕ) → less ≡ (if b then o else None) → less ≡ Some p → o ≡ Some p
 some_of true o less p e f = sym e ∙ f
@@ -352,10 +352,6 @@ in_progress-closed : (q : Session) (x : State) → in_progress (closed q x) ≡ 
 unfolding closed released
 in_progress-closed q x = refl
 
-either_unused : (m : Bool) (v : ℕ) (b : Bool) (x y : Replied) → Unused m v x.1 → Unused m v y.1 → Unused m v (if b then x else y).1
-either_unused m v true x y h i = h
-either_unused m v false x y h i = i
-
 abbrev Holds : Bool → ℕ → State → Type 0
 Holds m v st = IsOrderly st × Unused m v st
 
@@ -367,8 +363,8 @@ kept_but_steps m v =
       ticks = λ n st h. (o.ticks n st h.0, on_ticks m v n st h.1);
       fails = λ why st h. (o.fails why st h.0, no_set m v (failed why st) (none_after (in_progress st) why st refl));
       gathers = λ s q st g h. (o.gathers s q st g h.0, begun_unused m v true _ st g.quiet h.1);
-      prepares = λ s q st g h. (o.prepares s q st g h.0, either_unused m v (has_no_volume (in_progress st)) _ _ h.1 (begun_unused m v true _ st g.quiet h.1));
-      snapshots = λ q st g h. (o.snapshots q st g h.0, either_unused m v (has_no_volume (in_progress st)) _ _ h.1 (begun_unused m v true _ st g.quiet h.1));
+      prepares = λ s q st g h. (o.prepares s q st g h.0, by_if (λ r. Unused m v r.1) (has_no_volume (in_progress st)) _ _ h.1 (begun_unused m v true _ st g.quiet h.1));
+      snapshots = λ q st g h. (o.snapshots q st g h.0, by_if (λ r. Unused m v r.1) (has_no_volume (in_progress st)) _ _ h.1 (begun_unused m v true _ st g.quiet h.1));
       completes = λ q st g h. (o.completes q st g h.0, begun_unused m v true _ st g.quiet h.1);
       clears = λ s u b st h. (o.clears s u b st h.0, with_volumes m v _ st (fewer-gone m _ _ st.volumes v) h.1);
       deletes_set = λ n st h. (o.deletes_set n st h.0, with_volumes m v _ st (fewer-map m (dropped n) (fewer_dropped m n) st.volumes v) h.1);
@@ -392,8 +388,7 @@ on_put false v u w st x e free h =
 
 on_puts : (m : Bool) (v u : ℕ) (w : Write) (mark : Mark) (st x : State) → is_held st v ≡ m → is_held st u ≡ false → Unused m v x → Unused m v (put u w mark x)
 on_puts m v u w Clean st x e free h = on_put m v u w st x e free h
-on_puts m v u w Fault st x e free h = h
-on_puts m v u w (FaultAfter n) st x e free h = h
+on_puts m v u w _ st x e free h = h
 
 on_reverted : (m : Bool) (v u : ℕ) (f : History → History) (st : State) → ((h : History) → Fewer false h (f h)) → is_in_set u (in_progress st) ≡ false → Unused m v st → Unused m v (record st { volumes = change_at u f st.volumes })
 on_reverted m v u f st less e h = by_cases (u == v) refl
@@ -402,7 +397,7 @@ on_reverted m v u f st less e h = by_cases (u == v) refl
     by_cases true g =
         no_image_any m v st.course.agenda (in_progress st) _
         (no_image_fewer false (in_progress st) (history_of st v) _ (fewer-change_at false f less u st.volumes v)
-        (outside_no_image m v st.course.agenda (in_progress st) (history_of st v) (subst (λ x. is_in_set x (in_progress st) ≡ false) (equal u v g) e) h))
+        (outside_no_image m v st.course.agenda (in_progress st) (history_of st v) (subst (λ x. is_in_set x (in_progress st) ≡ false) (eqb-true u v g) e) h))
     by_cases false g = on_other m v u f st g h
 
 on_reverts : (m : Bool) (v : ℕ) (s : Plan) (u : ℕ) (k : Kept) (mark : Mark) (st : State) → is_in_set u (in_progress st) ≡ false → Unused m v st → Unused m v (reverted_as s u k mark st).1
@@ -453,10 +448,7 @@ cut_each_at n vs base (x ∷ hs) (suc v) u e = cut_each_at n vs (base + 1) hs v 
     shift a b u e = omega arith
 
 point_in-append : (n p : ℕ) (images : List Image) → point_in n images ≡ None → point_in n (images ++ image_of n p ∷ []) ≡ Some p
-point_in-append n p [] e = rw (own n) refl
-  where
-    own : (a : ℕ) → (a == a) ≡ true
-    own a = grind arith
+point_in-append n p [] e = rw (eq-eqb n n refl) refl
 point_in-append n p (i ∷ images) e = by_cases (i.set == n) e (point_in-append n p images)
   where
     by_cases : (b : Bool) → (if b then Some i.point else point_in n images) ≡ None → (point_in n images ≡ None → point_in n (images ++ image_of n p ∷ []) ≡ Some p) → (if b then Some i.point else point_in n (images ++ image_of n p ∷ [])) ≡ Some p
@@ -620,14 +612,8 @@ later_last i n p [] h = h.0
 later_last i n p (j ∷ older) h = later_last i n p older h.2
 
 used_by-last : (blocks n p writes : ℕ) (ws : List Write) (older : List Image) → AreInTime writes (older ++ image_of n p ∷ []) → used_by blocks ws (older ++ image_of n p ∷ []) n ≡ Some (length (named blocks ws (image_of n p) []))
-used_by-last blocks n p writes ws [] h = rw (own n) refl
-  where
-    own : (a : ℕ) → (a == a) ≡ true
-    own a = grind arith
-used_by-last blocks n p writes ws (i ∷ older) h = rw (differs i.set n (later_last i n p older h.1)) (used_by-last blocks n p writes ws older h.2)
-  where
-    differs : (a n : ℕ) → a < n → (a == n) ≡ false
-    differs a n l = grind arith
+used_by-last blocks n p writes ws [] h = rw (eq-eqb n n refl) refl
+used_by-last blocks n p writes ws (i ∷ older) h = rw (apart_below i.set n (later_last i n p older h.1)) (used_by-last blocks n p writes ws older h.2)
 
 -- and it uses no slot
 pub held_slots : (s : Plan) (acts : List Act) (r : SetRow) (v p blocks : ℕ) → in_progress (state s acts) ≡ Some r → is_held (state s acts) v ≡ true → point_in r.number (history_of (state s acts) v).images ≡ Some p

@@ -10,7 +10,7 @@ use Rattle.vss_names.specs.declared.set_outcome.SetOutcome.TheVariants.{Running,
 use Rattle.writer_state.specs.declared.said.Said.{Said}
 use Rattle.writer_state.specs.declared.said.Said.TheVariants.{Ok}
 use Rattle.write_history.specs.declared.mark.Mark.{Mark}
-use Rattle.write_history.specs.declared.mark.Mark.TheVariants.{Clean, Fault, FaultAfter}
+use Rattle.write_history.specs.declared.mark.Mark.TheVariants.{Clean}
 use Rattle.write_history.specs.History.{Write}
 use Rattle.set_agenda.specs.declared.group.Group.{Group}
 use Rattle.set_agenda.specs.declared.group.Group.TheVariants.{Orders, PreCommit, Flush, Hold, Cut, Commit, Release, PostCommit}
@@ -23,8 +23,8 @@ use Rattle.set_agenda.specs.Course.{Course, posted, failed as course_failed, set
 use Rattle.requestor.specs.Session.{Session}
 use Rattle.scenario.specs.Plan.{Plan}
 use Rattle.vss_model.specs.State.{State, SetRow, Kept, start, is_running, in_progress, left_now, is_held, is_frozen}
-use Rattle.vss_model.specs.Ending.{Ending, NothingEnds, AgendaEnds, SetFails, ending, concluded, followed, runs, failed_in, failed}
-use Rattle.vss_model.specs.Images.{Replied, refused, put, reverted_as}
+use Rattle.vss_model.specs.Ending.{Ending, NothingEnds, SetFails, ending, concluded, followed, runs, failed_in, failed}
+use Rattle.vss_model.specs.Images.{refused, put, reverted_as}
 use Rattle.vss_model.specs.Sessions.{begin_in, pending, has_no_volume, volumes_of, closed}
 use Rattle.vss_model.specs.Steps.{answered, row_cut, cut_set, step_made, is_flush, is_failed_step, stepped_as, stepped, ticked, later}
 use Rattle.vss_model.specs.Acts.{Act, after, state}
@@ -33,6 +33,7 @@ use Rattle.set_agenda.proofs.CourseRule.{IsKeptFrom, from_settled, from_answered
 use Rattle.vss_model.proofs.Rows.{none_runs}
 use Rattle.vss_model.proofs.Rule.{on_after}
 use Rattle.vss_model.proofs.CutLog.{said_stays}
+use Rattle.vss_model.proofs.ByEvent.{by_if}
 
 -- ## the fact
 
@@ -125,13 +126,11 @@ goes_timed now c = from_timed (GoesOn c) c (goes_kept c) now
 -- where something ends, no agenda runs
 abbrev EndsNone : Ending → Option Agenda → Type 0
 EndsNone NothingEnds a = Unit {0}
-EndsNone AgendaEnds a = a ≡ None
-EndsNone (SetFails why) a = a ≡ None
+EndsNone _ a = a ≡ None
 
 ends_at_none : (e : Ending) → EndsNone e None
 ends_at_none NothingEnds = tt
-ends_at_none AgendaEnds = refl
-ends_at_none (SetFails why) = refl
+ends_at_none _ = refl
 
 ending_same : (o : SetOutcome) (ran : Bool) (b : Agenda) → ending o o ran (Some b) ≡ NothingEnds
 ending_same Running true b = refl
@@ -154,8 +153,7 @@ ends_none (Some a) ms o ran (Some b) ns p f = ends_where_same o p ran b f.outcom
 
 tied_concluded : (e : Ending) (st : State) → EndsNone e st.course.agenda → IsTied st → IsTied (concluded e st)
 tied_concluded NothingEnds st n h = h
-tied_concluded AgendaEnds st n h = tied_none st.course.agenda st.course.members _ n
-tied_concluded (SetFails why) st n h = tied_none st.course.agenda st.course.members _ n
+tied_concluded _ st n h = tied_none st.course.agenda st.course.members _ n
 
 is_of_same : (a b : Agenda) (ms ns : List Member) (o p : SetOutcome) (r : Option SetRow) → IsSameAgenda a b ms ns o p → IsOf a.kind a.volumes a.members ms r → IsOf b.kind b.volumes b.members ns r
 is_of_same a b ms ns o p r f h =
@@ -304,15 +302,11 @@ on_begins : (lane : ℕ) (all : Bool) (c : Option Context) (st : State) → IsTi
 on_begins lane all None st h = h
 on_begins lane all (Some c) st h = h
 
-either_tied : (b : Bool) (x y : Replied) → IsTied x.1 → IsTied y.1 → IsTied (if b then x else y).1
-either_tied true x y h i = h
-either_tied false x y h i = i
-
 on_snapshot : (o : Option SetRow) (st : State) → in_progress st ≡ o → IsTied st → IsTied (if has_no_volume o then refused BadState st else pending (snapshot_begun (volumes_of o) st.clock st.course) st).1
 on_snapshot None st e h = h
 on_snapshot (Some r) st e h =
     let Q : Option SetRow → Type 0 = λ x. IsOf Snapshot r.volumes st.course.members st.course.members x in
-    either_tied (has_no_volume (Some r)) _ _ h (tied_begun Snapshot st.course.members r.volumes st.clock st.course st refl (subst Q (sym e) (refl, refl)))
+    by_if (λ r. IsTied r.1) (has_no_volume (Some r)) _ _ h (tied_begun Snapshot st.course.members r.volumes st.clock st.course st refl (subst Q (sym e) (refl, refl)))
 
 on_closes : (q : Session) (st : State) → IsTied (closed q st)
 unfolding closed released
@@ -325,7 +319,7 @@ kept_by_changes = record {
   ticks = on_ticks;
   fails = λ why st h. on_failed_in (in_progress st) why st h;
   gathers = λ s q st e h. tied_begun Gather _ [] st.clock _ st refl tt;
-  prepares = λ s q st e h. either_tied (has_no_volume (in_progress st)) _ _ h (tied_begun Prepare _ [] st.clock _ st refl tt);
+  prepares = λ s q st e h. by_if (λ r. IsTied r.1) (has_no_volume (in_progress st)) _ _ h (tied_begun Prepare _ [] st.clock _ st refl tt);
   snapshots = λ q st e h. on_snapshot (in_progress st) st refl h;
   completes = λ q st e h. tied_begun Complete _ [] st.clock _ st refl tt;
   clears = λ s v b st h. h;
@@ -341,13 +335,11 @@ kept_by_changes = record {
 
 on_puts : (v : ℕ) (w : Write) (mark : Mark) (x : State) → IsTied x → IsTied (put v w mark x)
 on_puts v w Clean x h = h
-on_puts v w Fault x h = h
-on_puts v w (FaultAfter k) x h = h
+on_puts v w _ x h = h
 
 on_reverts : (s : Plan) (v : ℕ) (k : Kept) (mark : Mark) (st : State) → IsTied st → IsTied (reverted_as s v k mark st).1
 on_reverts s v k Clean st h = h
-on_reverts s v k Fault st h = h
-on_reverts s v k (FaultAfter n) st h = h
+on_reverts s v k _ st h = h
 
 kept_by_writes : (st : State) → IsKeptByWrites IsTied st
 kept_by_writes st = record {

@@ -1,6 +1,7 @@
 -- The effective writes of a volume of the set in progress do not change while it is held.
 use Rattle.std.proofs.Common.{◌≡◌, ℕ, ◌+◌, ◌==◌, zero, suc, List, [], ◌∷◌, Option, Some, None, refl, Bool, true, false, map, ap, ◌∙◌, subst, arith}
 use Rattle.std.specs.Prelude.{if◌then◌else◌, slice_get}
+use Rattle.std.proofs.lemmas.Bool.{eqb-true}
 use Rattle.vss_names.specs.declared.context.Context.{Context}
 use Rattle.vss_names.specs.declared.context.Context.TheVariants.{Backup, AppRollback, NasRollback}
 use Rattle.vss_names.specs.declared.vss_result.VssResult.{VssResult}
@@ -17,14 +18,15 @@ use Rattle.set_agenda.specs.Course.{Course, change_at, released}
 use Rattle.requestor.specs.Session.{Session}
 use Rattle.scenario.specs.Plan.{Plan, blocks_of}
 use Rattle.vss_model.specs.State.{State, SetRow, Kept, in_progress, history_in, history_of, left_now, is_held}
-use Rattle.vss_model.specs.Ending.{Ending, NothingEnds, AgendaEnds, SetFails, ending, images_dropped, concluded, followed, runs, failed_in, failed}
-use Rattle.vss_model.specs.Images.{Replied, put, is_in_set, reverted_as}
+use Rattle.vss_model.specs.Ending.{Ending, SetFails, ending, images_dropped, concluded, followed, runs, failed_in, failed}
+use Rattle.vss_model.specs.Images.{put, is_in_set, reverted_as}
 use Rattle.vss_model.specs.Sessions.{begin_in, has_no_volume, images_released, closed}
 use Rattle.vss_model.specs.Steps.{answered, cut_if, cut_each, cut_set, step_made, is_flush, is_failed_step, stepped_as, stepped, ticked, later}
 use Rattle.vss_model.specs.Acts.{Act, after, state}
 use Rattle.vss_model.specs.Laws.{IsKeptByChanges, IsKeptByWrites}
 use Rattle.vss_model.proofs.Rule.{on_after}
 use Rattle.vss_model.proofs.Orderly.{true_not_false}
+use Rattle.vss_model.proofs.ByEvent.{by_if}
 
 -- the effective writes of volume v
 abbrev writes_in : List History → ℕ → List Write
@@ -80,9 +82,8 @@ writes-images_dropped None hs v = refl
 writes-images_dropped (Some r) hs v = writes-map (dropped r.number) (λ h. refl) hs v
 
 writes-concluded : (e : Ending) (st : State) (v : ℕ) → writes_in (concluded e st).volumes v ≡ writes_in st.volumes v
-writes-concluded NothingEnds st v = refl
-writes-concluded AgendaEnds st v = refl
 writes-concluded (SetFails why) st v = writes-images_dropped (in_progress st) st.volumes v
+writes-concluded _ st v = refl
 
 writes-followed : (ran : Bool) (c : Course) (st : State) (v : ℕ) → writes_in (followed ran c st).volumes v ≡ writes_in st.volumes v
 unfolding followed
@@ -143,10 +144,6 @@ writes-begun lane all (Some c) st v = refl
 abbrev HasWrites : ℕ → List Write → State → Type 0
 HasWrites v ws st = writes_in st.volumes v ≡ ws
 
-either_has : (v : ℕ) (ws : List Write) (b : Bool) (x y : Replied) → HasWrites v ws x.1 → HasWrites v ws y.1 → HasWrites v ws (if b then x else y).1
-either_has v ws true x y h i = h
-either_has v ws false x y h i = i
-
 kept_by_changes : (v : ℕ) (ws : List Write) → IsKeptByChanges (HasWrites v ws)
 kept_by_changes v ws = record {
   answers = λ w said st e h. writes-answered w said st v ∙ h;
@@ -154,8 +151,8 @@ kept_by_changes v ws = record {
   ticks = λ n st h. writes-ticked n st v ∙ h;
   fails = λ why st h. writes-failed_in (in_progress st) why st v ∙ h;
   gathers = λ s q st g h. writes-followed true _ st v ∙ h;
-  prepares = λ s q st g h. either_has v ws (has_no_volume (in_progress st)) _ _ h (writes-followed true _ st v ∙ h);
-  snapshots = λ q st g h. either_has v ws (has_no_volume (in_progress st)) _ _ h (writes-followed true _ st v ∙ h);
+  prepares = λ s q st g h. by_if (λ r. HasWrites v ws r.1) (has_no_volume (in_progress st)) _ _ h (writes-followed true _ st v ∙ h);
+  snapshots = λ q st g h. by_if (λ r. HasWrites v ws r.1) (has_no_volume (in_progress st)) _ _ h (writes-followed true _ st v ∙ h);
   completes = λ q st g h. writes-followed true _ st v ∙ h;
   clears = λ s u b st h. writes-gone _ _ st.volumes v ∙ h;
   deletes_set = λ n st h. writes-map (dropped n) (λ x. refl) st.volumes v ∙ h;
@@ -170,8 +167,7 @@ kept_by_changes v ws = record {
 
 on_puts : (v : ℕ) (ws : List Write) (u : ℕ) (w : Write) (mark : Mark) (x : State) → (u == v) ≡ false → HasWrites v ws x → HasWrites v ws (put u w mark x)
 on_puts v ws u w Clean x e h = writes-other (written w) u x.volumes v e ∙ h
-on_puts v ws u w Fault x e h = h
-on_puts v ws u w (FaultAfter n) x e h = h
+on_puts v ws u w _ x e h = h
 
 on_reverts : (v : ℕ) (ws : List Write) (s : Plan) (u : ℕ) (k : Kept) (mark : Mark) (st : State) → (u == v) ≡ false → HasWrites v ws st → HasWrites v ws (reverted_as s u k mark st).1
 on_reverts v ws s u k Clean st e h = writes-other (reverted k.row.number k.point) u st.volumes v e ∙ h
@@ -182,11 +178,8 @@ on_reverts v ws s u k (FaultAfter n) st e h = writes-other (reverted_in_part (bl
 pub apart : (test : ℕ → Bool) (u v : ℕ) → test u ≡ false → test v ≡ true → (u == v) ≡ false
 apart test u v e f = by_cases (u == v) refl
   where
-    equal : (a b : ℕ) → (a == b) ≡ true → a ≡ b
-    equal a b e = grind arith
-
     by_cases : (b : Bool) → (u == v) ≡ b → b ≡ false
-    by_cases true g = absurd (true_not_false (test u) (ap test (equal u v g) ∙ f) e)
+    by_cases true g = absurd (true_not_false (test u) (ap test (eqb-true u v g) ∙ f) e)
     by_cases false g = refl
 
 kept_by_writes : (v : ℕ) (ws : List Write) (st : State) (r : SetRow) → in_progress st ≡ Some r → is_among v r.volumes ≡ true → is_held st v ≡ true → IsKeptByWrites (HasWrites v ws) st

@@ -68,21 +68,7 @@ fit_each f same test k (r ∷ rows) (suc w) = fit_each f same test (k + 1) rows 
 
 aborted_state : (x : WriterState) → is_identify_failure (if is_failed x then x else stable_again x) ≡ is_identify_failure x
 aborted_state state.Unknown = refl
-aborted_state state.Stable = refl
-aborted_state state.WaitingForFreeze = refl
-aborted_state state.WaitingForThaw = refl
-aborted_state state.WaitingForPostSnapshot = refl
-aborted_state state.WaitingForBackupComplete = refl
-aborted_state state.FailedAtIdentify = refl
-aborted_state state.FailedAtPrepareBackup = refl
-aborted_state state.FailedAtPrepareSnapshot = refl
-aborted_state state.FailedAtFreeze = refl
-aborted_state state.FailedAtThaw = refl
-aborted_state state.FailedAtPostSnapshot = refl
-aborted_state state.FailedAtBackupComplete = refl
-aborted_state state.FailedAtPreRestore = refl
-aborted_state state.FailedAtPostRestore = refl
-aborted_state state.FailedAtBackupShutdown = refl
+aborted_state _ = refl
 
 row_fit_aborted : (r : WriterRow) → is_identify_failure (row_aborted r).state ≡ is_identify_failure r.state
 row_fit_aborted r = by_test (is_failed r.state) ∙ aborted_state r.state
@@ -94,12 +80,7 @@ row_fit_aborted r = by_test (is_failed r.state) ∙ aborted_state r.state
 -- an order but Identify
 abbrev pub is_later : Order → Bool
 is_later Identify = false
-is_later PrepareBackup = true
-is_later PrepareSnapshot = true
-is_later Freeze = true
-is_later Thaw = true
-is_later PostSnapshot = true
-is_later BackupComplete = true
+is_later _ = true
 
 row_fit_after : (o : Order) (said : Said) (r : WriterRow) → is_later o ≡ true → is_identify_failure (row_after o said r).state ≡ false
 row_fit_after Identify said r e = absurd cc
@@ -130,9 +111,7 @@ LaterNow os = (o : Order) → order_now os ≡ Some o → is_later o ≡ true
 
 abbrev pub is_gathering : Kind → Bool
 is_gathering Gather = true
-is_gathering Prepare = false
-is_gathering Snapshot = false
-is_gathering Complete = false
+is_gathering _ = false
 
 later_pass : (p : Place) (ws : List ℕ) (rest : List Open) → ((o : Order) → order_of p.group ≡ Some o → is_later o ≡ true) → LaterNow rest → LaterNow (with_group p ws rest)
 later_pass p [] rest e h = h
@@ -166,20 +145,9 @@ later_in Snapshot a e =
     (later_pass (plain (Orders PostSnapshot)) (waited_for a (plain (Orders PostSnapshot))) [] (later_order PostSnapshot refl) no_order))))))))))))))
 
 order_members : (g : Group) (a : Agenda) (l : Option Level) (w : ℕ) → is_orders g ≡ true → is_among w (members_of a g l) ≡ true → is_member a.members w ≡ true
-order_members (Orders Identify) a l w e h = among_members (λ m. is_at l m.level) w a.members h
-order_members (Orders PrepareBackup) a l w e h = among_members (λ m. is_at l m.level) w a.members h
-order_members (Orders PrepareSnapshot) a l w e h = among_members (λ m. is_at l m.level) w a.members h
-order_members (Orders Freeze) a l w e h = among_members (λ m. is_at l m.level) w a.members h
-order_members (Orders Thaw) a l w e h = among_members (λ m. is_at l m.level) w a.members h
 order_members (Orders PostSnapshot) a l w e h = among_members (λ m. is_at l m.level) w a.members (among_filter _ w (writers_at a.members l) h)
-order_members (Orders BackupComplete) a l w e h = among_members (λ m. is_at l m.level) w a.members h
-order_members PreCommit a l w e h = absurd cc
-order_members Flush a l w e h = absurd cc
-order_members Hold a l w e h = absurd cc
-order_members Cut a l w e h = absurd cc
-order_members Commit a l w e h = absurd cc
-order_members Release a l w e h = absurd cc
-order_members PostCommit a l w e h = absurd cc
+order_members (Orders _) a l w e h = among_members (λ m. is_at l m.level) w a.members h
+order_members _ a l w e h = absurd cc
 
 -- ## calls on an agenda that gathers no more
 

@@ -2,6 +2,7 @@
 use Rattle.std.proofs.Common.{◌≡◌, ℕ, ◌+◌, ◌-◌, List, [], ◌∷◌, Option, Some, None, refl, Bool, true, false, min, fold, filter, ap, sym, ◌∙◌, subst, arith}
 use Rattle.std.specs.Prelude.{nat_lt, ◌&&◌, ◌||◌, not, if◌then◌else◌, slice_get}
 use Rattle.std.specs.List.{list_any}
+use Rattle.std.proofs.lemmas.Bool.{and_from, or_right}
 use Rattle.vss_names.specs.declared.order.Order.{Order}
 use Rattle.vss_names.specs.declared.order.Order.TheVariants.{Identify, PrepareBackup, PrepareSnapshot, Freeze, Thaw, PostSnapshot, BackupComplete}
 use Rattle.writer_state.specs.declared.writer_row.WriterRow.{WriterRow}
@@ -16,77 +17,34 @@ use Rattle.set_agenda.specs.Limits.{Running, last_time, opened_at, is_prepare_sn
 use Rattle.set_agenda.specs.Course.{Course, limit_of, freeze_limit, fails_set}
 use Rattle.vss_model.specs.Causes.{has_passed, last_of, holds_volumes, is_hold_step, held_too_long, freezes_writers, prepares_snapshot, frozen_too_long, prepares_writers, is_elsewhere, unanswered_too_long, is_late_at, is_late_in}
 use Rattle.set_agenda.proofs.SpentLimits.{same_running, IsSpentHere, spent_here}
+use Rattle.vss_model.proofs.ByEvent.{some_same}
 
 -- ## tables
 
-same_hold : (g : Group) → hold_runs g ≡ holds_volumes g
+pub same_hold : (g : Group) → hold_runs g ≡ holds_volumes g
 same_hold (Orders o) = refl
-same_hold PreCommit = refl
-same_hold Flush = refl
-same_hold Hold = refl
-same_hold Cut = refl
-same_hold Commit = refl
-same_hold Release = refl
-same_hold PostCommit = refl
+same_hold _ = refl
 
-same_hold_step : (g : Group) → is_hold g ≡ is_hold_step g
+pub same_hold_step : (g : Group) → is_hold g ≡ is_hold_step g
 same_hold_step (Orders o) = refl
-same_hold_step PreCommit = refl
-same_hold_step Flush = refl
-same_hold_step Hold = refl
-same_hold_step Cut = refl
-same_hold_step Commit = refl
-same_hold_step Release = refl
-same_hold_step PostCommit = refl
+same_hold_step _ = refl
 
-same_freeze : (g : Group) → freeze_runs g ≡ freezes_writers g
+pub same_freeze : (g : Group) → freeze_runs g ≡ freezes_writers g
 same_freeze (Orders Identify) = refl
-same_freeze (Orders PrepareBackup) = refl
-same_freeze (Orders PrepareSnapshot) = refl
-same_freeze (Orders Freeze) = refl
-same_freeze (Orders Thaw) = refl
-same_freeze (Orders PostSnapshot) = refl
-same_freeze (Orders BackupComplete) = refl
-same_freeze PreCommit = refl
-same_freeze Flush = refl
-same_freeze Hold = refl
-same_freeze Cut = refl
-same_freeze Commit = refl
-same_freeze Release = refl
-same_freeze PostCommit = refl
+same_freeze (Orders _) = refl
+same_freeze _ = refl
 
 pub same_prepare : (g : Group) → is_prepare_snapshot g ≡ prepares_snapshot g
 same_prepare (Orders Identify) = refl
-same_prepare (Orders PrepareBackup) = refl
-same_prepare (Orders PrepareSnapshot) = refl
-same_prepare (Orders Freeze) = refl
-same_prepare (Orders Thaw) = refl
-same_prepare (Orders PostSnapshot) = refl
-same_prepare (Orders BackupComplete) = refl
-same_prepare PreCommit = refl
-same_prepare Flush = refl
-same_prepare Hold = refl
-same_prepare Cut = refl
-same_prepare Commit = refl
-same_prepare Release = refl
-same_prepare PostCommit = refl
+same_prepare (Orders _) = refl
+same_prepare _ = refl
 
 -- where the answer limit runs and its loss fails the set, consent is asked for
 consent : (g : Group) → answer_runs g ≡ true → fails_set (order_of g) ≡ true → prepares_writers g ≡ true
-consent (Orders Identify) e f = absurd cc
 consent (Orders PrepareBackup) e f = refl
 consent (Orders PrepareSnapshot) e f = refl
-consent (Orders Freeze) e f = absurd cc
-consent (Orders Thaw) e f = absurd cc
-consent (Orders PostSnapshot) e f = absurd cc
-consent (Orders BackupComplete) e f = absurd cc
-consent PreCommit e f = absurd cc
-consent Flush e f = absurd cc
-consent Hold e f = absurd cc
-consent Cut e f = absurd cc
-consent Commit e f = absurd cc
-consent Release e f = absurd cc
-consent PostCommit e f = absurd cc
+consent (Orders _) e f = absurd cc
+consent _ e f = absurd cc
 
 -- ## since when
 
@@ -109,12 +67,12 @@ not_is : (b : Bool) → not b ≡ (if b then false else true)
 not_is true = refl
 not_is false = refl
 
-freeze_since : (a : Agenda) → freeze_opened_at a ≡ last_of (λ e. prepares_snapshot e.place.group) a
+pub freeze_since : (a : Agenda) → freeze_opened_at a ≡ last_of (λ e. prepares_snapshot e.place.group) a
 freeze_since a =
     last_time_is (λ e. is_prepare_snapshot e.place.group) a.begun a.log
     ∙ fold_along (λ e. is_prepare_snapshot e.place.group) (λ e. prepares_snapshot e.place.group) (λ e. same_prepare e.place.group) a.begun a.log
 
-answer_since : (a : Agenda) (o : Open) → opened_at a o ≡ last_of (is_elsewhere o.place) a
+pub answer_since : (a : Agenda) (o : Open) → opened_at a o ≡ last_of (is_elsewhere o.place) a
 answer_since a o =
     last_time_is (λ e. not (same_place e.place o.place)) a.begun a.log
     ∙ fold_along (λ e. not (same_place e.place o.place)) (is_elsewhere o.place) (λ e. not_is (same_place e.place o.place)) a.begun a.log
@@ -148,13 +106,6 @@ first_passed : (now since : ℕ) (log : List Entry) → first_time (filter (λ e
 first_passed now since [] e f = absurd cc
 first_passed now since (x ∷ log) e f = by_test (is_hold x.place.group) refl e (first_passed now since log)
   where
-    some_time : (a b : ℕ) → Some a ≡ Some b → a ≡ b
-    some_time a b e = cc
-
-    or_right : (a b : Bool) → b ≡ true → (a || b) ≡ true
-    or_right true b e = refl
-    or_right false b e = e
-
     both_left : (a b c : Bool) → a ≡ true → b ≡ true → ((a && b) || c) ≡ true
     both_left true true c e f = refl
     both_left true false c e f = absurd cc
@@ -163,18 +114,14 @@ first_passed now since (x ∷ log) e f = by_test (is_hold x.place.group) refl e 
     by_test : (b : Bool) → is_hold x.place.group ≡ b → first_time (if b then x ∷ filter (λ e. is_hold e.place.group) log else filter (λ e. is_hold e.place.group) log) ≡ Some since
         → (first_time (filter (λ e. is_hold e.place.group) log) ≡ Some since → has_passed hold_limit since now ≡ true → list_any (λ (e : Entry). is_hold_step e.place.group && has_passed hold_limit e.time now) log ≡ true)
         → ((is_hold_step x.place.group && has_passed hold_limit x.time now) || list_any (λ (e : Entry). is_hold_step e.place.group && has_passed hold_limit e.time now) log) ≡ true
-    by_test true g e ih = both_left (is_hold_step x.place.group) (has_passed hold_limit x.time now) _ (sym (same_hold_step x.place.group) ∙ g) (subst (λ t. has_passed hold_limit t now ≡ true) (sym (some_time x.time since e)) f)
+    by_test true g e ih = both_left (is_hold_step x.place.group) (has_passed hold_limit x.time now) _ (sym (same_hold_step x.place.group) ∙ g) (subst (λ t. has_passed hold_limit t now ≡ true) (sym (some_same x.time since e)) f)
     by_test false g e ih = or_right (is_hold_step x.place.group && has_passed hold_limit x.time now) _ (ih e f)
-
-both_are : (a b : Bool) → a ≡ true → b ≡ true → (a && b) ≡ true
-both_are true b e f = f
-both_are false b e f = absurd cc
 
 pub hold_late : (now : ℕ) (g : Group) (a : Agenda) (o : Option ℕ) (l : Running) → first_hold a.log ≡ o → spent_of now (hold_running g o) ≡ Some l → held_too_long now g a ≡ true
 hold_late now g a None l e f = absurd cc
 hold_late now g a (Some since) l e f =
     let one = spent_one (hold_runs g) HoldLimit since hold_limit now l f in
-    both_are (holds_volumes g) _ (sym (same_hold g) ∙ one.runs) (first_passed now since a.log e (spent_passed now since hold_limit one.spent))
+    and_from (holds_volumes g) _ (sym (same_hold g) ∙ one.runs) (first_passed now since a.log e (spent_passed now since hold_limit one.spent))
 
 -- ## frozen
 
@@ -203,7 +150,7 @@ least_passed now since least rows (m ∷ ms) e =
 pub freeze_late : (now : ℕ) (g : Group) (c : Course) (a : Agenda) (l : Running) → spent_of now (runs_if (freeze_runs g) FreezeLimit (freeze_opened_at a) (freeze_limit c)) ≡ Some l → frozen_too_long now g c a ≡ true
 freeze_late now g c a l e =
     let one = spent_one (freeze_runs g) FreezeLimit (freeze_opened_at a) (freeze_limit c) now l e in
-    both_are (freezes_writers g) _ (sym (same_freeze g) ∙ one.runs)
+    and_from (freezes_writers g) _ (sym (same_freeze g) ∙ one.runs)
     (least_passed now (last_of (λ x. prepares_snapshot x.place.group) a) default_freeze c.rows c.members (subst (λ t. is_spent now t (freeze_limit c) ≡ true) (freeze_since a) one.spent))
 
 -- ## unanswered
@@ -211,7 +158,7 @@ freeze_late now g c a l e =
 answer_late : (now : ℕ) (a : Agenda) (o : Open) (l : Running) → spent_of now (runs_if (answer_runs o.place.group) AnswerLimit (opened_at a o) answer_limit) ≡ Some l → fails_set (order_of o.place.group) ≡ true → unanswered_too_long now o.place a ≡ true
 answer_late now a o l e f =
     let one = spent_one (answer_runs o.place.group) AnswerLimit (opened_at a o) answer_limit now l e in
-    both_are (prepares_writers o.place.group) _ (consent o.place.group one.runs f)
+    and_from (prepares_writers o.place.group) _ (consent o.place.group one.runs f)
     (subst (λ t. has_passed answer_limit t now ≡ true) (answer_since a o) (spent_passed now (opened_at a o) answer_limit one.spent))
 
 -- ## the spent limit
@@ -232,9 +179,8 @@ or_third false false c e = e
 
 -- a spent limit that is not the answers', or whose loss fails the set
 abbrev pub Decides : Limit → Option Order → Type 0
-Decides HoldLimit o = Unit {0}
-Decides FreezeLimit o = Unit {0}
 Decides AnswerLimit o = fails_set o ≡ true
+Decides _ o = Unit {0}
 
 late_open : (now : ℕ) (c : Course) (a : Agenda) (o : Open) (os : List Open) (l : Running) → spent_of now (running_at (freeze_limit c) a (o ∷ os)) ≡ Some l → Decides l.limit (order_of o.place.group)
     → is_late_at now c a (o ∷ os) ≡ true

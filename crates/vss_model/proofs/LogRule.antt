@@ -9,7 +9,7 @@ use Rattle.vss_names.specs.declared.vss_result.VssResult.TheVariants.{AsyncCance
 use Rattle.writer_state.specs.declared.said.Said.{Said}
 use Rattle.writer_state.specs.WriterState.{is_ok}
 use Rattle.write_history.specs.declared.mark.Mark.{Mark}
-use Rattle.write_history.specs.declared.mark.Mark.TheVariants.{Clean, Fault, FaultAfter}
+use Rattle.write_history.specs.declared.mark.Mark.TheVariants.{Clean}
 use Rattle.write_history.specs.History.{Write}
 use Rattle.set_agenda.specs.declared.group.Group.{Group}
 use Rattle.set_agenda.specs.declared.group.Group.TheVariants.{Orders, PreCommit, Flush, Hold, Cut, Commit, Release, PostCommit}
@@ -21,14 +21,15 @@ use Rattle.set_agenda.specs.Course.{Course, posted, failed as course_failed, set
 use Rattle.requestor.specs.Session.{Session}
 use Rattle.scenario.specs.Plan.{Plan}
 use Rattle.vss_model.specs.State.{State, SetRow, Kept, start, in_progress, left_now}
-use Rattle.vss_model.specs.Ending.{Ending, NothingEnds, AgendaEnds, SetFails, ending, concluded, followed, runs, failed_in, failed}
-use Rattle.vss_model.specs.Images.{Replied, put, reverted_as}
+use Rattle.vss_model.specs.Ending.{Ending, NothingEnds, ending, concluded, followed, runs, failed_in, failed}
+use Rattle.vss_model.specs.Images.{put, reverted_as}
 use Rattle.vss_model.specs.Sessions.{begin_in, has_no_volume, closed}
 use Rattle.vss_model.specs.Steps.{answered, cut_set, step_made, is_flush, is_failed_step, stepped_as, stepped, ticked, later}
 use Rattle.vss_model.specs.Acts.{Act, after, state}
 use Rattle.vss_model.specs.Laws.{IsKeptByChanges, IsKeptByWrites}
 use Rattle.vss_model.proofs.Rule.{on_after}
 use Rattle.vss_model.proofs.CourseCalls.{Settles, Call, call_answered, call_stepped, call_timed}
+use Rattle.vss_model.proofs.ByEvent.{by_if}
 
 -- nothing is said yet
 abbrev pub unspoken : Kind → List Member → List ℕ → ℕ → Agenda
@@ -88,8 +89,7 @@ module _ (P : Agenda → Type 0) (k : IsKeptInLog P) where
 
   on_concluded : (e : Ending) (st : State) → Holds st → Holds (concluded e st)
   on_concluded NothingEnds st h = h
-  on_concluded AgendaEnds st h = h
-  on_concluded (SetFails why) st h = h
+  on_concluded _ st h = h
 
   on_followed : (ran : Bool) (c : Course) (st : State) → Running P c.agenda → Holds (followed ran c st)
   unfolding followed
@@ -120,10 +120,6 @@ module _ (P : Agenda → Type 0) (k : IsKeptInLog P) where
   on_begin lane all None st h = h
   on_begin lane all (Some c) st h = h
 
-  either : (b : Bool) (x y : Replied) → Holds x.1 → Holds y.1 → Holds (if b then x else y).1
-  either true x y h i = h
-  either false x y h i = i
-
   on_closes : (q : Session) (st : State) → Holds (closed q st)
   unfolding closed released
   on_closes q st = tt
@@ -135,8 +131,8 @@ module _ (P : Agenda → Type 0) (k : IsKeptInLog P) where
     ticks = on_ticks;
     fails = λ why st h. on_failed_in (in_progress st) why st h;
     gathers = λ s q st e h. on_followed true _ st (on_begun Gather _ [] st.clock _);
-    prepares = λ s q st e h. either (has_no_volume (in_progress st)) _ _ h (on_followed true _ st (on_begun Prepare _ [] st.clock _));
-    snapshots = λ q st e h. either (has_no_volume (in_progress st)) _ _ h (on_followed true _ st (on_begun Snapshot st.course.members _ st.clock st.course));
+    prepares = λ s q st e h. by_if (λ r. Holds r.1) (has_no_volume (in_progress st)) _ _ h (on_followed true _ st (on_begun Prepare _ [] st.clock _));
+    snapshots = λ q st e h. by_if (λ r. Holds r.1) (has_no_volume (in_progress st)) _ _ h (on_followed true _ st (on_begun Snapshot st.course.members _ st.clock st.course));
     completes = λ q st e h. on_followed true _ st (on_begun Complete _ [] st.clock _);
     clears = λ s v b st h. h;
     deletes_set = λ n st h. h;
@@ -151,13 +147,11 @@ module _ (P : Agenda → Type 0) (k : IsKeptInLog P) where
 
   on_puts : (v : ℕ) (w : Write) (mark : Mark) (x : State) → Holds x → Holds (put v w mark x)
   on_puts v w Clean x h = h
-  on_puts v w Fault x h = h
-  on_puts v w (FaultAfter n) x h = h
+  on_puts v w _ x h = h
 
   on_reverts : (s : Plan) (v : ℕ) (x : Kept) (mark : Mark) (st : State) → Holds st → Holds (reverted_as s v x mark st).1
   on_reverts s v x Clean st h = h
-  on_reverts s v x Fault st h = h
-  on_reverts s v x (FaultAfter n) st h = h
+  on_reverts s v x _ st h = h
 
   kept_by_writes : (st : State) → IsKeptByWrites Holds st
   kept_by_writes st = record {

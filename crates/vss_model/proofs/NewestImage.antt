@@ -1,6 +1,7 @@
 -- The image of the set in progress is the newest of its volume: no set has a greater number, and images rise in set.
 use Rattle.std.proofs.Common.{◌≡◌, ℕ, ◌+◌, ◌==◌, ◌<◌, ◌≤◌, zero, suc, List, [], ◌∷◌, Some, refl, Bool, true, false, length, ap, ◌∙◌, arith}
 use Rattle.std.specs.Prelude.{◌&&◌, ◌||◌, not, if◌then◌else◌, slice_get}
+use Rattle.std.proofs.lemmas.Bool.{eqb-true}
 use Rattle.write_history.specs.History.{Image, History, point_in, AreLater, AreInTime}
 use Rattle.scenario.specs.Plan.{Plan}
 use Rattle.vss_model.specs.State.{SetRow, in_progress, history_in, history_of}
@@ -73,10 +74,7 @@ after_one i n p images h = record { older = i ∷ h.older; is = ap (λ xs. i ∷
 
 newest_if : (b : Bool) (i : Image) (n p : ℕ) (images : List Image) → (i.set == n) ≡ b → (if b then Some i.point else point_in n images) ≡ Some p → AreLater i images → UpTo n images
     → (point_in n images ≡ Some p → IsNewest n p images) → IsNewest n p (i ∷ images)
-newest_if true i n p images e f h u ih = last_one i n p images (equal i.set n e) (cc) h u
-  where
-    equal : (a b : ℕ) → (a == b) ≡ true → a ≡ b
-    equal a b e = grind arith
+newest_if true i n p images e f h u ih = last_one i n p images (eqb-true i.set n e) (cc) h u
 newest_if false i n p images e f h u ih = after_one i n p images (ih f)
 
 newest_in : (n p writes : ℕ) (images : List Image) → AreInTime writes images → UpTo n images → point_in n images ≡ Some p → IsNewest n p images

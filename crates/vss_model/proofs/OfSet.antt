@@ -2,6 +2,7 @@
 use Rattle.std.proofs.Common.{◌≡◌, ℕ, ◌+◌, ◌==◌, zero, suc, List, [], ◌∷◌, ◌++◌, ◌⊎◌, Option, Some, None, refl, Bool, true, false, map, ap, sym, ◌∙◌, subst, inl, inr, arith}
 use Rattle.std.specs.Prelude.{is_some, ◌&&◌, if◌then◌else◌}
 use Rattle.std.proofs.lemmas.List.{append_assoc}
+use Rattle.std.proofs.lemmas.Bool.{and_from, eqb-true}
 use Rattle.write_history.specs.History.{Image, History, fresh, point_in}
 use Rattle.set_agenda.specs.Agenda.{open_group, is_among}
 use Rattle.set_agenda.specs.Course.{stepped as course_stepped}
@@ -18,7 +19,7 @@ use Rattle.vss_model.proofs.Orderly.{true_not_false}
 use Rattle.vss_model.proofs.AtCut.{CutsNow, cuts}
 use Rattle.vss_model.proofs.CutStep.{both, after_cut, has_set}
 use Rattle.vss_model.proofs.CutAppend.{or_cut, append_nothing, cut-append}
-use Rattle.vss_model.proofs.OneCut.{not_cut_yet}
+use Rattle.vss_model.proofs.OneCut.{not_cut_yet, all_three}
 use Rattle.vss_model.proofs.Volumes.{at}
 use Rattle.vss_model.proofs.FewerImages.{fewer_after, fewer_followed}
 
@@ -49,11 +50,7 @@ cut_here true m vs n v x e f = by_last (last_image x.images m n _ f)
   where
     by_last : (has_image n x ≡ true) ⊎ ((m == n) ≡ true) → WasOrIs m vs n v (has_image n x)
     by_last (inl g) = inl g
-    by_last (inr g) = inr (both_true (m == n) (is_among v vs) g e)
-      where
-        both_true : (a b : Bool) → a ≡ true → b ≡ true → (a && b) ≡ true
-        both_true true b g h = h
-        both_true false b g h = absurd cc
+    by_last (inr g) = inr (and_from (m == n) (is_among v vs) g e)
 
 cut_there : (m : ℕ) (vs : List ℕ) (n u v : ℕ) (hs : List History) → has_image n (at (cut_each m vs u hs) v) ≡ true → WasOrIs m vs n (u + v) (has_image n (at hs v))
 cut_there m vs n u v [] e = inl e
@@ -104,22 +101,14 @@ cut_now s past act r e f c g h n v i =
     zero_plus : (a : ℕ) → 0 + a ≡ a
     zero_plus a = omega arith
 
-    equal : (a b : ℕ) → (a == b) ≡ true → a ≡ b
-    equal a b e = grind arith
-
-    all_true : (a b c : Bool) → a ≡ true → b ≡ true → c ≡ true → (a && b && c) ≡ true
-    all_true true true c e f g = g
-    all_true true false c e f g = absurd cc
-    all_true false b c e f g = absurd cc
-
     by_image : WasOrIs r.number r.volumes n (0 + v) (has_image n (history_of (state s past) v)) → CutWith s v (or_cut (cut s n past) (cut_if (is_cut_of n (state s past) act) past None))
     by_image (inl j) = stays_cut s v (cut s n past) _ (h n v j)
     by_image (inr j) =
         let st = state s past in
         let parts = both (r.number == n) (is_among (0 + v) r.volumes) j in
         now_cut s v past (is_cut_of n st act) (cut s n past)
-        (subst (λ m. cut s m past ≡ None) (equal r.number n parts.0) (not_cut_yet s past r c g))
-        (all_true (is_provider act.event) (is_cut_group (open_group (left_now st))) (is_set n (in_progress st)) e f (ap (is_set n) g ∙ parts.0))
+        (subst (λ m. cut s m past ≡ None) (eqb-true r.number n parts.0) (not_cut_yet s past r c g))
+        (all_three (is_provider act.event) (is_cut_group (open_group (left_now st))) (is_set n (in_progress st)) e f (ap (is_set n) g ∙ parts.0))
         (ap (is_in_set v) g ∙ subst (λ u. is_among u r.volumes ≡ true) (zero_plus v) parts.1)
 
 on_act_if : (b : Bool) (s : Plan) (past : List Act) (act : Act) → (is_provider act.event && is_cut_group (open_group (left_now (state s past)))) ≡ b → AllOfSets s past → AllOfSets s (past ++ act ∷ [])

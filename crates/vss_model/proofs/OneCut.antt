@@ -4,6 +4,7 @@ use Rattle.std.specs.Prelude.{option_map, is_some, ◌&&◌, ◌||◌, if◌then
 use Rattle.std.proofs.lemmas.List.Folds.{list_any-append}
 use Rattle.std.proofs.Math.Seq.{take-append_seam}
 use Rattle.std.proofs.lemmas.List.{length_push}
+use Rattle.std.proofs.lemmas.Bool.{eq-eqb, eqb-true, ltb-true}
 use Rattle.vss_names.specs.declared.context.Context.{Context}
 use Rattle.vss_names.specs.declared.context.Context.TheVariants.{Backup, AppRollback, NasRollback}
 use Rattle.vss_names.specs.declared.vss_result.VssResult.{VssResult}
@@ -26,8 +27,8 @@ use Rattle.requestor.specs.Session.{Session}
 use Rattle.scenario.specs.Plan.{Plan, blocks_of}
 use Rattle.scenario.specs.declared.volume_row.VolumeRow.{VolumeRow}
 use Rattle.vss_model.specs.State.{State, SetRow, Kept, start, is_running, in_progress, row_of, row_changed, history_in, history_of, left_now, is_complete, kept_at, kept_if, kept_of, kept_image}
-use Rattle.vss_model.specs.Ending.{Ending, NothingEnds, AgendaEnds, SetFails, ending, row_settled, images_dropped, concluded, followed, runs, failed_in, failed}
-use Rattle.vss_model.specs.Images.{Replied, put, reverted_as}
+use Rattle.vss_model.specs.Ending.{Ending, NothingEnds, SetFails, ending, row_settled, images_dropped, concluded, followed, runs, failed_in, failed}
+use Rattle.vss_model.specs.Images.{put, reverted_as}
 use Rattle.vss_model.specs.Sessions.{begin_in, has_no_volume, start_set, new_set, with_volume, change_set, images_released, closed}
 use Rattle.vss_model.specs.Steps.{answered, cut_if as history_cut_if, cut_each, row_cut, cut_set, is_flush, is_failed_step, stepped_as, stepped, ticked, later}
 use Rattle.vss_model.specs.Acts.{Act, after, state}
@@ -42,7 +43,9 @@ use Rattle.vss_model.proofs.HeldOfSet.{Follows, GoesOn, goes_answered, goes_step
 use Rattle.vss_model.proofs.CutLog.{is_cut_made}
 use Rattle.vss_model.proofs.AtCut.{IsAtCut, CutsNow, cuts, cut_group, later_places, cut_is_open}
 use Rattle.vss_model.proofs.CutStep.{second_not, both, step_made_same, working_at_cut, after_cut, has_set}
-use Rattle.vss_model.proofs.CutHistory.{Above, Shown, no_greater, Known, writes_at, ShownIn, IsShown, AllShown, all-map, all-change_at, all-gone, all_along, shown-reverted, shown-reverted_in_part, shown-dropped, shown-written, shown-cut, below-known, shown_at}
+use Rattle.vss_model.proofs.CutHistory.{Above, Shown, no_greater, Known, writes_at, ShownIn, IsShown, AllShown, all-map, all-change_at, all-gone, all_along, shown-reverted, shown-reverted_in_part, shown-dropped, shown-written, shown-cut, below-known, shown_at, append_none}
+use Rattle.vss_model.proofs.Rows.{apart}
+use Rattle.vss_model.proofs.ByEvent.{by_if}
 
 -- ## the fact
 
@@ -103,8 +106,7 @@ uncut_settled_at k (FailedSet why) rows h = subst (Uncut k) (sym (find-settled_o
 
 uncut_concluded : (k : Known) (e : Ending) (st : State) → Uncut k (in_progress st) → Uncut k (in_progress (concluded e st))
 uncut_concluded k NothingEnds st h = h
-uncut_concluded k AgendaEnds st h = uncut_settled_at k st.course.outcome st.sets h
-uncut_concluded k (SetFails why) st h = uncut_settled_at k st.course.outcome st.sets h
+uncut_concluded k _ st h = uncut_settled_at k st.course.outcome st.sets h
 
 length-map : (f : SetRow → SetRow) (rows : List SetRow) → length (map f rows) ≡ length rows
 length-map f [] = refl
@@ -115,17 +117,15 @@ fresh_length k m n e h i l = h i (subst (λ x. x < i) e l)
 
 fresh_concluded : (k : Known) (e : Ending) (st : State) → ((n : ℕ) → length st.sets < n → k n ≡ None) → (n : ℕ) → length (concluded e st).sets < n → k n ≡ None
 fresh_concluded k NothingEnds st h = h
-fresh_concluded k AgendaEnds st h = fresh_length k (length (map (row_settled st.course.outcome) st.sets)) (length st.sets) (length-map (row_settled st.course.outcome) st.sets) h
-fresh_concluded k (SetFails why) st h = fresh_length k (length (map (row_settled st.course.outcome) st.sets)) (length st.sets) (length-map (row_settled st.course.outcome) st.sets) h
+fresh_concluded k _ st h = fresh_length k (length (map (row_settled st.course.outcome) st.sets)) (length st.sets) (length-map (row_settled st.course.outcome) st.sets) h
 
 shown_images : (k : Known) (o : Option SetRow) (hs : List History) → AllShown k 0 hs → AllShown k 0 (images_dropped o hs)
 shown_images k None hs h = h
 shown_images k (Some r) hs h = all-map k (dropped r.number) (shown-dropped r.number k) 0 hs h
 
 shown_concluded : (k : Known) (e : Ending) (st : State) → AllShown k 0 st.volumes → AllShown k 0 (concluded e st).volumes
-shown_concluded k NothingEnds st h = h
-shown_concluded k AgendaEnds st h = h
 shown_concluded k (SetFails why) st h = shown_images k (in_progress st) st.volumes h
+shown_concluded k _ st h = h
 
 -- ## the course goes on
 
@@ -190,8 +190,7 @@ cut_followed k c st m i g u shown fresh =
   where
     agenda-concluded : (e : Ending) (x : State) → (concluded e x).course.agenda ≡ x.course.agenda
     agenda-concluded NothingEnds x = refl
-    agenda-concluded AgendaEnds x = refl
-    agenda-concluded (SetFails why) x = refl
+    agenda-concluded _ x = refl
 
 idle_progress : (k : Known) (a : Option Agenda) (o : Option SetRow) → Progress k a o → IdleProgress k a o
 idle_progress k None o h = h
@@ -326,8 +325,7 @@ on_closed k q x e h = record {
 
 on_puts : (k : Known) (v : ℕ) (w : Write) (mark : Mark) (x : State) → IsCut k x → IsCut k (put v w mark x)
 on_puts k v w Clean x h = with_volumes k _ x (all-change_at k (written w) v 0 x.volumes (λ u y e g. shown-written w k u y g) h.shown) h
-on_puts k v w Fault x h = h
-on_puts k v w (FaultAfter m) x h = h
+on_puts k v w _ x h = h
 
 -- a kept image has the point of its set
 kept_at_parts : (r : SetRow) (o : Option ℕ) (x : Kept) → kept_at r o ≡ Some x → (r ≡ x.row) × (o ≡ Some x.point)
@@ -344,11 +342,8 @@ pub row_number : (n : ℕ) (rows : List SetRow) (r : SetRow) → find (λ q. q.n
 row_number n [] r e = absurd cc
 row_number n (q ∷ rows) r e = head_if (q.number == n) refl e (row_number n rows r)
   where
-    equal : (a b : ℕ) → (a == b) ≡ true → a ≡ b
-    equal a b e = grind arith
-
     head_if : (b : Bool) → (q.number == n) ≡ b → (if b then Some q else find (λ q. q.number == n) rows) ≡ Some r → (find (λ q. q.number == n) rows ≡ Some r → r.number ≡ n) → r.number ≡ n
-    head_if true f g ih = let same : q ≡ r = cc in subst (λ x. x.number ≡ n) same (equal q.number n f)
+    head_if true f g ih = let same : q ≡ r = cc in subst (λ x. x.number ≡ n) same (eqb-true q.number n f)
     head_if false f g ih = ih g
 
 pub kept_point : (n : ℕ) (o : Option SetRow) (p : Option ℕ) (x : Kept) → ((r : SetRow) → o ≡ Some r → r.number ≡ n) → kept_of o p ≡ Some x → (x.row.number ≡ n) × (p ≡ Some x.point)
@@ -370,18 +365,14 @@ on_reverts k s n v x Fault st e h = h
 on_reverts k s n v x (FaultAfter m) st e h =
     with_volumes k _ st (all-change_at k _ v 0 st.volumes (λ u y f g. shown-reverted_in_part (blocks_of s v) k u x.row.number x.point m y g) h.shown) h
 
-either_cut : (k : Known) (b : Bool) (x y : Replied) → IsCut k x.1 → IsCut k y.1 → IsCut k (if b then x else y).1
-either_cut k true x y h i = h
-either_cut k false x y h i = i
-
 kept_but_steps : (k : Known) → IsKeptButSteps (IsCut k)
 kept_but_steps k = record {
   answers = λ w said st e h. on_answers k w said st h;
   ticks = on_ticks k;
   fails = λ why st h. on_fails_in k (in_progress st) why st refl h;
   gathers = λ s q st g h. cut_begun k true _ st g.quiet h;
-  prepares = λ s q st g h. either_cut k (has_no_volume (in_progress st)) _ _ h (cut_begun k true _ st g.quiet h);
-  snapshots = λ q st g h. either_cut k (has_no_volume (in_progress st)) _ _ h (cut_begun k true _ st g.quiet h);
+  prepares = λ s q st g h. by_if (λ r. IsCut k r.1) (has_no_volume (in_progress st)) _ _ h (cut_begun k true _ st g.quiet h);
+  snapshots = λ q st g h. by_if (λ r. IsCut k r.1) (has_no_volume (in_progress st)) _ _ h (cut_begun k true _ st g.quiet h);
   completes = λ q st g h. cut_begun k true _ st g.quiet h;
   clears = λ s v b st h. with_volumes k _ st (all-gone k _ _ 0 st.volumes h.shown) h;
   deletes_set = λ n st h. with_volumes k _ st (all-map k (dropped n) (shown-dropped n k) 0 st.volumes h.shown) h;
@@ -546,17 +537,14 @@ newest k st r c e o h = record { number = number; none = λ m l. by_cases (nat_l
         made_not (k r.number) c.agenda c.at.cut
         (subst (λ x. Progress k (Some c.agenda) x) e (subst (λ a. Progress k a (in_progress st)) c.runs h.progress))
 
-    less : (a b : ℕ) → nat_lt a b ≡ true → a < b
-    less a b e = grind arith
-
     same : (a b m : ℕ) → a ≡ b → nat_lt b m ≡ false → a ≤ m → a ≡ m
     same a b m e f l = grind arith
 
     by_cases : (b : Bool) (m : ℕ) → nat_lt (length st.sets) m ≡ b → r.number ≤ m → k m ≡ None
-    by_cases true m f l = h.fresh m (less (length st.sets) m f)
+    by_cases true m f l = h.fresh m (ltb-true (length st.sets) m f)
     by_cases false m f l = subst (λ x. k x ≡ None) (same r.number (length st.sets) m number f l) own
 
-all_three : (a b c : Bool) → a ≡ true → b ≡ true → c ≡ true → (a && b && c) ≡ true
+pub all_three : (a b c : Bool) → a ≡ true → b ≡ true → c ≡ true → (a && b && c) ≡ true
 all_three true true true e f g = refl
 all_three true true false e f g = absurd cc
 all_three true false c e f g = absurd cc
@@ -570,10 +558,7 @@ last_not false b c e = refl
 cut_now : (k : Known) (st : State) (act : Act) (r : SetRow) → is_provider act.event ≡ true → is_cut_group (open_group (left_now st)) ≡ true → in_progress st ≡ Some r → k r.number ≡ None → next_known k st act r.number ≡ Some st.volumes
 cut_now k st act r e f g h =
     ap (λ o. or_else o (now_if (is_cut_of r.number st act) st.volumes)) h
-    ∙ ap (λ b. now_if b st.volumes) (all_three (is_provider act.event) (is_cut_group (open_group (left_now st))) (is_set r.number (in_progress st)) e f (ap (is_set r.number) g ∙ own r.number))
-  where
-    own : (a : ℕ) → (a == a) ≡ true
-    own a = grind arith
+    ∙ ap (λ b. now_if b st.volumes) (all_three (is_provider act.event) (is_cut_group (open_group (left_now st))) (is_set r.number (in_progress st)) e f (ap (is_set r.number) g ∙ eq-eqb r.number r.number refl))
 
 known_stays : (k : Known) (st : State) (act : Act) (m : ℕ) (hs : List History) → k m ≡ Some hs → next_known k st act m ≡ Some hs
 known_stays k st act m hs e = ap (λ o. or_else o (now_if (is_cut_of m st act) st.volumes)) e
@@ -581,10 +566,7 @@ known_stays k st act m hs e = ap (λ o. or_else o (now_if (is_cut_of m st act) s
 later_unknown : (k : Known) (st : State) (act : Act) (r : SetRow) (m : ℕ) → in_progress st ≡ Some r → r.number < m → k m ≡ None → next_known k st act m ≡ None
 later_unknown k st act r m e l f =
     ap (λ o. or_else o (now_if (is_cut_of m st act) st.volumes)) f
-    ∙ ap (λ b. now_if b st.volumes) (last_not (is_provider act.event) (is_cut_group (open_group (left_now st))) (is_set m (in_progress st)) (ap (is_set m) e ∙ differs r.number m l))
-  where
-    differs : (a b : ℕ) → a < b → (a == b) ≡ false
-    differs a b l = grind arith
+    ∙ ap (λ b. now_if b st.volumes) (last_not (is_provider act.event) (is_cut_group (open_group (left_now st))) (is_set m (in_progress st)) (ap (is_set m) e ∙ apart r.number m l))
 
 idle_none : (k : Known) (a : Option Agenda) (b : Agenda) (o : Option SetRow) → a ≡ Some b → IdleProgress k a o
 idle_none k None b o e = absurd cc
@@ -782,11 +764,7 @@ images_in_time s acts v = in_time_at (known_from s nothing_known (start s) acts)
 -- ## what an image reads
 
 pub all_taken : (ws : List Write) → take (length ws) ws ≡ ws
-all_taken ws = ap (take (length ws)) (more ws) ∙ take-append_seam ws []
-  where
-    more : (xs : List Write) → xs ≡ xs ++ []
-    more [] = refl
-    more (x ∷ xs) = ap (λ ys. x ∷ ys) (more xs)
+all_taken ws = ap (take (length ws)) (append_none ws) ∙ take-append_seam ws []
 
 reads_at : (s : Plan) (v p b : ℕ) (ws : List Write) (o : Option (List Act)) (before : List Act) → o ≡ Some before → IsShownAt s v p ws o
     → content ws p b ≡ content (history_of (state s before) v).writes (length (history_of (state s before) v).writes) b

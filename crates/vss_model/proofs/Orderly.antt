@@ -1,13 +1,15 @@
 -- The facts that every act keeps together.
 use Rattle.std.proofs.Common.{◌≡◌, ℕ, ◌+◌, ◌==◌, zero, suc, List, [], ◌∷◌, ◌++◌, Option, Some, None, refl, Bool, true, false, map, filter, ap, sym, ◌∙◌, subst, find, length, arith}
 use Rattle.std.specs.Prelude.{option_map, ◌&&◌, ◌||◌, not, if◌then◌else◌}
+use Rattle.std.proofs.lemmas.Bool.{or_right}
 use Rattle.vss_names.specs.declared.set_outcome.SetOutcome.{SetOutcome}
-use Rattle.vss_names.specs.declared.set_outcome.SetOutcome.TheVariants.{Running, Complete as CompleteSet, Failed as FailedSet}
+use Rattle.vss_names.specs.declared.set_outcome.SetOutcome.TheVariants.{Running}
 use Rattle.write_history.specs.History.{Image, History, dropped, without_set}
 use Rattle.set_agenda.specs.Course.{change_at}
 use Rattle.vss_model.specs.State.{SetRow, is_running}
 use Rattle.vss_model.specs.Ending.{row_settled, images_dropped}
 use Rattle.vss_model.specs.Facts.{NumberedFrom, OverButNewest, has_failed, is_live, AreLive, AllLive}
+use Rattle.vss_model.proofs.ByEvent.{some_same}
 
 pub true_not_false : (b : Bool) → b ≡ true → b ≡ false → ⊥
 true_not_false true e f = cc
@@ -237,25 +239,17 @@ all_live-append rows r hs h = all_live_along rows (rows ++ r ∷ []) (λ n g. li
 -- the set in progress is live
 pub running_is_live : (o : SetOutcome) → is_running o ≡ true → has_failed o ≡ false
 running_is_live Running e = refl
-running_is_live CompleteSet e = absurd cc
-running_is_live (FailedSet why) e = absurd cc
-
-some_head : (r q : SetRow) → Some r ≡ Some q → r ≡ q
-some_head r q e = cc
+running_is_live _ e = absurd cc
 
 live_found_if : (b : Bool) (q r : SetRow) (rows : List SetRow) → is_running q.result ≡ b → (if b then Some q else find (λ x. is_running x.result) rows) ≡ Some r → (find (λ x. is_running x.result) rows ≡ Some r → is_live rows r.number ≡ true) → ((q.number == r.number && not (has_failed q.result)) || is_live rows r.number) ≡ true
 live_found_if true q r rows f e ih =
-    let same : q ≡ r = some_head q r e in
+    let same : q ≡ r = some_same q r e in
     let Q : SetRow → Type 0 = λ x. ((q.number == x.number && not (has_failed q.result)) || is_live rows x.number) ≡ true in
     subst Q same (rw (running_is_live q.result f) (own q.number (is_live rows q.number)))
   where
     own : (n : ℕ) (b : Bool) → ((n == n && not false) || b) ≡ true
     own n b = grind arith
 live_found_if false q r rows f e ih = or_right (q.number == r.number && not (has_failed q.result)) _ (ih e)
-  where
-    or_right : (a b : Bool) → b ≡ true → (a || b) ≡ true
-    or_right true b h = refl
-    or_right false b h = h
 
 pub live_found : (rows : List SetRow) (r : SetRow) → find (λ q. is_running q.result) rows ≡ Some r → is_live rows r.number ≡ true
 live_found [] r e = absurd cc

@@ -1,6 +1,7 @@
 -- Every act keeps the state orderly.
 use Rattle.std.proofs.Common.{◌≡◌, ℕ, ◌+◌, ◌==◌, List, [], ◌∷◌, Option, Some, None, refl, Bool, true, false, map, ap, sym, ◌∙◌, subst, find, fold, inl, inr, length}
-use Rattle.std.specs.Prelude.{option_map, is_some, ◌&&◌, ◌⊎◌, not, if◌then◌else◌, nat_lt}
+use Rattle.std.specs.Prelude.{option_map, is_some, ◌⊎◌, not, if◌then◌else◌, nat_lt}
+use Rattle.std.proofs.lemmas.Bool.{and_parts}
 use Rattle.vss_names.specs.declared.context.Context.{Context}
 use Rattle.vss_names.specs.declared.context.Context.TheVariants.{Backup, AppRollback, NasRollback}
 use Rattle.vss_names.specs.declared.order.Order.{Order}
@@ -22,7 +23,7 @@ use Rattle.set_agenda.specs.declared.member.Member.{Member}
 use Rattle.set_agenda.specs.Agenda.{Agenda, groups_left, left, all_say, is_done, is_working, is_among, open_group, next_member}
 use Rattle.set_agenda.specs.Course.{Course, posted, failed as course_failed, outcome_after, settled_if, settled, begun, told, answered as course_answered, worked, stepped as course_stepped, timed as course_timed, released}
 use Rattle.requestor.specs.declared.stage.Stage.{Stage}
-use Rattle.requestor.specs.declared.stage.Stage.TheVariants.{Opened, Gathered, Started, Prepared, Done, Finished, Failed}
+use Rattle.requestor.specs.declared.stage.Stage.TheVariants.{Opened, Gathered, Started, Prepared, Done}
 use Rattle.requestor.specs.declared.session_call.SessionCall.TheVariants as call
 use Rattle.requestor.specs.Session.{Session, has_writers, makes_set, stage_after, agenda_ended, set_failed}
 use Rattle.requestor.specs.Check.{is_stage}
@@ -30,7 +31,7 @@ use Rattle.scenario.specs.declared.volume_row.VolumeRow.{VolumeRow}
 use Rattle.scenario.specs.Plan.{Plan}
 use Rattle.vss_model.specs.State.{State, SetRow, Kept, start, is_running, in_progress, row_changed, left_now}
 use Rattle.vss_model.specs.Ending.{Ending, NothingEnds, AgendaEnds, SetFails, ending, row_settled, concluded, followed, runs, failed_in, failed}
-use Rattle.vss_model.specs.Images.{Replied, put, reverted_as}
+use Rattle.vss_model.specs.Images.{put, reverted_as}
 use Rattle.vss_model.specs.Sessions.{begin_in, has_no_volume, start_set, new_set, with_volume, change_set, images_released, closed}
 use Rattle.vss_model.specs.Steps.{answered, with_cut, row_cut, cut_if, cut_each, cut_set, step_made, is_flush, is_failed_step, stepped_as, stepped, ticked, later}
 use Rattle.vss_model.specs.Acts.{Act, after, state}
@@ -40,6 +41,7 @@ use Rattle.set_agenda.proofs.CourseRule.{IsKeptFrom, from_answered, from_stepped
 use Rattle.vss_model.proofs.Rows.{none_runs}
 use Rattle.vss_model.proofs.Rule.{on_after}
 use Rattle.vss_model.proofs.Orderly.{IsSameRow, numbered-map, newest-map, find-map, live-map, all_live_along, live-filter, live-append, all_live-map, all_live-change_at, numbered-settled, newest-settled, find-settled_over, find-settled_running, live-settled, all_live-fails, numbered-append, newest-append, find-append_new, all_live-append, live_found, true_not_false}
+use Rattle.vss_model.proofs.ByEvent.{by_if}
 
 -- ## what calls do to the agenda and the outcome
 
@@ -123,8 +125,7 @@ agenda_none (Some a) q e = absurd cc
 
 pub over_failed : (o : SetOutcome) → has_failed o ≡ true → is_running o ≡ false
 over_failed Running e = absurd cc
-over_failed CompleteSet e = refl
-over_failed (FailedSet why) e = refl
+over_failed _ e = refl
 
 fails : (why : VssResult) (c : Course) (st : State) (q : Session) → st.session ≡ Some q → c.agenda ≡ None → has_failed c.outcome ≡ true → IsOrderly st → IsOrderly (concluded (SetFails why) (record st { course = c }))
 fails why c st q e f g h =
@@ -142,16 +143,12 @@ fails why c st q e f g h =
 
 -- the set in progress once the rows have the outcome of a session whose set was still running
 abbrev found_after : Kind → Option SetRow → Option SetRow
-found_after Gather found = option_map (λ (r : SetRow). record r { result = Running }) found
-found_after Prepare found = option_map (λ (r : SetRow). record r { result = Running }) found
 found_after Snapshot found = None
-found_after Complete found = option_map (λ (r : SetRow). record r { result = Running }) found
+found_after _ found = option_map (λ (r : SetRow). record r { result = Running }) found
 
 find-after : (k : Kind) (rows : List SetRow) → find (λ r. is_running r.result) (map (row_settled (outcome_after k Running)) rows) ≡ found_after k (find (λ r. is_running r.result) rows)
-find-after Gather rows = find-settled_running rows
-find-after Prepare rows = find-settled_running rows
 find-after Snapshot rows = find-settled_over CompleteSet refl rows
-find-after Complete rows = find-settled_running rows
+find-after _ rows = find-settled_running rows
 
 gather_ends : (c : Context) (set : Option ℕ) (found : Option SetRow) → IsOfStage Opened set Running found → IsOfStage (stage_after c Opened) set Running (found_after Gather found)
 gather_ends c set None h = (refl, λ e. refl)
@@ -165,8 +162,7 @@ prepare_ends NasRollback set (Some r) w h = absurd (true_not_false false w refl)
 
 snapshot_ends : (c : Context) (set : Option ℕ) → IsOfStage (stage_after c (snapshot_stage (has_writers c))) set CompleteSet None
 snapshot_ends Backup set = (refl, λ e. absurd (true_not_false false e refl))
-snapshot_ends AppRollback set = (refl, λ e. absurd (true_not_false false e refl))
-snapshot_ends NasRollback set = (refl, λ e. absurd (true_not_false false e refl))
+snapshot_ends _ set = (refl, λ e. absurd (true_not_false false e refl))
 
 complete_ends : (c : Context) (set : Option ℕ) (found : Option SetRow) → IsOfStage Done set Running found → IsOfStage (stage_after c Done) set Running (found_after Complete found)
 complete_ends c set None h = (refl, λ e. refl)
@@ -188,9 +184,7 @@ stage_ends Complete c s set found w h =
 
 not_failed_after : (k : Kind) → has_failed (outcome_after k Running) ≡ false
 not_failed_after Gather = refl
-not_failed_after Prepare = refl
-not_failed_after Snapshot = refl
-not_failed_after Complete = refl
+not_failed_after _ = refl
 
 session_along : (q : Option Session) (s : Session) (o : SetOutcome) (found : Option SetRow) → q ≡ Some s → IsOfSession q o found → IsOfStage s.stage s.set o found
 session_along q s o found e h = let Q : Option Session → Type 0 = λ x. IsOfSession x o found in subst Q e h
@@ -229,8 +223,7 @@ early_over o e f = true_not_false (is_running o) (ap is_running f) e
 
 snapshot_waits : (c : Context) → makes_set (snapshot_stage (has_writers c)) ≡ true
 snapshot_waits Backup = refl
-snapshot_waits AppRollback = refl
-snapshot_waits NasRollback = refl
+snapshot_waits _ = refl
 
 stage_over : (k : Kind) (c : Context) (s : Stage) (set : Option ℕ) (o p : SetOutcome) → is_running o ≡ false → WaitsFor k c s → IsOfStage s set o None → IsOfStage (stage_after c s) set p None
 stage_over Gather c s set o p e w h = absurd (early_over o e (h.1 (ap is_early w)))
@@ -262,9 +255,7 @@ outcome_over k o p e (inr f) = over_failed p f
 
 ending_regular : (k : Kind) → ending Running (outcome_after k Running) true None ≡ AgendaEnds
 ending_regular Gather = refl
-ending_regular Prepare = refl
-ending_regular Snapshot = refl
-ending_regular Complete = refl
+ending_regular _ = refl
 
 -- by how the set stood, and by what ended the agenda
 fails_at : (p : SetOutcome) (c : Course) (st : State) (q : Session) → c.outcome ≡ p → has_failed p ≡ true → st.session ≡ Some q → c.agenda ≡ None → IsOrderly st → IsOrderly (concluded (ending Running p true None) (record st { course = c }))
@@ -351,64 +342,31 @@ begun_well k ms vs now c st q f g w h =
     let a : Agenda = record { kind = k; members = ms; volumes = vs; begun = now; log = [] } in
     begun_at (is_done (groups_left a)) a c (record c { agenda = Some a }) st q refl f g w h
 
-and_first : (a b : Bool) → (a && b) ≡ true → a ≡ true
-and_first true b e = refl
-and_first false b e = absurd cc
-
-and_second : (a b : Bool) → (a && b) ≡ true → b ≡ true
-and_second true b e = e
-and_second false b e = absurd cc
-
 -- ## what the table of calls says
 
 is_opened : (s : Stage) → is_stage s Opened ≡ true → s ≡ Opened
 is_opened Opened e = refl
-is_opened Gathered e = absurd cc
-is_opened Started e = absurd cc
-is_opened Prepared e = absurd cc
-is_opened Done e = absurd cc
-is_opened Finished e = absurd cc
-is_opened Failed e = absurd cc
+is_opened _ e = absurd cc
 
 is_started : (s : Stage) → is_stage s Started ≡ true → s ≡ Started
-is_started Opened e = absurd cc
-is_started Gathered e = absurd cc
 is_started Started e = refl
-is_started Prepared e = absurd cc
-is_started Done e = absurd cc
-is_started Finished e = absurd cc
-is_started Failed e = absurd cc
+is_started _ e = absurd cc
 
 is_prepared : (s : Stage) → is_stage s Prepared ≡ true → s ≡ Prepared
-is_prepared Opened e = absurd cc
-is_prepared Gathered e = absurd cc
-is_prepared Started e = absurd cc
 is_prepared Prepared e = refl
-is_prepared Done e = absurd cc
-is_prepared Finished e = absurd cc
-is_prepared Failed e = absurd cc
+is_prepared _ e = absurd cc
 
 is_done_stage : (s : Stage) → is_stage s Done ≡ true → s ≡ Done
-is_done_stage Opened e = absurd cc
-is_done_stage Gathered e = absurd cc
-is_done_stage Started e = absurd cc
-is_done_stage Prepared e = absurd cc
 is_done_stage Done e = refl
-is_done_stage Finished e = absurd cc
-is_done_stage Failed e = absurd cc
+is_done_stage _ e = absurd cc
 
 snapshot_allowed : (w : Bool) (s : Stage) → (if w then is_stage s Prepared else is_stage s Started) ≡ true → s ≡ snapshot_stage w
 snapshot_allowed true s e = is_prepared s e
 snapshot_allowed false s e = is_started s e
 
 early_gathered : (s : Stage) → is_stage s Gathered ≡ true → is_early s ≡ true
-early_gathered Opened e = absurd cc
 early_gathered Gathered e = refl
-early_gathered Started e = absurd cc
-early_gathered Prepared e = absurd cc
-early_gathered Done e = absurd cc
-early_gathered Finished e = absurd cc
-early_gathered Failed e = absurd cc
+early_gathered _ e = absurd cc
 
 start_allowed : (w : Bool) (s : Stage) → (if w then is_stage s Gathered else is_stage s Opened) ≡ true → is_early s ≡ true
 start_allowed true s e = early_gathered s e
@@ -534,8 +492,7 @@ live_dropped n rows x h = live-filter (λ i. not (i.set == n)) rows x.images h
 
 on_puts : (v : ℕ) (w : Write) (mark : Mark) (x : State) → IsOrderly x → IsOrderly (put v w mark x)
 on_puts v w Clean x h = volumes_orderly _ x (all_live-change_at (written w) x.sets (λ y g. g) v x.volumes h.live) h
-on_puts v w Fault x h = h
-on_puts v w (FaultAfter k) x h = h
+on_puts v w _ x h = h
 
 on_reverts : (s : Plan) (v : ℕ) (k : Kept) (mark : Mark) (st : State) → IsOrderly st → IsOrderly (reverted_as s v k mark st).1
 on_reverts s v k Clean st h = volumes_orderly _ st (all_live-change_at (reverted k.row.number k.point) st.sets (λ y g. live-filter (λ i. not (nat_lt k.row.number i.set)) st.sets y.images g) v st.volumes h.live) h
@@ -604,20 +561,16 @@ on_closed q x e h =
 
 -- ## every act
 
-either_orderly : (b : Bool) (x y : Replied) → IsOrderly x.1 → IsOrderly y.1 → IsOrderly (if b then x else y).1
-either_orderly true x y h i = h
-either_orderly false x y h i = i
-
 pub kept_by_changes : IsKeptByChanges IsOrderly
 kept_by_changes = record {
   answers = λ w said st e h. on_answers w said st h;
   steps = λ mark st e h. on_steps mark st e h;
   ticks = on_ticks;
   fails = λ why st h. on_failed_in (in_progress st) why st refl h;
-  gathers = λ s q st g h. begun_well Gather _ [] st.clock _ st q refl g.stands (is_opened q.stage (and_first (is_stage q.stage Opened) (has_writers q.context) g.allowed)) h;
-  prepares = λ s q st g h. either_orderly (has_no_volume (in_progress st)) _ _ h (begun_well Prepare _ [] st.clock _ st q refl g.stands (is_started q.stage (and_first (is_stage q.stage Started) (has_writers q.context) g.allowed), and_second (is_stage q.stage Started) (has_writers q.context) g.allowed) h);
-  snapshots = λ q st g h. either_orderly (has_no_volume (in_progress st)) _ _ h (begun_well Snapshot st.course.members _ st.clock st.course st q refl g.stands (snapshot_allowed (has_writers q.context) q.stage g.allowed) h);
-  completes = λ q st g h. begun_well Complete _ [] st.clock _ st q refl g.stands (is_done_stage q.stage (and_first (is_stage q.stage Done) (has_writers q.context) g.allowed)) h;
+  gathers = λ s q st g h. begun_well Gather _ [] st.clock _ st q refl g.stands (is_opened q.stage (and_parts (is_stage q.stage Opened) (has_writers q.context) g.allowed).0) h;
+  prepares = λ s q st g h. by_if (λ r. IsOrderly r.1) (has_no_volume (in_progress st)) _ _ h (begun_well Prepare _ [] st.clock _ st q refl g.stands (is_started q.stage (and_parts (is_stage q.stage Started) (has_writers q.context) g.allowed).0, (and_parts (is_stage q.stage Started) (has_writers q.context) g.allowed).1) h);
+  snapshots = λ q st g h. by_if (λ r. IsOrderly r.1) (has_no_volume (in_progress st)) _ _ h (begun_well Snapshot st.course.members _ st.clock st.course st q refl g.stands (snapshot_allowed (has_writers q.context) q.stage g.allowed) h);
+  completes = λ q st g h. begun_well Complete _ [] st.clock _ st q refl g.stands (is_done_stage q.stage (and_parts (is_stage q.stage Done) (has_writers q.context) g.allowed).0) h;
   clears = λ s v b st h. volumes_orderly _ st (live_gone _ st.sets _ st.volumes h.live) h;
   deletes_set = λ n st h. volumes_orderly _ st (all_live-map (dropped n) st.sets (λ x g. live_dropped n st.sets x g) st.volumes h.live) h;
   deletes_image = λ n v st h. volumes_orderly _ st (all_live-change_at (dropped n) st.sets (λ x g. live_dropped n st.sets x g) v st.volumes h.live) h;

@@ -4,6 +4,7 @@ use Rattle.std.proofs.Common.{◌≡◌, ℕ, zero, suc, ◌+◌, ◌==◌, ◌<
 use Rattle.std.specs.Prelude.{option_map, ◌&&◌, ◌||◌, if◌then◌else◌, nat_le}
 use Rattle.std.proofs.lemmas.List.{append_assoc, length-append}
 use Rattle.std.proofs.lemmas.List.Folds.{list_any-append}
+use Rattle.std.proofs.lemmas.Bool.{eq-eqb, eqb-true}
 use Rattle.vss_names.specs.declared.context.Context.{Context}
 use Rattle.vss_names.specs.declared.set_outcome.SetOutcome.{SetOutcome}
 use Rattle.vss_names.specs.declared.set_outcome.SetOutcome.TheVariants.{Running, Complete as CompleteSet, Failed as FailedSet}
@@ -20,7 +21,7 @@ use Rattle.requestor.specs.Session.{Session}
 use Rattle.scenario.specs.Plan.{Plan, blocks_of}
 use Rattle.vss_model.specs.State.{State, SetRow, Kept, is_running, in_progress, row_changed, left_now, history_of}
 use Rattle.vss_model.specs.Ending.{Ending, NothingEnds, AgendaEnds, SetFails, ending, row_settled, concluded, followed, runs, failed_in, failed}
-use Rattle.vss_model.specs.Images.{Replied, put, reverted_as, is_in_set}
+use Rattle.vss_model.specs.Images.{put, reverted_as, is_in_set}
 use Rattle.vss_model.specs.Sessions.{most_volumes, most_images, begin_in, has_no_volume, new_set, new_number, with_volume, change_set, add_refusal, closed}
 use Rattle.vss_model.specs.Steps.{answered, cut_if as image_cut_if, cut_each, row_cut, cut_set, is_flush, is_failed_step, stepped_as, stepped, ticked, later}
 use Rattle.vss_model.specs.Acts.{Act, after, state}
@@ -33,9 +34,10 @@ use Rattle.vss_model.proofs.HeldOfSet.{find-row_cut, volumes-row_cut_if}
 use Rattle.vss_model.proofs.AtCut.{cuts}
 use Rattle.vss_model.proofs.CutStep.{second_not, both, step_made_same, after_cut, has_set}
 use Rattle.vss_model.proofs.CutAppend.{or_cut, append_nothing, cut-append}
-use Rattle.vss_model.proofs.OneCut.{changed_result, not_cut_yet}
+use Rattle.vss_model.proofs.OneCut.{changed_result, not_cut_yet, all_three}
 use Rattle.vss_model.proofs.Volumes.{at, FewerIn, fewer_in_map, fewer_in_change, fewer_in_gone, fewer_dropped, fewer_written, fewer_reverted, fewer_in_part}
 use Rattle.vss_model.proofs.FewerImages.{fewer_images_dropped, fewer_released}
+use Rattle.vss_model.proofs.ByEvent.{by_if}
 
 -- where each set was cut
 abbrev Cuts : Type 0
@@ -102,12 +104,9 @@ fewer_than most n e = grind arith
 added : (vs : List ℕ) (v u : ℕ) → is_among u (vs ++ v ∷ []) ≡ true → (is_among u vs ≡ true) ⊎ (v ≡ u)
 added vs v u e = by_cases (is_among u vs) (v == u) refl (sym (list_any-append (λ (y : ℕ). y == u) vs (v ∷ [])) ∙ e)
   where
-    equal : (a b : ℕ) → (a == b) ≡ true → a ≡ b
-    equal a b e = grind arith
-
     by_cases : (b c : Bool) → (v == u) ≡ c → (b || (c || false)) ≡ true → (b ≡ true) ⊎ (v ≡ u)
     by_cases true c f g = inl refl
-    by_cases false true f g = inr (equal v u f)
+    by_cases false true f g = inr (eqb-true v u f)
     by_cases false false f g = absurd cc
 
 roomy_added : (b : Bool) (k : Cuts) (hs : List History) (v : ℕ) (r : SetRow) → length (at hs v).images < most_images → Roomy k hs (Some r) → Roomy k hs (Some (if b then with_volume v r else r))
@@ -169,10 +168,6 @@ module _ (k : Cuts) where
       subst (Roomy k st.volumes) (sym (find-map (row_changed r.number (with_volume v)) (λ x. ap is_running (changed_result (x.number == r.number) (with_volume v) x refl)) st.sets ∙ ap (option_map (row_changed r.number (with_volume v))) e))
       (roomy_added (r.number == r.number) k st.volumes v r room (subst (Roomy k st.volumes) e h))
 
-  either : (b : Bool) (x y : Replied) → HasRoom k x.1 → HasRoom k y.1 → HasRoom k (if b then x else y).1
-  either true x y h i = h
-  either false x y h i = i
-
   fewer : (st : State) (ks : List History) → FewerIn st.volumes ks → HasRoom k st → HasRoom k (record st { volumes = ks })
   fewer st ks f h = roomy_fewer k st.volumes ks (in_progress st) f h
 
@@ -182,8 +177,8 @@ module _ (k : Cuts) where
     ticks = on_ticks;
     fails = λ why st h. on_fails (in_progress st) why st h;
     gathers = λ s q st g h. on_followed true _ st h;
-    prepares = λ s q st g h. either (has_no_volume (in_progress st)) _ _ h (on_followed true _ st h);
-    snapshots = λ q st g h. either (has_no_volume (in_progress st)) _ _ h (on_followed true _ st h);
+    prepares = λ s q st g h. by_if (λ r. HasRoom k r.1) (has_no_volume (in_progress st)) _ _ h (on_followed true _ st h);
+    snapshots = λ q st g h. by_if (λ r. HasRoom k r.1) (has_no_volume (in_progress st)) _ _ h (on_followed true _ st h);
     completes = λ q st g h. on_followed true _ st h;
     clears = λ s v b st h. fewer st _ (fewer_in_gone _ _ st.volumes) h;
     deletes_set = λ n st h. fewer st _ (fewer_in_map (dropped n) (fewer_dropped n) st.volumes) h;
@@ -197,8 +192,7 @@ module _ (k : Cuts) where
 
   on_puts : (v : ℕ) (w : Write) (mark : Mark) (x : State) → HasRoom k x → HasRoom k (put v w mark x)
   on_puts v w Clean x h = fewer x _ (fewer_in_change (written w) (fewer_written w) v x.volumes) h
-  on_puts v w Fault x h = h
-  on_puts v w (FaultAfter n) x h = h
+  on_puts v w _ x h = h
 
   on_reverts : (s : Plan) (v : ℕ) (x : Kept) (mark : Mark) (st : State) → HasRoom k st → HasRoom k (reverted_as s v x mark st).1
   on_reverts s v x Clean st h = fewer st _ (fewer_in_change (reverted x.row.number x.point) (fewer_reverted x.row.number x.point) v st.volumes) h
@@ -277,16 +271,8 @@ at_cut s past act r e f g h =
     number true now = refl
     number false now = refl
 
-    all_true : (a b c : Bool) → a ≡ true → b ≡ true → c ≡ true → (a && b && c) ≡ true
-    all_true true true c e f g = g
-    all_true true false c e f g = absurd cc
-    all_true false b c e f g = absurd cc
-
-    own : (a : ℕ) → (a == a) ≡ true
-    own a = grind arith
-
     now : is_cut_of r.number (state s past) act ≡ true
-    now = all_true (is_provider act.event) (is_cut_group (open_group (left_now (state s past)))) (is_set r.number (in_progress (state s past))) e f (ap (is_set r.number) g ∙ own r.number)
+    now = all_three (is_provider act.event) (is_cut_group (open_group (left_now (state s past)))) (is_set r.number (in_progress (state s past))) e f (ap (is_set r.number) g ∙ eq-eqb r.number r.number refl)
 
     by_cut : (v : ℕ) (o : Option (List Act)) → known s (past ++ act ∷ []) (row_cut r.number (state s past).clock r).number ≡ o → is_among v r.volumes ≡ true
         → place_for o + length (at (cut_set (Some r) (state s past)).volumes v).images ≤ most_images

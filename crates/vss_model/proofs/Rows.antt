@@ -4,24 +4,22 @@ use Rattle.std.specs.Prelude.{option_map, ◌&&◌, ◌||◌, not, is_some, if�
 use Rattle.std.specs.List.{list_any}
 use Rattle.std.proofs.lemmas.Bool.{and_left, and_right, or_left, or_parts, or_from, ne_eqb, eq-eqb, cond-true, cond-false}
 use Rattle.vss_names.specs.declared.set_outcome.SetOutcome.{SetOutcome}
-use Rattle.vss_names.specs.declared.set_outcome.SetOutcome.TheVariants.{Running, Complete, Failed}
+use Rattle.vss_names.specs.declared.set_outcome.SetOutcome.TheVariants.{Complete}
 use Rattle.vss_model.specs.State.{SetRow, is_running, is_complete}
 use Rattle.vss_model.specs.Ending.{row_settled}
 use Rattle.set_agenda.specs.declared.kind.Kind.{Kind}
-use Rattle.set_agenda.specs.declared.kind.Kind.TheVariants.{Gather, Prepare, Snapshot, Complete as CompleteKind}
+use Rattle.set_agenda.specs.declared.kind.Kind.TheVariants.{Snapshot}
 use Rattle.set_agenda.specs.Agenda.{Agenda, is_snapshot}
 use Rattle.vss_model.specs.Effects.{ended_of}
 use Rattle.vss_model.specs.Facts.{NumberedFrom}
-
-some_row : (q r : SetRow) → Some q ≡ Some r → q ≡ r
-some_row q r e = cc
+use Rattle.vss_model.proofs.ByEvent.{some_same}
 
 pub running_found : (rows : List SetRow) (r : SetRow) → find (λ q. is_running q.result) rows ≡ Some r → is_running r.result ≡ true
 running_found [] r e = absurd cc
 running_found (q ∷ rows) r e = by_head (is_running q.result) refl e (running_found rows r)
   where
     by_head : (b : Bool) → is_running q.result ≡ b → (if b then Some q else find (λ x. is_running x.result) rows) ≡ Some r → (find (λ x. is_running x.result) rows ≡ Some r → is_running r.result ≡ true) → is_running r.result ≡ true
-    by_head true f e ih = subst (λ x. is_running x.result ≡ true) (some_row q r e) f
+    by_head true f e ih = subst (λ x. is_running x.result ≡ true) (some_same q r e) f
     by_head false f e ih = ih e
 
 pub found_above : (m : ℕ) (rows : List SetRow) (r : SetRow) → NumberedFrom m rows → find (λ q. is_running q.result) rows ≡ Some r → m ≤ r.number
@@ -29,7 +27,7 @@ found_above m [] r h e = absurd cc
 found_above m (q ∷ rows) r h e = by_head (is_running q.result) e (found_above (m + 1) rows r h.1)
   where
     by_head : (b : Bool) → (if b then Some q else find (λ x. is_running x.result) rows) ≡ Some r → (find (λ x. is_running x.result) rows ≡ Some r → m + 1 ≤ r.number) → m ≤ r.number
-    by_head true e ih = subst (λ x. m ≤ x.number) (some_row q r e) (let g = h.0 in omega (arith, g))
+    by_head true e ih = subst (λ x. m ≤ x.number) (some_same q r e) (let g = h.0 in omega (arith, g))
     by_head false e ih = let g = ih e in omega (arith, g)
 
 -- the row of its number is the row of the set in progress
@@ -43,7 +41,7 @@ row_running m (q ∷ rows) r h e = by_head (is_running q.result) e (row_running 
     by_head : (b : Bool) → (if b then Some q else find (λ x. is_running x.result) rows) ≡ Some r → (find (λ x. is_running x.result) rows ≡ Some r → find (λ x. x.number == r.number) rows ≡ Some r)
         → (find (λ x. is_running x.result) rows ≡ Some r → m + 1 ≤ r.number) → (if q.number == r.number then Some q else find (λ x. x.number == r.number) rows) ≡ Some r
     by_head true e ih above =
-        let same = some_row q r e in
+        let same = some_same q r e in
         cond-true _ _ _ (subst (λ x. (q.number == x.number) ≡ true) same (eq-eqb q.number q.number refl)) ∙ ap (λ x. Some x) same
     by_head false e ih above = cond-false _ _ _ (below q.number m r.number h.0 (above e)) ∙ ih e
 
@@ -86,9 +84,8 @@ none_below k n (r ∷ rows) h l =
     or_from ((r.number == n) && is_complete r.result) (has_complete rows n) (and_left (r.number == n) (is_complete r.result) (apart_back n r.number (let e = h.0 in omega (arith, e, l)))) (none_below (k + 1) n rows h.1 (omega (arith, l)))
 
 running_not_complete : (o : SetOutcome) → is_running o ≡ true → is_complete o ≡ false
-running_not_complete Running e = refl
 running_not_complete Complete e = absurd cc
-running_not_complete (Failed why) e = refl
+running_not_complete _ e = refl
 
 -- a set whose row is not complete is not complete
 row_not_complete : (k n : ℕ) (rows : List SetRow) (r : SetRow) → NumberedFrom k rows → find (λ q. q.number == n) rows ≡ Some r → is_complete r.result ≡ false → has_complete rows n ≡ false
@@ -100,7 +97,7 @@ row_not_complete k n (q ∷ rows) r h e f = by_head (q.number == n) refl e (row_
 
     by_head : (b : Bool) → (q.number == n) ≡ b → (if b then Some q else find (λ x. x.number == n) rows) ≡ Some r → (find (λ x. x.number == n) rows ≡ Some r → is_complete r.result ≡ false → has_complete rows n ≡ false) → ((b && is_complete q.result) || has_complete rows n) ≡ false
     by_head true g e ih =
-        or_from (is_complete q.result) (has_complete rows n) (subst (λ x. is_complete x.result ≡ false) (sym (some_row q r e)) f) (none_below (k + 1) n rows h.1 (equal_below q.number n k g h.0))
+        or_from (is_complete q.result) (has_complete rows n) (subst (λ x. is_complete x.result ≡ false) (sym (some_same q r e)) f) (none_below (k + 1) n rows h.1 (equal_below q.number n k g h.0))
     by_head false g e ih = ih e f
 
 pub running_incomplete : (rows : List SetRow) (r : SetRow) → NumberedFrom 1 rows → find (λ q. is_running q.result) rows ≡ Some r → has_complete rows r.number ≡ false
@@ -138,7 +135,7 @@ complete_found k n [] r e f = absurd cc
 complete_found k n (q ∷ rows) r e f = by_head (q.number == n) e (complete_found k n rows r)
   where
     by_head : (b : Bool) → (if b then Some q else find (λ x. x.number == n) rows) ≡ Some r → (find (λ x. x.number == n) rows ≡ Some r → is_complete r.result ≡ true → has_complete rows n ≡ true) → ((b && is_complete q.result) || has_complete rows n) ≡ true
-    by_head true e ih = or_left (is_complete q.result) (has_complete rows n) (subst (λ x. is_complete x.result ≡ true) (sym (some_row q r e)) f)
+    by_head true e ih = or_left (is_complete q.result) (has_complete rows n) (subst (λ x. is_complete x.result ≡ true) (sym (some_same q r e)) f)
     by_head false e ih = ih e f
 
 -- ## rows that are over
@@ -161,7 +158,7 @@ none_over m (q ∷ rows) r h e = by_head (is_running q.result) refl e (none_over
     by_head : (b : Bool) → is_running q.result ≡ b → (if b then Some q else find (λ x. is_running x.result) rows) ≡ Some r → (find (λ x. is_running x.result) rows ≡ Some r → find (is_over_row r.number) rows ≡ None)
         → (if is_over_row r.number q then Some q else find (is_over_row r.number) rows) ≡ None
     by_head true f e ih =
-        let number = ap (λ (x : SetRow). x.number) (some_row q r e) in
+        let number = ap (λ (x : SetRow). x.number) (some_same q r e) in
         cond-false _ _ _ (and_right (q.number == r.number) (not (is_running q.result)) (ap not f)) ∙ none_later (m + 1) r.number rows h.1 (let g = h.0 in omega (arith, g, number))
     by_head false f e ih =
         let above = found_above (m + 1) rows r h.1 e in
@@ -191,7 +188,7 @@ settled_row m o over (q ∷ rows) r h e = by_head (is_running q.result) refl e (
         → (find (λ x. is_running x.result) rows ≡ Some r → find (is_over_row r.number) (map (row_settled o) rows) ≡ Some (record r { result = o }))
         → (if is_over_row r.number (row_settled o q) then Some (row_settled o q) else find (is_over_row r.number) (map (row_settled o) rows)) ≡ Some (record r { result = o })
     by_head true f e ih =
-        let is : row_settled o q ≡ record r { result = o } = settled_running o q f ∙ ap (λ (x : SetRow). record x { result = o }) (some_row q r e) in
+        let is : row_settled o q ≡ record r { result = o } = settled_running o q f ∙ ap (λ (x : SetRow). record x { result = o }) (some_same q r e) in
         ap (λ (x : SetRow). if is_over_row r.number x then Some x else find (is_over_row r.number) (map (row_settled o) rows)) is ∙ cond-true _ _ _ own
     by_head false f e ih =
         let above = found_above (m + 1) rows r h.1 e in
@@ -209,10 +206,8 @@ number-cut true now r = refl
 number-cut false now r = refl
 
 pub kind_is : (k : Kind) → is_snapshot k ≡ true → k ≡ Snapshot
-kind_is Gather e = absurd cc
-kind_is Prepare e = absurd cc
 kind_is Snapshot e = refl
-kind_is CompleteKind e = absurd cc
+kind_is _ e = absurd cc
 
 pub none_runs : (a : Option Agenda) → is_some a ≡ false → a ≡ None
 none_runs None e = refl

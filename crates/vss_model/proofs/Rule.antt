@@ -11,7 +11,7 @@ use Rattle.requestor.specs.declared.session_call.SessionCall.TheVariants as call
 use Rattle.requestor.specs.Session.{Session}
 use Rattle.scenario.specs.Plan.{Plan}
 use Rattle.vss_model.specs.declared.event.Event.{Event}
-use Rattle.vss_model.specs.declared.event.Event.TheVariants.{Line, Answer as AnswerEvent, Provider, Idle}
+use Rattle.vss_model.specs.declared.event.Event.TheVariants.{Line, Provider}
 use Rattle.vss_model.specs.State.{State, SetRow, Kept, in_progress, left_now}
 use Rattle.vss_model.specs.Cut.{is_provider}
 use Rattle.scenario.specs.Bounds.{is_begin}
@@ -44,9 +44,7 @@ no_set_of st v k e = in_no_set (is_backup k.row.context) (is_in_set v (in_progre
 -- the event is a `begin` line of this lane
 abbrev pub begins_at : ℕ → Event → Bool
 begins_at lane (Line l op) = is_begin op && (l == lane)
-begins_at lane (AnswerEvent w answer) = false
-begins_at lane Provider = false
-begins_at lane Idle = false
+begins_at lane _ = false
 
 -- the changes but the provider's steps and a session's beginning
 pub record IsKeptButSteps (P : State → Type 0) : Type 0 where
@@ -129,10 +127,8 @@ module _ (P : State → Type 0) (k : IsKeptButSteps P) where
       after_by P s st act (λ e. covered (λ event mark r. event ≡ act.event → mark ≡ act.mark → P r.1) s st (covers_act s st act at steps begins h) act.event act.mark e refl refl) h
 
 pub working_of : (s : Plan) (st : State) (event : Event) → enabled s st event ≡ true → is_provider event ≡ true → is_working (left_now st) ≡ true
-working_of s st (Line lane op) e f = absurd cc
-working_of s st (AnswerEvent w answer) e f = absurd cc
 working_of s st Provider e f = e
-working_of s st Idle e f = absurd cc
+working_of s st _ e f = absurd cc
 
 pub on_after : (P : State → Type 0) (k : IsKeptByChanges P) (s : Plan) (st : State) (act : Act) → IsKeptByWrites P st → P st → P (after s st act)
 on_after P k s st act at h = on_after_steps P (but_steps P k) s st act at (λ e f. k.steps act.mark st (working_of s st act.event e f) h) (λ lane all c e f. k.begins lane all c st f h) h

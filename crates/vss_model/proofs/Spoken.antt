@@ -3,6 +3,7 @@
 use Rattle.std.proofs.Common.{◌≡◌, ℕ, ◌==◌, List, [], ◌∷◌, ◌++◌, Option, Some, None, refl, Bool, true, false, map, filter, sym, ◌∙◌, subst}
 use Rattle.std.specs.Prelude.{◌&&◌, ◌||◌, not, if◌then◌else◌}
 use Rattle.std.proofs.lemmas.List.Folds.{list_any-append}
+use Rattle.std.proofs.lemmas.Bool.{and_parts, or_right}
 use Rattle.vss_names.specs.declared.level.Level.{Level}
 use Rattle.vss_names.specs.declared.order.Order.TheVariants.{Identify, PrepareBackup, PrepareSnapshot, Freeze, Thaw, PostSnapshot, BackupComplete}
 use Rattle.writer_state.specs.declared.said.Said.{Said}
@@ -19,18 +20,10 @@ use Rattle.vss_model.specs.Acts.{Act, state}
 use Rattle.vss_model.specs.Cut.{is_cut_group}
 use Rattle.vss_model.proofs.Orderly.{true_not_false}
 use Rattle.vss_model.proofs.LogRule.{IsKeptInLog, Running, in_log}
-use Rattle.vss_model.proofs.CutLog.{is_cut_made, said_stays}
+use Rattle.vss_model.proofs.CutLog.{is_cut_made, said_stays, either_way}
 use Rattle.vss_model.proofs.AtCut.{at_cut, kind_at_cut}
 
 -- ## what is said at a place
-
-either_true : (a b c : Bool) → (a || b) ≡ true → (a ≡ true → c ≡ true) → (b ≡ true → c ≡ true) → c ≡ true
-either_true true b c e f g = f refl
-either_true false b c e f g = g e
-
-both_parts : (a b : Bool) → (a && b) ≡ true → (a ≡ true) × (b ≡ true)
-both_parts true b e = (refl, e)
-both_parts false b e = absurd cc
 
 -- what was said anew was said at that place, by one of these
 pub new_said : (p q : Place) (said : Said) (now who : ℕ) (ws : List ℕ) → has_said (map (at_place p said now) ws) q who ≡ true → (same_place p q && is_among who ws) ≡ true
@@ -65,11 +58,7 @@ among_filter test x (y ∷ xs) e = by_test (test y) e (among_filter test x xs)
         head : (a b c : Bool) → (a || b) ≡ true → (b ≡ true → c ≡ true) → (a || c) ≡ true
         head true b c e f = refl
         head false b c e f = f e
-    by_test false e ih = tail (y == x) (is_among x xs) (ih e)
-      where
-        tail : (a b : Bool) → b ≡ true → (a || b) ≡ true
-        tail true b e = refl
-        tail false b e = e
+    by_test false e ih = or_right (y == x) (is_among x xs) (ih e)
 
 -- the open place has the open group, and of its members those are waited for
 pub waits_members : (a : Agenda) (ps : List Place) (x : ℕ) → is_among x (waits_now (left_from a ps)) ≡ true → is_among x (members_of a (open_place (left_from a ps)).group (open_place (left_from a ps)).level) ≡ true
@@ -87,19 +76,11 @@ waits_members a (p ∷ ps) x e = at_group (waited_for a p) (left_from a ps) (λ 
 
 hold_members : (g : Group) (k m : ℕ) (a : Agenda) (l : Option Level) (v : ℕ) → ((group_code g == group_code Hold) && (k == m)) ≡ true → is_among v (members_of a g l) ≡ true → is_among v a.volumes ≡ true
 hold_members (Orders Identify) k m a l v e h = absurd cc
-hold_members (Orders PrepareBackup) k m a l v e h = absurd cc
-hold_members (Orders PrepareSnapshot) k m a l v e h = absurd cc
-hold_members (Orders Freeze) k m a l v e h = absurd cc
-hold_members (Orders Thaw) k m a l v e h = absurd cc
-hold_members (Orders PostSnapshot) k m a l v e h = absurd cc
-hold_members (Orders BackupComplete) k m a l v e h = absurd cc
+hold_members (Orders _) k m a l v e h = absurd cc
 hold_members PreCommit k m a l v e h = absurd cc
-hold_members Flush k m a l v e h = h
-hold_members Hold k m a l v e h = h
 hold_members Cut k m a l v e h = absurd cc
-hold_members Commit k m a l v e h = h
-hold_members Release k m a l v e h = h
 hold_members PostCommit k m a l v e h = absurd cc
+hold_members _ k m a l v e h = h
 
 -- only volumes of the agenda were held
 abbrev pub HoldsOwn : Agenda → Type 0
@@ -107,7 +88,7 @@ HoldsOwn a = (v : ℕ) → has_said a.log (plain Hold) v ≡ true → is_among v
 
 said_more : (log new : List Entry) (p : Place) (who : ℕ) (c : Bool) → has_said (log ++ new) p who ≡ true → (has_said log p who ≡ true → c ≡ true) → (has_said new p who ≡ true → c ≡ true) → c ≡ true
 said_more log new p who c e f g =
-    either_true (has_said log p who) (has_said new p who) c (sym (list_any-append (λ (x : Entry). same_place x.place p && (x.who == who)) log new) ∙ e) f g
+    either_way (has_said log p who) (has_said new p who) c (sym (list_any-append (λ (x : Entry). same_place x.place p && (x.who == who)) log new) ∙ e) f g
 
 holds_own : IsKeptInLog HoldsOwn
 holds_own = record {
@@ -116,7 +97,7 @@ holds_own = record {
       let p = open_place (groups_left a) in
       said_more a.log (map (at_place p said now) ws) (plain Hold) v (is_among v a.volumes) e (h v)
       (λ f.
-      let new = both_parts (same_place p (plain Hold)) (is_among v ws) (new_said p (plain Hold) said now v ws f) in
+      let new = and_parts (same_place p (plain Hold)) (is_among v ws) (new_said p (plain Hold) said now v ws f) in
       hold_members p.group (level_code p.level) (level_code None) a p.level v new.0 (waits_members a (places a.kind) v (waited v new.1)));
 }
 
@@ -132,27 +113,12 @@ among_members test w (m ∷ ms) e = by_test (test m) e (among_members test w ms)
         head : (a b c : Bool) → (a || b) ≡ true → (b ≡ true → c ≡ true) → (a || c) ≡ true
         head true b c e f = refl
         head false b c e f = f e
-    by_test false e ih = tail (m.writer == w) (is_member ms w) (ih e)
-      where
-        tail : (a b : Bool) → b ≡ true → (a || b) ≡ true
-        tail true b e = refl
-        tail false b e = e
+    by_test false e ih = or_right (m.writer == w) (is_member ms w) (ih e)
 
 freeze_members : (g : Group) (a : Agenda) (l : Option Level) (w : ℕ) → is_freeze g ≡ true → is_among w (members_of a g l) ≡ true → is_member a.members w ≡ true
 freeze_members (Orders Freeze) a l w e h = among_members (λ m. is_at l m.level) w a.members h
-freeze_members (Orders Identify) a l w e h = absurd cc
-freeze_members (Orders PrepareBackup) a l w e h = absurd cc
-freeze_members (Orders PrepareSnapshot) a l w e h = absurd cc
-freeze_members (Orders Thaw) a l w e h = absurd cc
-freeze_members (Orders PostSnapshot) a l w e h = absurd cc
-freeze_members (Orders BackupComplete) a l w e h = absurd cc
-freeze_members PreCommit a l w e h = absurd cc
-freeze_members Flush a l w e h = absurd cc
-freeze_members Hold a l w e h = absurd cc
-freeze_members Cut a l w e h = absurd cc
-freeze_members Commit a l w e h = absurd cc
-freeze_members Release a l w e h = absurd cc
-freeze_members PostCommit a l w e h = absurd cc
+freeze_members (Orders _) a l w e h = absurd cc
+freeze_members _ a l w e h = absurd cc
 
 -- only members of the agenda froze
 abbrev pub FreezesOwn : Agenda → Type 0
@@ -164,9 +130,9 @@ freezes_own = record {
   says = λ said now ws a waited mild h w e.
       let p = open_place (groups_left a) in
       let new = map (at_place p said now) ws in
-      either_true (has_frozen a.log w) (has_frozen new w) (is_member a.members w) (sym (list_any-append (λ (x : Entry). is_freeze x.place.group && is_ok x.said && (x.who == w)) a.log new) ∙ e) (h w)
+      either_way (has_frozen a.log w) (has_frozen new w) (is_member a.members w) (sym (list_any-append (λ (x : Entry). is_freeze x.place.group && is_ok x.said && (x.who == w)) a.log new) ∙ e) (h w)
       (λ f.
-      let parts = both_parts (is_freeze p.group) (is_among w ws) (new_frozen p said now w ws f) in
+      let parts = and_parts (is_freeze p.group) (is_among w ws) (new_frozen p said now w ws f) in
       freeze_members p.group a p.level w parts.0 (waits_members a (places a.kind) w (waited w parts.1)));
 }
 
@@ -189,19 +155,9 @@ fewer_wait log new p (x ∷ xs) e = by_head (has_said log p x) (has_said (log ++
 
 cut_code : (g : Group) (k m : ℕ) → ((group_code g == group_code Cut) && (k == m)) ≡ true → is_cut_group (Some g) ≡ true
 cut_code (Orders Identify) k m e = absurd cc
-cut_code (Orders PrepareBackup) k m e = absurd cc
-cut_code (Orders PrepareSnapshot) k m e = absurd cc
-cut_code (Orders Freeze) k m e = absurd cc
-cut_code (Orders Thaw) k m e = absurd cc
-cut_code (Orders PostSnapshot) k m e = absurd cc
-cut_code (Orders BackupComplete) k m e = absurd cc
-cut_code PreCommit k m e = absurd cc
-cut_code Flush k m e = absurd cc
-cut_code Hold k m e = absurd cc
+cut_code (Orders _) k m e = absurd cc
 cut_code Cut k m e = refl
-cut_code Commit k m e = absurd cc
-cut_code Release k m e = absurd cc
-cut_code PostCommit k m e = absurd cc
+cut_code _ k m e = absurd cc
 
 pub cut_open : (os : List Open) → same_place (open_place os) (plain Cut) ≡ true → is_cut_group (open_group os) ≡ true
 cut_open [] e = absurd cc
@@ -222,7 +178,7 @@ holds_first_more said now ws a h e =
     by_cases : (b c : Bool) → is_cut_made a.log ≡ b → has_said (map (at_place (open_place (groups_left a)) said now) ws) (plain Cut) 0 ≡ c → (b || c) ≡ true → waited_for (all_say said now ws a) (plain Hold) ≡ []
     by_cases true c f g e = fewer_wait a.log (map (at_place (open_place (groups_left a)) said now) ws) (plain Hold) a.volumes (h f)
     by_cases false true f g e =
-        let parts = both_parts (same_place (open_place (groups_left a)) (plain Cut)) (is_among 0 ws) (new_said (open_place (groups_left a)) (plain Cut) said now 0 ws g) in
+        let parts = and_parts (same_place (open_place (groups_left a)) (plain Cut)) (is_among 0 ws) (new_said (open_place (groups_left a)) (plain Cut) said now 0 ws g) in
         fewer_wait a.log (map (at_place (open_place (groups_left a)) said now) ws) (plain Hold) a.volumes (closed_at_cut a (cut_open (groups_left a) parts.0))
     by_cases false false f g e = absurd cc
 

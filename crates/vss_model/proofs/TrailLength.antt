@@ -1,13 +1,14 @@
 -- Each legal move takes a turn, so a legal trail is short.
 use Rattle.std.proofs.Common.{◌≡◌, ℕ, zero, suc, ◌+◌, ◌*◌, ◌==◌, ◌<◌, ◌≤◌, List, [], ◌∷◌, ◌++◌, Option, Some, None, refl, Bool, true, false, ap, sym, ◌∙◌, subst, map, length, drop, cond, arith}
-use Rattle.std.specs.Prelude.{◌&&◌, not, slice_get, sum}
+use Rattle.std.specs.Prelude.{not, slice_get, sum}
 use Rattle.std.proofs.lemmas.List.Sums.{sum_by-cons}
+use Rattle.std.proofs.lemmas.Bool.{and_parts, eq-eqb}
 use Rattle.vss_names.specs.declared.vss_result.VssResult.{VssResult}
 use Rattle.vss_names.specs.declared.vss_result.VssResult.TheVariants.{AsyncCancelled, InsufficientStorage}
 use Rattle.write_history.specs.declared.actor.Actor.{Actor}
 use Rattle.write_history.specs.declared.actor.Actor.TheVariants.{Lane, Writer, Advance, Idle}
 use Rattle.write_history.specs.declared.mark.Mark.{Mark}
-use Rattle.write_history.specs.declared.mark.Mark.TheVariants.{Clean, Fault, FaultAfter}
+use Rattle.write_history.specs.declared.mark.Mark.TheVariants.{Clean}
 use Rattle.write_history.specs.declared.move_item.Move.{Move}
 use Rattle.write_history.specs.History.{Write}
 use Rattle.writer_calls.specs.Script.{said_of}
@@ -24,7 +25,7 @@ use Rattle.scenario.specs.Plan.{Plan, LaneLine, LanePlan, lines_in, lines_of}
 use Rattle.vss_model.specs.declared.event.Event.{Event}
 use Rattle.vss_model.specs.declared.event.Event.TheVariants.{Line, Answer as AnswerEvent, Provider, Idle as IdleEvent}
 use Rattle.vss_model.specs.State.{State, SetRow, Kept, in_progress, left_now}
-use Rattle.vss_model.specs.Ending.{Ending, NothingEnds, AgendaEnds, SetFails, ending, concluded, followed, runs, failed_in, failed}
+use Rattle.vss_model.specs.Ending.{Ending, NothingEnds, SetFails, ending, concluded, followed, runs, failed_in, failed}
 use Rattle.vss_model.specs.Images.{Replied, cleared, set_loses_image, with_room_if, put, write, reverted_as}
 use Rattle.component_doc.specs.Selection.{takers}
 use Rattle.vss_names.specs.declared.order.Order.{Order}
@@ -41,6 +42,7 @@ use Rattle.vss_model.proofs.Waiting.{idle_spends}
 use Rattle.vss_model.proofs.GoesOn.{cursor_more, cursor_same}
 use Rattle.vss_model.proofs.Turns.{waits_in, short_filter, less_stepped, less_answered, not_more_timed, less_timed, few_begun, none_released, none_left_failed}
 use Rattle.vss_model.proofs.FewTurns.{FewVolumes, short_members, few_in}
+use Rattle.vss_model.proofs.Rows.{apart_back}
 
 -- ## one act
 
@@ -49,8 +51,7 @@ waits_at st = waiting (left_now st)
 
 same_concluded : (e : Ending) (st : State) → waits_at (concluded e st) ≡ waits_at st
 same_concluded NothingEnds st = refl
-same_concluded AgendaEnds st = refl
-same_concluded (SetFails why) st = refl
+same_concluded _ st = refl
 
 same_followed : (ran : Bool) (c : Course) (st : State) → waits_at (followed ran c st) ≡ waits_in c
 unfolding followed
@@ -92,8 +93,7 @@ few_room false x = omega arith
 
 same_put : (v : ℕ) (w : Write) (mark : Mark) (x : State) → waits_at (put v w mark x) ≡ waits_at x
 same_put v w Clean x = refl
-same_put v w Fault x = refl
-same_put v w (FaultAfter n) x = refl
+same_put v w _ x = refl
 
 few_write : (s : Plan) (v : ℕ) (w : Write) (mark : Mark) (st : State) → waits_at (write s v w mark st).1 ≤ waits_at st
 unfolding write
@@ -105,8 +105,7 @@ few_write s v w mark st =
 
 same_revert : (s : Plan) (v : ℕ) (kept : Kept) (mark : Mark) (st : State) → waits_at (reverted_as s v kept mark st).1 ≡ waits_at st
 same_revert s v kept Clean st = refl
-same_revert s v kept Fault st = refl
-same_revert s v kept (FaultAfter n) st = refl
+same_revert s v kept _ st = refl
 
 few_of_set : (o : Option SetRow) → FewVolumes o → length (volumes_of o) ≤ 64
 few_of_set None h = omega arith
@@ -115,9 +114,7 @@ few_of_set (Some r) h = h
 -- the turns that an event takes of those of its lane
 abbrev turns_of_event : Event → ℕ
 turns_of_event (Line lane op) = 1 + turns_of_agenda (begins_agenda op)
-turns_of_event (AnswerEvent w answer) = 0
-turns_of_event Provider = 0
-turns_of_event IdleEvent = 0
+turns_of_event _ = 0
 
 abbrev Takes : State → Event → Mark → Replied → Type 0
 Takes st event mark r = suc (waits_at r.1) ≤ waits_at st + turns_of_event event
@@ -185,20 +182,14 @@ lanes_same moves m j (p ∷ ps) h =
 other_lane : (x i : ℕ) → i < x → (i == x) ≡ false
 other_lane x i e = grind arith
 
-own_lane : (i : ℕ) → (i == i) ≡ true
-own_lane i = grind arith
-
 not_lane : (x i : ℕ) (actor : Actor) → actor ≡ Lane i → i < x → is_lane x actor ≡ false
 not_lane x i actor e h = ap (is_lane x) e ∙ other_lane x i h
 
 is_own_lane : (i : ℕ) (actor : Actor) → actor ≡ Lane i → is_lane i actor ≡ true
-is_own_lane i actor e = ap (is_lane i) e ∙ own_lane i
+is_own_lane i actor e = ap (is_lane i) e ∙ eq-eqb i i refl
 
 earlier_lane : (x i : ℕ) (actor : Actor) → actor ≡ Lane i → x < i → is_lane x actor ≡ false
-earlier_lane x i actor e h = ap (is_lane x) e ∙ own x i h
-  where
-    own : (x i : ℕ) → x < i → (i == x) ≡ false
-    own x i h = grind arith
+earlier_lane x i actor e h = ap (is_lane x) e ∙ apart_back x i h
 
 lanes_less : (moves : List Move) (m : Move) (j : ℕ) (lanes : List LanePlan) (k : ℕ) (l : LaneLine) → m.actor ≡ Lane (j + k) → slice_get (lines_in (slice_get lanes k)) (cursor moves (j + k)) ≡ Some l
     → turns_of_lanes moves j lanes ≡ turns_of_line l + turns_of_lanes (moves ++ m ∷ []) j lanes
@@ -242,16 +233,10 @@ record IsReached (s : Plan) (r : Run) : Type 0 where
 after_at : (s : Plan) (r : Run) (act : Act) → IsPlan s → IsReached s r → enabled s r.state act.event ≡ true → suc (waits_at (after s r.state act)) ≤ waits_at r.state + turns_of_event act.event
 after_at s r act p h e = subst (λ st. suc (waits_at (after s st act)) ≤ waits_at st + turns_of_event act.event) (sym h.is) (after_turns s h.acts act p (subst (λ st. enabled s st act.event ≡ true) h.is e))
 
-first_true : (a b : Bool) → (a && b) ≡ true → a ≡ true
-first_true true b e = refl
-first_true false b e = absurd cc
-
 -- a move's act is enabled
 event_of_legal : (s : Plan) (r : Run) (actor : Actor) → may_move s r actor ≡ true → event_enabled s r (event_of s r actor) ≡ true
-event_of_legal s r (Lane i) e = e
-event_of_legal s r (Writer w) e = e
-event_of_legal s r Advance e = e
-event_of_legal s r Idle e = first_true (event_enabled s r (event_of s r Idle)) (none_can_act s r) e
+event_of_legal s r Idle e = (and_parts (event_enabled s r (event_of s r Idle)) (none_can_act s r) e).0
+event_of_legal s r _ e = e
 
 -- an answer takes none of the lanes' turns
 no_turns_of_answer : (a : Option Answer) (w : ℕ) (event : Event) → answer_event w a ≡ Some event → turns_of_event event ≡ 0
@@ -299,18 +284,14 @@ event_turns s r m (Some event) p h e f =
     omega (arith, a, b)
 
 move_turns : (s : Plan) (r : Run) (m : Move) → IsPlan s → IsReached s r → is_legal_move s r m ≡ true → suc (turns_left s (moved s r m)) ≤ turns_left s r
-move_turns s r m p h e = event_turns s r m (event_of s r m.actor) p h refl (event_of_legal s r m.actor (first_true (may_move s r m.actor) (allows s r (event_of s r m.actor) m.mark) e))
+move_turns s r m p h e = event_turns s r m (event_of s r m.actor) p h refl (event_of_legal s r m.actor (and_parts (may_move s r m.actor) (allows s r (event_of s r m.actor) m.mark) e).0)
 
 reached_run : (s : Plan) (trail : List Move) → IsReached s (run s trail)
 reached_run s trail = record { acts = acts s trail; is = state-run s trail }
 
-second_true : (a b : Bool) → (a && b) ≡ true → b ≡ true
-second_true true b e = e
-second_true false b e = absurd cc
-
 pub one_turn : (s : Plan) (trail : List Move) (m : Move) → IsPlan s → is_legal s (trail ++ m ∷ []) ≡ true → turns_left s (run s (trail ++ m ∷ [])) < turns_left s (run s trail)
 one_turn s trail m p e =
-    let legal = second_true (is_legal s trail) (is_legal_move s (run s trail) m) (sym (is_legal-append s trail m) ∙ e) in
+    let legal = (and_parts (is_legal s trail) (is_legal_move s (run s trail) m) (sym (is_legal-append s trail m) ∙ e)).1 in
     let a = move_turns s (run s trail) m p (reached_run s trail) legal in
     subst (λ r. turns_left s r < turns_left s (run s trail)) (sym (run-append s trail m)) (omega (arith, a))
 
@@ -326,8 +307,8 @@ reached_more s r m (Some event) h e = record {
 turns_from : (s : Plan) (r : Run) (ms : List Move) → IsPlan s → IsReached s r → is_legal_from s r ms ≡ true → length ms + turns_left s (run_from s r ms) ≤ turns_left s r
 turns_from s r [] p h e = omega arith
 turns_from s r (m ∷ ms) p h e =
-    let a = move_turns s r m p h (first_true (is_legal_move s r m) (is_legal_from s (moved s r m) ms) e) in
-    let b = turns_from s (moved s r m) ms p (reached_more s r m (event_of s r m.actor) h refl) (second_true (is_legal_move s r m) (is_legal_from s (moved s r m) ms) e) in
+    let a = move_turns s r m p h (and_parts (is_legal_move s r m) (is_legal_from s (moved s r m) ms) e).0 in
+    let b = turns_from s (moved s r m) ms p (reached_more s r m (event_of s r m.actor) h refl) (and_parts (is_legal_move s r m) (is_legal_from s (moved s r m) ms) e).1 in
     omega (arith, a, b)
 
 -- ## the turns of a scenario

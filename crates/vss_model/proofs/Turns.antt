@@ -3,6 +3,7 @@
 use Rattle.std.proofs.Common.{◌≡◌, ℕ, ◌+◌, ◌*◌, ◌==◌, ◌<◌, ◌≤◌, List, [], ◌∷◌, Option, Some, None, refl, Bool, true, false, ap, sym, ◌∙◌, subst, filter, length, arith}
 use Rattle.std.specs.Prelude.{is_some, ◌&&◌, ◌||◌, not, if◌then◌else◌, option_map}
 use Rattle.std.proofs.lemmas.List.{length-map}
+use Rattle.std.proofs.lemmas.Bool.{eqb-true}
 use Rattle.vss_names.specs.declared.level.Level.{Level}
 use Rattle.vss_names.specs.declared.level.Level.TheVariants.{System, BackEnd, FrontEnd}
 use Rattle.vss_names.specs.declared.order.Order.{Order}
@@ -15,7 +16,7 @@ use Rattle.writer_state.specs.WriterState.{is_ok}
 use Rattle.set_agenda.specs.declared.group.Group.{Group}
 use Rattle.set_agenda.specs.declared.group.Group.TheVariants.{Orders, PreCommit, Flush, Hold, Cut, Commit, Release, PostCommit}
 use Rattle.set_agenda.specs.declared.kind.Kind.{Kind}
-use Rattle.set_agenda.specs.declared.kind.Kind.TheVariants.{Gather, Prepare, Snapshot, Complete}
+use Rattle.set_agenda.specs.declared.kind.Kind.TheVariants.{Gather, Snapshot}
 use Rattle.set_agenda.specs.declared.limit.Limit.{Limit}
 use Rattle.set_agenda.specs.declared.limit.Limit.TheVariants.{Hold as HoldLimit, Freeze as FreezeLimit, Answer as AnswerLimit}
 use Rattle.set_agenda.specs.declared.member.Member.{Member}
@@ -27,6 +28,7 @@ use Rattle.set_agenda.specs.Course.{Course, posted, failed as course_failed, set
 use Rattle.set_agenda.proofs.GroupsLeft.{groups_left-all_say}
 use Rattle.vss_model.specs.Turns.{waiting}
 use Rattle.vss_model.proofs.Waiting.{WaitsWell, waits-left_from}
+use Rattle.vss_model.proofs.CourseCalls.{first_among}
 
 -- ## lists
 
@@ -37,9 +39,6 @@ short_filter p (x ∷ xs) = own (p x) (short_filter p xs)
     own : (b : Bool) → length (filter p xs) ≤ length xs → length (if b then x ∷ filter p xs else filter p xs) ≤ length (x ∷ xs)
     own true h = omega arith
     own false h = omega arith
-
-same : (a b : ℕ) → (a == b) ≡ true → a ≡ b
-same a b e = grind arith
 
 -- a filter that lets one go is shorter
 filter_lets_go : (p : ℕ → Bool) (x : ℕ) (xs : List ℕ) → is_among x xs ≡ true → p x ≡ false → length (filter p xs) < length xs
@@ -55,7 +54,7 @@ filter_lets_go p x (y ∷ ys) e f = at (y == x) refl (filter_lets_go p x ys)
     rest false g = omega arith
 
     at : (b : Bool) → (y == x) ≡ b → (is_among x ys ≡ true → p x ≡ false → length (filter p ys) < length ys) → length (filter p (y ∷ ys)) < length (y ∷ ys)
-    at true g later = first (p y) (ap p (same y x g) ∙ f)
+    at true g later = first (p y) (ap p (eqb-true y x g) ∙ f)
     at false g later = rest (p y) (later (subst (λ b. (b || is_among x ys) ≡ true) g e) f)
 
 -- ## groups
@@ -134,12 +133,6 @@ less_worked : (now : ℕ) (c : Course) → IsHeard (next_member (left c.agenda) 
 unfolding worked
 less_worked now c h = waiting_said Ok now (next_member (left c.agenda) ∷ []) c.agenda h
 
-is_own : (x : ℕ) (ws : List ℕ) → is_among x (x ∷ ws) ≡ true
-is_own x ws = own x (is_among x ws)
-  where
-    own : (a : ℕ) (b : Bool) → ((a == a) || b) ≡ true
-    own a b = grind arith
-
 some_waiting : (whos : List ℕ) (os : List Open) → IsHeard whos os → 0 < waiting os
 some_waiting whos os h = let e = waiting-advance whos true os h in omega arith
 
@@ -151,7 +144,7 @@ waits_well (Some a) = waits-left_from a (places a.kind)
 
 heard_next : (os : List Open) → is_working os ≡ true → WaitsWell os → IsHeard (next_member os ∷ []) os
 heard_next [] e h = absurd cc
-heard_next (o ∷ os) e h = (next_member (o ∷ os), h, is_own (next_member (o ∷ os)) [])
+heard_next (o ∷ os) e h = (next_member (o ∷ os), h, first_among (next_member (o ∷ os)) [])
 
 pub less_stepped : (ok : Bool) (now : ℕ) (c : Course) → is_working (left c.agenda) ≡ true → waits_in (course_stepped ok now c) < waits_in c
 less_stepped ok now c e = subst (λ n. n < waits_in c) (sym (same_posted c (course_stepped_as ok now c))) (own ok)
@@ -167,7 +160,7 @@ less_stepped ok now c e = subst (λ n. n < waits_in c) (sym (same_posted c (cour
 
 heard_asked : (w : ℕ) (os : List Open) → is_some (open_order os w) ≡ true → IsHeard (w ∷ []) os
 heard_asked w [] e = absurd cc
-heard_asked w (o ∷ os) e = (w, asked (is_orders o.place.group) (is_among w o.waits) (order_of o.place.group) e, is_own w [])
+heard_asked w (o ∷ os) e = (w, asked (is_orders o.place.group) (is_among w o.waits) (order_of o.place.group) e, first_among w [])
   where
     asked : (a b : Bool) (x : Option Order) → is_some (order_if (a && b) x) ≡ true → b ≡ true
     asked true true x f = refl
@@ -307,13 +300,12 @@ most_of writers volumes = 4 * writers + 4 * volumes + 3
 
 few_in : (k : Kind) (a : Agenda) → a.kind ≡ k → members_at a (places k) ≤ most_of (length a.members) (length a.volumes)
 few_in Gather a e = let h = short_writers a.members None in omega arith
-few_in Prepare a e = let h = short_writers a.members None in omega arith
-few_in Complete a e = let h = short_writers a.members None in omega arith
 few_in Snapshot a e =
     let h = short_writers a.members None in
     let f = levels_of a.members in
     let g = short_filter (λ w. not (has_failed a.log w)) (writers_at a.members None) in
     omega arith
+few_in _ a e = let h = short_writers a.members None in omega arith
 
 waiting_begun : (a : Agenda) → waiting (groups_left a) ≤ most_of (length a.members) (length a.volumes)
 waiting_begun a = let h = waiting-left_from a (places a.kind) in let e = few_in a.kind a refl in omega arith

@@ -1,7 +1,8 @@
 -- A running agenda waits for somebody: for the provider's step, or for a writer's answer; and where it waits for an answer
 -- a limit runs, which an idle stretch spends.
 use Rattle.std.proofs.Common.{◌≡◌, ℕ, ◌+◌, ◌-◌, ◌==◌, ◌<◌, List, [], ◌∷◌, ◌++◌, Option, Some, None, refl, Bool, true, false, ap, sym, ◌∙◌, subst, fold, inl, inr, arith}
-use Rattle.std.specs.Prelude.{◌⊎◌, is_some, ◌&&◌, ◌||◌, not, if◌then◌else◌, nat_lt}
+use Rattle.std.specs.Prelude.{◌⊎◌, is_some, ◌&&◌, ◌||◌, not, if◌then◌else◌}
+use Rattle.std.proofs.lemmas.Bool.{lt-ltb}
 use Rattle.vss_names.specs.declared.context.Context.{Context}
 use Rattle.vss_names.specs.declared.order.Order.{Order}
 use Rattle.vss_names.specs.declared.order.Order.TheVariants.{Identify, PrepareBackup, PrepareSnapshot, Freeze, Thaw, PostSnapshot, BackupComplete}
@@ -10,7 +11,7 @@ use Rattle.vss_names.specs.declared.vss_result.VssResult.TheVariants.{AsyncCance
 use Rattle.writer_state.specs.declared.said.Said.{Said}
 use Rattle.writer_state.specs.WriterState.{is_ok}
 use Rattle.write_history.specs.declared.mark.Mark.{Mark}
-use Rattle.write_history.specs.declared.mark.Mark.TheVariants.{Clean, Fault, FaultAfter}
+use Rattle.write_history.specs.declared.mark.Mark.TheVariants.{Clean}
 use Rattle.write_history.specs.History.{Write}
 use Rattle.set_agenda.specs.declared.group.Group.{Group}
 use Rattle.set_agenda.specs.declared.group.Group.TheVariants.{Orders, PreCommit, Flush, Hold, Cut, Commit, Release, PostCommit}
@@ -27,14 +28,15 @@ use Rattle.tick_limits.specs.Time.{answer_limit, is_spent, ticks_until}
 use Rattle.requestor.specs.Session.{Session}
 use Rattle.scenario.specs.Plan.{Plan}
 use Rattle.vss_model.specs.State.{State, SetRow, Kept, start, in_progress, left_now}
-use Rattle.vss_model.specs.Ending.{Ending, NothingEnds, AgendaEnds, SetFails, ending, concluded, followed, runs, failed_in, failed}
-use Rattle.vss_model.specs.Images.{Replied, put, reverted_as}
+use Rattle.vss_model.specs.Ending.{Ending, NothingEnds, ending, concluded, followed, runs, failed_in, failed}
+use Rattle.vss_model.specs.Images.{put, reverted_as}
 use Rattle.vss_model.specs.Sessions.{begin_in, has_no_volume, closed}
 use Rattle.vss_model.specs.Steps.{answered, step_made, stepped_as, stepped, ticked, later}
 use Rattle.vss_model.specs.Acts.{Act, after, state, order_of_writer, idle_now}
 use Rattle.vss_model.specs.Laws.{IsKeptByChanges, IsKeptByWrites}
 use Rattle.vss_model.proofs.Rule.{on_after}
 use Rattle.vss_model.proofs.Orderly.{true_not_false}
+use Rattle.vss_model.proofs.ByEvent.{by_if}
 
 -- ## an agenda that runs is not done
 
@@ -108,8 +110,7 @@ IsOpenState st = IsOpen st.course.agenda
 
 open_concluded : (e : Ending) (st : State) → IsOpenState st → IsOpenState (concluded e st)
 open_concluded NothingEnds st h = h
-open_concluded AgendaEnds st h = h
-open_concluded (SetFails why) st h = h
+open_concluded _ st h = h
 
 open_followed : (ran : Bool) (c : Course) (st : State) → IsOpen c.agenda → IsOpenState (followed ran c st)
 unfolding followed
@@ -139,10 +140,6 @@ on_begins : (lane : ℕ) (all : Bool) (c : Option Context) (st : State) → IsOp
 on_begins lane all None st h = h
 on_begins lane all (Some c) st h = h
 
-either_open : (b : Bool) (x y : Replied) → IsOpenState x.1 → IsOpenState y.1 → IsOpenState (if b then x else y).1
-either_open true x y h i = h
-either_open false x y h i = i
-
 on_closes : (q : Session) (st : State) → IsOpenState (closed q st)
 unfolding closed released
 on_closes q st = tt
@@ -154,8 +151,8 @@ kept_by_changes = record {
   ticks = on_ticks;
   fails = λ why st h. on_failed_in (in_progress st) why st h;
   gathers = λ s q st e h. open_followed true _ st (open_begun Gather _ [] st.clock _);
-  prepares = λ s q st e h. either_open (has_no_volume (in_progress st)) _ _ h (open_followed true _ st (open_begun Prepare _ [] st.clock _));
-  snapshots = λ q st e h. either_open (has_no_volume (in_progress st)) _ _ h (open_followed true _ st (open_begun Snapshot st.course.members _ st.clock st.course));
+  prepares = λ s q st e h. by_if (λ r. IsOpenState r.1) (has_no_volume (in_progress st)) _ _ h (open_followed true _ st (open_begun Prepare _ [] st.clock _));
+  snapshots = λ q st e h. by_if (λ r. IsOpenState r.1) (has_no_volume (in_progress st)) _ _ h (open_followed true _ st (open_begun Snapshot st.course.members _ st.clock st.course));
   completes = λ q st e h. open_followed true _ st (open_begun Complete _ [] st.clock _);
   clears = λ s v b st h. h;
   deletes_set = λ n st h. h;
@@ -170,13 +167,11 @@ kept_by_changes = record {
 
 on_puts : (v : ℕ) (w : Write) (mark : Mark) (x : State) → IsOpenState x → IsOpenState (put v w mark x)
 on_puts v w Clean x h = h
-on_puts v w Fault x h = h
-on_puts v w (FaultAfter k) x h = h
+on_puts v w _ x h = h
 
 on_reverts : (s : Plan) (v : ℕ) (k : Kept) (mark : Mark) (st : State) → IsOpenState st → IsOpenState (reverted_as s v k mark st).1
 on_reverts s v k Clean st h = h
-on_reverts s v k Fault st h = h
-on_reverts s v k (FaultAfter n) st h = h
+on_reverts s v k _ st h = h
 
 kept_by_writes : (st : State) → IsKeptByWrites IsOpenState st
 kept_by_writes st = record {
@@ -228,13 +223,7 @@ goes_in (o ∷ os) e h = by_group o.place.group refl
 
     by_group : (g : Group) → o.place.group ≡ g → (is_working (o ∷ os) ≡ true) ⊎ (is_some (open_order (o ∷ os) (next_member (o ∷ os))) ≡ true)
     by_group (Orders x) f = inr (as_order (is_asked (next_member (o ∷ os)) (o ∷ os)) (order_of o.place.group) (answer o.place.group (is_among (next_member (o ∷ os)) o.waits) (ap is_orders f) h))
-    by_group PreCommit f = inl (ap (λ g. not (is_orders g)) f)
-    by_group Flush f = inl (ap (λ g. not (is_orders g)) f)
-    by_group Hold f = inl (ap (λ g. not (is_orders g)) f)
-    by_group Cut f = inl (ap (λ g. not (is_orders g)) f)
-    by_group Commit f = inl (ap (λ g. not (is_orders g)) f)
-    by_group Release f = inl (ap (λ g. not (is_orders g)) f)
-    by_group PostCommit f = inl (ap (λ g. not (is_orders g)) f)
+    by_group _ f = inl (ap (λ g. not (is_orders g)) f)
 
 goes_at : (x : Option Agenda) → is_some x ≡ true → IsOpen x → (is_working (left x) ≡ true) ⊎ (is_some (open_order (left x) (next_member (left x))) ≡ true)
 goes_at None e h = absurd cc
@@ -247,11 +236,8 @@ agenda_goes_on s acts e = goes_at (state s acts).course.agenda e (open_fold s (s
 -- ## an idle stretch spends a limit
 
 spends_one : (now since ticks : ℕ) → is_spent (now + ticks_until now since ticks) since ticks ≡ true
-spends_one now since ticks = less ticks ((now + ((since + ticks + 1) - now)) - since) (enough now since ticks)
+spends_one now since ticks = lt-ltb ticks ((now + ((since + ticks + 1) - now)) - since) (enough now since ticks)
   where
-    less : (a b : ℕ) → a < b → nat_lt a b ≡ true
-    less a b l = grind arith
-
     enough : (now since ticks : ℕ) → ticks < (now + ((since + ticks + 1) - now)) - since
     enough now since ticks = omega arith
 
