@@ -221,6 +221,12 @@ class Mirrors:
         for k in range(len(self.mirrors)):
             self.flush(k)
 
+    def again(self):
+        """Taken apart and up again: without images, and with each block of each mirror stale."""
+        self.holds = [None] * len(self.mirrors)
+        self.stale = [set(range(len(self.primary.blocks))) for _ in self.mirrors]
+        self.images = []
+
     @staticmethod
     def copy(device, stale, block, content):
         try:

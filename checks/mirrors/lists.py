@@ -27,6 +27,8 @@ class Singly(Subject):
         if word == "volume":
             self.volume = Mirrors(*values, self.taken_failing())
             return None
+        if word == "again":
+            return volume.again()
         if word == "write":
             return written(*volume.write(*values))
         if word in ("read", "image"):

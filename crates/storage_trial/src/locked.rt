@@ -1,5 +1,4 @@
-//! Calls of shards and their journals: one of a shard is made under its lock, one of the journal under the journal's, and a write under the
-//! shard's and then the journal's.
+//! Calls of shards and their journals: one of a shard is made under its lock, one of the journal under the journal's.
 
 use crate::call::Call;
 use crate::content::{buffer, filled_with, stamped_with};
@@ -7,7 +6,7 @@ use crate::locks::Locks;
 use crate::telling::{say, tell_of};
 use crate::trial_error::TrialError;
 use std::sync::Wait;
-use vss_shards::{Draft, Small, collect, give_back, read_image_on, read_on, write_on};
+use vss_shards::{Draft, ShardFault, Small, collect, give_back, read_image_on, read_on, write_on};
 
 /// What the bytes of a block are.
 #[derive(Clone, Copy, Debug)]
@@ -28,6 +27,26 @@ fn content_of(bytes: &[u8]) -> Content {
     }
 }
 
+/// Writes a block of a shard, where the calls are on its own journal; with another journal under the locks of both.
+fn write_once<R: Wait>(
+    handle: &R,
+    locks: &Locks,
+    v: u32,
+    block: u32,
+    payload: Small,
+) -> Result<Result<u32, ShardFault>, TrialError> {
+    let shards = locks.shards()?;
+    if v >= shards.volumes() {
+        return Err(TrialError::NoVolume);
+    }
+    if locks.group == locks.journal {
+        return Ok(shards.write(handle, v, block, payload));
+    }
+    let mut shard = shards.shard(v).lock(handle);
+    let mut journal = locks.journal()?.lock(handle);
+    Ok(write_on(&mut shard, &mut journal, block, payload))
+}
+
 /// Writes a block as often as the first number after it says, or once, and tells the last answer.
 fn write<R: Wait>(
     rt: &HostRuntime,
@@ -38,11 +57,9 @@ fn write<R: Wait>(
     payload: Small,
     times: &[u32],
 ) -> Result<(), TrialError> {
-    let mut shard = locks.shard(v)?.lock(handle);
-    let mut journal = locks.journal()?.lock(handle);
-    let mut answer = write_on(&mut shard, &mut journal, block, payload);
+    let mut answer = write_once(handle, locks, v, block, payload)?;
     for _ in 1..times.first().copied().unwrap_or(1) {
-        answer = write_on(&mut shard, &mut journal, block, payload);
+        answer = write_once(handle, locks, v, block, payload)?;
     }
     tell_of(rt, "Write", &answer)
 }

@@ -27,6 +27,7 @@
 //!     volume BLOCKS MIRRORS
 //!     write BLOCK BYTE · read BLOCK · cut SET · image SET BLOCK · drop SET
 //!     step MIRROR · stale MIRROR · ready · blocks · mirrors · images
+//!     again                     takes the volume apart, and up again from its devices
 //!     fill BYTE                 writes every block; prints how many writes were Ok
 //!     steps MIRROR COUNT        makes so many steps; prints how many copied a block
 //!     clock                     prints the microseconds since the line `clock` before, or the start

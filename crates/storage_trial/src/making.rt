@@ -10,11 +10,9 @@ ghost use Rattle.cow_volume.specs.OneVolume.{StandsForOne, blocks_of};
 use crate::plan::{Kind, Plan};
 use crate::trial_error::TrialError;
 use cow_volume::{CowGroup, CowVolume};
-use diff_area::{Area, MOST_BLOCKS, MOST_SLOTS, pages_for};
+use diff_area::{Area, MOST_BLOCKS, MOST_SLOTS, MOST_VOLUMES, pages_for};
+use diff_map::MOST_IMAGES;
 use volume_device::{Device, FileDevice, HostDevice, MemDevice};
-
-/// The most volumes of a group.
-const MOST_VOLUMES: usize = 128;
 
 /// A device of so many zero blocks, in a file with its name, or in memory with the calls failing that are planned for its name.
 pub fn device(
@@ -81,7 +79,7 @@ pub fn mirrors(
 fn are_blocks(blocks: &[u32]) -> bool
     ensures { IsTrue result → AreVolumes blocks.now }
 {
-    if blocks.is_empty() || blocks.len() > MOST_VOLUMES {
+    if blocks.is_empty() || blocks.len() > MOST_VOLUMES as usize {
         return false;
     }
     blocks.iter().all(|n| 1 <= *n && *n <= MOST_BLOCKS)
@@ -160,7 +158,7 @@ pub fn may_cut(images: &[u32], set: u32) -> bool
     ensures above_zero { IsTrue result → 0 < set }
     ensures newest { IsTrue result → All (λ s. s < set) images.now }
 {
-    if images.len() >= 512 || set == 0 {
+    if images.len() >= MOST_IMAGES || set == 0 {
         return false;
     }
     images.iter().all(|image| *image < set)

@@ -11,6 +11,7 @@ use crate::telling::tell;
 use crate::trial_error::TrialError;
 use block_data::Payload;
 use mirror_volume::{MirrorVolume, Synced};
+use std::alloc::Global;
 use std::time::Instant;
 use volume_device::{Device, HostDevice};
 
@@ -23,6 +24,16 @@ pub fn volume(rt: &HostRuntime, plan: &Plan, blocks: u32, count: u32) -> Result<
     let primary = device(rt, plan, "primary", blocks)?;
     let mirrors = mirrors(rt, plan, &primary, count)?;
     Ok(MirrorVolume::new(rt.alloc(), primary, mirrors)?)
+}
+
+/// Takes a volume apart, and up again from its devices: without images, and with each block of each mirror stale.
+fn again(alloc: Global, volume: Volume) -> Result<Volume, TrialError> {
+    let (primary, mirrors) = volume.into_parts();
+    let mut devices = Vec::new(alloc);
+    for mirror in mirrors {
+        devices.push(mirror.into_device())?;
+    }
+    Ok(MirrorVolume::resume(alloc, primary, devices)?)
 }
 
 /// Writes every block, and says how many writes were Ok.
@@ -97,6 +108,11 @@ impl Mirrored {
             ("volume", [blocks, mirrors], _) => {
                 self.volume = Some(volume(rt, plan, *blocks, *mirrors)?);
                 *plan = Plan::none(rt.alloc());
+                Ok(())
+            }
+            ("again", [], held) => {
+                let whole = held.take().ok_or(TrialError::NoVolume)?;
+                *held = Some(again(rt.alloc(), whole)?);
                 Ok(())
             }
             ("clock", [], _) => {

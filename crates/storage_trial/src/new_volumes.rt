@@ -4,6 +4,7 @@ use crate::making::volume;
 use crate::plan::Plan;
 use crate::trial_error::TrialError;
 use cow_volume::CowVolume;
+use diff_area::MOST_VOLUMES;
 use std::alloc::Global;
 use std::marker::Model;
 use volume_device::HostDevice;
@@ -52,7 +53,7 @@ impl NewVolumes {
     /// Shards of these volumes.
     pub fn into_shards(self, alloc: Global) -> Result<Shards<HostDevice>, TrialError> {
         let NewVolumes { volumes } = self;
-        if volumes.is_empty() || volumes.len() > 128 {
+        if volumes.is_empty() || volumes.len() > MOST_VOLUMES as usize {
             return Err(TrialError::Line);
         }
         Ok(Shards::new(alloc, volumes)?)

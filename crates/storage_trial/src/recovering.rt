@@ -11,12 +11,9 @@ use std::alloc::Global;
 use std::fmt::Debug;
 use volume_device::HostDevice;
 use vss_names::Numbers;
-use vss_recover::{Claim, RecoverVolume};
+use vss_recover::{Claim, MOST_CLAIMS, RecoverVolume};
 
 type Volume = RecoverVolume<HostDevice>;
-
-/// The most claims of a window.
-const MOST_CLAIMS: usize = 64;
 
 /// A volume of so many blocks over so many slots, whose overlay has so many.
 fn volume_of(

@@ -6,7 +6,7 @@ use std::sync::{Mutex, Wait};
 use std::thread;
 use std::thread::Threads;
 use volume_device::HostDevice;
-use vss_shards::{Draft, Shards, Small, collect, give_back, write_on};
+use vss_shards::{Draft, Shards, Small, collect, give_back};
 
 /// How often a writer tries at most.
 const MOST_TRIES: u32 = 1_000_000;
@@ -19,10 +19,8 @@ fn write_next<R: Wait>(rt: &R, shards: &Shards<HostDevice>, v: u32, n: u64) -> O
     if v >= shards.volumes() {
         return None;
     }
-    let mut shard = shards.shard(v).lock(rt);
-    let mut journal = shards.journal().lock(rt);
     let block = (n % BLOCKS) as u32;
-    write_on(&mut shard, &mut journal, block, Small::Stamp(n)).ok()
+    shards.write(rt, v, block, Small::Stamp(n)).ok()
 }
 
 /// Makes all writes of a shard: the nth puts n into block n modulo 4, and is tried again where the shard is held. Notes how many entries the
