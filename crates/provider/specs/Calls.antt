@@ -118,8 +118,6 @@ pub record AreWithout {D : Type 0} (device : Ghosts D) (old new : List (GroupVal
   pub number : (s : Plan) → HasGroups s old → IfStandFor device.told s old (λ hs. stood ≡ count_images set hs)
   pub none : stood ≡ 0 → new ≡ old
 
--- ## revert
-
 -- volume v was brought back to the image of a set; or no such image stands, and nothing changed; or a device failed after so many
 -- blocks were restored, in ascending order, which are fewer than there are to restore
 abbrev pub IsRevert : {D : Type 0} → Ghosts D → Plan → List (GroupValue D) → List (GroupValue D) → ℕ → ℕ → Result Unit RevertFault → Type 0

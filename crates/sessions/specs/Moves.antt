@@ -188,8 +188,6 @@ takes_memory Snapshot = true
 takes_memory Complete = true
 takes_memory _ = false
 
--- ## a failure from outside
-
 -- the set in progress failed, for this reason
 abbrev pub IsFailed : SessionsValue → SessionsValue → VssResult → Type 0
 IsFailed old new why = (st : State) → IsInOrder st → Keeps old st → Keeps new (failed_in (in_progress st) why st)

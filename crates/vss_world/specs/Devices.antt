@@ -22,8 +22,6 @@ abbrev pub AreaHolds : {D : Type 0} → (D → Option (List (List ℕ))) → Pla
 AreaHolds told s hs devices g = AllTell told s devices g
     → AreStored (told_by told devices (area_place g s.volumes)) (copies (placed (blocks_in_group g s.volumes)) (of_group g s.volumes hs))
 
--- ## faults
-
 -- the count of the device of a volume rose, or that of its group's area, and no other
 abbrev pub RoseFor : Plan → Option ℕ → List ℕ → List ℕ → Type 0
 RoseFor s None old new = ⊥

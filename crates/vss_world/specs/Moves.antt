@@ -74,8 +74,6 @@ abbrev pub StepLasts : {D : Type 0} → (D → Option (List (List ℕ))) → (D 
 StepLasts blocks_told lasting new s Blocked = Unit {0}
 StepLasts {D = D} blocks_told lasting new s (Moved o) = (v : ℕ) (d : D) → o.told ≡ told.Step Flush (Some v) false → slice_get new.devices (volume_place s v) ≡ Some d → lasting d ≡ blocks_told d
 
--- ## the sets that are listed
-
 -- an answer beside which sets are listed
 abbrev pub lists_sets : Told → Bool
 lists_sets told.Images = true
