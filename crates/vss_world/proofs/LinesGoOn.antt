@@ -121,8 +121,11 @@ module _ (s : Plan) (lane : ℕ) (st : State) (of : IsOfAgenda st) where
   snapshot_in : check_other st.session (runs st) lane call.Snapshot ≡ Go → (o : Option Session) → SnapshotGoes st (line_in s lane Snapshot o st)
   snapshot_in go None = inl (BadState, refl, not_pending, goes_nowhere st)
   snapshot_in go (Some q) = snapshot_if (has_no_volume (in_progress st)) _ _ refl (inl (BadState, refl, not_pending, goes_nowhere st))
-      (λ some. inr (snapshot_begins st.course.members (volumes_of (in_progress st)) st.clock st.course st some
-          (none_runs st.course.agenda ((other_goes st.session (runs st) lane call.Snapshot go).quiet refl)) refl, refl))
+      (λ some. inr (
+        snapshot_begins st.course.members (volumes_of (in_progress st)) st.clock st.course st some
+            (none_runs st.course.agenda ((other_goes st.session (runs st) lane call.Snapshot go).quiet refl)) refl,
+        refl,
+      ))
 
   judged_snapshot : (verdict : Verdict) → check_other st.session (runs st) lane call.Snapshot ≡ verdict → SnapshotGoes st (judged verdict s lane Snapshot st)
   judged_snapshot Go e = snapshot_in e st.session
