@@ -50,7 +50,8 @@ followed_self v (r ∷ rs) = ap (λ x. x ∷ followed v (map (copied_for v) rs) 
 pub Follows-first : {D : Type 0} (v : ℕ) (area : AreaValue D) (m : MapValue) → m.copies ≡ map (copied_for v) area.records → Follows v area area m
 Follows-first v area m tied = ap (λ rs. with_records rs area) (sym (ap (λ cs. followed v cs area.records) tied ∙ followed_self v area.records))
 
-followed_set : (v : ℕ) (copies : List (Option Copied)) (records : List Record) (slot : ℕ) (c : Option Copied) (r : Record) → slice_get records slot ≡ Some r → 0 < r.set → r.volume ≡ v → length copies ≡ length records
+followed_set : (v : ℕ) (copies : List (Option Copied)) (records : List Record) (slot : ℕ) (c : Option Copied) (r : Record) → slice_get records slot ≡ Some r → 0 < r.set → r.volume ≡ v
+    → length copies ≡ length records
     → slice_set (followed v copies records) slot (record_for v c) ≡ followed v (slice_set copies slot c) records
 followed_set v [] [] slot c r at some same long = absurd (none-some r at)
 followed_set v [] (q ∷ rs) slot c r at some same long = absurd (omega arith)
@@ -61,7 +62,8 @@ followed_set v (x ∷ cs) (q ∷ rs) zero c r at some same long =
     ap (λ y. y ∷ followed v cs rs) (sym (follows-of v c q (omega arith) (ap (λ (y : Record). y.volume) is ∙ same)))
 followed_set v (x ∷ cs) (q ∷ rs) (suc slot) c r at some same long = ap (λ ys. followed_row v x q ∷ ys) (followed_set v cs rs slot c r at some same (omega arith))
 
-module _ {D : Type 0} (v : ℕ) (first area : AreaValue D) (before mid : MapValue) (image : ℕ) (e : Entry) (tied : before.copies ≡ map (copied_for v) first.records) (long : length mid.copies ≡ length before.copies)
+module _ {D : Type 0} (v : ℕ) (first area : AreaValue D) (before mid : MapValue) (image : ℕ) (e : Entry) (tied : before.copies ≡ map (copied_for v) first.records)
+    (long : length mid.copies ≡ length before.copies)
     (is : Follows v first area mid) (was : copied_at before.copies e.slot ≡ Some (copy_of image e.block)) where
   at_record : (0 < image) × (slice_get first.records e.slot ≡ Some (record_of v image e.block))
   at_record = record_of_row v first.records e.slot (copy_of image e.block) (ap (λ cs. copied_at cs e.slot) (sym tied) ∙ was)
@@ -76,7 +78,8 @@ module _ {D : Type 0} (v : ℕ) (first area : AreaValue D) (before mid : MapValu
   slot_inside = let l = records_long in let w = slice_get_within first.records e.slot (record_of v image e.block) at_record.1 in omega arith
 
   -- a record becomes that of the copy that the map has now
-  pub Follows-set : (new : AreaValue D) (after : MapValue) (c : Option Copied) → new ≡ with_records (slice_set area.records e.slot (record_for v c)) area → after.copies ≡ slice_set mid.copies e.slot c → Follows v first new after
+  pub Follows-set : (new : AreaValue D) (after : MapValue) (c : Option Copied) → new ≡ with_records (slice_set area.records e.slot (record_for v c)) area
+      → after.copies ≡ slice_set mid.copies e.slot c → Follows v first new after
   Follows-set new after c new_is after_is =
       new_is ∙ ap (λ (a : AreaValue D). with_records (slice_set a.records e.slot (record_for v c)) a) is
       ∙ ap (λ rs. with_records rs first) (followed_set v mid.copies first.records e.slot c (record_of v image e.block) at_record.1 at_record.0 refl as_long)
@@ -95,7 +98,8 @@ module _ {D : Type 0} (v : ℕ) (first area : AreaValue D) (before mid : MapValu
     r = (get_inside first.records other inside).0
 
     row : followed_row v (copied_at mid.copies other) r ≡ record_of v older e.block
-    row = same_Some (followed_row v (copied_at mid.copies other) r) (record_of v older e.block) (sym (followed_at v mid.copies first.records other r as_long (get_inside first.records other inside).1) ∙ there)
+    row = same_Some (followed_row v (copied_at mid.copies other) r) (record_of v older e.block)
+        (sym (followed_at v mid.copies first.records other r as_long (get_inside first.records other inside).1) ∙ there)
 
     by_copy : (o : Option Copied) → copied_at mid.copies other ≡ o → record_for v o ≡ record_of v older e.block → ⊥
     by_copy None at rec = let none : 0 ≡ older = ap (λ (x : Record). x.set) rec in omega arith

@@ -12,8 +12,11 @@ use Rattle.diff_map.proofs.Renewal.{row_within}
 -- another slot's link does not count
 pub lead_on_set : (next : List ℕ) (slot value first : ℕ) (slots : List ℕ) → (IsAmong slot slots → ⊥) → LeadOn next first slots → LeadOn (set next slot value) first slots
 lead_on_set next slot value first [] apart lead = lead
-lead_on_set next slot value first (x ∷ xs) apart lead =
-    (lead.0, subst (λ k. LeadOn (set next slot value) k xs) (sym (get_or-set_other next slot x value 0 (λ same. apart (inl (sym same))))) (lead_on_set next slot value (get_or next x 0) xs (λ among. apart (inr among)) lead.1))
+lead_on_set next slot value first (x ∷ xs) apart lead = (
+  lead.0,
+  subst (λ k. LeadOn (set next slot value) k xs) (sym (get_or-set_other next slot x value 0 (λ same. apart (inl (sym same)))))
+      (lead_on_set next slot value (get_or next x 0) xs (λ among. apart (inr among)) lead.1),
+)
 
 pub not_for : (copies : List (Option Copied)) (image slot : ℕ) → copied_at copies slot ≡ None → IsFor copies image slot → ⊥
 not_for copies image slot none it = none-some (copy_of image it.0) (sym none ∙ it.1)
@@ -25,7 +28,8 @@ for_after : (copies : List (Option Copied)) (image slot other : ℕ) (row : Opti
 for_after copies image slot other row apart it = (it.0, get_or-set_other copies slot other row None apart ∙ it.1)
 
 -- the slots of an image of which a row is neither before nor after
-pub IsChain-other : (next : List ℕ) (copies : List (Option Copied)) (image first slot value : ℕ) (row : Option Copied) → (IsFor copies image slot → ⊥) → (IsFor (set copies slot row) image slot → ⊥) → IsChain next copies image first → IsChain (set next slot value) (set copies slot row) image first
+pub IsChain-other : (next : List ℕ) (copies : List (Option Copied)) (image first slot value : ℕ) (row : Option Copied) → (IsFor copies image slot → ⊥) → (IsFor (set copies slot row) image slot → ⊥)
+    → IsChain next copies image first → IsChain (set next slot value) (set copies slot row) image first
 IsChain-other next copies image first slot value row not_before not_after chain = record {
   slots = chain.slots;
   lead = lead_on_set next slot value first chain.slots (λ among. not_before (chain.each slot among)) chain.lead;
@@ -34,7 +38,8 @@ IsChain-other next copies image first slot value row not_before not_after chain 
   all = λ s it. chain.all s (for_before copies image slot s row (λ same. not_after (subst (IsFor (set copies slot row) image) same it)) it);
 }
 
-pub IsChain-other_out : (next : List ℕ) (copies : List (Option Copied)) (image first slot : ℕ) (row : Option Copied) → (IsFor copies image slot → ⊥) → (IsFor (set copies slot row) image slot → ⊥) → IsChain next copies image first → IsChain next (set copies slot row) image first
+pub IsChain-other_out : (next : List ℕ) (copies : List (Option Copied)) (image first slot : ℕ) (row : Option Copied) → (IsFor copies image slot → ⊥) → (IsFor (set copies slot row) image slot → ⊥)
+    → IsChain next copies image first → IsChain next (set copies slot row) image first
 IsChain-other_out next copies image first slot row not_before not_after chain = record {
   slots = chain.slots;
   lead = chain.lead;
@@ -44,7 +49,8 @@ IsChain-other_out next copies image first slot row not_before not_after chain = 
 }
 
 -- a slot that is noted comes first
-pub IsChain-noted : (next : List ℕ) (copies : List (Option Copied)) (image first slot block : ℕ) → slot < length next → slot < length copies → copied_at copies slot ≡ None → IsChain next copies image first → IsChain (set next slot first) (set copies slot (Some (copy_of image block))) image slot
+pub IsChain-noted : (next : List ℕ) (copies : List (Option Copied)) (image first slot block : ℕ) → slot < length next → slot < length copies → copied_at copies slot ≡ None
+    → IsChain next copies image first → IsChain (set next slot first) (set copies slot (Some (copy_of image block))) image slot
 IsChain-noted next copies image first slot block inside within none chain =
     let apart : IsAmong slot chain.slots → ⊥ = λ among. not_for copies image slot none (chain.each slot among) in
     record {
@@ -70,7 +76,8 @@ module _ (next : List ℕ) (copies : List (Option Copied)) (image first : ℕ) w
   pub IsFor-first : IsChain next copies image first → 0 < used_for copies image → IsFor copies image first
   IsFor-first chain some = let at = used_at copies image some in first_is chain.slots at.0 chain.lead chain.each (chain.all at.0 (at.1, at.2))
 
-  rest_is : (slots : List ℕ) → LeadOn next first slots → AreOnce slots → ((s : ℕ) → IsAmong s slots → IsFor copies image s) → ((s : ℕ) → IsFor copies image s → IsAmong s slots) → IsFor copies image first → IsChain next (set copies first None) image (get_or next first 0)
+  rest_is : (slots : List ℕ) → LeadOn next first slots → AreOnce slots → ((s : ℕ) → IsAmong s slots → IsFor copies image s) → ((s : ℕ) → IsFor copies image s → IsAmong s slots)
+      → IsFor copies image first → IsChain next (set copies first None) image (get_or next first 0)
   rest_is [] lead once each all it = absurd (all first it)
   rest_is (x ∷ xs) lead once each all it =
       let inside = row_within copies first (copy_of image it.0) it.1 in

@@ -1,5 +1,6 @@
 -- What a map keeps beside its copies: where an image is cut, a slot is noted or loses its copy, and images go.
-use Rattle.std.proofs.Common.{ℕ, ◌≡◌, ◌≢◌, ◌+◌, ◌-◌, ◌<◌, ◌≤◌, ◌^◌, ◌++◌, inl, inr, Bool, true, false, cond, List, [], ◌∷◌, length, get_or, set, map, Option, Some, None, refl, ap, sym, ◌∙◌, subst, arith, All, Contains, Vec, vec_capacity}
+use Rattle.std.proofs.Common.{ℕ, ◌≡◌, ◌≢◌, ◌+◌, ◌-◌, ◌<◌, ◌≤◌, ◌^◌, ◌++◌, inl, inr, Bool, true, false, cond, List, [], ◌∷◌, length, get_or, set, map, Option, Some, None, refl, ap, sym, ◌∙◌, subst}
+use Rattle.std.proofs.Common.{arith, All, Contains, Vec, vec_capacity}
 use Rattle.std.specs.List.{slice_get, filter, AllPairs}
 use Rattle.std.specs.declared.alloc.Global.{Global}
 use Rattle.std.specs.Prelude.{IfSome}
@@ -35,13 +36,15 @@ pub set_at : (images : List ℕ) (counts : List ImageCount) (k : ℕ) (d : Image
 set_at images counts k d same inside = sym (get_or-map (λ (c : ImageCount). c.set) counts k d 0 inside) ∙ ap (λ (xs : List ℕ). get_or xs k 0) same
 
 -- the count at an image's place is that of the image
-pub count_at : (images : List ℕ) (counts : List ImageCount) (next : List ℕ) (copies : List (Option Copied)) (image n : ℕ) (d : ImageCount) → sets_of counts ≡ images → All (IsCounted next copies) counts → n < length images → ((e : ℕ) → get_or images n e ≡ image) → ((get_or counts n d).set ≡ image) × IsCounted next copies (get_or counts n d)
+pub count_at : (images : List ℕ) (counts : List ImageCount) (next : List ℕ) (copies : List (Option Copied)) (image n : ℕ) (d : ImageCount) → sets_of counts ≡ images
+    → All (IsCounted next copies) counts → n < length images → ((e : ℕ) → get_or images n e ≡ image) → ((get_or counts n d).set ≡ image) × IsCounted next copies (get_or counts n d)
 count_at images counts next copies image n d same each inside is =
     let many = as_many images counts same in
     (set_at images counts n d same (omega arith) ∙ is 0, each n d (omega arith))
 
 -- the counts at other places are of other images
-other_image_at : (images : List ℕ) (image n k : ℕ) → AllPairs (λ older newer. older < newer) images → n < length images → ((d : ℕ) → get_or images n d ≡ image) → k < length images → k ≢ n → get_or images k 0 ≢ image
+other_image_at : (images : List ℕ) (image n k : ℕ) → AllPairs (λ older newer. older < newer) images → n < length images → ((d : ℕ) → get_or images n d ≡ image) → k < length images → k ≢ n
+    → get_or images k 0 ≢ image
 other_image_at images image n k rise inside is within other e = elim (cases_lt k n) [
   | inl low ↦ let up = rise k n 0 low inside in let here = is 0 in omega arith
   | inr high ↦ let up = rise n k 0 (omega arith) within in let here = is 0 in omega arith
@@ -68,7 +71,8 @@ module _ (images : Vec ℕ Global) (counts newer : Vec ImageCount Global) (next 
   KeepsCounts-one =
       let many = as_many images.items counts.items keeps.sets in
       record {
-        sets = ap sets_of items ∙ map-set_same (λ (c : ImageCount). c.set) counts.items n new none_of (set_is ∙ sym (is 0) ∙ sym (set_at images.items counts.items n none_of keeps.sets (omega arith))) ∙ keeps.sets;
+        sets = ap sets_of items ∙ map-set_same (λ (c : ImageCount). c.set) counts.items n new none_of (set_is ∙ sym (is 0) ∙ sym (set_at images.items counts.items n none_of keeps.sets (omega arith)))
+            ∙ keeps.sets;
         each = subst (All (IsCounted later after)) (sym items) each_now;
         count_room = let r = keeps.count_room in omega arith;
         long = as_long;
@@ -76,7 +80,8 @@ module _ (images : Vec ℕ Global) (counts newer : Vec ImageCount Global) (next 
 
 -- ## a slot is noted
 
-pub noted_other : (next : List ℕ) (copies : List (Option Copied)) (slot image block value : ℕ) → slice_get copies slot ≡ Some None → (c : ImageCount) → c.set ≢ image → IsCounted next copies c → IsCounted (set next slot value) (set copies slot (Some (copy_of image block))) c
+pub noted_other : (next : List ℕ) (copies : List (Option Copied)) (slot image block value : ℕ) → slice_get copies slot ≡ Some None → (c : ImageCount) → c.set ≢ image → IsCounted next copies c
+    → IsCounted (set next slot value) (set copies slot (Some (copy_of image block))) c
 noted_other next copies slot image block value unnoted c apart is =
     let none = get_or_from_slice_get copies slot None None unnoted in
     let inside = slice_get_within copies slot None unnoted in
@@ -86,7 +91,8 @@ noted_other next copies slot image block value unnoted c apart is =
           (λ it. apart (ap (λ (x : Copied). x.set) (same_Some (copy_of c.set it.0) (copy_of image block) (sym it.1 ∙ get_or-set_same copies slot (Some (copy_of image block)) None inside)))) is.chain;
     }
 
-pub noted_here : (next : List ℕ) (copies : List (Option Copied)) (slot image block : ℕ) (c : ImageCount) → slice_get copies slot ≡ Some None → length next ≡ length copies → c.set ≡ image → IsCounted next copies c
+pub noted_here : (next : List ℕ) (copies : List (Option Copied)) (slot image block : ℕ) (c : ImageCount) → slice_get copies slot ≡ Some None → length next ≡ length copies → c.set ≡ image
+    → IsCounted next copies c
     → IsCounted (set next slot c.first) (set copies slot (Some (copy_of image block))) (record { set = image; used = c.used + 1; first = slot })
 noted_here next copies slot image block c unnoted long set_is is =
     let none = get_or_from_slice_get copies slot None None unnoted in
@@ -108,11 +114,14 @@ one_more_fits copies slot image narrow unnoted =
     omega arith
 
 -- a row that changes keeps the images, if it is of one of them
-pub KeepsImages-set : (images : Vec ℕ Global) (copies : List (Option Copied)) (slot : ℕ) (row : Option Copied) → KeepsImages images copies → IfSome row (λ c. Contains images.items c.set) → KeepsImages images (set copies slot row)
+pub KeepsImages-set : (images : Vec ℕ Global) (copies : List (Option Copied)) (slot : ℕ) (row : Option Copied) → KeepsImages images copies → IfSome row (λ c. Contains images.items c.set)
+    → KeepsImages images (set copies slot row)
 KeepsImages-set images copies slot row keeps ok = record {
   are_images = keeps.are_images;
   of_images = λ k c is. elim (cases_eq k slot) [
-    | inl same ↦ of_row row ok c (sym (get_or-set_same copies slot row None (subst (λ j. j < length copies) same (let w = row_within (set copies slot row) k c is in let l = length-set copies slot row in omega arith))) ∙ ap (λ j. copied_at (set copies slot row) j) (sym same) ∙ is)
+    | inl same ↦ of_row row ok c
+        (sym (get_or-set_same copies slot row None (subst (λ j. j < length copies) same (let w = row_within (set copies slot row) k c is in let l = length-set copies slot row in omega arith)))
+        ∙ ap (λ j. copied_at (set copies slot row) j) (sym same) ∙ is)
     | inr differ ↦ keeps.of_images k c (sym (get_or-set_other copies slot k row None differ) ∙ is)
   ];
   image_room = keeps.image_room;
@@ -123,7 +132,8 @@ KeepsImages-set images copies slot row keeps ok = record {
 
 -- ## a slot loses its copy
 
-pub popped_other : (next : List ℕ) (copies : List (Option Copied)) (slot image block : ℕ) → copied_at copies slot ≡ Some (copy_of image block) → (c : ImageCount) → c.set ≢ image → IsCounted next copies c → IsCounted next (set copies slot None) c
+pub popped_other : (next : List ℕ) (copies : List (Option Copied)) (slot image block : ℕ) → copied_at copies slot ≡ Some (copy_of image block) → (c : ImageCount) → c.set ≢ image
+    → IsCounted next copies c → IsCounted next (set copies slot None) c
 popped_other next copies slot image block was c apart is =
     let inside = row_within copies slot (copy_of image block) was in
     record {
@@ -133,7 +143,8 @@ popped_other next copies slot image block was c apart is =
           (not_for (set copies slot None) c.set slot (get_or-set_same copies slot None None inside)) is.chain;
     }
 
-pub popped_here : (next : List ℕ) (copies : List (Option Copied)) (image block value : ℕ) (c : ImageCount) → copied_at copies c.first ≡ Some (copy_of image block) → c.set ≡ image → value ≡ get_or next c.first 0 → IsCounted next copies c
+pub popped_here : (next : List ℕ) (copies : List (Option Copied)) (image block value : ℕ) (c : ImageCount) → copied_at copies c.first ≡ Some (copy_of image block) → c.set ≡ image
+    → value ≡ get_or next c.first 0 → IsCounted next copies c
     → IsCounted next (set copies c.first None) (record { set = image; used = c.used - 1; first = value })
 popped_here next copies image block value c was set_is value_is is =
     let used = is.used in
@@ -141,7 +152,8 @@ popped_here next copies image block value c was set_is value_is is =
     let less = used_out copies c.first image block was in
     record {
       used = omega arith;
-      chain = subst (λ k. IsChain next (set copies c.first None) image k) (sym value_is) (IsChain-popped next copies image c.first (subst (λ s. IsChain next copies s c.first) set_is is.chain) (block, was));
+      chain = subst (λ k. IsChain next (set copies c.first None) image k) (sym value_is)
+          (IsChain-popped next copies image c.first (subst (λ s. IsChain next copies s c.first) set_is is.chain) (block, was));
     }
 
 -- the first slot of an image that has a copy
@@ -154,14 +166,16 @@ first_for next copies image c set_is is some =
 -- ## both, in what a map keeps
 
 module _ (images : Vec ℕ Global) (counts : Vec ImageCount Global) (next : List ℕ) (copies : List (Option Copied)) (image n : ℕ) (count : ImageCount)
-    (index : KeepsImages images copies) (keeps : KeepsCounts images counts next copies) (inside : n < length images.items) (is : (d : ℕ) → get_or images.items n d ≡ image) (read : count ≡ get_or counts.items n count) where
+    (index : KeepsImages images copies) (keeps : KeepsCounts images counts next copies) (inside : n < length images.items) (is : (d : ℕ) → get_or images.items n d ≡ image)
+    (read : count ≡ get_or counts.items n count) where
   pub count_is : (count.set ≡ image) × IsCounted next copies count
   count_is = subst (λ (c : ImageCount). (c.set ≡ image) × IsCounted next copies c) (sym read) (count_at images.items counts.items next copies image n count keeps.sets keeps.each inside is)
 
   pub used_is : count.used ≡ used_for copies image
   used_is = count_is.1.used ∙ ap (used_for copies) count_is.0
 
-  pub KeepsCounts-noted : (newer : Vec ImageCount Global) (slot block : ℕ) → slice_get copies slot ≡ Some None → newer.items ≡ set counts.items n (record { set = image; used = count.used + 1; first = slot }) → vec_capacity counts ≤ vec_capacity newer
+  pub KeepsCounts-noted : (newer : Vec ImageCount Global) (slot block : ℕ) → slice_get copies slot ≡ Some None
+      → newer.items ≡ set counts.items n (record { set = image; used = count.used + 1; first = slot }) → vec_capacity counts ≤ vec_capacity newer
       → KeepsCounts images newer (set next slot count.first) (set copies slot (Some (copy_of image block)))
   KeepsCounts-noted newer slot block unnoted items cap =
       let long = keeps.long in
@@ -171,7 +185,8 @@ module _ (images : Vec ℕ Global) (counts : Vec ImageCount Global) (next : List
       keeps index.are_images.ascend inside is items cap refl (omega arith) (noted_here next copies slot image block count unnoted long count_is.0 count_is.1)
       (noted_other next copies slot image block count.first unnoted)
 
-  pub KeepsCounts-popped : (newer : Vec ImageCount Global) (block value : ℕ) → copied_at copies count.first ≡ Some (copy_of image block) → value ≡ get_or next count.first 0 → newer.items ≡ set counts.items n (record { set = image; used = count.used - 1; first = value }) → vec_capacity counts ≤ vec_capacity newer
+  pub KeepsCounts-popped : (newer : Vec ImageCount Global) (block value : ℕ) → copied_at copies count.first ≡ Some (copy_of image block) → value ≡ get_or next count.first 0
+      → newer.items ≡ set counts.items n (record { set = image; used = count.used - 1; first = value }) → vec_capacity counts ≤ vec_capacity newer
       → KeepsCounts images newer next (set copies count.first None)
   KeepsCounts-popped newer block value was value_is items cap =
       let long = keeps.long in
@@ -182,22 +197,26 @@ module _ (images : Vec ℕ Global) (counts : Vec ImageCount Global) (next : List
 
 -- ## an image is cut
 
-pub KeepsImages-cut : (images later : Vec ℕ Global) (copies : List (Option Copied)) (image : ℕ) → KeepsImages images copies → length images.items < 512 → 0 < image → image < 2 ^ 32 → All (λ i. i < image) images.items → later.items ≡ images.items ++ image ∷ []
+pub KeepsImages-cut : (images later : Vec ℕ Global) (copies : List (Option Copied)) (image : ℕ) → KeepsImages images copies → length images.items < 512 → 0 < image → image < 2 ^ 32
+    → All (λ i. i < image) images.items → later.items ≡ images.items ++ image ∷ []
     → vec_capacity images ≤ vec_capacity later → KeepsImages later copies
 KeepsImages-cut images later copies image keeps short some narrow newest longer cap = record {
   are_images = subst AreImages (sym longer) (record {
     ascend = all_pairs_push (λ older newer. older < newer) images.items image keeps.are_images.ascend (λ k d inside. newest k d inside);
-    above_zero = All-append (λ i. (0 < i) × (i < 2 ^ 32)) images.items (image ∷ []) keeps.are_images.above_zero (All-cons (λ i. (0 < i) × (i < 2 ^ 32)) image [] (some, narrow) (All-nil (λ i. (0 < i) × (i < 2 ^ 32))));
+    above_zero = All-append (λ i. (0 < i) × (i < 2 ^ 32)) images.items (image ∷ []) keeps.are_images.above_zero
+        (All-cons (λ i. (0 < i) × (i < 2 ^ 32)) image [] (some, narrow) (All-nil (λ i. (0 < i) × (i < 2 ^ 32))));
     few = let long = length-append images.items (image ∷ []) in omega arith;
   });
   of_images = λ slot c row. subst (λ (xs : List ℕ). Contains xs c.set) (sym longer) (Contains-append_left images.items (image ∷ []) c.set (keeps.of_images slot c row));
   image_room = let r = keeps.image_room in omega arith;
 }
 
-pub KeepsCounts-cut : (images later : Vec ℕ Global) (counts newer : Vec ImageCount Global) (next : List ℕ) (copies : List (Option Copied)) (image : ℕ) → KeepsImages images copies → KeepsCounts images counts next copies → All (λ i. i < image) images.items → later.items ≡ images.items ++ image ∷ []
+pub KeepsCounts-cut : (images later : Vec ℕ Global) (counts newer : Vec ImageCount Global) (next : List ℕ) (copies : List (Option Copied)) (image : ℕ) → KeepsImages images copies
+    → KeepsCounts images counts next copies → All (λ i. i < image) images.items → later.items ≡ images.items ++ image ∷ []
     → newer.items ≡ counts.items ++ (record { set = image; used = 0; first = 0 }) ∷ [] → vec_capacity counts ≤ vec_capacity newer → KeepsCounts later newer next copies
 KeepsCounts-cut images later counts newer next copies image index keeps newest longer more cap =
-    let apart : (slot : ℕ) (c : Copied) → copied_at copies slot ≡ Some c → c.set ≢ image = λ slot c row same. let at = index.of_images slot c row in let low = newest at.0 c.set at.1 in let is : get_or images.items at.0 c.set ≡ c.set = at.2 in absurd (omega arith) in
+    let apart : (slot : ℕ) (c : Copied) → copied_at copies slot ≡ Some c
+    → c.set ≢ image = λ slot c row same. let at = index.of_images slot c row in let low = newest at.0 c.set at.1 in let is : get_or images.items at.0 c.set ≡ c.set = at.2 in absurd (omega arith) in
     let new : ImageCount = record { set = image; used = 0; first = 0 } in
     let counted : IsCounted next copies new = record {
       used = sym (used_none copies image apart);
@@ -205,7 +224,8 @@ KeepsCounts-cut images later counts newer next copies image index keeps newest l
     } in
     record {
       sets = ap sets_of more ∙ map-append (λ (c : ImageCount). c.set) counts.items (new ∷ []) ∙ ap (λ (xs : List ℕ). xs ++ image ∷ []) keeps.sets ∙ sym longer;
-      each = subst (All (IsCounted next copies)) (sym more) (All-append (IsCounted next copies) counts.items (new ∷ []) keeps.each (All-cons (IsCounted next copies) new [] counted (All-nil (IsCounted next copies))));
+      each = subst (All (IsCounted next copies)) (sym more)
+          (All-append (IsCounted next copies) counts.items (new ∷ []) keeps.each (All-cons (IsCounted next copies) new [] counted (All-nil (IsCounted next copies))));
       count_room = let r = keeps.count_room in omega arith;
       long = keeps.long;
     }
@@ -217,10 +237,13 @@ sets-filter p [] = refl
 sets-filter p (c ∷ cs) = by_test (p c.set) refl (sets-filter p cs) where
   by_test : (t : Bool) → p c.set ≡ t → sets_of (filter (λ c. p c.set) cs) ≡ filter p (sets_of cs)
       → sets_of (cond (p c.set) (c ∷ filter (λ c. p c.set) cs) (filter (λ c. p c.set) cs)) ≡ cond (p c.set) (c.set ∷ filter p (sets_of cs)) (filter p (sets_of cs))
-  by_test true e rest = ap (λ b. sets_of (cond b (c ∷ filter (λ c. p c.set) cs) (filter (λ c. p c.set) cs))) e ∙ ap (λ xs. c.set ∷ xs) rest ∙ sym (ap (λ b. cond b (c.set ∷ filter p (sets_of cs)) (filter p (sets_of cs))) e)
-  by_test false e rest = ap (λ b. sets_of (cond b (c ∷ filter (λ c. p c.set) cs) (filter (λ c. p c.set) cs))) e ∙ rest ∙ sym (ap (λ b. cond b (c.set ∷ filter p (sets_of cs)) (filter p (sets_of cs))) e)
+  by_test true e rest = ap (λ b. sets_of (cond b (c ∷ filter (λ c. p c.set) cs) (filter (λ c. p c.set) cs))) e ∙ ap (λ xs. c.set ∷ xs) rest
+      ∙ sym (ap (λ b. cond b (c.set ∷ filter p (sets_of cs)) (filter p (sets_of cs))) e)
+  by_test false e rest = ap (λ b. sets_of (cond b (c ∷ filter (λ c. p c.set) cs) (filter (λ c. p c.set) cs))) e ∙ rest
+      ∙ sym (ap (λ b. cond b (c.set ∷ filter p (sets_of cs)) (filter p (sets_of cs))) e)
 
-pub KeepsCounts-left : (p : ℕ → Bool) (images later : Vec ℕ Global) (counts left : Vec ImageCount Global) (next : List ℕ) (copies : List (Option Copied)) → KeepsCounts images counts next copies → later.items ≡ filter p images.items → left.items ≡ filter (λ c. p c.set) counts.items → vec_capacity left ≡ vec_capacity counts → KeepsCounts later left next copies
+pub KeepsCounts-left : (p : ℕ → Bool) (images later : Vec ℕ Global) (counts left : Vec ImageCount Global) (next : List ℕ) (copies : List (Option Copied)) → KeepsCounts images counts next copies
+    → later.items ≡ filter p images.items → left.items ≡ filter (λ c. p c.set) counts.items → vec_capacity left ≡ vec_capacity counts → KeepsCounts later left next copies
 KeepsCounts-left p images later counts left next copies keeps fewer less cap = record {
   sets = ap sets_of less ∙ sets-filter p counts.items ∙ ap (filter p) keeps.sets ∙ sym fewer;
   each = subst (All (IsCounted next copies)) (sym less) (All-filter (λ c. p c.set) (IsCounted next copies) counts.items keeps.each);
@@ -228,7 +251,8 @@ KeepsCounts-left p images later counts left next copies keeps fewer less cap = r
   long = keeps.long;
 }
 
-pub KeepsImages-left : (p : ℕ → Bool) (images later : Vec ℕ Global) (copies : List (Option Copied)) → KeepsImages images copies → ((slot : ℕ) (c : Copied) → copied_at copies slot ≡ Some c → p c.set ≡ true) → later.items ≡ filter p images.items → vec_capacity later ≡ vec_capacity images → KeepsImages later copies
+pub KeepsImages-left : (p : ℕ → Bool) (images later : Vec ℕ Global) (copies : List (Option Copied)) → KeepsImages images copies
+    → ((slot : ℕ) (c : Copied) → copied_at copies slot ≡ Some c → p c.set ≡ true) → later.items ≡ filter p images.items → vec_capacity later ≡ vec_capacity images → KeepsImages later copies
 KeepsImages-left p images later copies keeps stays fewer cap = record {
   are_images = subst AreImages (sym fewer) (AreImages-filter p images.items keeps.are_images);
   of_images = λ slot c row. subst (λ (xs : List ℕ). Contains xs c.set) (sym fewer) (Contains-filter p images.items c.set (stays slot c row) (keeps.of_images slot c row));
@@ -237,7 +261,8 @@ KeepsImages-left p images later copies keeps stays fewer cap = record {
 
 -- ## the oldest image with a copy
 
-pub oldest_found : (o : Option ℕ) (images : Vec ℕ Global) (counts : Vec ImageCount Global) (next : List ℕ) (copies : List (Option Copied)) → KeepsImages images copies → KeepsCounts images counts next copies → IfSome o (IsFirstUsed counts.items) → IfSome o (IsOldestUsed copies)
+pub oldest_found : (o : Option ℕ) (images : Vec ℕ Global) (counts : Vec ImageCount Global) (next : List ℕ) (copies : List (Option Copied)) → KeepsImages images copies
+    → KeepsCounts images counts next copies → IfSome o (IsFirstUsed counts.items) → IfSome o (IsOldestUsed copies)
 oldest_found None images counts next copies index keeps first = tt
 oldest_found (Some image) images counts next copies index keeps first =
     let long = as_many images.items counts.items keeps.sets in
@@ -258,19 +283,22 @@ oldest_found (Some image) images counts next copies index keeps first =
           elim (cases_lt there.0 first.place) [
             | inl before ↦
                 let zero : (get_or counts.items there.0 first.count).used ≡ 0 = first.none_before there.0 first.count (omega arith) before in
-                let same : (get_or counts.items there.0 first.count).set ≡ c.set = set_at images.items counts.items there.0 first.count keeps.sets (omega arith) ∙ get_or_default images.items there.0 0 c.set within ∙ is in
+                let same : (get_or counts.items there.0 first.count).set ≡ c.set = set_at images.items counts.items there.0 first.count keeps.sets (omega arith)
+                ∙ get_or_default images.items there.0 0 c.set within ∙ is in
                 let number = (keeps.each there.0 first.count (omega arith)).used in
                 let of_set : used_for copies (get_or counts.items there.0 first.count).set ≡ used_for copies c.set = ap (used_for copies) same in
                 let positive = used_some copies other c row in
                 absurd (omega arith)
             | inr after ↦ elim (cases_eq there.0 first.place) [
-              | inl same ↦ let e : get_or images.items there.0 c.set ≡ get_or images.items first.place c.set = ap (λ (k : ℕ). get_or images.items k c.set) same in let f = get_or_default images.items first.place c.set 0 (omega arith) in omega arith
+              | inl same ↦ let e : get_or images.items there.0 c.set ≡ get_or images.items first.place c.set = ap
+                  (λ (k : ℕ). get_or images.items k c.set) same in let f = get_or_default images.items first.place c.set 0 (omega arith) in omega arith
               | inr past ↦ let up = index.are_images.ascend first.place there.0 0 (omega arith) within in let f = get_or_default images.items there.0 0 c.set within in omega arith
             ]
           ];
     }
 
-pub none_used : (images : Vec ℕ Global) (counts : Vec ImageCount Global) (next : List ℕ) (copies : List (Option Copied)) → KeepsImages images copies → KeepsCounts images counts next copies → All (λ (c : ImageCount). c.used ≡ 0) counts.items → (slot : ℕ) → copied_at copies slot ≡ None
+pub none_used : (images : Vec ℕ Global) (counts : Vec ImageCount Global) (next : List ℕ) (copies : List (Option Copied)) → KeepsImages images copies → KeepsCounts images counts next copies
+    → All (λ (c : ImageCount). c.used ≡ 0) counts.items → (slot : ℕ) → copied_at copies slot ≡ None
 none_used images counts next copies index keeps zero slot = by_row (copied_at copies slot) refl where
   by_row : (o : Option Copied) → copied_at copies slot ≡ o → copied_at copies slot ≡ None
   by_row None row = row
@@ -280,7 +308,8 @@ none_used images counts next copies index keeps zero slot = by_row (copied_at co
       let is : get_or images.items there.0 c.set ≡ c.set = there.2 in
       let long = as_many images.items counts.items keeps.sets in
       let none : (get_or counts.items there.0 none_of).used ≡ 0 = zero there.0 none_of (omega arith) in
-      let same : (get_or counts.items there.0 none_of).set ≡ c.set = set_at images.items counts.items there.0 none_of keeps.sets (omega arith) ∙ get_or_default images.items there.0 0 c.set within ∙ is in
+      let same : (get_or counts.items there.0 none_of).set ≡ c.set = set_at images.items counts.items there.0 none_of keeps.sets (omega arith) ∙ get_or_default images.items there.0 0 c.set within
+      ∙ is in
       let number = (keeps.each there.0 none_of (omega arith)).used in
       let of_set : used_for copies (get_or counts.items there.0 none_of).set ≡ used_for copies c.set = ap (used_for copies) same in
       let positive = used_some copies slot c row in

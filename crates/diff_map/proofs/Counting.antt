@@ -21,7 +21,8 @@ count_cons p x xs = sum_by-cons (λ y. cond (p y) 1 0) x xs
 -- ## rows
 
 -- one row changes
-used_set : (copies : List (Option Copied)) (slot image : ℕ) (row : Option Copied) → slot < length copies → used_for (set copies slot row) image + of_test (is_for image (copied_at copies slot)) ≡ used_for copies image + of_test (is_for image row)
+used_set : (copies : List (Option Copied)) (slot image : ℕ) (row : Option Copied) → slot < length copies
+    → used_for (set copies slot row) image + of_test (is_for image (copied_at copies slot)) ≡ used_for copies image + of_test (is_for image row)
 used_set copies slot image row inside = sum_by-set (λ x. cond (is_for image x) 1 0) copies slot row None inside
 
 is_itself : (image block : ℕ) → of_test (is_for image (Some (copy_of image block))) ≡ 1
@@ -38,7 +39,8 @@ used_noted copies slot image block unnoted =
     let now = is_itself image block in
     omega arith
 
-pub used_noted_other : (copies : List (Option Copied)) (slot image block other : ℕ) → slice_get copies slot ≡ Some None → other ≢ image → used_for (set copies slot (Some (copy_of image block))) other ≡ used_for copies other
+pub used_noted_other : (copies : List (Option Copied)) (slot image block other : ℕ) → slice_get copies slot ≡ Some None → other ≢ image
+    → used_for (set copies slot (Some (copy_of image block))) other ≡ used_for copies other
 used_noted_other copies slot image block other unnoted apart =
     let moved = used_set copies slot other (Some (copy_of image block)) (slice_get_within copies slot None unnoted) in
     let was : of_test (is_for other (copied_at copies slot)) ≡ 0 = ap (λ (o : Option Copied). of_test (is_for other o)) (get_or_from_slice_get copies slot None None unnoted) in
@@ -87,7 +89,8 @@ used_out copies slot image block was =
     let before : of_test (is_for image (copied_at copies slot)) ≡ 1 = ap (λ (o : Option Copied). of_test (is_for image o)) was ∙ is_itself image block in
     omega arith
 
-pub used_out_other : (copies : List (Option Copied)) (slot image block other : ℕ) → copied_at copies slot ≡ Some (copy_of image block) → other ≢ image → used_for (set copies slot None) other ≡ used_for copies other
+pub used_out_other : (copies : List (Option Copied)) (slot image block other : ℕ) → copied_at copies slot ≡ Some (copy_of image block) → other ≢ image
+    → used_for (set copies slot None) other ≡ used_for copies other
 used_out_other copies slot image block other was apart =
     let moved = used_set copies slot other None (row_within copies slot (copy_of image block) was) in
     let before : of_test (is_for other (copied_at copies slot)) ≡ 0 = ap (λ (o : Option Copied). of_test (is_for other o)) was ∙ ap of_test (is_no_other image other (λ e. apart (sym e))) in
@@ -95,7 +98,8 @@ used_out_other copies slot image block other was apart =
 
 -- ## all noted slots
 
-noted_set : (copies : List (Option Copied)) (slot : ℕ) (row : Option Copied) → slot < length copies → noted_in (set copies slot row) + of_test (is_some (copied_at copies slot)) ≡ noted_in copies + of_test (is_some row)
+noted_set : (copies : List (Option Copied)) (slot : ℕ) (row : Option Copied) → slot < length copies
+    → noted_in (set copies slot row) + of_test (is_some (copied_at copies slot)) ≡ noted_in copies + of_test (is_some row)
 noted_set copies slot row inside = sum_by-set (λ x. cond (is_some x) 1 0) copies slot row None inside
 
 pub noted_more : (copies : List (Option Copied)) (slot : ℕ) (c : Copied) → slice_get copies slot ≡ Some None → noted_in (set copies slot (Some c)) ≡ noted_in copies + 1

@@ -53,7 +53,8 @@ module _ (copies : List (Option Copied)) (images : List ℕ) (image : ℕ) (are 
   row_after slot c row = copied_at-renewed (merged copies (next_older images image) image) copies slot ∙ ap (option_and_then (merged copies (next_older images image) image)) row
 
   -- a renewed row is no nearer than the first that was found
-  no_nearer : (asked block slot newer : ℕ) (f : IsFound copies asked block slot) (other : ℕ) (c : Copied) → copied_at copies other ≡ Some c → Merged copies (next_older images image) image c (copy_of newer block) → asked ≤ newer → f.image ≢ image → f.image ≤ newer
+  no_nearer : (asked block slot newer : ℕ) (f : IsFound copies asked block slot) (other : ℕ) (c : Copied) → copied_at copies other ≡ Some c
+      → Merged copies (next_older images image) image c (copy_of newer block) → asked ≤ newer → f.image ≢ image → f.image ≤ newer
   no_nearer asked block slot newer f other c row (stayed apart is) le f_other =
       let b : block ≡ c.block = ap (λ x. x.block) is in
       let s : newer ≡ c.set = ap (λ x. x.set) is in
@@ -70,7 +71,8 @@ module _ (copies : List (Option Copied)) (images : List ℕ) (image : ℕ) (are 
       omega arith
 
   -- nor than the next older image, where the first that was found is the one that goes
-  no_nearer_next : (asked block slot newer older : ℕ) (f : IsFound copies asked block slot) (other : ℕ) (c : Copied) → next_older images image ≡ Some older → copied_at copies other ≡ Some c → Merged copies (next_older images image) image c (copy_of newer block) → asked ≤ newer → f.image ≡ image → older ≤ newer
+  no_nearer_next : (asked block slot newer older : ℕ) (f : IsFound copies asked block slot) (other : ℕ) (c : Copied) → next_older images image ≡ Some older → copied_at copies other ≡ Some c
+      → Merged copies (next_older images image) image c (copy_of newer block) → asked ≤ newer → f.image ≡ image → older ≤ newer
   no_nearer_next asked block slot newer older f other c next_is row (stayed apart is) le same =
       let b : block ≡ c.block = ap (λ x. x.block) is in
       let s : newer ≡ c.set = ap (λ x. x.set) is in

@@ -13,7 +13,8 @@ images_rise images order i j d le inside =
     ]
 
 -- the first image from a set on is that of the set
-pub place_is : (images : List ℕ) (image n : ℕ) → AllPairs (λ older newer. older < newer) images → Contains images image → AllWithin (λ i. i < image) images 0 n → AllWithin (λ i. image ≤ i) images n (length images) → (n < length images) × ((d : ℕ) → get_or images n d ≡ image)
+pub place_is : (images : List ℕ) (image n : ℕ) → AllPairs (λ older newer. older < newer) images → Contains images image → AllWithin (λ i. i < image) images 0 n
+    → AllWithin (λ i. image ≤ i) images n (length images) → (n < length images) × ((d : ℕ) → get_or images n d ≡ image)
 place_is images image n rise at before onward =
     let is : get_or images at.0 image ≡ image = at.2 in
     let inside = at.1 in

@@ -1,5 +1,6 @@
 -- The images of a volume in order of their sets: the next older one, and what is left where some go.
-use Rattle.std.proofs.Common.{ℕ, zero, suc, ◌≡◌, ◌<◌, ◌≤◌, ◌^◌, ◌⊎◌, inl, inr, Bool, true, false, cond, eqb, ltb, not, List, [], ◌∷◌, length, get_or, drop, Option, Some, None, refl, ap, sym, ◌∙◌, subst, arith, All, Contains}
+use Rattle.std.proofs.Common.{ℕ, zero, suc, ◌≡◌, ◌<◌, ◌≤◌, ◌^◌, ◌⊎◌, inl, inr, Bool, true, false, cond, eqb, ltb, not, List, [], ◌∷◌, length, get_or, drop, Option, Some, None, refl, ap, sym, ◌∙◌}
+use Rattle.std.proofs.Common.{subst, arith, All, Contains}
 use Rattle.std.specs.List.{AllPairs, filter, fold}
 use Rattle.std.proofs.lemmas.Bool.{cases_eq, cases_lt, lt-ltb, le-ltb}
 use Rattle.std.proofs.lemmas.Bool.Decides.{nat_tests}
@@ -23,7 +24,8 @@ module _ {X : Type 0} (p : X → Bool) where
   later_of true z x ys found = (suc found.0, let l = found.1 in omega arith, found.2)
   later_of false z x ys found = found
 
-  found_of : (z x : X) (xs : List X) → p x ≡ true → (Contains xs x → Contains (filter p xs) x) → (k : ℕ) → k < length (z ∷ xs) → get_or (z ∷ xs) k x ≡ x → Contains (cond (p z) (z ∷ filter p xs) (filter p xs)) x
+  found_of : (z x : X) (xs : List X) → p x ≡ true → (Contains xs x → Contains (filter p xs) x) → (k : ℕ) → k < length (z ∷ xs) → get_or (z ∷ xs) k x ≡ x
+      → Contains (cond (p z) (z ∷ filter p xs) (filter p xs)) x
   found_of z x xs passes rest zero inside is = subst (λ b. Contains (cond b (z ∷ filter p xs) (filter p xs)) x) (sym (ap p is ∙ passes)) (0, omega arith, is)
   found_of z x xs passes rest (suc k) inside is = later_of (p z) z x (filter p xs) (rest (k, omega arith, is))
 
@@ -65,7 +67,8 @@ next_older_is images set older is = elim (walk_answers set None images) [
 ]
 
 -- and no image below the set is above it
-walk_reaches : (set : ℕ) (start : Option ℕ) (images : List ℕ) → AllPairs (λ s t. s < t) images → (k d : ℕ) → k < length images → get_or images k d < set → (older : ℕ) × (walk set start images ≡ Some older) × (get_or images k d ≤ older)
+walk_reaches : (set : ℕ) (start : Option ℕ) (images : List ℕ) → AllPairs (λ s t. s < t) images → (k d : ℕ) → k < length images → get_or images k d < set
+    → (older : ℕ) × (walk set start images ≡ Some older) × (get_or images k d ≤ older)
 walk_reaches set start [] up k d inside low = absurd (omega arith)
 walk_reaches set start (x ∷ xs) up zero d inside low =
     let first : walk set start (x ∷ xs) ≡ walk set (Some x) xs = ap (λ b. walk set (cond b (Some x) start) xs) (lt-ltb x set low) in
@@ -77,7 +80,8 @@ walk_reaches set start (x ∷ xs) up zero d inside low =
           let is : get_or xs at.0 took.0 ≡ took.0 = at.2 in
           (took.0, first ∙ took.1, omega arith)
     ]
-walk_reaches set start (x ∷ xs) up (suc k) d inside low = walk_reaches set (cond (ltb x set) (Some x) start) xs (λ i j e lower within. up (suc i) (suc j) e (omega arith) (omega arith)) k d (omega arith) low
+walk_reaches set start (x ∷ xs) up (suc k) d inside low = walk_reaches set (cond (ltb x set) (Some x) start) xs (λ i j e lower within. up (suc i) (suc j) e (omega arith) (omega arith)) k d
+    (omega arith) low
 
 pub next_older_reaches : (images : List ℕ) (set image : ℕ) → AllPairs (λ s t. s < t) images → Contains images image → image < set → (older : ℕ) × (next_older images set ≡ Some older) × (image ≤ older)
 next_older_reaches images set image up at low =

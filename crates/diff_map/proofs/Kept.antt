@@ -25,7 +25,8 @@ module _ {X Y : Type 0} (h : X → Option Y) where
   pairs_of S x ys first rest None e = rest
   pairs_of S x ys first rest (Some y) e = AllPairs-cons S y ys (first y e) rest
 
-  pub AllPairs-filter_map : (P : X → Type 0) (R : X → X → Type 0) (S : Y → Y → Type 0) → ((x z : X) (y w : Y) → P x → P z → R x z → h x ≡ Some y → h z ≡ Some w → S y w) → (xs : List X) → All P xs → AllPairs R xs → AllPairs S (filter_map h xs)
+  pub AllPairs-filter_map : (P : X → Type 0) (R : X → X → Type 0) (S : Y → Y → Type 0) → ((x z : X) (y w : Y) → P x → P z → R x z → h x ≡ Some y → h z ≡ Some w → S y w) → (xs : List X) → All P xs
+      → AllPairs R xs → AllPairs S (filter_map h xs)
   AllPairs-filter_map P R S step [] all pairs = λ i j d low inside. absurd (omega arith)
   AllPairs-filter_map P R S step (x ∷ xs) all pairs =
       let heads : All (R x) xs = λ k d inside. pairs 0 (suc k) d (omega arith) (omega arith) in
@@ -43,7 +44,8 @@ module _ {X Y : Type 0} (h : X → Option Y) where
   first_of_all ys y None e = cc
   first_of_all ys y (Some w) e = (0, omega arith, cc)
 
-  found_of : (z : X) (xs : List X) (x : X) (y : Y) → h x ≡ Some y → (Contains xs x → Contains (filter_map h xs) y) → (k : ℕ) → k < length (z ∷ xs) → get_or (z ∷ xs) k x ≡ x → Contains (cons_option (h z) (filter_map h xs)) y
+  found_of : (z : X) (xs : List X) (x : X) (y : Y) → h x ≡ Some y → (Contains xs x → Contains (filter_map h xs) y) → (k : ℕ) → k < length (z ∷ xs) → get_or (z ∷ xs) k x ≡ x
+      → Contains (cons_option (h z) (filter_map h xs)) y
   found_of z xs x y gives rest zero inside is = first_of_all (filter_map h xs) y (h z) (ap h is ∙ gives)
   found_of z xs x y gives rest (suc k) inside is = later_of (filter_map h xs) y (h z) (rest (k, omega arith, is))
 
@@ -65,17 +67,20 @@ copied_at-renewed rule (x ∷ xs) zero = refl
 copied_at-renewed rule (x ∷ xs) (suc k) = copied_at-renewed rule xs k
 
 -- a renewed row comes from a row
-pub row_before : (rule : Copied → Option Copied) (copies : List (Option Copied)) (slot : ℕ) (d : Copied) → copied_at (renewed rule copies) slot ≡ Some d → (c : Copied) × (copied_at copies slot ≡ Some c) × (rule c ≡ Some d)
+pub row_before : (rule : Copied → Option Copied) (copies : List (Option Copied)) (slot : ℕ) (d : Copied) → copied_at (renewed rule copies) slot ≡ Some d
+    → (c : Copied) × (copied_at copies slot ≡ Some c) × (rule c ≡ Some d)
 row_before rule copies slot d row = then_some rule (copied_at copies slot) d (sym (copied_at-renewed rule copies slot) ∙ row)
 
 -- the rule keeps each copy's block, and the order of two copies of one block
 pub record KeepsOrder (rule : Copied → Option Copied) (copies : List (Option Copied)) : Type 0 where
   pub stays : (slot : ℕ) (c d : Copied) → copied_at copies slot ≡ Some c → rule c ≡ Some d → (d.block ≡ c.block) × (d.set < 2 ^ 32)
-  pub order : (slot other : ℕ) (c e d f : Copied) → copied_at copies slot ≡ Some c → copied_at copies other ≡ Some e → c.block ≡ e.block → c.set < e.set → rule c ≡ Some d → rule e ≡ Some f → d.set < f.set
+  pub order : (slot other : ℕ) (c e d f : Copied) → copied_at copies slot ≡ Some c → copied_at copies other ≡ Some e → c.block ≡ e.block → c.set < e.set → rule c ≡ Some d → rule e ≡ Some f
+      → d.set < f.set
 
 module _ (rule : Copied → Option Copied) (entries : List Entry) (copies : List (Option Copied)) (index : IsIndex entries copies) (keeps : KeepsOrder rule copies) where
   -- what the settled list makes of an entry
-  from_entry : (e f : Entry) → IsNoted copies e → entry_now (renewed rule copies) e ≡ Some f → (d : Copied) × (copied_at (renewed rule copies) e.slot ≡ Some d) × (rule (copy_of e.set e.block) ≡ Some d) × (record { block = d.block; set = d.set; slot = e.slot } ≡ f)
+  from_entry : (e f : Entry) → IsNoted copies e → entry_now (renewed rule copies) e ≡ Some f
+      → (d : Copied) × (copied_at (renewed rule copies) e.slot ≡ Some d) × (rule (copy_of e.set e.block) ≡ Some d) × (record { block = d.block; set = d.set; slot = e.slot } ≡ f)
   from_entry e f noted now =
       let made = option_map_some (λ copied. record { block = copied.block; set = copied.set; slot = e.slot }) (copied_at (renewed rule copies) e.slot) f now in
       (made.0, made.1, sym (copied_at-renewed rule copies e.slot ∙ ap (option_and_then rule) noted.row) ∙ made.1, made.2)
@@ -87,7 +92,8 @@ module _ (rule : Copied → Option Copied) (entries : List Entry) (copies : List
       let from : IsNoted (renewed rule copies) (record { block = made.0.block; set = made.0.set; slot = e.slot }) = record { row = made.1; narrow = stays.1 } in
       subst (IsNoted (renewed rule copies)) made.3 from
 
-  renewed_order : (e g : Entry) (f h : Entry) → IsNoted copies e → IsNoted copies g → place e < place g → entry_now (renewed rule copies) e ≡ Some f → entry_now (renewed rule copies) g ≡ Some h → place f < place h
+  renewed_order : (e g : Entry) (f h : Entry) → IsNoted copies e → IsNoted copies g → place e < place g → entry_now (renewed rule copies) e ≡ Some f → entry_now (renewed rule copies) g ≡ Some h
+      → place f < place h
   renewed_order e g f h e_noted g_noted low e_now g_now =
       let a = from_entry e f e_noted e_now in
       let b = from_entry g h g_noted g_now in
@@ -110,12 +116,14 @@ module _ (rule : Copied → Option Copied) (entries : List Entry) (copies : List
 
   pub IsIndex-renewed : IsIndex (filter_map (entry_now (renewed rule copies)) entries) (renewed rule copies)
   IsIndex-renewed = record {
-    in_order = AllPairs-filter_map (entry_now (renewed rule copies)) (IsNoted copies) (λ e f. place e < place f) (λ e f. place e < place f) (λ e g f h p q low x y. renewed_order e g f h p q low x y) entries index.each index.in_order;
+    in_order = AllPairs-filter_map (entry_now (renewed rule copies)) (IsNoted copies) (λ e f. place e < place f) (λ e f. place e < place f)
+        (λ e g f h p q low x y. renewed_order e g f h p q low x y) entries index.each index.in_order;
     each = All-filter_map (entry_now (renewed rule copies)) (IsNoted copies) (IsNoted (renewed rule copies)) renewed_each entries index.each;
     all = λ slot d row.
         let was = row_before rule copies slot d row in
         let at = index.all slot was.0 was.1 in
-        Contains-filter_map (entry_now (renewed rule copies)) entries (record { block = was.0.block; set = was.0.set; slot = slot }) (record { block = d.block; set = d.set; slot = slot }) at (ap (option_map (λ copied. record { block = copied.block; set = copied.set; slot = slot })) row);
+        Contains-filter_map (entry_now (renewed rule copies)) entries (record { block = was.0.block; set = was.0.set; slot = slot }) (record { block = d.block; set = d.set; slot = slot }) at
+        (ap (option_map (λ copied. record { block = copied.block; set = copied.set; slot = slot })) row);
   }
 
 -- a noted set is a 32-bit number

@@ -17,7 +17,9 @@ pub map_left : (p : ℕ → Bool) (m full : MapValue) (later : List ℕ) → m �
 map_left p m full later is left = ap (λ (xs : List ℕ). map_of m.blocks xs m.copies) left ∙ ap (λ (x : MapValue). map_of x.blocks (filter p x.images) x.copies) is
 
 -- to merge the oldest image down is to drop it
-pub drop_is : (m : MapValue) (oldest : ℕ) → AreImages m.images → 0 < length m.images → oldest ≡ get_or m.images 0 0 → map_of m.blocks (filter (λ image. not (eqb image oldest)) m.images) (renewed (merged m.copies (next_older m.images oldest) oldest) m.copies) ≡ map_of m.blocks (drop 1 m.images) (renewed (dropped (get_or m.images 0 0)) m.copies)
+pub drop_is : (m : MapValue) (oldest : ℕ) → AreImages m.images → 0 < length m.images → oldest ≡ get_or m.images 0 0
+    → map_of m.blocks (filter (λ image. not (eqb image oldest)) m.images) (renewed (merged m.copies (next_older m.images oldest) oldest) m.copies) ≡ map_of m.blocks (drop 1 m.images)
+    (renewed (dropped (get_or m.images 0 0)) m.copies)
 drop_is m oldest are some is =
     map_same m.blocks _ _ _ _
     (ap (λ n. filter (λ image. not (eqb image n)) m.images) is ∙ filter-oldest m.images are.ascend)

@@ -38,7 +38,8 @@ pub newest_of : (newest : List ℕ) (rows : List Row) (block : ℕ) → KeepsLin
 newest_of newest rows block keeps low = keeps.links block None low
 
 -- a link from above a set other than the next one passes some copy above it
-pub passes : (newest : List ℕ) (rows : List Row) (block low : ℕ) (from above : Option ℕ) → KeepsLinks newest rows → IsNextAbove rows block low above → IsFrom newest rows block from → low < set_of rows from → from ≢ above
+pub passes : (newest : List ℕ) (rows : List Row) (block low : ℕ) (from above : Option ℕ) → KeepsLinks newest rows → IsNextAbove rows block low above → IsFrom newest rows block from
+    → low < set_of rows from → from ≢ above
     → (at : ℕ) × HasBlock rows block at × (low < (row_at rows at).set) × ((row_at rows at).set < set_of rows from)
 passes newest rows block low None None keeps next is_from high apart = absurd (apart refl)
 passes newest rows block low None (Some at) keeps next is_from high apart = (at, next.has, next.above, keeps.narrow_sets at)
@@ -50,17 +51,31 @@ passes newest rows block low (Some q) (Some at) keeps next is_from high apart = 
 
 -- ## the walk down a chain
 
-pub no_next : (newest : List ℕ) (rows : List Row) (block low : ℕ) → KeepsLinks newest rows → block < length newest → low < 2 ^ 32 → (get_or newest block 0 < length rows → (row_at rows (get_or newest block 0)).set ≤ low) → IsNextAbove rows block low None
-no_next newest rows block low keeps in_range narrow under = record { has = tt; above = narrow; next = none_above rows (get_or newest block 0) block (2 ^ 32) low (newest_of newest rows block keeps in_range) under }
+pub no_next : (newest : List ℕ) (rows : List Row) (block low : ℕ) → KeepsLinks newest rows → block < length newest → low < 2 ^ 32
+    → (get_or newest block 0 < length rows → (row_at rows (get_or newest block 0)).set ≤ low) → IsNextAbove rows block low None
+no_next newest rows block low keeps in_range narrow under = record {
+  has = tt;
+  above = narrow;
+  next = none_above rows (get_or newest block 0) block (2 ^ 32) low
+      (newest_of newest rows block keeps in_range) under;
+}
 
-pub on_newest : (newest : List ℕ) (rows : List Row) (block low at : ℕ) → KeepsLinks newest rows → block < length newest → at ≡ get_or newest block 0 → at < length rows → low < (row_at rows at).set → IsOn rows block low at
+pub on_newest : (newest : List ℕ) (rows : List Row) (block low at : ℕ) → KeepsLinks newest rows → block < length newest → at ≡ get_or newest block 0 → at < length rows → low < (row_at rows at).set
+    → IsOn rows block low at
 on_newest newest rows block low at keeps in_range same inside over =
     record { has = (below_has rows at block (2 ^ 32) (subst (λ k. IsBelow rows k block (2 ^ 32)) (sym same) (newest_of newest rows block keeps in_range)) inside).has; above = over }
 
-pub on_older : (newest : List ℕ) (rows : List Row) (block low at older : ℕ) → KeepsLinks newest rows → IsOn rows block low at → older ≡ (row_at rows at).older → older < length rows → low < (row_at rows older).set → IsOn rows block low older × ((row_at rows older).set < (row_at rows at).set)
+pub on_older : (newest : List ℕ) (rows : List Row) (block low at older : ℕ) → KeepsLinks newest rows → IsOn rows block low at → older ≡ (row_at rows at).older → older < length rows
+    → low < (row_at rows older).set → IsOn rows block low older × ((row_at rows older).set < (row_at rows at).set)
 on_older newest rows block low at older keeps on same inside over =
     let leads = below_has rows older block (row_at rows at).set (subst (λ k. IsBelow rows k block (row_at rows at).set) (sym same) (older_of newest rows block at keeps on.has)) inside in
     (record { has = leads.has; above = over }, leads.below)
 
-pub is_next : (newest : List ℕ) (rows : List Row) (block low at : ℕ) → KeepsLinks newest rows → IsOn rows block low at → ((row_at rows at).older < length rows → (row_at rows (row_at rows at).older).set ≤ low) → IsNextAbove rows block low (Some at)
-is_next newest rows block low at keeps on under = record { has = on.has; above = on.above; next = none_above rows (row_at rows at).older block (row_at rows at).set low (older_of newest rows block at keeps on.has) under }
+pub is_next : (newest : List ℕ) (rows : List Row) (block low at : ℕ) → KeepsLinks newest rows → IsOn rows block low at
+    → ((row_at rows at).older < length rows → (row_at rows (row_at rows at).older).set ≤ low) → IsNextAbove rows block low (Some at)
+is_next newest rows block low at keeps on under = record {
+  has = on.has;
+  above = on.above;
+  next = none_above rows (row_at rows at).older block (row_at rows at).set low
+      (older_of newest rows block at keeps on.has) under;
+}

@@ -46,7 +46,8 @@ copy_from_has rows slot block has = copied_at_row rows slot ∙ copy_in_used (ro
 
 pub unused_from : (rows : List Row) (slot : ℕ) → slice_get (map copy_in rows) slot ≡ Some None → (row_at rows slot).set ≡ 0
 unused_from rows slot unnoted = elim (cases_lt 0 (row_at rows slot).set) [
-  | inl used ↦ absurd (none-some (copy_of (row_at rows slot).set (row_at rows slot).block) (sym (get_or_from_slice_get (map copy_in rows) slot None None unnoted) ∙ copied_at_row rows slot ∙ copy_in_used (row_at rows slot) used))
+  | inl used ↦ absurd (none-some (copy_of (row_at rows slot).set (row_at rows slot).block)
+      (sym (get_or_from_slice_get (map copy_in rows) slot None None unnoted) ∙ copied_at_row rows slot ∙ copy_in_used (row_at rows slot) used))
   | inr none ↦ omega arith
 ]
 
@@ -102,7 +103,8 @@ pub found_from : (rows : List Row) (asked low block : ℕ) (result : Option ℕ)
 found_from rows asked low block None is next = next.has
 found_from rows asked low block (Some slot) is next = found_in rows asked block slot (subst (λ k. IsNextAbove rows block k (Some slot)) is next)
 
-pub none_from : (newest : List ℕ) (rows : List Row) (asked low block : ℕ) (result : Option ℕ) → KeepsLinks newest rows → low ≡ asked - 1 → IsNextAbove rows block low result → IsNone result ↔ IsAbsent (map copy_in rows) asked block
+pub none_from : (newest : List ℕ) (rows : List Row) (asked low block : ℕ) (result : Option ℕ) → KeepsLinks newest rows → low ≡ asked - 1 → IsNextAbove rows block low result
+    → IsNone result ↔ IsAbsent (map copy_in rows) asked block
 none_from newest rows asked low block None keeps is next = (λ _. absent_in rows asked block keeps.narrow_sets (subst (λ k. IsNextAbove rows block k None) is next), λ _. refl)
 none_from newest rows asked low block (Some slot) keeps is next =
     let found = found_in rows asked block slot (subst (λ k. IsNextAbove rows block k (Some slot)) is next) in
@@ -117,7 +119,8 @@ same_copies : (rows : List Row) (above : Option ℕ) (to : ℕ) → map copy_in 
 same_copies rows None to = refl
 same_copies rows (Some at) to = map-set copy_in rows at _ ∙ ap (λ (o : Option Copied). set (map copy_in rows) at o) (sym (copied_at_row rows at)) ∙ set-get_or (map copy_in rows) at None
 
-pub copies_after : (rows : List Row) (slot : ℕ) (new : Row) (above : Option ℕ) (to : ℕ) (copy : Option Copied) → copy_in new ≡ copy → map copy_in (older_after (set rows slot new) above to) ≡ set (map copy_in rows) slot copy
+pub copies_after : (rows : List Row) (slot : ℕ) (new : Row) (above : Option ℕ) (to : ℕ) (copy : Option Copied) → copy_in new ≡ copy
+    → map copy_in (older_after (set rows slot new) above to) ≡ set (map copy_in rows) slot copy
 copies_after rows slot new above to copy is = same_copies (set rows slot new) above to ∙ map-set copy_in rows slot new ∙ ap (λ (o : Option Copied). set (map copy_in rows) slot o) is
 
 -- ## the first rows
@@ -137,7 +140,8 @@ none_rows slots = replicate slots (record { block = 0; set = 0; older = slots })
 none_used : (slots slot : ℕ) → 0 < (row_at (none_rows slots) slot).set → ⊥
 none_used slots slot used = let e = row_of_none slots slots slot in omega arith
 
-links_of_none : (blocks slots block : ℕ) (from : Option ℕ) → IsFrom (replicate blocks slots) (none_rows slots) block from → IsBelow (none_rows slots) (link_from (replicate blocks slots) (none_rows slots) block from) block (set_of (none_rows slots) from)
+links_of_none : (blocks slots block : ℕ) (from : Option ℕ) → IsFrom (replicate blocks slots) (none_rows slots) block from
+    → IsBelow (none_rows slots) (link_from (replicate blocks slots) (none_rows slots) block from) block (set_of (none_rows slots) from)
 links_of_none blocks slots block None in_range =
     let l = length-replicate blocks slots in
     let r : length (none_rows slots) ≡ slots = length-replicate slots (record { block = 0; set = 0; older = slots }) in
@@ -158,11 +162,14 @@ length_after : (newest : List ℕ) (block : ℕ) (above : Option ℕ) (to : ℕ)
 length_after newest block None to = length-set newest block to
 length_after newest block (Some at) to = refl
 
-pub value_after : (newest later : List ℕ) (rows next : List Row) (block slot : ℕ) (new : Row) (above : Option ℕ) (to : ℕ) (copy : Option Copied) → later ≡ newest_after newest block above to → next ≡ older_after (set rows slot new) above to → copy_in new ≡ copy
+pub value_after : (newest later : List ℕ) (rows next : List Row) (block slot : ℕ) (new : Row) (above : Option ℕ) (to : ℕ) (copy : Option Copied) → later ≡ newest_after newest block above to
+    → next ≡ older_after (set rows slot new) above to → copy_in new ≡ copy
     → LinksValueOf (length later) (map copy_in next) ≡ LinksValueOf (length newest) (set (map copy_in rows) slot copy)
 value_after newest later rows next block slot new above to copy later_is next_is is =
-    ap (λ n. LinksValueOf n (map copy_in next)) (ap length later_is ∙ length_after newest block above to) ∙ ap (LinksValueOf (length newest)) (ap (map copy_in) next_is ∙ copies_after rows slot new above to copy is)
+    ap (λ n. LinksValueOf n (map copy_in next)) (ap length later_is ∙ length_after newest block above to)
+    ∙ ap (LinksValueOf (length newest)) (ap (map copy_in) next_is ∙ copies_after rows slot new above to copy is)
 
-pub value_new : (blocks slots : ℕ) (newest : List ℕ) (rows : List Row) → newest ≡ replicate blocks slots → rows ≡ replicate slots (record { block = 0; set = 0; older = slots }) → LinksValueOf (length newest) (map copy_in rows) ≡ LinksValueOf blocks (replicate slots None)
+pub value_new : (blocks slots : ℕ) (newest : List ℕ) (rows : List Row) → newest ≡ replicate blocks slots → rows ≡ replicate slots (record { block = 0; set = 0; older = slots })
+    → LinksValueOf (length newest) (map copy_in rows) ≡ LinksValueOf blocks (replicate slots None)
 value_new blocks slots newest rows newest_is rows_is =
     ap (λ n. LinksValueOf n (map copy_in rows)) (ap length newest_is ∙ length-replicate blocks slots) ∙ ap (LinksValueOf blocks) (ap (map copy_in) rows_is ∙ copies_of_none slots slots)

@@ -1,5 +1,6 @@
 -- A slot that is noted for a block of the newest image: its entry goes in at its place, and there is room for it.
-use Rattle.std.proofs.Common.{ℕ, suc, ◌≡◌, ◌≢◌, ◌+◌, ◌-◌, ◌<◌, ◌≤◌, ◌^◌, inl, inr, true, false, eqb, List, ◌∷◌, length, get_or, set, take, drop, map, Option, Some, None, ap, sym, ◌∙◌, subst, arith, All, Contains}
+use Rattle.std.proofs.Common.{ℕ, suc, ◌≡◌, ◌≢◌, ◌+◌, ◌-◌, ◌<◌, ◌≤◌, ◌^◌, inl, inr, true, false, eqb, List, ◌∷◌, length, get_or, set, take, drop, map, Option, Some, None, ap, sym, ◌∙◌, subst, arith}
+use Rattle.std.proofs.Common.{All, Contains}
 use Rattle.std.specs.List.{AllWithin, insert, slice_get, IsDistinct}
 use Rattle.std.proofs.lemmas.Bool.{cases_eq, cases_lt}
 use Rattle.std.proofs.lemmas.Bool.Decides.{nat_tests}
@@ -17,7 +18,9 @@ use Rattle.diff_map.specs.MapValue.{AreImages}
 use Rattle.diff_map.specs.Index.{place, place_of, IsInOrder, IsIndex, IsNoted}
 use Rattle.diff_map.proofs.Renewal.{slots_apart, row_within}
 
-module _ (entries : List Entry) (copies : List (Option Copied)) (slot image block n : ℕ) (index : IsIndex entries copies) (unnoted : slice_get copies slot ≡ Some None) (lacks : HasCopy copies image block → ⊥) (narrow : image < 2 ^ 32) (within : n ≤ length entries) (before : AllWithin (λ e. place e < place_of block image) entries 0 n) (onward : AllWithin (λ e. place_of block image ≤ place e) entries n (length entries)) where
+module _ (entries : List Entry) (copies : List (Option Copied)) (slot image block n : ℕ) (index : IsIndex entries copies) (unnoted : slice_get copies slot ≡ Some None)
+    (lacks : HasCopy copies image block → ⊥) (narrow : image < 2 ^ 32) (within : n ≤ length entries) (before : AllWithin (λ e. place e < place_of block image) entries 0 n)
+    (onward : AllWithin (λ e. place_of block image ≤ place e) entries n (length entries)) where
   is_none : copied_at copies slot ≡ None
   is_none = get_or_from_slice_get copies slot None None unnoted
 
@@ -67,7 +70,8 @@ module _ (entries : List Entry) (copies : List (Option Copied)) (slot image bloc
               omega arith
           | inr j_past ↦
               let step : (j - 1) + 1 ≡ j = omega arith in
-              let b : place (get_or (insert entries n e) j d) ≡ place (get_or entries (j - 1) d) = ap (λ k. place (get_or (insert entries n e) k d)) (sym step) ∙ ap place (get_or-insert_above entries n e d (j - 1) (omega arith) within) in
+              let b : place (get_or (insert entries n e) j d) ≡ place (get_or entries (j - 1) d) = ap (λ k. place (get_or (insert entries n e) k d)) (sym step)
+              ∙ ap place (get_or-insert_above entries n e d (j - 1) (omega arith) within) in
               let past = behind (j - 1) d (omega arith) (omega arith) in
               elim (cases_lt i n) [
                 | inl i_low ↦
@@ -80,7 +84,8 @@ module _ (entries : List Entry) (copies : List (Option Copied)) (slot image bloc
                       omega arith
                   | inr i_past ↦
                       let step_i : (i - 1) + 1 ≡ i = omega arith in
-                      let a : place (get_or (insert entries n e) i d) ≡ place (get_or entries (i - 1) d) = ap (λ k. place (get_or (insert entries n e) k d)) (sym step_i) ∙ ap place (get_or-insert_above entries n e d (i - 1) (omega arith) within) in
+                      let a : place (get_or (insert entries n e) i d) ≡ place (get_or entries (i - 1) d) = ap (λ k. place (get_or (insert entries n e) k d)) (sym step_i)
+                      ∙ ap place (get_or-insert_above entries n e d (i - 1) (omega arith) within) in
                       let up = index.in_order (i - 1) (j - 1) d (omega arith) (omega arith) in
                       omega arith
                 ]
@@ -104,7 +109,8 @@ module _ (entries : List Entry) (copies : List (Option Copied)) (slot image bloc
   noted_all k c row = elim (cases_eq k slot) [
     | inl same ↦
         let is : copy_of image block ≡ c = same_Some (copy_of image block) c (sym new_row ∙ ap (copied_at rows) (sym same) ∙ row) in
-        subst (λ (x : Entry). Contains (insert entries n e) x) (ap (λ (y : Copied). record { block = y.block; set = y.set; slot = slot }) is ∙ ap (λ (s : ℕ). record { block = c.block; set = c.set; slot = s }) (sym same)) contains_new
+        subst (λ (x : Entry). Contains (insert entries n e) x)
+        (ap (λ (y : Copied). record { block = y.block; set = y.set; slot = slot }) is ∙ ap (λ (s : ℕ). record { block = c.block; set = c.set; slot = s }) (sym same)) contains_new
     | inr other ↦ contains_old (record { block = c.block; set = c.set; slot = k }) (index.all k c (sym (get_or-set_other copies slot k (Some (copy_of image block)) None other) ∙ row))
   ]
 
@@ -113,7 +119,8 @@ module _ (entries : List Entry) (copies : List (Option Copied)) (slot image bloc
       let each : All (IsNoted rows) entries = λ k d i. still_noted (get_or entries k d) (index.each k d i) in
       record {
         in_order = noted_order;
-        each = All-append (IsNoted rows) (take n entries) (e ∷ drop n entries) (All-take (IsNoted rows) n entries each) (All-cons (IsNoted rows) e (drop n entries) (record { row = new_row; narrow = narrow }) (All-drop (IsNoted rows) n entries each));
+        each = All-append (IsNoted rows) (take n entries) (e ∷ drop n entries) (All-take (IsNoted rows) n entries each)
+            (All-cons (IsNoted rows) e (drop n entries) (record { row = new_row; narrow = narrow }) (All-drop (IsNoted rows) n entries each));
         all = noted_all;
       }
 
@@ -129,9 +136,11 @@ module _ (entries : List Entry) (copies : List (Option Copied)) (slot image bloc
       let differ = slots_apart entries copies index i j dd dd low (omega arith) in
       let other : get_or slots i d ≢ get_or slots j d = λ same. differ (sym a ∙ same ∙ b) in
       grind (arith, nat_tests)) in
-      let news : All (λ y. eqb slot y ≡ false) slots = All-map (λ y. eqb slot y ≡ false) (λ (x : Entry). x.slot) entries (λ k d i. let other = other_slot (get_or entries k d) (index.each k d i) in grind (arith, nat_tests)) in
+      let news : All (λ y. eqb slot y ≡ false) slots = All-map (λ y. eqb slot y ≡ false) (λ (x : Entry). x.slot) entries
+      (λ k d i. let other = other_slot (get_or entries k d) (index.each k d i) in grind (arith, nat_tests)) in
       let distinct = IsDistinct-cons eqb slot slots (recursion_from_All (λ y. eqb slot y ≡ false) slots news) apart in
-      let low : All (λ y. y < length copies) (slot ∷ slots) = All-cons (λ y. y < length copies) slot slots inside (All-map (λ y. y < length copies) (λ (x : Entry). x.slot) entries (λ k d i. row_within copies (get_or entries k d).slot _ (index.each k d i).row)) in
+      let low : All (λ y. y < length copies) (slot ∷ slots) = All-cons (λ y. y < length copies) slot slots inside
+      (All-map (λ y. y < length copies) (λ (x : Entry). x.slot) entries (λ k d i. row_within copies (get_or entries k d).slot _ (index.each k d i).row)) in
       let most = length-le_from_distinct_below (slot ∷ slots) (length copies) distinct (λ q found.
       let any = Any-from_list_any (eqb q) (slot ∷ slots) found in
       let at : get_or (slot ∷ slots) any.0 any.1 ≡ any.1 = any.3 in

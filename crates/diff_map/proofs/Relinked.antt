@@ -33,7 +33,8 @@ pub record AreRelinked (newest newest' : List ℕ) (rows rows' : List Row) (bloc
   pub other_links : (b : ℕ) (from : Option ℕ) → from ≢ Some slot → (b ≢ block) ⊎ (from ≢ above) → IsFrom newest rows b from → link_from newest' rows' b from ≡ link_from newest rows b from
   pub this_link : link_from newest' rows' block above ≡ to
 
-are_relinked_none : (newest : List ℕ) (rows : List Row) (block slot : ℕ) (new : Row) (to : ℕ) → slot < length rows → block < length newest → AreRelinked newest (set newest block to) rows (set rows slot new) block slot new None to
+are_relinked_none : (newest : List ℕ) (rows : List Row) (block slot : ℕ) (new : Row) (to : ℕ) → slot < length rows → block < length newest
+    → AreRelinked newest (set newest block to) rows (set rows slot new) block slot new None to
 are_relinked_none newest rows block slot new to inside in_range = record {
   long = length-set rows slot new;
   long_newest = length-set newest block to;
@@ -43,12 +44,14 @@ are_relinked_none newest rows block slot new to inside in_range = record {
   other_links = others;
   this_link = get_or-set_same newest block to 0 in_range;
 } where
-  others : (b : ℕ) (from : Option ℕ) → from ≢ Some slot → (b ≢ block) ⊎ (from ≢ None) → IsFrom newest rows b from → link_from (set newest block to) (set rows slot new) b from ≡ link_from newest rows b from
+  others : (b : ℕ) (from : Option ℕ) → from ≢ Some slot → (b ≢ block) ⊎ (from ≢ None) → IsFrom newest rows b from
+      → link_from (set newest block to) (set rows slot new) b from ≡ link_from newest rows b from
   others b None not_slot (inl apart) is_from = get_or-set_other newest block b to 0 apart
   others b None not_slot (inr apart) is_from = absurd (apart refl)
   others b (Some q) not_slot apart is_from = ap (λ (r : Row). r.older) (get_or-set_other rows slot q new empty (λ e. not_slot (ap Some e)))
 
-module _ (newest : List ℕ) (rows : List Row) (block slot : ℕ) (new : Row) (at to : ℕ) (inside : slot < length rows) (at_inside : at < length rows) (apart_at : at ≢ slot) (has : HasBlock rows block at) where
+module _ (newest : List ℕ) (rows : List Row) (block slot : ℕ) (new : Row) (at to : ℕ) (inside : slot < length rows) (at_inside : at < length rows) (apart_at : at ≢ slot)
+    (has : HasBlock rows block at) where
   abbrev mid : List Row
   mid = set rows slot new
 
@@ -96,11 +99,13 @@ module _ (newest : List ℕ) (rows : List Row) (block slot : ℕ) (new : Row) (a
   }
 
 -- a link from above the slot's set is not from the slot
-pub are_relinked : (newest : List ℕ) (rows : List Row) (block slot low : ℕ) (new : Row) (above : Option ℕ) (to : ℕ) → slot < length rows → block < length newest → (row_at rows slot).set ≤ low → IsNextAbove rows block low above
+pub are_relinked : (newest : List ℕ) (rows : List Row) (block slot low : ℕ) (new : Row) (above : Option ℕ) (to : ℕ) → slot < length rows → block < length newest → (row_at rows slot).set ≤ low
+    → IsNextAbove rows block low above
     → AreRelinked newest (newest_after newest block above to) rows (rows_after rows slot new above to) block slot new above to
 are_relinked newest rows block slot low new None to inside in_range under next = are_relinked_none newest rows block slot new to inside in_range
 are_relinked newest rows block slot low new (Some at) to inside in_range under next =
-    are_relinked_some newest rows block slot new at to inside (used_within rows at next.has.0) (λ same. let e : (row_at rows at).set ≡ (row_at rows slot).set = ap (λ k. (row_at rows k).set) same in let a = next.above in omega arith) next.has
+    are_relinked_some newest rows block slot new at to inside (used_within rows at next.has.0)
+    (λ same. let e : (row_at rows at).set ≡ (row_at rows slot).set = ap (λ k. (row_at rows k).set) same in let a = next.above in omega arith) next.has
 
 -- ## what both have in common
 
@@ -127,16 +132,20 @@ module _ (newest newest' : List ℕ) (rows rows' : List Row) (block slot : ℕ) 
   slot_block = ap (λ (r : Row). r.block) is.new_row
 
   -- another link than that from above leads where it led, and that holds on if it does for the old link
-  pub moved : (b : ℕ) (from : Option ℕ) → from ≢ Some slot → (b ≢ block) ⊎ (from ≢ above) → IsFrom newest rows b from → IsBelow rows' (link_from newest rows b from) b (set_of rows from) → IsBelow rows' (link_from newest' rows' b from) b (set_of rows' from)
+  pub moved : (b : ℕ) (from : Option ℕ) → from ≢ Some slot → (b ≢ block) ⊎ (from ≢ above) → IsFrom newest rows b from → IsBelow rows' (link_from newest rows b from) b (set_of rows from)
+      → IsBelow rows' (link_from newest' rows' b from) b (set_of rows' from)
   moved b from not_slot apart is_from below =
-      subst (λ k. IsBelow rows' k b (set_of rows' from)) (sym (is.other_links b from not_slot apart is_from)) (subst (λ s. IsBelow rows' (link_from newest rows b from) b s) (sym (same_set_of from not_slot)) below)
+      subst (λ k. IsBelow rows' k b (set_of rows' from)) (sym (is.other_links b from not_slot apart is_from))
+      (subst (λ s. IsBelow rows' (link_from newest rows b from) b s) (sym (same_set_of from not_slot)) below)
 
-  pub by_place : (b : ℕ) (from : Option ℕ) → IsBelow rows' (link_from newest' rows' block above) block (set_of rows' above) → ((b ≢ block) ⊎ (from ≢ above) → IsBelow rows' (link_from newest' rows' b from) b (set_of rows' from)) → IsBelow rows' (link_from newest' rows' b from) b (set_of rows' from)
+  pub by_place : (b : ℕ) (from : Option ℕ) → IsBelow rows' (link_from newest' rows' block above) block (set_of rows' above)
+      → ((b ≢ block) ⊎ (from ≢ above) → IsBelow rows' (link_from newest' rows' b from) b (set_of rows' from)) → IsBelow rows' (link_from newest' rows' b from) b (set_of rows' from)
   by_place b from here there = elim (cases_eq b block) [
     | inr apart ↦ there (inl apart)
     | inl same ↦ elim (same_link from above) [
       | inr apart ↦ there (inr apart)
-      | inl same_from ↦ subst (λ k. IsBelow rows' (link_from newest' rows' k from) k (set_of rows' from)) (sym same) (subst (λ (f : Option ℕ). IsBelow rows' (link_from newest' rows' block f) block (set_of rows' f)) (sym same_from) here)
+      | inl same_from ↦ subst (λ k. IsBelow rows' (link_from newest' rows' k from) k (set_of rows' from)) (sym same)
+          (subst (λ (f : Option ℕ). IsBelow rows' (link_from newest' rows' block f) block (set_of rows' f)) (sym same_from) here)
     ]
   ]
 
@@ -239,7 +248,8 @@ module _ (newest newest' : List ℕ) (rows rows' : List Row) (block image slot :
   from_above = from_next newest rows block image above in_range next
 
   from_slot : IsBelow rows' (row_at rows' slot).older block image
-  from_slot = subst (λ (r : Row). IsBelow rows' r.older block image) (sym is.new_row) (kept (link_from newest rows block above) block image (inr (inl (omega arith))) (below_new (link_from newest rows block above) (keeps.links block above from_above)))
+  from_slot = subst (λ (r : Row). IsBelow rows' r.older block image) (sym is.new_row)
+      (kept (link_from newest rows block above) block image (inr (inl (omega arith))) (below_new (link_from newest rows block above) (keeps.links block above from_above)))
 
   not_slot_above : above ≢ Some slot
   not_slot_above e = apart_from block slot (subst (λ (f : Option ℕ). IsFrom newest rows block f) e from_above) refl
@@ -280,14 +290,16 @@ module _ (newest newest' : List ℕ) (rows rows' : List Row) (block image slot :
   links_old b from not_slot is_from' =
       let is_from = from_before newest newest' rows rows' block slot new above slot is b from not_slot is_from' in
       by_place newest newest' rows rows' block slot new above slot is b from to_slot
-      (λ apart. moved newest newest' rows rows' block slot new above slot is b from not_slot apart is_from (kept (link_from newest rows b from) b (set_of rows from) (free_of b from apart is_from) (keeps.links b from is_from)))
+      (λ apart. moved newest newest' rows rows' block slot new above slot is b from not_slot apart is_from
+      (kept (link_from newest rows b from) b (set_of rows from) (free_of b from apart is_from) (keeps.links b from is_from)))
 
   links_now : (b : ℕ) (from : Option ℕ) → IsFrom newest' rows' b from → IsBelow rows' (link_from newest' rows' b from) b (set_of rows' from)
   links_now b None is_from = links_old b None (λ e. none-some slot e) is_from
   links_now b (Some q) is_from = elim (cases_eq q slot) [
     | inl same ↦
         let eb : b ≡ block = here_block b q same is_from in
-        subst (λ k. IsBelow rows' (row_at rows' k).older b (row_at rows' k).set) (sym same) (subst (λ k. IsBelow rows' (row_at rows' slot).older k (row_at rows' slot).set) (sym eb) (subst (λ s. IsBelow rows' (row_at rows' slot).older block s) (sym set_is) from_slot))
+        subst (λ k. IsBelow rows' (row_at rows' k).older b (row_at rows' k).set) (sym same)
+        (subst (λ k. IsBelow rows' (row_at rows' slot).older k (row_at rows' slot).set) (sym eb) (subst (λ s. IsBelow rows' (row_at rows' slot).older block s) (sym set_is) from_slot))
     | inr apart ↦ links_old b (Some q) (λ e. apart (same_Some q slot e)) is_from
   ]
 
@@ -298,7 +310,8 @@ module _ (newest newest' : List ℕ) (rows rows' : List Row) (block image slot :
       | inr apart ↦ absurd (lacks other (was block other apart (has.0, has.1 ∙ ap (λ k. (row_at rows' k).block) one_here ∙ block_is)) (sym (is.sets other apart) ∙ sym same ∙ here_set one one_here))
     ]
     | inr one_apart ↦ elim (cases_eq other slot) [
-      | inl other_here ↦ absurd (lacks one (was block one one_apart (used, sym has.1 ∙ ap (λ k. (row_at rows' k).block) other_here ∙ block_is)) (sym (is.sets one one_apart) ∙ same ∙ here_set other other_here))
+      | inl other_here ↦ absurd
+          (lacks one (was block one one_apart (used, sym has.1 ∙ ap (λ k. (row_at rows' k).block) other_here ∙ block_is)) (sym (is.sets one one_apart) ∙ same ∙ here_set other other_here))
       | inr apart ↦
           let before = was (row_at rows' one).block one one_apart (used, refl) in
           keeps.once one other before.0 (let o = was (row_at rows' one).block other apart has in (o.0, o.1 ∙ is.blocks one one_apart)) (sym (is.sets one one_apart) ∙ same ∙ is.sets other apart)
@@ -311,7 +324,8 @@ module _ (newest newest' : List ℕ) (rows rows' : List Row) (block image slot :
     once = once_now;
     in_range = λ other used. elim (cases_eq other slot) [
       | inl same ↦ let e : (row_at rows' other).block ≡ block = ap (λ k. (row_at rows' k).block) same ∙ block_is in let l = is.long_newest in omega arith
-      | inr apart ↦ let before = was (row_at rows' other).block other apart (used, refl) in let a = keeps.in_range other before.0 in let e = is.blocks other apart in let l = is.long_newest in omega arith
+      | inr apart ↦ let before = was (row_at rows' other).block other apart
+          (used, refl) in let a = keeps.in_range other before.0 in let e = is.blocks other apart in let l = is.long_newest in omega arith
     ];
     narrow_sets = λ other. elim (cases_eq other slot) [
       | inl same ↦ let e = here_set other same in omega (arith, e, narrow)
@@ -405,7 +419,8 @@ module _ (newest newest' : List ℕ) (rows rows' : List Row) (slot : ℕ) (above
 
   here_out : IsBelow rows' (link_from newest' rows' block_out above) block_out (set_of rows' above)
   here_out = subst (λ k. IsBelow rows' k block_out (set_of rows' above)) (sym is.this_link)
-      (subst (λ s. IsBelow rows' older_out block_out s) (sym (same_set_of newest newest' rows rows' block_out slot gone above older_out is above not_above)) (to_older older_out (keeps.links block_out (Some slot) (used, refl))))
+      (subst (λ s. IsBelow rows' older_out block_out s) (sym (same_set_of newest newest' rows rows' block_out slot gone above older_out is above not_above))
+      (to_older older_out (keeps.links block_out (Some slot) (used, refl))))
 
   -- no other link leads to the slot
   leads_past : (b : ℕ) (from : Option ℕ) → (b ≢ block_out) ⊎ (from ≢ above) → IsFrom newest rows b from → link_from newest rows b from ≢ slot
@@ -426,7 +441,8 @@ module _ (newest newest' : List ℕ) (rows rows' : List Row) (slot : ℕ) (above
   links_out b from not_slot is_from' =
       let is_from = from_before newest newest' rows rows' block_out slot gone above older_out is b from not_slot is_from' in
       by_place newest newest' rows rows' block_out slot gone above older_out is b from here_out
-      (λ apart. moved newest newest' rows rows' block_out slot gone above older_out is b from not_slot apart is_from (kept_out (link_from newest rows b from) b (set_of rows from) (leads_past b from apart is_from) (keeps.links b from is_from)))
+      (λ apart. moved newest newest' rows rows' block_out slot gone above older_out is b from not_slot apart is_from
+      (kept_out (link_from newest rows b from) b (set_of rows from) (leads_past b from apart is_from) (keeps.links b from is_from)))
 
   all_links_out : (b : ℕ) (from : Option ℕ) → IsFrom newest' rows' b from → IsBelow rows' (link_from newest' rows' b from) b (set_of rows' from)
   all_links_out b None is_from = links_out b None (λ e. none-some slot e) is_from

@@ -23,7 +23,8 @@ GivesBack-none rows pool = record {
 }
 
 -- no two entries have one slot
-pub slots_apart : (entries : List Entry) (copies : List (Option Copied)) → IsIndex entries copies → (i j : ℕ) (d e : Entry) → i < j → j < length entries → (get_or entries i d).slot ≢ (get_or entries j e).slot
+pub slots_apart : (entries : List Entry) (copies : List (Option Copied)) → IsIndex entries copies → (i j : ℕ) (d e : Entry) → i < j → j < length entries
+    → (get_or entries i d).slot ≢ (get_or entries j e).slot
 slots_apart entries copies index i j d e low inside same =
     let default : get_or entries j e ≡ get_or entries j d = get_or_default entries j e d inside in
     let a = (index.each i d (omega arith)).row in
@@ -48,7 +49,8 @@ pub is_some_from : (o : Option Copied) (c : Copied) → o ≡ Some c → IsSome 
 is_some_from o c e = ap is_some e
 
 -- the slot of a row that is still noted is still taken
-pub taken_ahead : (before after : List (Option Copied)) (old new : List Bool) (slot : ℕ) (b a : Copied) → GivesBack before after old new → AllTaken before old → copied_at before slot ≡ Some b → copied_at after slot ≡ Some a → IsTaken new slot
+pub taken_ahead : (before after : List (Option Copied)) (old new : List Bool) (slot : ℕ) (b a : Copied) → GivesBack before after old new → AllTaken before old → copied_at before slot ≡ Some b
+    → copied_at after slot ≡ Some a → IsTaken new slot
 taken_ahead before after old new slot b a gives taken was is =
     gives.others slot (inr (is_some_from (copied_at after slot) a is)) ∙ taken slot (is_some_from (copied_at before slot) b was)
 
@@ -65,7 +67,8 @@ slice_get-set_other (x ∷ xs) (suc i) zero v other = refl
 slice_get-set_other (x ∷ xs) (suc i) (suc k) v other = slice_get-set_other xs i k v (λ same. other (ap suc same))
 
 -- a noted slot's row becomes none, and the slot goes back
-pub GivesBack-free : (before after : List (Option Copied)) (old new : List Bool) (slot : ℕ) (b a : Copied) → GivesBack before after old new → AllTaken before old → copied_at before slot ≡ Some b → copied_at after slot ≡ Some a → GivesBack before (set after slot None) old (set new slot true)
+pub GivesBack-free : (before after : List (Option Copied)) (old new : List Bool) (slot : ℕ) (b a : Copied) → GivesBack before after old new → AllTaken before old → copied_at before slot ≡ Some b
+    → copied_at after slot ≡ Some a → GivesBack before (set after slot None) old (set new slot true)
 GivesBack-free before after old new slot b a gives taken was is =
     let within = slice_get_within new slot false (taken_ahead before after old new slot b a gives taken was is) in
     let none : copied_at (set after slot None) slot ≡ None = get_or-set_same after slot None None (get_within after slot a is) in
@@ -79,13 +82,15 @@ GivesBack-free before after old new slot b a gives taken was is =
           | inl never ↦ absurd (some_or_none (copied_at before k) (is_some_from (copied_at before k) b (ap (copied_at before) same ∙ was)) never)
           | inr still ↦ absurd (some_or_none (copied_at (set after slot None) k) still (ap is_some (ap (copied_at (set after slot None)) same ∙ none)))
         ]
-        | inr other ↦ slice_get-set_other new slot k true other ∙ gives.others k (elim stays [ inl never ↦ inl never | inr still ↦ inr (ap is_some (sym (get_or-set_other after slot k None None other)) ∙ still) ])
+        | inr other ↦ slice_get-set_other new slot k true other
+            ∙ gives.others k (elim stays [ inl never ↦ inl never | inr still ↦ inr (ap is_some (sym (get_or-set_other after slot k None None other)) ∙ still) ])
       ];
       slots = length-set new slot true ∙ gives.slots;
     }
 
 -- a noted slot's row becomes another, and the slot stays
-pub GivesBack-keep : (before after : List (Option Copied)) (old new : List Bool) (slot : ℕ) (a v : Copied) → GivesBack before after old new → copied_at after slot ≡ Some a → GivesBack before (set after slot (Some v)) old new
+pub GivesBack-keep : (before after : List (Option Copied)) (old new : List Bool) (slot : ℕ) (a v : Copied) → GivesBack before after old new → copied_at after slot ≡ Some a
+    → GivesBack before (set after slot (Some v)) old new
 GivesBack-keep before after old new slot a v gives is =
     let noted : copied_at (set after slot (Some v)) slot ≡ Some v = get_or-set_same after slot (Some v) None (get_within after slot a is) in
     record {

@@ -1,5 +1,6 @@
 -- Copies that go or are handed down one after the other, and their slots that go back.
-use Rattle.std.proofs.Common.{ℕ, zero, suc, ◌∷◌, [], ◌≡◌, ◌≢◌, ◌+◌, ◌<◌, ◌≤◌, ◌⊎◌, inl, inr, Bool, true, false, leb, List, Option, Some, None, length, get_or, set, map, refl, ap, sym, ◌∙◌, subst, arith, Contains}
+use Rattle.std.proofs.Common.{ℕ, zero, suc, ◌∷◌, [], ◌≡◌, ◌≢◌, ◌+◌, ◌<◌, ◌≤◌, ◌⊎◌, inl, inr, Bool, true, false, leb, List, Option, Some, None, length, get_or, set, map, refl, ap, sym, ◌∙◌, subst}
+use Rattle.std.proofs.Common.{arith, Contains}
 use Rattle.std.specs.List.{slice_get}
 use Rattle.std.specs.Option.{option_and_then, is_some}
 use Rattle.std.proofs.lemmas.Bool.{cases_eq, false≢true}
@@ -25,7 +26,8 @@ pub IsRenewing-none : (rule : Copied → Option Copied) (rows : List (Option Cop
 IsRenewing-none rule rows pool = record { each = λ slot. inl refl; long = refl; gives = GivesBack-none rows pool }
 
 -- a row that is none was none, or the rule has it so
-was_some : (rule : Copied → Option Copied) (before after : List (Option Copied)) (old new : List Bool) (slot : ℕ) (a : Copied) → IsRenewing rule before after old new → copied_at after slot ≡ Some a → (b : Copied) × (copied_at before slot ≡ Some b)
+was_some : (rule : Copied → Option Copied) (before after : List (Option Copied)) (old new : List Bool) (slot : ℕ) (a : Copied) → IsRenewing rule before after old new → copied_at after slot ≡ Some a
+    → (b : Copied) × (copied_at before slot ≡ Some b)
 was_some rule before after old new slot a is row = by_row (copied_at before slot) refl where
   by_row : (o : Option Copied) → copied_at before slot ≡ o → (b : Copied) × (copied_at before slot ≡ Some b)
   by_row (Some b) was = (b, was)
@@ -35,7 +37,8 @@ was_some rule before after old new slot a is row = by_row (copied_at before slot
   ])
 
 -- one row changes as the rule has it
-step : (rule : Copied → Option Copied) (before after : List (Option Copied)) (old new newer : List Bool) (slot : ℕ) (b : Copied) (row : Option Copied) → IsRenewing rule before after old new → slot < length after → copied_at before slot ≡ Some b → rule b ≡ row → GivesBack before (set after slot row) old newer → IsRenewing rule before (set after slot row) old newer
+step : (rule : Copied → Option Copied) (before after : List (Option Copied)) (old new newer : List Bool) (slot : ℕ) (b : Copied) (row : Option Copied) → IsRenewing rule before after old new
+    → slot < length after → copied_at before slot ≡ Some b → rule b ≡ row → GivesBack before (set after slot row) old newer → IsRenewing rule before (set after slot row) old newer
 step rule before after old new newer slot b row is inside was ruled gives = record {
   each = λ k. elim (cases_eq k slot) [
     | inl same ↦ inr (ap (copied_at (set after slot row)) same ∙ get_or-set_same after slot row None inside ∙ sym ruled ∙ sym (ap (option_and_then rule) (ap (copied_at before) same ∙ was)))
@@ -46,16 +49,19 @@ step rule before after old new newer slot b row is inside was ruled gives = reco
 }
 
 -- a copy that is still as it was goes, and its slot goes back
-pub IsRenewing-freed : (rule : Copied → Option Copied) (before after : List (Option Copied)) (old new : List Bool) (slot : ℕ) (a b : Copied) → IsRenewing rule before after old new → AllTaken before old → copied_at after slot ≡ Some a → copied_at before slot ≡ Some b → rule b ≡ None → IsRenewing rule before (set after slot None) old (set new slot true)
+pub IsRenewing-freed : (rule : Copied → Option Copied) (before after : List (Option Copied)) (old new : List Bool) (slot : ℕ) (a b : Copied) → IsRenewing rule before after old new
+    → AllTaken before old → copied_at after slot ≡ Some a → copied_at before slot ≡ Some b → rule b ≡ None → IsRenewing rule before (set after slot None) old (set new slot true)
 IsRenewing-freed rule before after old new slot a b is taken row was ruled =
     step rule before after old new (set new slot true) slot b None is (row_within after slot a row) was ruled (GivesBack-free before after old new slot b a is.gives taken was row)
 
-pub IsRenewing-moved : (rule : Copied → Option Copied) (before after : List (Option Copied)) (old new : List Bool) (slot : ℕ) (a b v : Copied) → IsRenewing rule before after old new → copied_at after slot ≡ Some a → copied_at before slot ≡ Some b → rule b ≡ Some v → IsRenewing rule before (set after slot (Some v)) old new
+pub IsRenewing-moved : (rule : Copied → Option Copied) (before after : List (Option Copied)) (old new : List Bool) (slot : ℕ) (a b v : Copied) → IsRenewing rule before after old new
+    → copied_at after slot ≡ Some a → copied_at before slot ≡ Some b → rule b ≡ Some v → IsRenewing rule before (set after slot (Some v)) old new
 IsRenewing-moved rule before after old new slot a b v is row was ruled =
     step rule before after old new new slot b (Some v) is (row_within after slot a row) was ruled (GivesBack-keep before after old new slot a v is.gives row)
 
 -- where no copy is left that the rule would change, all rows are renewed
-pub renewed_all : (rule : Copied → Option Copied) (before after : List (Option Copied)) (old new : List Bool) → IsRenewing rule before after old new → ((slot : ℕ) (c : Copied) → copied_at after slot ≡ Some c → copied_at before slot ≡ Some c → rule c ≡ Some c) → after ≡ renewed rule before
+pub renewed_all : (rule : Copied → Option Copied) (before after : List (Option Copied)) (old new : List Bool) → IsRenewing rule before after old new
+    → ((slot : ℕ) (c : Copied) → copied_at after slot ≡ Some c → copied_at before slot ≡ Some c → rule c ≡ Some c) → after ≡ renewed rule before
 renewed_all rule before after old new is rest =
     ext_get_or None after (map (option_and_then rule) before) (is.long ∙ sym (length-map before (option_and_then rule)))
     (λ k inside. row k (copied_at before k) refl ∙ sym (get_or-map (option_and_then rule) before k None None (let l = is.long in omega arith)))
@@ -68,7 +74,8 @@ not_used : (copies : List (Option Copied)) (image slot : ℕ) (c : Copied) → u
 not_used copies image slot c none row same = let some = used_some copies slot c row in let e : used_for copies c.set ≡ used_for copies image = ap (used_for copies) same in absurd (omega arith)
 
 -- a copy that the rule drops is as it was, if it is there
-pub as_before : (rule : Copied → Option Copied) (image block slot : ℕ) (before after : List (Option Copied)) (old new : List Bool) → IsRenewing rule before after old new → ((c d : Copied) → rule c ≡ Some d → d.set ≡ image → ⊥) → copied_at after slot ≡ Some (copy_of image block) → copied_at before slot ≡ Some (copy_of image block)
+pub as_before : (rule : Copied → Option Copied) (image block slot : ℕ) (before after : List (Option Copied)) (old new : List Bool) → IsRenewing rule before after old new
+    → ((c d : Copied) → rule c ≡ Some d → d.set ≡ image → ⊥) → copied_at after slot ≡ Some (copy_of image block) → copied_at before slot ≡ Some (copy_of image block)
 as_before rule image block slot before after old new is never row = elim (is.each slot) [
   | inl kept ↦ sym kept ∙ row
   | inr ruled ↦ absurd (by_row (copied_at before slot) (sym ruled ∙ row))
@@ -85,7 +92,8 @@ pub record FreesUpTo (going : Going) (images : List ℕ) (n : ℕ) (before after
 pub FreesUpTo-none : (going : Going) (images : List ℕ) (rows : List (Option Copied)) (pool : List Bool) → FreesUpTo going images 0 rows rows pool pool
 FreesUpTo-none going images rows pool = record { renews = IsRenewing-none (rule_of going) rows pool; freed = λ k d low inside. absurd (omega arith) }
 
-pub FreesUpTo-past : (going : Going) (images : List ℕ) (n image : ℕ) (before after : List (Option Copied)) (old new : List Bool) → FreesUpTo going images n before after old new → n < length images → image ≡ get_or images n image → takes going image ≡ false → FreesUpTo going images (n + 1) before after old new
+pub FreesUpTo-past : (going : Going) (images : List ℕ) (n image : ℕ) (before after : List (Option Copied)) (old new : List Bool) → FreesUpTo going images n before after old new → n < length images
+    → image ≡ get_or images n image → takes going image ≡ false → FreesUpTo going images (n + 1) before after old new
 FreesUpTo-past going images n image before after old new up inside is stays = record {
   renews = up.renews;
   freed = λ k d low within test. elim (cases_eq k n) [
@@ -94,7 +102,8 @@ FreesUpTo-past going images n image before after old new up inside is stays = re
   ];
 }
 
-pub freed_all : (going : Going) (images : List ℕ) (n : ℕ) (before after : List (Option Copied)) (old new : List Bool) → ((slot : ℕ) (c : Copied) → copied_at before slot ≡ Some c → Contains images c.set) → FreesUpTo going images n before after old new → length images ≤ n → after ≡ renewed (rule_of going) before
+pub freed_all : (going : Going) (images : List ℕ) (n : ℕ) (before after : List (Option Copied)) (old new : List Bool)
+    → ((slot : ℕ) (c : Copied) → copied_at before slot ≡ Some c → Contains images c.set) → FreesUpTo going images n before after old new → length images ≤ n → after ≡ renewed (rule_of going) before
 freed_all going images n before after old new of_images up end = renewed_all (rule_of going) before after old new up.renews (λ slot c now was. elim (true_or_false (takes going c.set)) [
   | inr test ↦ rule_leaves going c test
   | inl test ↦
@@ -129,7 +138,8 @@ module _ (before after : List (Option Copied)) (old new : List Bool) (older imag
   merging_was = as_before (merged before (Some older) image) image block slot before after old new is (λ c d. merged_never before older image c d below) row
 
   -- the older image has the block now where it had it
-  had_before : (other : ℕ) (o : Option Copied) → copied_at before other ≡ o → (copied_at after other ≡ o) ⊎ (copied_at after other ≡ option_and_then (merged before (Some older) image) o) → copied_at after other ≡ Some (copy_of older block) → HasCopy before older block
+  had_before : (other : ℕ) (o : Option Copied) → copied_at before other ≡ o → (copied_at after other ≡ o) ⊎ (copied_at after other ≡ option_and_then (merged before (Some older) image) o)
+      → copied_at after other ≡ Some (copy_of older block) → HasCopy before older block
   had_before other o was (inl kept) now = (other, was ∙ sym kept ∙ now)
   had_before other None was (inr ruled) now = absurd (none-some (copy_of older block) (sym ruled ∙ now))
   had_before other (Some c) was (inr ruled) now = elim (cases_eq c.set image) [
@@ -162,8 +172,10 @@ module _ (before after : List (Option Copied)) (old new : List Bool) (older imag
       | inr ruled ↦ ruled ∙ ap (option_and_then (merged before (Some older) image)) was ∙ merged_stays before (Some older) image (copy_of older block) (λ e. absurd (omega arith))
     ]
 
-pub merged_all : (before after : List (Option Copied)) (old new : List Bool) (older image : ℕ) → IsRenewing (merged before (Some older) image) before after old new → used_for after image ≡ 0 → after ≡ renewed (merged before (Some older) image) before
-merged_all before after old new older image is none = renewed_all (merged before (Some older) image) before after old new is (λ slot c now was. merged_stays before (Some older) image c (not_used after image slot c none now))
+pub merged_all : (before after : List (Option Copied)) (old new : List Bool) (older image : ℕ) → IsRenewing (merged before (Some older) image) before after old new → used_for after image ≡ 0
+    → after ≡ renewed (merged before (Some older) image) before
+merged_all before after old new older image is none = renewed_all (merged before (Some older) image) before after old new is
+    (λ slot c now was. merged_stays before (Some older) image c (not_used after image slot c none now))
 
 -- ## a map in which copies go
 
@@ -175,16 +187,21 @@ pub record IsRenewingMap (rule : Copied → Option Copied) (before after : MapVa
 pub IsRenewingMap-none : (rule : Copied → Option Copied) (m : MapValue) (pool : List Bool) → IsRenewingMap rule m m pool pool
 IsRenewingMap-none rule m pool = record { blocks = refl; images = refl; renews = IsRenewing-none rule m.copies pool }
 
-pub renewed_map : (rule : Copied → Option Copied) (first after : MapValue) (old new : List Bool) → IsRenewingMap rule first after old new → after.copies ≡ renewed rule first.copies → after ≡ record { blocks = first.blocks; images = first.images; copies = renewed rule first.copies }
+pub renewed_map : (rule : Copied → Option Copied) (first after : MapValue) (old new : List Bool) → IsRenewingMap rule first after old new → after.copies ≡ renewed rule first.copies
+    → after ≡ record { blocks = first.blocks; images = first.images; copies = renewed rule first.copies }
 renewed_map rule first after old new is all = map_same is.blocks is.images all where
   map_of : ℕ → List ℕ → List (Option Copied) → MapValue
   map_of blocks images copies = record { blocks = blocks; images = images; copies = copies }
 
-  map_same : after.blocks ≡ first.blocks → after.images ≡ first.images → after.copies ≡ renewed rule first.copies → ◌≡◌ {A = MapValue} (record { blocks = after.blocks; images = after.images; copies = after.copies }) (record { blocks = first.blocks; images = first.images; copies = renewed rule first.copies })
-  map_same b i c = ap (λ n. map_of n after.images after.copies) b ∙ ap (λ (xs : List ℕ). map_of first.blocks xs after.copies) i ∙ ap (λ (rows : List (Option Copied)). map_of first.blocks first.images rows) c
+  map_same : after.blocks ≡ first.blocks → after.images ≡ first.images → after.copies ≡ renewed rule first.copies
+      → ◌≡◌ {A = MapValue} (record { blocks = after.blocks; images = after.images; copies = after.copies })
+      (record { blocks = first.blocks; images = first.images; copies = renewed rule first.copies })
+  map_same b i c = ap (λ n. map_of n after.images after.copies) b ∙ ap (λ (xs : List ℕ). map_of first.blocks xs after.copies) i
+      ∙ ap (λ (rows : List (Option Copied)). map_of first.blocks first.images rows) c
 
 -- a copy that is popped goes, and its slot goes back
-pub IsRenewingMap-freed : (rule : Copied → Option Copied) (first mid after : MapValue) (old new : List Bool) (image : ℕ) (e : Entry) → IsRenewingMap rule first mid old new → IsPopped mid after image e → AllTaken first.copies old → copied_at first.copies e.slot ≡ Some (copy_of image e.block) → rule (copy_of image e.block) ≡ None
+pub IsRenewingMap-freed : (rule : Copied → Option Copied) (first mid after : MapValue) (old new : List Bool) (image : ℕ) (e : Entry) → IsRenewingMap rule first mid old new
+    → IsPopped mid after image e → AllTaken first.copies old → copied_at first.copies e.slot ≡ Some (copy_of image e.block) → rule (copy_of image e.block) ≡ None
     → IsRenewingMap rule first after old (set new e.slot true)
 IsRenewingMap-freed rule first mid after old new image e is popped taken was ruled = subst (λ (m : MapValue). IsRenewingMap rule first m old (set new e.slot true)) (sym popped.gone) (record {
   blocks = is.blocks;
@@ -222,20 +239,23 @@ module _ (first mid after : MapValue) (old new : List Bool) (older image : ℕ) 
 
   pub has_now : HasCopy mid.copies older e.block → HasCopy after.copies older e.block
   has_now has =
-      let differ : has.0 ≢ e.slot = λ same. let s : older ≡ image = ap (λ (x : Copied). x.set) (same_Some (copy_of older e.block) (copy_of image e.block) (sym has.1 ∙ ap (copied_at mid.copies) same ∙ popped.noted)) in absurd (omega arith) in
+      let differ : has.0 ≢ e.slot = λ same. let s : older ≡ image = ap (λ (x : Copied). x.set)
+      (same_Some (copy_of older e.block) (copy_of image e.block) (sym has.1 ∙ ap (copied_at mid.copies) same ∙ popped.noted)) in absurd (omega arith) in
       (has.0, ap (λ (m : MapValue). copied_at m.copies has.0) popped.gone ∙ get_or-set_other mid.copies e.slot has.0 None None differ ∙ has.1)
 
   pub handing_frees : AllTaken first.copies old → HasCopy after.copies older e.block → IsRenewingMap (merged first.copies (Some older) image) first after old (set new e.slot true)
   handing_frees taken has = IsRenewingMap-freed (merged first.copies (Some older) image) first mid after old new image e is popped taken handing_was
       (merging_goes first.copies mid.copies old new older image e.block e.slot below valid.once is.renews popped.noted (has_then has))
 
-  pub handing_moves : (HasCopy after.copies older e.block → ⊥) → IsRenewingMap (merged first.copies (Some older) image) first (record { blocks = after.blocks; images = after.images; copies = set after.copies e.slot (Some (copy_of older e.block)) }) old new
+  pub handing_moves : (HasCopy after.copies older e.block → ⊥)
+      → IsRenewingMap (merged first.copies (Some older) image) first (record { blocks = after.blocks; images = after.images; copies = set after.copies e.slot (Some (copy_of older e.block)) }) old new
   handing_moves lacks = record {
     blocks = ap (λ (m : MapValue). m.blocks) popped.gone ∙ is.blocks;
     images = ap (λ (m : MapValue). m.images) popped.gone ∙ is.images;
     renews = subst (λ (rows : List (Option Copied)). IsRenewing (merged first.copies (Some older) image) first.copies rows old new)
         (sym (ap (λ (m : MapValue). set m.copies e.slot (Some (copy_of older e.block))) popped.gone ∙ set-set mid.copies e.slot None (Some (copy_of older e.block))))
-        (IsRenewing-moved (merged first.copies (Some older) image) first.copies mid.copies old new e.slot (copy_of image e.block) (copy_of image e.block) (copy_of older e.block) is.renews popped.noted handing_was
+        (IsRenewing-moved (merged first.copies (Some older) image) first.copies mid.copies old new e.slot (copy_of image e.block) (copy_of image e.block)
+        (copy_of older e.block) is.renews popped.noted handing_was
         (merging_moves first.copies mid.copies old new older image e.block e.slot below valid.once is.renews popped.noted (λ has. lacks (has_now has))));
   }
 
@@ -254,14 +274,17 @@ pub record FreesMapUpTo (going : Going) (n : ℕ) (before after : MapValue) (old
 pub FreesMapUpTo-none : (going : Going) (m : MapValue) (pool : List Bool) → FreesMapUpTo going 0 m m pool pool
 FreesMapUpTo-none going m pool = record { blocks = refl; images = refl; frees = FreesUpTo-none going m.images m.copies pool }
 
-pub FreesMapUpTo-past : (going : Going) (n image : ℕ) (first mid : MapValue) (old new : List Bool) → FreesMapUpTo going n first mid old new → n < length first.images → image ≡ get_or mid.images n 0 → takes going image ≡ false → FreesMapUpTo going (n + 1) first mid old new
+pub FreesMapUpTo-past : (going : Going) (n image : ℕ) (first mid : MapValue) (old new : List Bool) → FreesMapUpTo going n first mid old new → n < length first.images → image ≡ get_or mid.images n 0
+    → takes going image ≡ false → FreesMapUpTo going (n + 1) first mid old new
 FreesMapUpTo-past going n image first mid old new up inside read stays = record {
   blocks = up.blocks;
   images = up.images;
-  frees = FreesUpTo-past going first.images n image first.copies mid.copies old new up.frees inside (read ∙ ap (λ (xs : List ℕ). get_or xs n 0) up.images ∙ get_or_default first.images n 0 image inside) stays;
+  frees = FreesUpTo-past going first.images n image first.copies mid.copies old new up.frees inside
+      (read ∙ ap (λ (xs : List ℕ). get_or xs n 0) up.images ∙ get_or_default first.images n 0 image inside) stays;
 }
 
-pub freed_map : (going : Going) (n : ℕ) (first after : MapValue) (old new : List Bool) → IsMap first → FreesMapUpTo going n first after old new → length first.images ≤ n → after ≡ record { blocks = first.blocks; images = first.images; copies = renewed (rule_of going) first.copies }
+pub freed_map : (going : Going) (n : ℕ) (first after : MapValue) (old new : List Bool) → IsMap first → FreesMapUpTo going n first after old new → length first.images ≤ n
+    → after ≡ record { blocks = first.blocks; images = first.images; copies = renewed (rule_of going) first.copies }
 freed_map going n first after old new valid up end = renewed_map (rule_of going) first after old new (record { blocks = up.blocks; images = up.images; renews = up.frees.renews })
     (freed_all going first.images n first.copies after.copies old new valid.of_images up.frees end)
 
@@ -271,26 +294,32 @@ never_of going image goes c d gives same =
     let g = rule_gives going c d gives in
     false≢true (sym g.0 ∙ ap (λ (x : Copied). takes going x.set) (sym g.1) ∙ ap (takes going) same ∙ goes)
 
-pub going_was : (going : Going) (n image : ℕ) (first mid after : MapValue) (old new : List Bool) (e : Entry) → FreesMapUpTo going n first mid old new → IsPopped mid after image e → takes going image ≡ true → copied_at first.copies e.slot ≡ Some (copy_of image e.block)
-going_was going n image first mid after old new e up popped goes = as_before (rule_of going) image e.block e.slot first.copies mid.copies old new up.frees.renews (never_of going image goes) popped.noted
+pub going_was : (going : Going) (n image : ℕ) (first mid after : MapValue) (old new : List Bool) (e : Entry) → FreesMapUpTo going n first mid old new → IsPopped mid after image e
+    → takes going image ≡ true → copied_at first.copies e.slot ≡ Some (copy_of image e.block)
+going_was going n image first mid after old new e up popped goes = as_before (rule_of going) image e.block e.slot first.copies mid.copies old new up.frees.renews
+    (never_of going image goes) popped.noted
 
-pub FreesMapUpTo-popped : (going : Going) (n image : ℕ) (first mid after : MapValue) (old new : List Bool) (e : Entry) → FreesMapUpTo going n first mid old new → IsPopped mid after image e → takes going image ≡ true → AllTaken first.copies old → FreesMapUpTo going n first after old (set new e.slot true)
+pub FreesMapUpTo-popped : (going : Going) (n image : ℕ) (first mid after : MapValue) (old new : List Bool) (e : Entry) → FreesMapUpTo going n first mid old new → IsPopped mid after image e
+    → takes going image ≡ true → AllTaken first.copies old → FreesMapUpTo going n first after old (set new e.slot true)
 FreesMapUpTo-popped going n image first mid after old new e up popped goes taken =
     let was = going_was going n image first mid after old new e up popped goes in
-    let freed = IsRenewingMap-freed (rule_of going) first mid after old new image e (record { blocks = up.blocks; images = up.images; renews = up.frees.renews }) popped taken was (rule_takes going (copy_of image e.block) goes) in
+    let freed = IsRenewingMap-freed (rule_of going) first mid after old new image e (record { blocks = up.blocks; images = up.images; renews = up.frees.renews }) popped taken was
+    (rule_takes going (copy_of image e.block) goes) in
     record {
       blocks = freed.blocks;
       images = freed.images;
       frees = record {
         renews = freed.renews;
         freed = λ k d low within test. ap (λ (m : MapValue). used_for m.copies (get_or first.images k d)) popped.gone ∙ elim (cases_eq (get_or first.images k d) image) [
-          | inl same ↦ absurd (let none = up.frees.freed k d low within test in let less = used_out mid.copies e.slot image e.block popped.noted in let e2 : used_for mid.copies (get_or first.images k d) ≡ used_for mid.copies image = ap (used_for mid.copies) same in omega arith)
+          | inl same ↦ absurd (let none = up.frees.freed k d low within test in let less = used_out mid.copies e.slot image e.block popped.noted in let e2 : used_for mid.copies
+              (get_or first.images k d) ≡ used_for mid.copies image = ap (used_for mid.copies) same in omega arith)
           | inr differ ↦ used_out_other mid.copies e.slot image e.block (get_or first.images k d) popped.noted differ ∙ up.frees.freed k d low within test
         ];
       };
     }
 
-pub FreesMapUpTo-done : (going : Going) (n image : ℕ) (first mid : MapValue) (old new : List Bool) → FreesMapUpTo going n first mid old new → n < length first.images → image ≡ get_or first.images n 0 → used_for mid.copies image ≡ 0 → FreesMapUpTo going (n + 1) first mid old new
+pub FreesMapUpTo-done : (going : Going) (n image : ℕ) (first mid : MapValue) (old new : List Bool) → FreesMapUpTo going n first mid old new → n < length first.images → image ≡ get_or first.images n 0
+    → used_for mid.copies image ≡ 0 → FreesMapUpTo going (n + 1) first mid old new
 FreesMapUpTo-done going n image first mid old new up inside read none = record {
   blocks = up.blocks;
   images = up.images;
@@ -305,7 +334,8 @@ FreesMapUpTo-done going n image first mid old new up inside read none = record {
 
 -- ## what is left where images go
 
-pub left_by : (rule : Copied → Option Copied) (P : ℕ → Type 0) (copies : List (Option Copied)) → ((c d : Copied) → rule c ≡ Some d → P d.set) → (slot : ℕ) (d : Copied) → copied_at (renewed rule copies) slot ≡ Some d → P d.set
+pub left_by : (rule : Copied → Option Copied) (P : ℕ → Type 0) (copies : List (Option Copied)) → ((c d : Copied) → rule c ≡ Some d → P d.set) → (slot : ℕ) (d : Copied)
+    → copied_at (renewed rule copies) slot ≡ Some d → P d.set
 left_by rule P copies passes slot d row = by_row (copied_at copies slot) (sym (copied_at-renewed rule copies slot) ∙ row) where
   by_row : (o : Option Copied) → option_and_then rule o ≡ Some d → P d.set
   by_row None e = absurd (none-some d e)
@@ -325,7 +355,8 @@ left_from oldest copies = left_by (rule_of (From oldest)) (λ image. image ≤ o
     let same : d.set ≡ c.set = ap (λ (x : Copied). x.set) rule.1 in
     grind (arith, nat_tests))
 
-pub left_merged : (images : List ℕ) (copies : List (Option Copied)) (image : ℕ) (slot : ℕ) (d : Copied) → copied_at (renewed (merged copies (next_older images image) image) copies) slot ≡ Some d → d.set ≢ image
+pub left_merged : (images : List ℕ) (copies : List (Option Copied)) (image : ℕ) (slot : ℕ) (d : Copied) → copied_at (renewed (merged copies (next_older images image) image) copies) slot ≡ Some d
+    → d.set ≢ image
 left_merged images copies image = left_by (merged copies (next_older images image) image) (λ s. s ≢ image) copies (λ c d gives. by_older c d (next_older images image) refl gives) where
   by_older : (c d : Copied) (o : Option ℕ) → next_older images image ≡ o → merged copies o image c ≡ Some d → d.set ≢ image
   by_older c d None is e same = elim (cases_eq c.set image) [

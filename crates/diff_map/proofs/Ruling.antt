@@ -56,7 +56,8 @@ merged_goes copies older image c is has =
     let test : eqb c.set image ≡ true = grind (arith, nat_tests) in
     ap (λ b. cond {A = Option Copied} b (handed_down copies (Some older) c.block) (Some c)) test ∙ ap (λ b. cond {A = Option Copied} b None (Some (copy_of older c.block))) has
 
-pub merged_moves : (copies : List (Option Copied)) (older image : ℕ) (c : Copied) → c.set ≡ image → has_copy copies older c.block ≡ false → merged copies (Some older) image c ≡ Some (copy_of older c.block)
+pub merged_moves : (copies : List (Option Copied)) (older image : ℕ) (c : Copied) → c.set ≡ image → has_copy copies older c.block ≡ false
+    → merged copies (Some older) image c ≡ Some (copy_of older c.block)
 merged_moves copies older image c is lacks =
     let test : eqb c.set image ≡ true = grind (arith, nat_tests) in
     ap (λ b. cond {A = Option Copied} b (handed_down copies (Some older) c.block) (Some c)) test ∙ ap (λ b. cond {A = Option Copied} b None (Some (copy_of older c.block))) lacks

@@ -9,7 +9,8 @@ use Rattle.diff_map.proofs.Linked.{used_within}
 use Rattle.diff_map.proofs.LinkedCopies.{has_from_copy}
 use Rattle.diff_map.proofs.Relinked.{are_relinked, KeepsLinks-out}
 
-module _ (newest : List ℕ) (rows : List Row) (slot : ℕ) (row : Row) (copied : Copied) (keeps : KeepsLinks newest rows) (had : copied_at (map copy_in rows) slot ≡ Some copied) (is : row ≡ get_or rows slot row) where
+module _ (newest : List ℕ) (rows : List Row) (slot : ℕ) (row : Row) (copied : Copied) (keeps : KeepsLinks newest rows) (had : copied_at (map copy_in rows) slot ≡ Some copied)
+    (is : row ≡ get_or rows slot row) where
   used : 0 < (row_at rows slot).set
   used = (has_from_copy rows slot copied.set copied.block had).used
 
@@ -23,9 +24,11 @@ module _ (newest : List ℕ) (rows : List Row) (slot : ℕ) (row : Row) (copied 
   OutRow = (inside, subst (λ (r : Row). r.block < length newest) (sym row_is) (keeps.in_range slot used))
 
   taken_at : (above : Option ℕ) → IsNextAbove rows (row_at rows slot).block (row_at rows slot).set above
-      → KeepsLinks (newest_after newest (row_at rows slot).block above (row_at rows slot).older) (older_after (set rows slot (record { block = (row_at rows slot).block; set = 0; older = (row_at rows slot).older })) above (row_at rows slot).older)
+      → KeepsLinks (newest_after newest (row_at rows slot).block above (row_at rows slot).older)
+      (older_after (set rows slot (record { block = (row_at rows slot).block; set = 0; older = (row_at rows slot).older })) above (row_at rows slot).older)
   taken_at above next = KeepsLinks-out newest _ rows _ slot above keeps
-      (are_relinked newest rows (row_at rows slot).block slot (row_at rows slot).set (record { block = (row_at rows slot).block; set = 0; older = (row_at rows slot).older }) above (row_at rows slot).older inside (keeps.in_range slot used) (omega arith) next)
+      (are_relinked newest rows (row_at rows slot).block slot (row_at rows slot).set (record { block = (row_at rows slot).block; set = 0; older = (row_at rows slot).older }) above
+      (row_at rows slot).older inside (keeps.in_range slot used) (omega arith) next)
       next used
 
   pub KeepsLinks-taken : (above : Option ℕ) → IsNextAbove rows row.block row.set above

@@ -40,7 +40,8 @@ loop-i-preserved g c =
           let last = w.in_default.ensures.none refl in
           rw (w.area-is, w.diffs-is, w.pool-is) (record {
             frees = subst (λ (m : MapValue). FreesMapUpTo c.args.going (c.loop-i.i + 1) first m c.args.pool.now w.copies.pool) (sym last.0)
-                (FreesMapUpTo-done c.args.going c.loop-i.i _ first w.copies.diffs c.args.pool.now w.copies.pool w.copies.invariant.frees inside (read ∙ ap (λ xs. get_or xs c.loop-i.i 0) c.loop-i.invariant.frees.images) last.1);
+                (FreesMapUpTo-done c.args.going c.loop-i.i _ first w.copies.diffs c.args.pool.now w.copies.pool w.copies.invariant.frees inside
+                (read ∙ ap (λ xs. get_or xs c.loop-i.i 0) c.loop-i.invariant.frees.images) last.1);
             follows = subst (λ (m : MapValue). Follows c.args.v c.args.area.now w.copies.area m) (sym last.0) w.copies.invariant.follows;
           })
       | else-takes w ↦ rw (w.area-is, w.diffs-is, w.pool-is) (record {

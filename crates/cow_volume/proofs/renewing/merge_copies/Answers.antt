@@ -14,5 +14,6 @@ hand_down-requires-clause-below g c =
 
 pub returns-in-Some-clause-map : goal.returns-in-Some-clause-map
 returns-in-Some-clause-map g c =
-    let is : next_older c.args.diffs.now.images c.args.set ≡ Some c.in-Some.older = ap (λ (xs : List ℕ). next_older xs c.args.set) (sym c.images.ensures.images) ∙ sym c.next_older.ensures ∙ c.in-Some.is in
+    let is : next_older c.args.diffs.now.images c.args.set ≡ Some c.in-Some.older = ap (λ (xs : List ℕ). next_older xs c.args.set) (sym c.images.ensures.images) ∙ sym c.next_older.ensures
+    ∙ c.in-Some.is in
     c.hand_down.ensures.map ∙ ap (λ (o : Option ℕ). map_of c.args.diffs.now.blocks c.args.diffs.now.images (renewed (merged c.args.diffs.now.copies o c.args.set) c.args.diffs.now.copies)) (sym is)

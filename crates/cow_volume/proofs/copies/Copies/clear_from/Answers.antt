@@ -29,7 +29,8 @@ free_copies-requires-clause-taken g c =
     all_taken _ _ _ _ c.args.v m c.self.invariant at
 
 pub forget_newer-requires : goal.forget_newer-requires
-forget_newer-requires g c = subst (λ (x : MapValue). (slot : ℕ) (d : Copied) → copied_at x.copies slot ≡ Some d → d.set ≤ c.args.set) (sym c.free_copies.ensures.map) (left_from c.args.set c.index_mut-map.result.now.copies)
+forget_newer-requires g c = subst (λ (x : MapValue). (slot : ℕ) (d : Copied) → copied_at x.copies slot ≡ Some d → d.set ≤ c.args.set) (sym c.free_copies.ensures.map)
+    (left_from c.args.set c.index_mut-map.result.now.copies)
 
 pub invariant_of-self : goal.invariant_of-self
 invariant_of-self g c =

@@ -36,7 +36,8 @@ merge_copies-requires-clause-volume g c =
     (c.self.invariant.each c.args.v m at).blocks
 
 pub forget-requires : goal.forget-requires
-forget-requires g c = subst (λ (x : MapValue). (slot : ℕ) (d : Copied) → copied_at x.copies slot ≡ Some d → d.set ≢ c.args.set) (sym c.merge_copies.ensures.map) (left_merged c.index_mut-map.result.now.images c.index_mut-map.result.now.copies c.args.set)
+forget-requires g c = subst (λ (x : MapValue). (slot : ℕ) (d : Copied) → copied_at x.copies slot ≡ Some d → d.set ≢ c.args.set) (sym c.merge_copies.ensures.map)
+    (left_merged c.index_mut-map.result.now.images c.index_mut-map.result.now.copies c.args.set)
 
 pub invariant_of-self : goal.invariant_of-self
 invariant_of-self g c =

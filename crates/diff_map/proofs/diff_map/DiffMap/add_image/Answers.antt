@@ -19,6 +19,7 @@ invariant_of-self c =
     let longer = c.push.ensures.items ∙ ap (λ (b : Bool). cond b (images.items ++ c.args.set ∷ []) images.items) image_ok in
     let more = c.push-2.ensures.items ∙ ap (λ (b : Bool). cond b (counts.items ++ (record { set = c.args.set; used = 0; first = 0 }) ∷ []) counts.items) count_ok in (
       KeepsImages-cut images c.push.new.self c.self.inside.links.copies c.args.set c.self.invariant.0 short c.requires.above_zero (omega arith) newest longer c.push.ensures.capacity,
-      KeepsCounts-cut images c.push.new.self counts c.push-2.new.self c.self.inside.next.items c.self.inside.links.copies c.args.set c.self.invariant.0 c.self.invariant.1 newest longer more c.push-2.ensures.capacity,
+      KeepsCounts-cut images c.push.new.self counts c.push-2.new.self c.self.inside.next.items c.self.inside.links.copies c.args.set c.self.invariant.0 c.self.invariant.1 newest longer more
+          c.push-2.ensures.capacity,
       c.self.invariant.2,
     )

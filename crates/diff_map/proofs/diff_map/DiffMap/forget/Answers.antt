@@ -18,8 +18,10 @@ invariant_of-self c =
     let left = filter_same _ (λ image. not (eqb image c.args.set)) _ (λ x b f k. search rules) _ _ c.retain.ensures.filtered in
     let numbers = filter_same _ (λ (x : ImageCount). not (eqb x.set c.args.set)) _ (λ x b f k. search rules) _ _ c.retain-2.ensures.filtered in
     let stays = subst (λ (m : MapValue). (slot : ℕ) (d : Copied) → copied_at m.copies slot ≡ Some d → d.set ≢ c.args.set) (sym c.self.view_is) c.requires in (
-      KeepsImages-left (λ image. not (eqb image c.args.set)) inside.images c.retain.new.self inside.links.copies c.self.invariant.0 (λ slot d row. passes c.args.set d.set (stays slot d row)) left c.retain.ensures.capacity,
-      KeepsCounts-left (λ image. not (eqb image c.args.set)) inside.images c.retain.new.self inside.counts c.retain-2.new.self inside.next.items inside.links.copies c.self.invariant.1 left numbers c.retain-2.ensures.capacity,
+      KeepsImages-left (λ image. not (eqb image c.args.set)) inside.images c.retain.new.self inside.links.copies c.self.invariant.0
+          (λ slot d row. passes c.args.set d.set (stays slot d row)) left c.retain.ensures.capacity,
+      KeepsCounts-left (λ image. not
+          (eqb image c.args.set)) inside.images c.retain.new.self inside.counts c.retain-2.new.self inside.next.items inside.links.copies c.self.invariant.1 left numbers c.retain-2.ensures.capacity,
       c.self.invariant.2,
     )
 

@@ -16,7 +16,8 @@ overflow_add-count c =
     let before = rw c.deref.ensures.value at c.place_from-at.ensures.before in
     let onward = rw c.deref.ensures.value at c.place_from-at.ensures.onward in
     let place = place_is images.items c.args.set c.place_from-at.result c.self.invariant.0.are_images.ascend at before onward in
-    let used = used_is images c.self.inside.counts c.self.inside.next.items copies c.args.set c.place_from-at.result c.index-count.result.now c.self.invariant.0 c.self.invariant.1 place.0 place.1 c.index-count.ensures in
+    let used = used_is images c.self.inside.counts c.self.inside.next.items copies c.args.set c.place_from-at.result c.index-count.result.now c.self.invariant.0 c.self.invariant.1 place.0 place.1
+    c.index-count.ensures in
     let fits = one_more_fits copies c.args.slot c.args.set c.slots-facts.ensures.valid.narrow unnoted in
     omega arith
 
@@ -31,7 +32,8 @@ invariant_of-self c =
     let place = place_is images.items c.args.set c.place_from-at.result c.self.invariant.0.are_images.ascend at before onward in
     rw c.note.ensures (
       KeepsImages-set images copies c.args.slot (Some (copy_of c.args.set c.args.block)) c.self.invariant.0 at,
-      KeepsCounts-noted images c.self.inside.counts c.self.inside.next.items copies c.args.set c.place_from-at.result c.index-count.result.now c.self.invariant.0 c.self.invariant.1 place.0 place.1 c.index-count.ensures
+      KeepsCounts-noted images c.self.inside.counts c.self.inside.next.items copies c.args.set c.place_from-at.result c.index-count.result.now c.self.invariant.0 c.self.invariant.1 place.0 place.1
+          c.index-count.ensures
           _ c.args.slot c.args.block unnoted refl (omega arith),
       (let more = noted_more copies c.args.slot (copy_of c.args.set c.args.block) unnoted in let used = c.self.invariant.2 in omega arith),
     )

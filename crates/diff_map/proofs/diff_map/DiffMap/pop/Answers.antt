@@ -17,16 +17,20 @@ pub returns-then-count-eq0-clause-none : goal.returns-then-count-eq0-clause-none
 returns-then-count-eq0-clause-none c =
     let images = c.self.inside.images in
     let at = subst (λ (m : MapValue). Contains m.images c.args.set) (sym c.self.view_is) c.requires in
-    let place = place_is images.items c.args.set c.place_from-at.result c.self.invariant.0.are_images.ascend at (rw c.deref.ensures.value at c.place_from-at.ensures.before) (rw c.deref.ensures.value at c.place_from-at.ensures.onward) in
-    let used = used_is images c.self.inside.counts c.self.inside.next.items c.self.inside.links.copies c.args.set c.place_from-at.result c.index-count.result.now c.self.invariant.0 c.self.invariant.1 place.0 place.1 c.index-count.ensures in
+    let place = place_is images.items c.args.set c.place_from-at.result c.self.invariant.0.are_images.ascend at (rw c.deref.ensures.value at c.place_from-at.ensures.before)
+    (rw c.deref.ensures.value at c.place_from-at.ensures.onward) in
+    let used = used_is images c.self.inside.counts c.self.inside.next.items c.self.inside.links.copies c.args.set c.place_from-at.result c.index-count.result.now c.self.invariant.0 c.self.invariant.1
+    place.0 place.1 c.index-count.ensures in
     rw (← c.self.view_is) (λ _. (refl, sym used ∙ c.if-count-eq0.true))
 
 pub take_out-block-requires : goal.take_out-block-requires
 take_out-block-requires c =
     let images = c.self.inside.images in
     let at = subst (λ (m : MapValue). Contains m.images c.args.set) (sym c.self.view_is) c.requires in
-    let place = place_is images.items c.args.set c.place_from-at.result c.self.invariant.0.are_images.ascend at (rw c.deref.ensures.value at c.place_from-at.ensures.before) (rw c.deref.ensures.value at c.place_from-at.ensures.onward) in
-    let is = count_is images c.self.inside.counts c.self.inside.next.items c.self.inside.links.copies c.args.set c.place_from-at.result c.index-count.result.now c.self.invariant.0 c.self.invariant.1 place.0 place.1 c.index-count.ensures in
+    let place = place_is images.items c.args.set c.place_from-at.result c.self.invariant.0.are_images.ascend at (rw c.deref.ensures.value at c.place_from-at.ensures.before)
+    (rw c.deref.ensures.value at c.place_from-at.ensures.onward) in
+    let is = count_is images c.self.inside.counts c.self.inside.next.items c.self.inside.links.copies c.args.set c.place_from-at.result c.index-count.result.now c.self.invariant.0 c.self.invariant.1
+    place.0 place.1 c.index-count.ensures in
     let some = c.if-count-eq0.false in
     let it = first_for c.self.inside.next.items c.self.inside.links.copies c.args.set c.index-count.result.now is.0 is.1 (omega arith) in
     (copy_of c.args.set it.0, it.1)
@@ -36,8 +40,10 @@ index-requires c =
     let images = c.self.inside.images in
     let copies = c.self.inside.links.copies in
     let at = subst (λ (m : MapValue). Contains m.images c.args.set) (sym c.self.view_is) c.requires in
-    let place = place_is images.items c.args.set c.place_from-at.result c.self.invariant.0.are_images.ascend at (rw c.deref.ensures.value at c.place_from-at.ensures.before) (rw c.deref.ensures.value at c.place_from-at.ensures.onward) in
-    let is = count_is images c.self.inside.counts c.self.inside.next.items copies c.args.set c.place_from-at.result c.index-count.result.now c.self.invariant.0 c.self.invariant.1 place.0 place.1 c.index-count.ensures in
+    let place = place_is images.items c.args.set c.place_from-at.result c.self.invariant.0.are_images.ascend at (rw c.deref.ensures.value at c.place_from-at.ensures.before)
+    (rw c.deref.ensures.value at c.place_from-at.ensures.onward) in
+    let is = count_is images c.self.inside.counts c.self.inside.next.items copies c.args.set c.place_from-at.result c.index-count.result.now c.self.invariant.0 c.self.invariant.1 place.0 place.1
+    c.index-count.ensures in
     let some = c.if-count-eq0.false in
     let it = first_for c.self.inside.next.items copies c.args.set c.index-count.result.now is.0 is.1 (omega arith) in
     let within = row_within copies c.index-count.result.now.first (copy_of c.args.set it.0) it.1 in
@@ -52,7 +58,8 @@ invariant_of-self c =
     let next = c.self.inside.next.items in
     let count = c.index-count.result.now in
     let at = subst (λ (m : MapValue). Contains m.images c.args.set) (sym c.self.view_is) c.requires in
-    let place = place_is images.items c.args.set c.place_from-at.result c.self.invariant.0.are_images.ascend at (rw c.deref.ensures.value at c.place_from-at.ensures.before) (rw c.deref.ensures.value at c.place_from-at.ensures.onward) in
+    let place = place_is images.items c.args.set c.place_from-at.result c.self.invariant.0.are_images.ascend at (rw c.deref.ensures.value at c.place_from-at.ensures.before)
+    (rw c.deref.ensures.value at c.place_from-at.ensures.onward) in
     let is = count_is images c.self.inside.counts next copies c.args.set c.place_from-at.result count c.self.invariant.0 c.self.invariant.1 place.0 place.1 c.index-count.ensures in
     let some = c.if-count-eq0.false in
     let it = first_for next copies c.args.set count is.0 is.1 (omega arith) in
@@ -72,7 +79,8 @@ returns-clause-some c =
     let next = c.self.inside.next.items in
     let count = c.index-count.result.now in
     let at = subst (λ (m : MapValue). Contains m.images c.args.set) (sym c.self.view_is) c.requires in
-    let place = place_is images.items c.args.set c.place_from-at.result c.self.invariant.0.are_images.ascend at (rw c.deref.ensures.value at c.place_from-at.ensures.before) (rw c.deref.ensures.value at c.place_from-at.ensures.onward) in
+    let place = place_is images.items c.args.set c.place_from-at.result c.self.invariant.0.are_images.ascend at (rw c.deref.ensures.value at c.place_from-at.ensures.before)
+    (rw c.deref.ensures.value at c.place_from-at.ensures.onward) in
     let is = count_is images c.self.inside.counts next copies c.args.set c.place_from-at.result count c.self.invariant.0 c.self.invariant.1 place.0 place.1 c.index-count.ensures in
     let some = c.if-count-eq0.false in
     let it = first_for next copies c.args.set count is.0 is.1 (omega arith) in
@@ -89,7 +97,8 @@ overflow_sub-self c =
     let copies = c.self.inside.links.copies in
     let count = c.index-count.result.now in
     let at = subst (λ (m : MapValue). Contains m.images c.args.set) (sym c.self.view_is) c.requires in
-    let place = place_is images.items c.args.set c.place_from-at.result c.self.invariant.0.are_images.ascend at (rw c.deref.ensures.value at c.place_from-at.ensures.before) (rw c.deref.ensures.value at c.place_from-at.ensures.onward) in
+    let place = place_is images.items c.args.set c.place_from-at.result c.self.invariant.0.are_images.ascend at (rw c.deref.ensures.value at c.place_from-at.ensures.before)
+    (rw c.deref.ensures.value at c.place_from-at.ensures.onward) in
     let is = count_is images c.self.inside.counts c.self.inside.next.items copies c.args.set c.place_from-at.result count c.self.invariant.0 c.self.invariant.1 place.0 place.1 c.index-count.ensures in
     let some = c.if-count-eq0.false in
     let it = first_for c.self.inside.next.items copies c.args.set count is.0 is.1 (omega arith) in

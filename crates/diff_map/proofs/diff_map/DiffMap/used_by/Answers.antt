@@ -10,4 +10,6 @@ returns c =
     let before = rw c.deref.ensures.value at c.place_from-at.ensures.before in
     let onward = rw c.deref.ensures.value at c.place_from-at.ensures.onward in
     let place = place_is c.self.inside.images.items c.args.set c.place_from-at.result c.self.invariant.0.are_images.ascend at before onward in
-    rw (← c.self.view_is) (used_is c.self.inside.images c.self.inside.counts c.self.inside.next.items c.self.inside.links.copies c.args.set c.place_from-at.result c.index.result.now c.self.invariant.0 c.self.invariant.1 place.0 place.1 c.index.ensures)
+    rw (← c.self.view_is)
+    (used_is c.self.inside.images c.self.inside.counts c.self.inside.next.items c.self.inside.links.copies c.args.set c.place_from-at.result c.index.result.now c.self.invariant.0 c.self.invariant.1
+    place.0 place.1 c.index.ensures)

@@ -16,4 +16,5 @@ returns-clause-found c =
 pub returns-clause-none : goal.returns-clause-none
 returns-clause-none c =
     let next = rw c.deref-2.ensures.value at c.next_above.ensures in
-    rw (← c.self.view_is) (none_from c.self.inside.newest.items c.self.inside.rows.items c.args.set c.saturating_sub.result c.args.block c.next_above.result c.self.invariant c.saturating_sub.ensures next)
+    rw (← c.self.view_is)
+    (none_from c.self.inside.newest.items c.self.inside.rows.items c.args.set c.saturating_sub.result c.args.block c.next_above.result c.self.invariant c.saturating_sub.ensures next)

@@ -19,7 +19,8 @@ invariant_of-self c =
     let narrow = c.ranges.set.fits in
     rw (c.lead.ensures.newest, c.lead.ensures.rows, c.link_from-older.ensures, c.deref-3.ensures.value, c.deref-4.ensures.value)
     (KeepsLinks-noted newest _ rows _ c.args.block c.args.set c.args.slot c.next_above-above.result c.self.invariant
-    (are_relinked newest rows c.args.block c.args.slot c.args.set (record { block = c.args.block; set = c.args.set; older = link_from newest rows c.args.block c.next_above-above.result }) c.next_above-above.result c.args.slot
+    (are_relinked newest rows c.args.block c.args.slot c.args.set
+    (record { block = c.args.block; set = c.args.set; older = link_from newest rows c.args.block c.next_above-above.result }) c.next_above-above.result c.args.slot
     (inside_from rows c.args.slot unnoted) low (omega arith) next)
     next low unused c.requires.above_zero (omega arith) (lacks_from rows c.args.set c.args.block lacks))
 
@@ -27,4 +28,6 @@ pub returns : goal.returns
 returns c =
     let rows = c.self.inside.rows.items in
     let new : Row = record { block = c.args.block; set = c.args.set; older = c.link_from-older.result } in
-    rw (← c.self.view_is) (value_after c.self.inside.newest.items c.lead.new.newest.items rows c.lead.new.rows.items c.args.block c.args.slot new c.next_above-above.result c.args.slot (Some (copy_of c.args.set c.args.block)) c.lead.ensures.newest c.lead.ensures.rows (copy_in_used new c.requires.above_zero))
+    rw (← c.self.view_is)
+    (value_after c.self.inside.newest.items c.lead.new.newest.items rows c.lead.new.rows.items c.args.block c.args.slot new c.next_above-above.result c.args.slot
+    (Some (copy_of c.args.set c.args.block)) c.lead.ensures.newest c.lead.ensures.rows (copy_in_used new c.requires.above_zero))

@@ -22,7 +22,8 @@ pub invariant_of-self : goal.invariant_of-self
 invariant_of-self c =
     let had = subst (λ (l : LinksValue). (copied : Copied) × (copied_at l.copies c.args.slot ≡ Some copied)) (sym c.self.view_is) c.requires in
     let next = rw c.deref-2.ensures.value at c.next_above-above.ensures in
-    rw (c.lead.ensures.newest, c.lead.ensures.rows) (KeepsLinks-taken c.self.inside.newest.items c.self.inside.rows.items c.args.slot c.index-row.result.now had.0 c.self.invariant had.1 c.index-row.ensures c.next_above-above.result next)
+    rw (c.lead.ensures.newest, c.lead.ensures.rows)
+    (KeepsLinks-taken c.self.inside.newest.items c.self.inside.rows.items c.args.slot c.index-row.result.now had.0 c.self.invariant had.1 c.index-row.ensures c.next_above-above.result next)
 
 pub returns-clause-block : goal.returns-clause-block
 returns-clause-block c =
@@ -32,4 +33,6 @@ returns-clause-block c =
 pub returns-clause-links : goal.returns-clause-links
 returns-clause-links c =
     let row = c.index-row.result.now in
-    rw (← c.self.view_is) (value_after c.self.inside.newest.items c.lead.new.newest.items c.self.inside.rows.items c.lead.new.rows.items row.block c.args.slot (record { block = row.block; set = 0; older = row.older }) c.next_above-above.result row.older None c.lead.ensures.newest c.lead.ensures.rows refl)
+    rw (← c.self.view_is)
+    (value_after c.self.inside.newest.items c.lead.new.newest.items c.self.inside.rows.items c.lead.new.rows.items row.block c.args.slot
+    (record { block = row.block; set = 0; older = row.older }) c.next_above-above.result row.older None c.lead.ensures.newest c.lead.ensures.rows refl)
