@@ -11,3 +11,5 @@ pub mod Taken
 pub mod UsedSlots
 pub mod Syncing
 pub mod TakenUp
+pub mod EntryCounts
+pub mod Passing

@@ -29,11 +29,11 @@ use Rattle.cow_volume.specs.CopiesAfter.{with_records}
 use Rattle.cow_volume.specs.Followed.{followed, followed_row, record_for}
 use Rattle.cow_volume.specs.StandsFor.{record_of}
 use Rattle.cow_volume.specs.Tied.{copied_for}
-use Rattle.cow_volume.proofs.EntryCounts.{entries_count}
+use Rattle.vss_recover.proofs.EntryCounts.{entries_count}
 use Rattle.cow_volume.proofs.FollowedRows.{follows-of}
 use Rattle.cow_volume.proofs.Merging.{has_found}
 use Rattle.cow_volume.proofs.NewCopies.{none_at}
-use Rattle.cow_volume.proofs.Passing.{passed, still_there, noted_at}
+use Rattle.vss_recover.proofs.Passing.{passed, still_there, noted_at}
 use Rattle.cow_volume.proofs.Renewed.{get-map, own_map}
 use Rattle.cow_volume.proofs.Rows.{copied_for-is, has_slot, record_of_row, row_of_record, same_record, used_is}
 use Rattle.cow_volume.proofs.Ties.{free_is, unnoted}

@@ -8,7 +8,7 @@ use Rattle.diff_map.specs.declared.entry.Entry.{Entry}
 use Rattle.cow_volume.specs.Calls.{is_among}
 use Rattle.cow_volume.specs.CopiesAfter.{with_records}
 use Rattle.cow_volume.specs.Followed.{record_for}
-use Rattle.cow_volume.proofs.Passing.{entry_at, step_set, step_kept, slot_within, passes_end}
+use Rattle.vss_recover.proofs.Passing.{entry_at, step_set, step_kept, slot_within, passes_end}
 use Rattle.vss_recover.proofs.UsedSlots.{among, among_stays, among_goes, not_true, not_false, taken_there, followed_kept}
 use Rattle.vss_recover.proofs.entries.free_gone.Goals as goal
 use Rattle.vss_recover.proofs.entries.free_gone.Goals.{then-is_gone, else-is_gone}

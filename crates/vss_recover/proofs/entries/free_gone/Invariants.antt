@@ -1,7 +1,7 @@
 use Rattle.std.proofs.Common.{◌≡◌, take, map}
 use Rattle.diff_area.specs.Records.{is_free}
 use Rattle.cow_volume.specs.CopiesAfter.{with_records}
-use Rattle.cow_volume.proofs.Passing.{passed}
+use Rattle.vss_recover.proofs.Passing.{passed}
 use Rattle.vss_recover.proofs.UsedSlots.{among}
 use Rattle.vss_recover.proofs.entries.free_gone.Given as goal
 
