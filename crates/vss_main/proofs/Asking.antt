@@ -120,10 +120,9 @@ done_by told lasting tells asked folder a status h e f = subst (λ o. IsAnswer t
 -- ## by the input
 
 -- the text that was read is this scenario
-pub input_of : {D : Type 0} (a : Around D) (text bytes : List ℕ) (s : Plan) → Gave a.left_first text a.left_last → IfSome a.left_last (λ rest. rest ≡ []) → length text ≤ most_bytes
-    → bytes ≡ text → reading_of bytes ≡ IsScenario s → IsInputOf a s
-input_of a text bytes s gave to_the_end within same is =
-    record { input = text; is_input = record { gave = gave; to_the_end = to_the_end; within = within }; is_scenario = ap reading_of (sym same) ∙ is }
+pub input_of : {D : Type 0} (a : Around D) (text : List ℕ) (s : Plan) → Gave a.left_first text a.left_last → IfSome a.left_last (λ rest. rest ≡ []) → length text ≤ most_bytes
+    → reading_of text ≡ IsScenario s → IsInputOf a s
+input_of a text s gave to_the_end within is = record { input = text; is_input = record { gave = gave; to_the_end = to_the_end; within = within }; is_scenario = is }
 
 pub counted_by : {D : Type 0} (told : D → Option (List (List ℕ))) (a : Around D) (s : Plan) → IsInputOf a s
     → IsCounted told a.named_first a.named_last a.kept_first a.kept_last a.count_first a.count_last s → (a.count_last ≡ a.count_first) ⊎ IsMadeOfInput told a
