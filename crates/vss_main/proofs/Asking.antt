@@ -1,5 +1,5 @@
 -- What is known of every task: want of memory is an answer before anything is touched, and the words of a task are no wrong words.
-use Rattle.std.proofs.Common.{◌≡◌, ℕ, ◌-◌, ◌<◌, ◌≤◌, List, [], length, refl, ap, sym, ◌∙◌, arith, Bool, true, Option, Some, None, subst, inl, inr}
+use Rattle.std.proofs.Common.{◌≡◌, ℕ, ◌-◌, ◌<◌, ◌≤◌, List, [], length, refl, sym, arith, Bool, true, Option, Some, None, subst, inl, inr}
 use Rattle.std.specs.Prelude.{◌↔◌, ◌⊎◌, is_some, IfSome}
 use Rattle.io_edge.specs.Streams.{Gave, IfGave}
 use Rattle.volume_device.specs.declared.store.Store.{Store}
