@@ -162,11 +162,11 @@ def counts():
 
 
 def laws():
-    """Each law of the model and of the promises is on the page that has them."""
-    for crate, page in ("promises", "docs/PROMISES.md"), ("vss_model", "docs/MODEL.md"):
-        for law in re.findall(r"^pub fn (\w+)", text_of(f"crates/{crate}/src/laws.rt"), re.M):
+    """Each law of `promises` is on the page that has it."""
+    for file, page in ("laws.rt", "docs/PROMISES.md"), ("facts.rt", "docs/MODEL.md"):
+        for law in re.findall(r"^pub fn (\w+)", text_of(f"crates/promises/src/{file}"), re.M):
             if not re.search(rf"\b{law}\b", text_of(page)):
-                wrong.append(f"{page}: the law `{law}` of {crate} is not there")
+                wrong.append(f"{page}: the law `{law}` of {file} is not there")
 
 
 def crate_pages():

@@ -5,4 +5,5 @@
 //! idle stretch. docs/PROMISES.md has them in plain sentences.
 #![tactic(auto)]
 
+pub mod facts;
 pub mod laws;

@@ -7,7 +7,6 @@
 
 mod closing_row;
 mod event;
-pub mod laws;
 mod lists;
 mod outcome;
 mod told;

@@ -18,7 +18,7 @@ use crate::play_fault::PlayFault;
 use crate::step_fault::StepFault;
 use crate::turn::{
     advance, answers_no_more, are_used_up, first_cursors, first_lines, lanes_with_lines, mark_of,
-    next_line, push_move, write_lines,
+    next_line, push_move, turns_come_to_an_end, write_lines,
 };
 use lent_digests::DigestsOf;
 use scenario::Scenario;
@@ -27,7 +27,6 @@ use std::marker::Model;
 use std::thread::Threads;
 use volume_device::{Device, Maker, Store};
 use vss_model::Event;
-use vss_model::laws::turns_come_to_an_end;
 use vss_names::{Failed, Text};
 use vss_report::MOST_BYTES;
 use vss_world::{Reply, World};

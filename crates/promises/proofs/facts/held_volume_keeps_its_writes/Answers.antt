@@ -1,0 +1,5 @@
+use Rattle.vss_model.proofs.HeldWrites.{held_keeps}
+use Rattle.promises.proofs.facts.held_volume_keeps_its_writes.Goals as goal
+
+pub returns : goal.returns
+returns c = held_keeps

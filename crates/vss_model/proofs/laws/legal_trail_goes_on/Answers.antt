@@ -1,5 +1,0 @@
-use Rattle.vss_model.proofs.GoesOn.{can_go_on}
-use Rattle.vss_model.proofs.laws.legal_trail_goes_on.Goals as goal
-
-pub returns : goal.returns
-returns c = can_go_on
