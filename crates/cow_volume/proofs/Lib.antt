@@ -27,6 +27,7 @@ pub mod DroppingNewer
 pub mod RestoringSteps
 pub mod NewerMerged
 pub mod RestoringMerged
+pub mod Uncounted
 pub mod Synced
 pub mod GoingUpTo
 pub mod MakingRoom

@@ -307,12 +307,12 @@ one_unfailed told size count lending now new v set m false one = subst (λ (x : 
 -- ## from the start to the end
 
 -- the histories without the newer images
-record IsNewer {D : Type 0} (told : D → Option (List (List ℕ))) (devices : List D) (old mid : CopiesValue D) (hs : List History) (v set p : ℕ) : Type 0 where
-  stands : StandsFor told (group_of devices mid) (changed_at v (with_up_to set) hs)
-  same : history_at (changed_at v (with_up_to set) hs) v ≡ with_up_to set (history_at hs v)
-  point : point_in set (history_at (changed_at v (with_up_to set) hs) v).images ≡ Some p
+pub record IsNewer {D : Type 0} (told : D → Option (List (List ℕ))) (devices : List D) (old mid : CopiesValue D) (hs : List History) (v set p : ℕ) : Type 0 where
+  pub stands : StandsFor told (group_of devices mid) (changed_at v (with_up_to set) hs)
+  pub same : history_at (changed_at v (with_up_to set) hs) v ≡ with_up_to set (history_at hs v)
+  pub point : point_in set (history_at (changed_at v (with_up_to set) hs) v).images ≡ Some p
 
-newer_of : {D : Type 0} (told : D → Option (List (List ℕ))) (devices : List D) (old mid : CopiesValue D) (hs : List History) (v set p : ℕ) → v < length old.area.volumes
+pub newer_of : {D : Type 0} (told : D → Option (List (List ℕ))) (devices : List D) (old mid : CopiesValue D) (hs : List History) (v set p : ℕ) → v < length old.area.volumes
     → AreNewerGone told old mid v set → StandsFor told (group_of devices old) hs
     → point_in set (history_at hs v).images ≡ Some p → IsNewer told devices old mid hs v set p
 newer_of told devices old mid hs v set p inside gone stands point =

@@ -1,7 +1,7 @@
 -- What the calls on a group come to, against the histories that it stands for. (This project's own.)
 use Rattle.std.specs.Prelude.{ℕ, ◌≡◌, ◌<◌, ◌≤◌, Bool, true, false, zero, suc, List, [], ◌∷◌, length, map, Option, Some, None, is_some, slice_get, slice_set, ◌==◌, Result, Ok, Err}
 use Rattle.std.specs.List.{list_any}
-use Rattle.vss_names.specs.Faults.{Rose}
+use Rattle.vss_names.specs.Faults.{Rose, most}
 use Rattle.write_history.specs.History.{History, Write, content, point_in, fresh, written, dropped, reverted, reverted_in_part, to_restore}
 use Rattle.write_history.specs.Slots.{gone_up_to, evicted_up_to}
 use Rattle.cow_volume.specs.declared.cause.Cause.{Cause}
@@ -193,3 +193,25 @@ abbrev pub IsRevert : {D : Type 0} → (D → Option (List (List ℕ))) → (D �
 IsRevert told size count lending old new v set (Ok done) = IsReverted told size count lending old new v set
 IsRevert told size count lending old new v set (Err NoImage) = (is_among set (sets_at old v) ≡ false) × (new ≡ old)
 IsRevert told size count lending old new v set (Err (Fault restored cause)) = IsRevertedInPart told size count lending old new v set restored × DeviceRose count v old new cause
+
+-- ## a revert that is to stop
+
+-- the count of a device that says nothing of its faults: it is at its most, where it counts as risen
+abbrev pub uncounted : {D : Type 0} → D → ℕ
+uncounted d = most
+
+-- the counts by which a call is judged; those of one that is told how to fail say nothing
+abbrev pub counted_by : {D X : Type 0} → (D → ℕ) → Option X → D → ℕ
+counted_by count None = count
+counted_by count (Some told) = uncounted
+
+-- no device counts a fault, so no call of one fails
+abbrev pub NeverFails : {D : Type 0} → (D → ℕ) → Type 0
+NeverFails {D} count = (d : D) → count d ≡ 0
+
+-- a revert that is to stop after k blocks: there are no more to restore, no such image stands, or it stopped there
+abbrev pub StopsAfter : {D : Type 0} → (D → Option (List (List ℕ))) → GroupValue D → ℕ → ℕ → ℕ → Result Unit RevertFault → Type 0
+StopsAfter told old v set k (Ok done) = (hs : List History) (p : ℕ) → StandsFor told old hs → point_in set (history_at hs v).images ≡ Some p
+    → length (to_restore (blocks_at old v) (history_at hs v).writes p) ≤ k
+StopsAfter told old v set k (Err NoImage) = Unit {0}
+StopsAfter told old v set k (Err (Fault restored cause)) = restored ≡ k

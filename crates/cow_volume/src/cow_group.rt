@@ -7,7 +7,7 @@ ghost use Rattle.diff_area.specs.Records.{free, AreVolumes};
 ghost use Rattle.diff_map.specs.MapValue.{AreImages};
 ghost use Rattle.cow_volume.specs.GroupValue.{placed};
 ghost use Rattle.cow_volume.specs.StandsFor.{StandsFor};
-ghost use Rattle.cow_volume.specs.Calls.{HasCauseAt, HasImageCause, IsNow, IsShown, IsQuiet, IsUnfailed, IsWrite, IsDropped, IsRevert, IsEvicted, VolumeRose, history_at, changed_at, is_among, sets_at, blocks_at};
+ghost use Rattle.cow_volume.specs.Calls.{HasCauseAt, HasImageCause, IsNow, IsShown, IsQuiet, IsUnfailed, IsWrite, IsDropped, IsRevert, StopsAfter, NeverFails, counted_by, IsEvicted, VolumeRose, history_at, changed_at, is_among, sets_at, blocks_at};
 ghost use Rattle.cow_volume.specs.Parts.{IsLentBy, IsUnseen};
 ghost use Rattle.cow_volume.specs.Ending.{IsSync};
 ghost use Rattle.cow_volume.specs.Resuming.{AllHaveImages, IsResumeFault, AreKept, NoneTell};
@@ -331,12 +331,23 @@ impl<D: Device> CowGroup<D> {
         requires { v < length self.old.area.volumes }
         ensures { IsRevert D.told D.size D.count D.lending self.old self.new v set result }
     {
+        self.revert_some(v, set, None)
+    }
+
+    /// Brings a volume back to the image of a set as `revert` does. Where `most` is given, it restores no more blocks than that: where
+    /// there are more it ends as if the volume's device had failed then.
+    pub fn revert_some(&mut self, v: u32, set: u32, most: Option<u32>) -> Result<(), RevertFault>
+        requires { v < length self.old.area.volumes }
+        ensures revert { IsRevert D.told D.size (counted_by D.count most) D.lending self.old self.new v set result }
+        ensures stops { NeverFails D.count → (k : ℕ) → most ≡ Some k → StopsAfter D.told self.old v set k result }
+    {
         revert(
             &mut self.devices,
             &mut self.copies,
             &mut self.scratch,
             v,
             set,
+            most,
         )
     }
 

@@ -1,12 +1,13 @@
 //! A volume is brought back to an image.
 
-ghost use Rattle.std.specs.Prelude.{◌≡◌, ◌<◌, ◌≤◌, true, List, Some, length, map, slice_get, All, Contains, IfSome, IsNone};
+ghost use Rattle.std.specs.Prelude.{ℕ, ◌≡◌, ◌<◌, ◌≤◌, true, false, List, Some, length, map, slice_get, All, Contains, IfSome, IsNone};
 ghost use Rattle.write_history.specs.History.{History, dropped};
 ghost use Rattle.cow_volume.specs.StandsFor.{StandsFor};
-ghost use Rattle.cow_volume.specs.Calls.{IsRevert, blocks_at, is_among, changed_at};
+ghost use Rattle.cow_volume.specs.Calls.{IsRevert, StopsAfter, NeverFails, counted_by, blocks_at, is_among, changed_at};
 ghost use Rattle.cow_volume.specs.CopiesAfter.{images_on, after_merge};
 ghost use Rattle.cow_volume.specs.Parts.{group_of, blocks_on};
 ghost use Rattle.cow_volume.specs.Tied.{CopiesValue};
+ghost use Rattle.cow_volume.specs.Changes.{IsFirstCopy, HasNoCopy};
 ghost use Rattle.cow_volume.specs.Restoring.{IsMergedTo, IsOneRestored, IsRestoring, KeepsCopies, merged_as};
 
 use crate::calling::write_device;
@@ -82,23 +83,50 @@ fn restore_block<D: Device>(
     Ok(true)
 }
 
-/// Restores the blocks of which the image of a set shows a copy, in ascending order. The newer images still stand; what is left is
-/// told as if they had been merged down before.
+/// The slot of a block that is to be restored next, where so many are and that is after how many to stop.
+fn slot_at_stop<D: Device>(
+    copies: &Copies<D>,
+    v: u32,
+    set: u32,
+    block: u32,
+    restored: u32,
+    stop: Option<u32>,
+) -> Option<u32>
+    requires volume { v < length copies.now.area.volumes }
+    requires above_zero { 0 < set }
+    ensures stops { IfSome result (λ slot. (stop ≡ Some restored) × IsFirstCopy copies.now.area.records v set block slot) }
+    ensures goes_on { IsNone result → stop ≡ Some restored → HasNoCopy copies.now.area.records v set block }
+{
+    let most = stop?;
+    if most != restored {
+        return None;
+    }
+    copies.find(v, set, block)
+}
+
+/// Restores the blocks of which the image of a set shows a copy, in ascending order. It stops after so many where there are more,
+/// as if a device failed. The newer images still stand; what is left is told as if they had been merged down before.
 fn restore_blocks<D: Device>(
     devices: &mut Vec<D>,
     copies: &mut Copies<D>,
     buffer: &mut BlockBuf,
     v: u32,
     set: u32,
+    stop: Option<u32>,
 ) -> Result<(), RevertFault>
     requires volume { v < length copies.old.area.volumes }
     requires devices { map D.size devices.old.items ≡ copies.old.area.volumes }
     requires above_zero { 0 < set }
-    ensures restored { (mid : CopiesValue D) → IsMergedTo D.told copies.old mid v set → IsRestoring D.told D.size D.count D.lending (group_of devices.old.items (merged_as mid copies.old)) (group_of devices.new.items (merged_as mid copies.new)) v set result }
-    ensures keeps { KeepsCopies D.told D.size D.count D.lending (group_of devices.old.items copies.old) (group_of devices.new.items copies.new) }
+    ensures restored { (mid : CopiesValue D) → IsMergedTo D.told copies.old mid v set → IsRestoring D.told D.size (counted_by D.count stop) D.lending (group_of devices.old.items (merged_as mid copies.old)) (group_of devices.new.items (merged_as mid copies.new)) v set result }
+    ensures keeps { KeepsCopies D.told D.size (counted_by D.count stop) D.lending (group_of devices.old.items copies.old) (group_of devices.new.items copies.new) }
+    ensures stops { NeverFails D.count → (k : ℕ) → stop ≡ Some k → (mid : CopiesValue D) → IsMergedTo D.told copies.old mid v set → StopsAfter D.told (group_of devices.old.items (merged_as mid copies.old)) v set k result }
 {
     let mut restored = 0;
     for block in 0..copies.blocks(v) {
+        if let Some(_slot) = slot_at_stop(copies, v, set, block, restored, stop) {
+            let cause = Cause::Volume;
+            return Err(RevertFault::Fault { restored, cause });
+        }
         let has_copy = match restore_block(devices, copies, buffer, v, set, block) {
             Ok(has_copy) => has_copy,
             Err(cause) => return Err(RevertFault::Fault { restored, cause }),
@@ -109,24 +137,26 @@ fn restore_blocks<D: Device>(
 }
 
 /// Brings a volume back to the image of a set, which stays. The newer images go at once when all blocks are restored; where a
-/// device fails they are merged down. `buffer` takes the bytes of each block that is restored.
+/// device fails, or it stops after so many blocks, they are merged down. `buffer` takes the bytes of each block that is restored.
 pub(crate) fn revert<D: Device>(
     devices: &mut Vec<D>,
     copies: &mut Copies<D>,
     buffer: &mut BlockBuf,
     v: u32,
     set: u32,
+    stop: Option<u32>,
 ) -> Result<(), RevertFault>
     requires volume { v < length copies.old.area.volumes }
     requires devices { map D.size devices.old.items ≡ copies.old.area.volumes }
-    ensures { IsRevert D.told D.size D.count D.lending (group_of devices.old.items copies.old) (group_of devices.new.items copies.new) v set result }
+    ensures revert { IsRevert D.told D.size (counted_by D.count stop) D.lending (group_of devices.old.items copies.old) (group_of devices.new.items copies.new) v set result }
+    ensures stops { NeverFails D.count → (k : ℕ) → stop ≡ Some k → StopsAfter D.told (group_of devices.old.items copies.old) v set k result }
 {
     if !has_image(copies, v, set) {
         return Err(RevertFault::NoSuchImage);
     }
     let _facts = copies.volumes();
     let _facts = copies.slots();
-    match restore_blocks(devices, copies, buffer, v, set) {
+    match restore_blocks(devices, copies, buffer, v, set, stop) {
         Ok(()) => {
             copies.clear_from(v, set);
             Ok(())

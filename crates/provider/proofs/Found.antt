@@ -66,7 +66,7 @@ module _ {D : Type 0} {s : Plan} {groups : List (GroupValue D)} {v : ℕ} (f : F
   history_here hs long = history_of_place s hs v f.group f.within f.place long
 
   -- the device at the volume's place is its own
-  own_device : (d : D) × (slice_get f.here.devices f.within ≡ Some d) × (slice_get (devices_of groups) (volume_place s v) ≡ Some d)
+  pub own_device : (d : D) × (slice_get f.here.devices f.within ≡ Some d) × (slice_get (devices_of groups) (volume_place s v) ≡ Some d)
   own_device =
       let low = inside in
       let long = f.has.devices f.group f.here f.at in

@@ -18,3 +18,4 @@ pub mod GivenBack
 pub mod Dropped
 pub mod DroppedAll
 pub mod Words
+pub mod Uncounted

@@ -3,7 +3,7 @@ use Rattle.std.specs.Prelude.{ℕ, ◌≡◌, ◌<◌, ◌≤◌, ◌+◌, ◌&&
 use Rattle.std.specs.List.{concat, flat_map, range_with_len}
 use Rattle.vss_model.specs.Words.{Evicted, History, IsPlaceOf, Placed, Plan, Write, blocks_of, change_at, content, contents, count_images, dropped, evicted_of, evicted_up_to, gone_up_to, group_of}
 use Rattle.vss_model.specs.Words.{has_image, point_in, reverted, reverted_in_part, slots_of, to_restore, volume_in, written}
-use Rattle.provider.specs.Words.{Cause, Digested, Fault, Ghosts, GroupValue, ImageFault, IsBytes, LentBlocks, NoSuchImage, RevertFault, bytes_of, lacks_slot, sets_at, sha256}
+use Rattle.provider.specs.Words.{Cause, Digested, Fault, Ghosts, GroupValue, ImageFault, IsBytes, LentBlocks, NoSuchImage, RevertFault, bytes_of, counted_by, lacks_slot, sets_at, sha256}
 use Rattle.cow_volume.specs.declared.cause.Cause.TheVariants as cause
 use Rattle.cow_volume.specs.declared.image_fault.ImageFault.TheVariants.{NoSuchBlock, Volume, Area}
 use Rattle.cow_volume.specs.declared.revert_fault.RevertFault.TheVariants.{NoSuchImage as NoImage}
@@ -127,3 +127,13 @@ IsRevert device s old new v set (Err NoImage) = HasImage device.told s old v set
 IsRevert device s old new v set (Err (Fault restored failed)) = HasImage device.told s old v set true × IsCallOn device s v old new × HasCause device.count s v (Some failed) old new
     × IfStandFor device.told s old (λ hs. (p : ℕ) → point_in set (history_at hs v).images ≡ Some p
     → (restored < length (to_restore (blocks_of s v) (history_at hs v).writes p)) × AreGroups device.told s new (change_at v (reverted_in_part (blocks_of s v) set p restored) hs))
+
+-- the devices, with the counts by which a call is judged
+abbrev pub counted_as : {D X : Type 0} → Ghosts D → Option X → Ghosts D
+counted_as device told = record device { count = counted_by device.count told }
+
+-- a revert that is to stop after k blocks: there are no more to restore, no such image stands, or it stopped there
+abbrev pub StopsAfter : {D : Type 0} → (D → Option (List (List ℕ))) → Plan → List (GroupValue D) → ℕ → ℕ → ℕ → Result Unit RevertFault → Type 0
+StopsAfter told s old v set k (Ok done) = IfStandFor told s old (λ hs. (p : ℕ) → point_in set (history_at hs v).images ≡ Some p → length (to_restore (blocks_of s v) (history_at hs v).writes p) ≤ k)
+StopsAfter told s old v set k (Err NoImage) = Unit {0}
+StopsAfter told s old v set k (Err (Fault restored failed)) = restored ≡ k

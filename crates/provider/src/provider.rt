@@ -12,7 +12,8 @@ ghost use Rattle.cow_volume.specs.GroupValue.{GroupValue};
 ghost use Rattle.cow_volume.specs.Parts.{IsLentBy};
 ghost use Rattle.provider.specs.Groups.{AreFresh, AreGroups, AreWhole, HasGroups, IfStandFor, history_at};
 ghost use Rattle.provider.specs.Devices.{AreKept, AreLasting, HasCause, HasSyncCause, IsSynced, LastsAt, devices_of, fault_of, volume_place};
-ghost use Rattle.provider.specs.Calls.{AreWithout, HasImage, HasImageCause, HasRoom, IsDigestedAt, IsDigestShown, IsDropped, IsPut, IsQuiet, IsRevert, IsRoomMade, IsShown};
+ghost use Rattle.provider.specs.Calls.{AreWithout, HasImage, HasImageCause, HasRoom, IsDigestedAt, IsDigestShown, IsDropped, IsPut, IsQuiet, IsRevert, IsRoomMade, IsShown, StopsAfter, counted_as};
+ghost use Rattle.provider.specs.Words.{NeverFails};
 ghost use Rattle.provider.specs.Preparing.{CanCutOn, HasJoined, HasStepCause, IsCutOn, refusal, step_taken};
 
 use crate::dropping::{drop_on, drop_set_in};
@@ -313,15 +314,23 @@ impl<D: Device> Provider<D> {
         drop_set_in(&mut self.groups, set)
     }
 
-    /// Brings a volume back to the image of a set, which stays; the newer images of the volume go.
-    pub fn revert(&mut self, scenario: &Scenario, set: u32, volume: u32) -> Result<(), RevertFault>
+    /// Brings a volume back to the image of a set, which stays; the newer images of the volume go. Where `most` is given, it restores
+    /// no more blocks than that: where there are more it ends as if the volume's device had failed then.
+    pub fn revert(
+        &mut self,
+        scenario: &Scenario,
+        set: u32,
+        volume: u32,
+        most: Option<u32>,
+    ) -> Result<(), RevertFault>
         requires volume { volume < length scenario.now.volumes }
         requires has { HasGroups scenario.now self.old.groups }
-        ensures revert { IsRevert D.Device scenario.now self.old.groups self.new.groups volume set result }
+        ensures revert { IsRevert (counted_as D.Device most) scenario.now self.old.groups self.new.groups volume set result }
+        ensures stops { NeverFails D.count → (k : ℕ) → most ≡ Some k → StopsAfter D.told scenario.now self.old.groups volume set k result }
         ensures set { self.new ≡ record self.old { groups = self.new.groups } }
     {
         let place = scenario.place(volume);
-        self.groups[place.group as usize].revert(place.volume, set)
+        self.groups[place.group as usize].revert_some(place.volume, set, most)
     }
 
     /// A volume joins the set. It is refused where it is in the set, where the set has 64 volumes, or where 512 images stand on the

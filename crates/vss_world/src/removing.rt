@@ -78,7 +78,7 @@ impl<D: Device> World<D> {
         if self.provider.is_preparing(volume) {
             return coded(VssResult::SnapshotSetInProgress);
         }
-        match self.provider.revert(scenario, set, volume) {
+        match self.provider.revert(scenario, set, volume, None) {
             Ok(()) => return told(Told::Ok),
             Err(RevertFault::NoSuchImage) => return coded(VssResult::ObjectNotFound),
             Err(RevertFault::Fault { restored, cause: _ }) => {

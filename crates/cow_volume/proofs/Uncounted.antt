@@ -1,0 +1,140 @@
+-- A call by the counts of devices that say nothing of their faults, and a revert that stops where it is told to.
+use Rattle.std.proofs.Common.{◌≡◌, ◌<◌, ◌≤◌, ◌+◌, ℕ, zero, suc, Bool, true, false, List, [], ◌∷◌, length, map, refl, ap, sym, subst, ◌∙◌, arith, Option, Some, None, inl, inr}
+use Rattle.std.specs.Prelude.{◌⊎◌, slice_get, slice_set, Result, Ok, Err}
+use Rattle.std.specs.Int.{from_bool}
+use Rattle.vss_names.specs.Faults.{Rose, most}
+use Rattle.write_history.specs.History.{History, point_in, to_restore}
+use Rattle.diff_area.specs.declared.table_record.Record.{Record}
+use Rattle.cow_volume.specs.GroupValue.{GroupValue}
+use Rattle.cow_volume.specs.Tied.{CopiesValue}
+use Rattle.cow_volume.specs.StandsFor.{StandsFor}
+use Rattle.cow_volume.specs.Changes.{IsFirstCopy, HasNoCopy}
+use Rattle.cow_volume.specs.Calls.{history_at, changed_at, blocks_in, blocks_at, IsSameDevice, IsKept, IsUnfailed, IsQuiet, DeviceRose, uncounted, counted_by, NeverFails, StopsAfter}
+use Rattle.cow_volume.specs.Parts.{group_of}
+use Rattle.cow_volume.specs.Restoring.{AreNewerGone, AreRestored, IsOneRestored, with_up_to}
+use Rattle.cow_volume.specs.declared.cause.Cause.{Cause}
+use Rattle.cow_volume.specs.declared.cause.Cause.TheVariants.{NoSuchBlock, Volume, Area}
+use Rattle.cow_volume.specs.declared.revert_fault.RevertFault.{RevertFault}
+use Rattle.cow_volume.specs.declared.revert_fault.RevertFault.TheVariants.{NoSuchImage, Fault}
+use Rattle.cow_volume.proofs.Group.{slice_get_inside}
+use Rattle.cow_volume.proofs.Kept.{kept_itself}
+use Rattle.cow_volume.proofs.RestoringSteps.{newer_of}
+
+-- ## counts that say nothing
+
+pub same_counts : {D : Type 0} (xs ys : List D) → length ys ≡ length xs → map (λ (d : D). uncounted d) ys ≡ map (λ (d : D). uncounted d) xs
+same_counts [] [] e = refl
+same_counts [] (y ∷ ys) e = cc
+same_counts (x ∷ xs) [] e = cc
+same_counts (x ∷ xs) (y ∷ ys) e = ap (λ (ns : List ℕ). most ∷ ns) (same_counts xs ys (omega arith))
+
+counts_set : {D : Type 0} (xs ys : List D) (v : ℕ) → length ys ≡ length xs → map (λ (d : D). uncounted d) ys ≡ slice_set (map (λ (d : D). uncounted d) xs) v most
+counts_set [] [] v e = refl
+counts_set [] (y ∷ ys) v e = cc
+counts_set (x ∷ xs) [] v e = cc
+counts_set (x ∷ xs) (y ∷ ys) zero e = ap (λ (ns : List ℕ). most ∷ ns) (same_counts xs ys (omega arith))
+counts_set (x ∷ xs) (y ∷ ys) (suc v) e = ap (λ (ns : List ℕ). most ∷ ns) (counts_set xs ys v (omega arith))
+
+module _ {D : Type 0} (told : D → Option (List (List ℕ))) (size count : D → ℕ) (lending : D → Bool) where
+  same_uncounted : (d e : D) → IsSameDevice told size count lending d e → IsSameDevice told size uncounted lending d e
+  same_uncounted d e same = record { tells = same.tells; size_is = same.size_is; lends = same.lends; later = omega arith }
+
+  pub kept_uncounted : (now new : GroupValue D) → IsKept told size count lending now new → IsKept told size uncounted lending now new
+  kept_uncounted now new kept = record {
+    volumes = kept.volumes;
+    slots = kept.slots;
+    area = same_uncounted now.area.device new.area.device kept.area;
+    devices = kept.devices;
+    each = λ v d e was is. same_uncounted d e (kept.each v d e was is);
+  }
+
+  rose_uncounted : (v : ℕ) (now new : GroupValue D) (cause : Cause) → IsKept told size count lending now new → DeviceRose count v now new cause → DeviceRose uncounted v now new cause
+  rose_uncounted v now new NoSuchBlock kept rose = rose
+  rose_uncounted v now new Volume kept rose =
+      record { before = rose.before; now = rose.now; was = rose.was; is = rose.is; rose = inr refl; devices = counts_set now.devices new.devices v kept.devices; area = refl }
+  rose_uncounted v now new Area kept rose = record { rose = inr refl; devices = same_counts now.devices new.devices kept.devices }
+
+  -- one block, by the counts of a revert that is to stop or is not
+  pub one_counted : (now new : GroupValue D) (v set b : ℕ) (stop : Option ℕ) (r : Result Bool Cause) → IsOneRestored told size count lending now new v set b r
+      → IsOneRestored told size (counted_by count stop) lending now new v set b r
+  one_counted now new v set b None r one = one
+  one_counted now new v set b (Some k) (Ok false) one = one
+  one_counted now new v set b (Some k) (Ok true) one = record {
+    slot = one.slot;
+    bytes = one.bytes;
+    before = one.before;
+    after = one.after;
+    found = one.found;
+    held = one.held;
+    was = one.was;
+    devices = one.devices;
+    written = one.written;
+    unfailed = record { devices = same_counts now.devices new.devices one.kept.devices; area = refl };
+    kept = kept_uncounted now new one.kept;
+    records = one.records;
+    images = one.images;
+    slots = one.slots;
+  }
+  one_counted now new v set b (Some k) (Err cause) one = record {
+    slot = one.slot;
+    found = one.found;
+    quiet = record { kept = kept_uncounted now new one.quiet.kept; records = one.quiet.records; images = one.quiet.images; blocks = one.quiet.blocks; slots = one.quiet.slots };
+    rose = rose_uncounted v now new cause one.quiet.kept one.rose;
+  }
+
+  -- ## a revert that stops
+
+  -- where it stops, a block has a slot and is not put back
+  pub one_stopped : (now : GroupValue D) (v set b slot restored : ℕ) (stop : Option ℕ) → v < length now.devices → (stop ≡ Some restored) × IsFirstCopy now.area.records v set b slot
+      → IsOneRestored told size (counted_by count stop) lending now now v set b (Err Volume)
+  one_stopped now v set b slot restored None inside stopped = cc (stopped.0)
+  one_stopped now v set b slot restored (Some k) inside stopped =
+      let d = slice_get_inside now.devices v inside in
+      record {
+        slot = slot;
+        found = stopped.1;
+        quiet = record { kept = kept_itself told size uncounted lending now; records = refl; images = refl; blocks = refl; slots = refl };
+        rose = record { before = d.0; now = d.0; was = d.1; is = d.1; rose = inr refl; devices = counts_set now.devices now.devices v refl; area = refl };
+      }
+
+  -- before it stops there are at most so many
+  pub fits_more : (now new : GroupValue D) (v set b restored more k : ℕ) (put : Bool) → more ≡ from_bool put → restored ≤ k → (restored ≡ k → HasNoCopy now.area.records v set b)
+      → IsOneRestored told size count lending now new v set b (Ok put) → restored + more ≤ k
+  fits_more now new v set b restored more k false e few none one = omega arith
+  fits_more now new v set b restored more k true e few none one =
+      let apart : restored ≡ k → ⊥ = λ same. none same one.slot one.found.image one.found.is_noted one.found.from_set in
+      below restored more k e few apart
+    where
+      below : (n m k : ℕ) → m ≡ 1 → n ≤ k → (n ≡ k → ⊥) → n + m ≤ k
+      below n m k e l apart = grind (arith, apart)
+
+  -- no device fails where none ever does
+  pub never_rose : (now new : GroupValue D) (v : ℕ) (cause : Cause) → NeverFails count → DeviceRose count v now new cause → ⊥
+  never_rose now new v NoSuchBlock never rose = rose
+  never_rose now new v Volume never rose = still (count rose.before) (count rose.now) (never rose.now) rose.rose
+    where
+      still : (a b : ℕ) → b ≡ 0 → Rose a b → ⊥
+      still a b e (inl l) = omega arith
+      still a b e (inr m) = omega arith
+  never_rose now new v Area never rose = still (count now.area.device) (count new.area.device) (never new.area.device) rose.rose
+    where
+      still : (a b : ℕ) → b ≡ 0 → Rose a b → ⊥
+      still a b e (inl l) = omega arith
+      still a b e (inr m) = omega arith
+
+  -- all that there were to restore are few enough
+  pub few_restored : (old new : GroupValue D) (v set m restored k : ℕ) → m ≡ blocks_at old v → restored ≤ k → AreRestored told size count lending old new v set m restored
+      → (hs : List History) (p : ℕ) → StandsFor told old hs → point_in set (history_at hs v).images ≡ Some p → length (to_restore (blocks_at old v) (history_at hs v).writes p) ≤ k
+  few_restored old new v set m restored k all few done hs p stands point =
+      subst (λ (n : ℕ). n ≤ k) (done.number hs p stands point ∙ ap (λ (n : ℕ). length (to_restore n (history_at hs v).writes p)) all) few
+
+-- the same where the newer images went before
+pub stops_merged : {D : Type 0} (told : D → Option (List (List ℕ))) (devices : List D) (old mid : CopiesValue D) (v set k : ℕ) (r : Result Unit RevertFault) → v < length old.area.volumes
+    → AreNewerGone told old mid v set → StopsAfter told (group_of devices mid) v set k r → StopsAfter told (group_of devices old) v set k r
+stops_merged told devices old mid v set k (Ok done) inside gone stops = λ hs p stands point.
+    let newer = newer_of told devices old mid hs v set p inside gone stands point in
+    subst (λ (n : ℕ). length (to_restore n (history_at hs v).writes p) ≤ k) (ap (λ (ns : List ℕ). blocks_in (slice_get ns v)) gone.volumes)
+    (subst (λ (h : History). length (to_restore (blocks_at (group_of devices mid) v) h.writes p) ≤ k) newer.same
+    (stops (changed_at v (with_up_to set) hs) p newer.stands newer.point))
+stops_merged told devices old mid v set k (Err NoSuchImage) inside gone stops = tt
+stops_merged told devices old mid v set k (Err (Fault restored cause)) inside gone stops = stops

@@ -1,8 +1,0 @@
-use Rattle.cow_volume.specs.Parts.{group_of}
-use Rattle.cow_volume.proofs.RestoringSteps.{sizes_reverted}
-use Rattle.cow_volume.proofs.cow_group.CowGroup.revert.Goals as goal
-
-pub invariant_of-self : goal.invariant_of-self
-invariant_of-self g c =
-    sizes_reverted g.D.Device.told g.D.Device.size g.D.Device.count g.D.Device.lending (group_of c.self.inside.devices.items c.self.inside.copies)
-    (group_of c.revert.new.devices.items c.revert.new.copies) c.args.v c.args.set c.revert.result c.revert.ensures c.self.invariant
