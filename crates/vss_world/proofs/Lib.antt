@@ -8,6 +8,8 @@ pub mod Lent
 pub mod Seen
 pub mod Looking
 pub mod Removed
+pub mod Unsaid
+pub mod ToldMarks
 pub mod KeptSets
 pub mod InPlan
 pub mod Losing

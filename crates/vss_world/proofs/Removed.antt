@@ -76,7 +76,7 @@ delete_line {n = n} {v = v} = record {
 
 -- ## revert
 
-revert_is : (s : Plan) (n v : ℕ) (mark : Mark) (st : State) (o : Option Kept) (why : Option VssResult) → kept_image st n v ≡ o → revert_refusal v o st ≡ why
+pub revert_is : (s : Plan) (n v : ℕ) (mark : Mark) (st : State) (o : Option Kept) (why : Option VssResult) → kept_image st n v ≡ o → revert_refusal v o st ≡ why
     → revert s n v mark st ≡ revert_to s v why o mark st
 unfolding revert
 revert_is s n v mark st o why e f = ap (λ (q : Option Kept). revert_to s v (revert_refusal v q st) q mark st) e ∙ ap (λ (w : Option VssResult). revert_to s v w o mark st) f

@@ -1,8 +1,8 @@
 -- What a step of the core promises: it waits exactly where the event is not enabled, and else it is answered as defined, and stands for
 -- the acts with this one. (This project's own.)
-use Rattle.std.specs.Prelude.{ℕ, ◌≡◌, ◌<◌, Bool, true, false, List, [], ◌∷◌, ◌++◌, length, map, if◌then◌else◌, Option, Some, None, slice_get}
-use Rattle.vss_model.specs.Words.{Act, Flush, IsOp, IsOutcome, Op, Plan, Reads, Reverts, Running, ShowsBlock, ShowsImage, WriterRow, Writes, after, enabled, event_allows, is_fault, line_of, mark_of}
-use Rattle.vss_model.specs.Words.{state, told_act}
+use Rattle.std.specs.Prelude.{ℕ, ◌≡◌, ◌<◌, ◌≤◌, Bool, true, false, List, [], ◌∷◌, ◌++◌, length, map, if◌then◌else◌, Option, Some, None, slice_get}
+use Rattle.vss_model.specs.Words.{Act, Flush, IsOp, IsOutcome, Kept, Mark, Op, Plan, Reads, Reverts, Running, ShowsBlock, ShowsImage, WriterRow, Writes, after, enabled, event_allows, is_fault}
+use Rattle.vss_model.specs.Words.{kept_image, line_of, mark_of, restorable, state, told_act}
 use Rattle.vss_world.specs.Words.{Answer as AnswerEvent, AreLater, Event, Line, Outcome, Provider, Told, takes_memory as takes_for, volume_place}
 use Rattle.scenario.specs.declared.line.Line.{Line as Does}
 use Rattle.vss_model.specs.declared.told.Told.TheVariants as told
@@ -68,6 +68,21 @@ pub record IsMoved {D : Type 0} (blocks_told : D → Option (List (List ℕ))) (
 abbrev pub IsStepped : {D : Type 0} → (D → Option (List (List ℕ))) → (D → ℕ) → WorldValue D → WorldValue D → Plan → Event → Reply → Type 0
 IsStepped blocks_told count old new s event Blocked = IsBlocked blocks_told old new s event
 IsStepped blocks_told count old new s event (Moved o) = IsMoved blocks_told count old new s event o
+
+-- a move has this mark
+abbrev pub HasMark : Mark → Reply → Type 0
+HasMark mark Blocked = Unit {0}
+HasMark mark (Moved o) = mark_of o.told ≡ mark
+
+-- what a revert that is to stop after k blocks is answered, if it goes: there are no more to restore, or it stopped there
+abbrev pub StopsAs : {D : Type 0} → (D → Option (List (List ℕ))) → WorldValue D → Plan → ℕ → ℕ → ℕ → Told → Type 0
+StopsAs blocks_told w s n v k told.Ok = (acts : List Act) (image : Kept) → Stands blocks_told w s acts → kept_image (state s acts) n v ≡ Some image → restorable s (state s acts) v (Some image) ≤ k
+StopsAs blocks_told w s n v k (told.FaultAfter m) = m ≡ k
+StopsAs blocks_told w s n v k _ = Unit {0}
+
+abbrev pub StopsAfter : {D : Type 0} → (D → Option (List (List ℕ))) → WorldValue D → Plan → ℕ → ℕ → ℕ → Reply → Type 0
+StopsAfter blocks_told w s n v k Blocked = Unit {0}
+StopsAfter blocks_told w s n v k (Moved o) = StopsAs blocks_told w s n v k o.told
 
 -- where a step of the Flush group is told clean, what its volume's device tells lasts
 abbrev pub StepLasts : {D : Type 0} → (D → Option (List (List ℕ))) → (D → Option (List (List ℕ))) → WorldValue D → Plan → Reply → Type 0

@@ -14,6 +14,7 @@ mod evicted_images;
 mod fingerprint;
 mod lines;
 mod listed_sets;
+mod marked;
 mod outcomes;
 mod passing;
 mod reading;

@@ -47,7 +47,7 @@ impl<D: Device> World<D> {
             }
             Op::Query { volume } => Ok(self.query(scenario, lane, volume)),
             Op::Properties { set, volume } => Ok(self.properties(scenario, lane, set, volume)),
-            Op::Revert { set, volume } => Ok(self.revert(scenario, lane, set, volume)),
+            Op::Revert { set, volume } => Ok(self.revert(scenario, lane, set, volume, None)),
             Op::DeleteSet { set } => Ok(self.delete_set(scenario, lane, set)),
             Op::DeleteImage { set, volume } => Ok(self.delete_image(scenario, lane, set, volume)),
             Op::Tick { ticks } => Ok(self.tick(scenario, lane, ticks)),

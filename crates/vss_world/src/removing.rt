@@ -1,11 +1,12 @@
 //! Lines that take images away, or bring a volume back to one.
 
-ghost use Rattle.std.specs.Prelude.{◌≡◌, ◌<◌, length};
+ghost use Rattle.std.specs.Prelude.{ℕ, ◌≡◌, ◌<◌, Some, length};
 ghost use Rattle.scenario.specs.declared.op.Op.TheVariants as op;
 ghost use Rattle.vss_model.specs.declared.event.Event.TheVariants.{Line};
 ghost use Rattle.vss_model.specs.Images.{is_backup};
 ghost use Rattle.vss_world.specs.Stands.{IsOf, IsStanding};
-ghost use Rattle.vss_world.specs.Moves.{IsStepped};
+ghost use Rattle.provider.specs.Words.{NeverFails, counted_by};
+ghost use Rattle.vss_world.specs.Moves.{IsStepped, StopsAfter};
 
 use crate::outcomes::{coded, told};
 use crate::reply::Reply;
@@ -58,11 +59,20 @@ impl<D: Device> World<D> {
         told(Told::Deleted(1))
     }
 
-    /// Brings a volume back to a kept image, unless its set has writers or the volume is in the set in progress.
-    pub(crate) fn revert(&mut self, scenario: &Scenario, lane: u32, set: u32, volume: u32) -> Reply
+    /// Brings a volume back to a kept image, unless its set has writers or the volume is in the set in progress. It stops after so many
+    /// blocks where more are to be restored.
+    pub(crate) fn revert(
+        &mut self,
+        scenario: &Scenario,
+        lane: u32,
+        set: u32,
+        volume: u32,
+        stop: Option<u32>,
+    ) -> Reply
         requires of { IsOf self.old scenario.now }
         requires in_range { volume < length scenario.now.volumes }
-        ensures { IsStepped D.told D.count self.old self.new scenario.now (Line lane (op.Revert set volume)) result }
+        ensures stepped { IsStepped D.told (counted_by D.count stop) self.old self.new scenario.now (Line lane (op.Revert set volume)) result }
+        ensures stops { NeverFails D.count → (k : ℕ) → stop ≡ Some k → StopsAfter D.told self.old scenario.now set volume k result }
     {
         let kept = self.is_kept(scenario, set, volume);
         self.evicted.clear();
@@ -78,7 +88,7 @@ impl<D: Device> World<D> {
         if self.provider.is_preparing(volume) {
             return coded(VssResult::SnapshotSetInProgress);
         }
-        match self.provider.revert(scenario, set, volume, None) {
+        match self.provider.revert(scenario, set, volume, stop) {
             Ok(()) => return told(Told::Ok),
             Err(RevertFault::NoSuchImage) => return coded(VssResult::ObjectNotFound),
             Err(RevertFault::Fault { restored, cause: _ }) => {

@@ -110,7 +110,7 @@ impl<D: Device> World<D> {
     }
 
     /// Makes an event, where it is enabled. What an earlier step listed stays listed.
-    fn make(
+    pub(crate) fn make(
         &mut self,
         alloc: Global,
         scenario: &Scenario,
@@ -133,7 +133,7 @@ impl<D: Device> World<D> {
     }
 
     /// After a move that lists no sets, none is listed.
-    fn end_listing(&mut self, reply: Reply)
+    pub(crate) fn end_listing(&mut self, reply: Reply)
         ensures { self.new ≡ record self.old { listed = listed_after reply self.old.listed } }
     {
         if let Reply::Moved(outcome) = reply {

@@ -1,0 +1,212 @@
+-- Moves whose mark is told: a line that looks at a volume, a write, a flush and a revert.
+use Rattle.std.proofs.Common.{◌≡◌, ℕ, ◌<◌, ◌≤◌, List, [], ◌∷◌, length, refl, ap, sym, ◌∙◌, subst, arith, Bool, true, false, Option, Some, None}
+use Rattle.std.specs.Prelude.{is_some, is_none, nat_lt, ◌&&◌, IfSome, Ok, Err}
+use Rattle.vss_world.proofs.Words.{Act, Blocked, Clean, Commit, Cut, Evicted, Fault, FaultAfter, Faulted, Fits, Flush, Ghosts, Group, HasGroups, Hold, IfStands, IsAt, IsMove, IsMoved}
+use Rattle.vss_world.proofs.Words.{IsNextStep, IsOf, IsOp, IsSettled, IsStepped, Kept, Leaves, Line, Mark, Moved, Op, Open, Orders, Outcome, Plan, PostCommit, PreCommit, Provider, ProviderValue}
+use Rattle.vss_world.proofs.Words.{Release, Replied, Revert, SessionMove, SessionsValue, Stands, State, Told, Volume, VssResult, WorldValue, Write, after, and_parts, blocks_of, head_or_0, image_block}
+use Rattle.vss_world.proofs.Words.{image_blocks, is_flush, is_over_volumes, kept_image, kept_same, line, line_allows, line_of, mark_of, may_stop_after, nat_tests, next_volume, open_group}
+use Rattle.vss_world.proofs.Words.{provided, restorable, revert_refusal, reverted_as, simple_outcome, state, target_in, tells_of, to_restore, told_act, volume_by, volume_if}
+use Rattle.vss_model.specs.Words.{Reads, ShowsBlock, ShowsImage, allows_by, does, evicted_at, lost_after, may_do, ticks_by}
+use Rattle.provider.specs.Words.{uncounted}
+use Rattle.provider.proofs.Words.{IsPut}
+use Rattle.scenario.specs.declared.line.Line.{Line as Does}
+use Rattle.scenario.specs.Bounds.{IsRangedBy}
+use Rattle.vss_model.specs.declared.told.Told.TheVariants as told
+use Rattle.vss_model.specs.Images.{revert}
+use Rattle.provider.specs.Calls.{StopsAfter as StopsInGroups}
+use Rattle.provider.proofs.Uncounted.{rose_at}
+use Rattle.vss_world.specs.declared.reply.Reply.{Reply as Answer}
+use Rattle.vss_world.specs.Moves.{HasMark, StopsAs, StopsAfter}
+use Rattle.vss_world.proofs.Moved.{world_of}
+use Rattle.vss_world.proofs.OnProvided.{writes_at}
+use Rattle.vss_world.proofs.Seen.{IsPlain, failed_moves}
+use Rattle.vss_world.proofs.Options.{some_is}
+use Rattle.vss_world.proofs.Looking.{provided_point}
+use Rattle.vss_world.proofs.Removed.{revert_is}
+use Rattle.vss_world.proofs.Step.{failed_moves as step_failed}
+use Rattle.vss_world.proofs.Unsaid.{unsaid, settled_unsaid}
+
+-- ## lines that look at volumes and images
+
+-- the line looks at this volume
+abbrev pub LooksAt : ℕ → Does → Type 0
+LooksAt v (Reads u b) = u ≡ v
+LooksAt v (ShowsImage n u) = u ≡ v
+LooksAt v (ShowsBlock n u b) = u ≡ v
+LooksAt v _ = ⊥
+
+plain_if : (s : Plan) (lane : ℕ) (op : Op) (l : Does) → line_of op ≡ l → ((st : State) → may_do s st lane l ≡ true) → ((st : State) → allows_by s st l Clean ≡ true)
+    → ((st : State) → evicted_at s st (target_in l) ≡ []) → ((st : State) → lost_after (ticks_by l) st ≡ []) → IsPlain s lane op
+plain_if s lane op l e on clean none nobody = record {
+  on = λ st. ap (may_do s st lane) e ∙ on st;
+  clean = λ st. ap (λ (x : Does). allows_by s st x Clean) e ∙ clean st;
+  none = λ st. ap (λ (x : Does). evicted_at s st (target_in x)) e ∙ none st;
+  nobody = λ st. ap (λ (x : Does). lost_after (ticks_by x) st) e ∙ nobody st;
+}
+
+look_plain : (s : Plan) (lane : ℕ) (op : Op) (v : ℕ) (l : Does) → line_of op ≡ l → LooksAt v l → IsPlain s lane op
+look_plain s lane op v (Reads u b) e look = plain_if s lane op (Reads u b) e (λ st. refl) (λ st. refl) (λ st. refl) (λ st. refl)
+look_plain s lane op v (ShowsImage n u) e look = plain_if s lane op (ShowsImage n u) e (λ st. refl) (λ st. refl) (λ st. refl) (λ st. refl)
+look_plain s lane op v (ShowsBlock n u b) e look = plain_if s lane op (ShowsBlock n u b) e (λ st. refl) (λ st. refl) (λ st. refl) (λ st. refl)
+look_plain s lane op v _ e look = absurd look
+
+look_volume : (v : ℕ) (l : Does) → LooksAt v l → volume_by l ≡ Some v
+look_volume v (Reads u b) look = ap Some look
+look_volume v (ShowsImage n u) look = ap Some look
+look_volume v (ShowsBlock n u b) look = ap Some look
+look_volume v _ look = absurd look
+
+look_within : (s : Plan) (op : Op) (v : ℕ) (l : Does) → LooksAt v l → IsRangedBy (length s.source) s.volumes (length s.writers) op l → v < length s.volumes
+look_within s op v (Reads u b) look range = subst (λ (n : ℕ). n < length s.volumes) look range.0
+look_within s op v (ShowsImage n u) look range = subst (λ (n : ℕ). n < length s.volumes) look range
+look_within s op v (ShowsBlock n u b) look range = subst (λ (n : ℕ). n < length s.volumes) look range.0
+look_within s op v _ look range = absurd look
+
+look_faults : (s : Plan) (lane : ℕ) (op : Op) (v : ℕ) (l : Does) → line_of op ≡ l → LooksAt v l → (st : State)
+    → allows_by s st l Fault ≡ true → line s lane op Fault st ≡ (Faulted, st)
+look_faults s lane op v (Reads u b) e look st allowed = ap (λ (x : Does). does s lane op x Fault st) e
+look_faults s lane op v (ShowsImage n u) e look st allowed =
+    ap (λ (x : Does). does s lane op x Fault st) e ∙ ap (λ (o : Option Kept). image_blocks s u o Fault st) (some_is (kept_image st n u) allowed).1
+look_faults s lane op v (ShowsBlock n u b) e look st allowed =
+    ap (λ (x : Does). does s lane op x Fault st) e ∙ ap (λ (o : Option Kept). image_block u b o Fault st) (some_is (kept_image st n u) allowed).1
+look_faults s lane op v _ e look st allowed = absurd look
+
+module _ {D : Type 0} (device : Ghosts D) {s : Plan} {p : ProviderValue D} {x : SessionsValue} {l : List ℕ} {e f : List Evicted} (of : IsOf (world_of p x l e) s) where
+  pub look_fails : {lane : ℕ} {op : Op} (none : f ≡ []) (v : ℕ) (looks : Does) → line_of op ≡ looks → LooksAt v looks → v < length s.volumes
+      → IfStands device.told (world_of p x l e) s (λ st. allows_by s st looks Fault ≡ true)
+      → IsMoved device.told uncounted (world_of p x l e) (world_of p x l f) s (Line lane op) (simple_outcome told.Fault)
+  look_fails {lane = lane} {op = op} none v looks is look within allowed =
+      failed_moves (unsaid device) of none told.Fault v Volume (ap volume_by is ∙ look_volume v looks look) (look_plain s lane op v looks is look) (kept_same (unsaid device) p.groups)
+      (rose_at s p.groups v of.groups within) refl refl
+      (λ acts stands. let st = state s acts in record {
+        allowed = ap (λ (x : Does). allows_by s st x Fault) is ∙ allowed acts stands;
+        said = Faulted;
+        volumes = st.volumes;
+        is = look_faults s lane op v looks is look st (allowed acts stands);
+        fits = refl;
+        lists = λ rows. tt;
+        groups = stands.at.groups;
+      })
+
+-- a core whose devices are those of its groups
+pub looked : {D : Type 0} (device : Ghosts D) (s : Plan) (w : WorldValue D) (lane : ℕ) (op : Op) (v : ℕ) (looks : Does) → IsOf w s → line_of op ≡ looks → LooksAt v looks → IsOp s op
+    → IfStands device.told w s (λ st. allows_by s st looks Fault ≡ true) → IsMoved device.told uncounted w (record w { evicted = [] }) s (Line lane op) (simple_outcome told.Fault)
+looked {D} device s w lane op v looks of is look range allowed =
+    let same : world_of w.provider w.sessions w.listed w.evicted ≡ w = ap (λ (ds : List D). record w { devices = ds }) (sym of.devices) in
+    subst (λ (x : WorldValue D). IsMoved device.told uncounted x (record x { evicted = [] }) s (Line lane op) (simple_outcome told.Fault)) same
+    (look_fails device (subst (λ (x : WorldValue D). IsOf x s) (sym same) of) refl v looks is look
+    (look_within s op v looks look (subst (IsRangedBy (length s.source) s.volumes (length s.writers) op) is range))
+    (λ acts stands. allowed acts (subst (λ (x : WorldValue D). Stands device.told x s acts) same stands)))
+
+-- ## writes
+
+-- nothing was put
+pub none_put : {D : Type 0} (device : Ghosts D) {s : Plan} (q : ProviderValue D) (v : ℕ) (w : Write) → HasGroups s q.groups → v < length s.volumes
+    → IsPut (unsaid device) s q.groups q.groups v w (Err Volume)
+none_put device {s = s} q v w has within = record {
+  call = record { kept = kept_same (unsaid device) q.groups; elsewhere = λ r g at apart. refl };
+  stands = λ hs are. are;
+  cause = rose_at s q.groups v has within;
+}
+
+-- ## steps
+
+pub flush_is : (g : Group) → is_flush (Some g) ≡ true → g ≡ Flush
+flush_is Flush e = refl
+flush_is (Orders o) e = cc
+flush_is PreCommit e = cc
+flush_is Hold e = cc
+flush_is Cut e = cc
+flush_is Commit e = cc
+flush_is Release e = cc
+flush_is PostCommit e = cc
+
+-- a Flush step has a volume
+pub flush_volume : (os : List Open) (volume : Option ℕ) → open_group os ≡ Some Flush → next_volume os ≡ volume → is_some volume ≡ true
+flush_volume [] volume e f = cc
+flush_volume (o ∷ os) volume e f =
+    let same : o.place.group ≡ Flush = cc in
+    sym (ap is_some f) ∙ ap (λ (g : Group). is_some (volume_if (is_over_volumes g) (head_or_0 o.waits))) same
+
+module _ {D : Type 0} (device : Ghosts D) (s : Plan) {m : SessionMove} {p r : ProviderValue D} {x y : SessionsValue} {l : List ℕ} {e f : List Evicted}
+    (of : IsOf (world_of p x l e) s) (none : f ≡ [])
+    (settled : IsSettled device m p r) (move : IsMove (IsAt x s) s y Provider m) (leaves : Leaves x y) where
+  pub flush_fails : (volume : Option ℕ) → is_some volume ≡ true → IfSome volume (λ v. v < length s.volumes) → IsNextStep x Flush volume → m.outcome.told ≡ told.Step Flush volume true
+      → IsMoved device.told uncounted (world_of p x l e) (world_of r y l f) s Provider m.outcome
+  flush_fails None some within next told_is = cc
+  flush_fails (Some v) some within next told_is =
+      step_failed (unsaid device) s of none refl (settled_unsaid device m p r settled) move leaves v next told_is (λ hs are. are) (kept_same (unsaid device) p.groups)
+      (rose_at s p.groups v of.groups within)
+
+-- ## reverts
+
+-- all that there were to restore are few enough
+pub stops_in_world : {D : Type 0} (blocks_told : D → Option (List (List ℕ))) (s : Plan) (p : ProviderValue D) (x : SessionsValue) (l : List ℕ) (e : List Evicted) (n v k : ℕ)
+    → StopsInGroups blocks_told s p.groups v n k (Ok tt) → StopsAs blocks_told (world_of p x l e) s n v k told.Ok
+stops_in_world blocks_told s p x l e n v k stops = λ acts image stands kept.
+    let st = state s acts in
+    subst (λ (ws : List Write). length (to_restore (blocks_of s v) ws image.point) ≤ k) (writes_at st v)
+    (stops (provided st) stands.at.groups image.point (provided_point s acts n v image kept))
+
+-- of an image that is kept and a revert that is not refused
+record MayStop (s : Plan) (st : State) (n v k : ℕ) : Type 0 where
+  image : Kept
+  is : kept_image st n v ≡ Some image
+  free : revert_refusal v (Some image) st ≡ None
+  more : nat_lt k (restorable s st v (Some image)) ≡ true
+
+none_is : (o : Option VssResult) → is_none o ≡ true → o ≡ None
+none_is None e = refl
+none_is (Some why) e = cc
+
+may_stop : (s : Plan) (st : State) (n v k : ℕ) (o : Option Kept) → kept_image st n v ≡ o → may_stop_after s st v o k ≡ true → MayStop s st n v k
+may_stop s st n v k None e allowed = cc
+may_stop s st n v k (Some image) e allowed =
+    let all = and_parts (is_none (revert_refusal v (Some image) st)) (nat_lt k (restorable s st v (Some image))) allowed in
+    record { image = image; is = e; free = none_is (revert_refusal v (Some image) st) all.0; more = all.1 }
+
+too_few : (k n : ℕ) → nat_lt k n ≡ true → n ≤ k → ⊥
+too_few k n e l = grind (arith, nat_tests)
+
+module _ {D : Type 0} (blocks_told : D → Option (List (List ℕ))) (count : D → ℕ) (s : Plan) (old new : WorldValue D) (lane n v k : ℕ) (o : Outcome)
+    (moves : IsMoved blocks_told count old new s (Line lane (Revert n v)) o) (stops : StopsAs blocks_told old s n v k o.told) {acts : List Act} (stands : Stands blocks_told old s acts)
+    (allowed : may_stop_after s (state s acts) v (kept_image (state s acts) n v) k ≡ true) where
+  abbrev st : State
+  st = state s acts
+
+  abbrev tells : List Bool
+  tells = tells_of blocks_told s old.devices
+
+  free : MayStop s st n v k
+  free = may_stop s st n v k (kept_image st n v) refl allowed
+
+  reverts : (mark : Mark) → revert s n v mark st ≡ reverted_as s v free.image mark st
+  reverts mark = revert_is s n v mark st (Some free.image) None free.is free.free
+
+  as_told : (t : Told) → o.told ≡ t → StopsAs blocks_told old s n v k t
+  as_told t e = subst (StopsAs blocks_told old s n v k) e stops
+
+  clash : false ≡ true → ⊥
+  clash f = cc
+
+  by_mark : (mark : Mark) → mark_of o.told ≡ mark → line_allows s st (Revert n v) (mark_of o.told) ≡ true → Fits tells (revert s n v (mark_of o.told) st).0 o.told
+      → mark_of o.told ≡ FaultAfter k
+  by_mark Clean e may said =
+      let is : o.told ≡ told.Ok = subst (λ (r : Replied). Fits tells r.0 o.told) (ap (λ (m : Mark). revert s n v m st) e ∙ reverts Clean) said in
+      absurd (too_few k (restorable s st v (Some free.image)) free.more (as_told told.Ok is acts free.image stands free.is))
+  by_mark Fault e may said = absurd (clash (sym (ap (line_allows s st (Revert n v)) e) ∙ may))
+  by_mark (FaultAfter m) e may said =
+      let is : o.told ≡ told.FaultAfter m = subst (λ (r : Replied). Fits tells r.0 o.told) (ap (λ (x : Mark). revert s n v x st) e ∙ reverts (FaultAfter m)) said in
+      e ∙ ap (λ (i : ℕ). FaultAfter i) (as_told (told.FaultAfter m) is)
+
+  has_stopped : mark_of o.told ≡ FaultAfter k
+  has_stopped =
+      let act = told_act (Line lane (Revert n v)) o.told in
+      by_mark (mark_of o.told) refl (moves.is_allowed acts stands) (moves.outcome acts (after s st act).course.rows stands refl).fits
+
+-- a revert that may stop there stopped there
+pub stop_mark : {D : Type 0} (blocks_told : D → Option (List (List ℕ))) (count : D → ℕ) (s : Plan) (old new : WorldValue D) (lane n v k : ℕ) (reply : Answer)
+    → IsStepped blocks_told count old new s (Line lane (Revert n v)) reply → StopsAfter blocks_told old s n v k reply
+    → IfStands blocks_told old s (λ st. may_stop_after s st v (kept_image st n v) k ≡ true → HasMark (FaultAfter k) reply)
+stop_mark blocks_told count s old new lane n v k Blocked step stops acts stands allowed = tt
+stop_mark blocks_told count s old new lane n v k (Moved o) moves stops acts stands allowed = has_stopped blocks_told count s old new lane n v k o moves stops stands allowed

@@ -1,0 +1,139 @@
+-- A move, by counts of devices that say nothing of their faults.
+use Rattle.std.proofs.Common.{◌≡◌, ℕ, zero, suc, ◌<◌, List, [], ◌∷◌, length, refl, ap, sym, ◌∙◌, arith, Option, Some, None, map, inl, inr}
+use Rattle.std.specs.Prelude.{Result, Ok, Err, IfOk}
+use Rattle.vss_world.proofs.Words.{AreKept, AreLater, AreWithout, Blocked, Clean, Complete, Event, Evicted, Failed, Fault, FaultAfter, Ghosts, GroupValue, IsEnded, IsReleased, IsSettled}
+use Rattle.vss_world.proofs.Words.{IsStepped, MakesRoom, Mark, Moved, Plan, ProviderValue, Reply, RoseAlone, RoseFor, Running, SessionMove, SessionsValue, SetOutcome, WorldValue, counts_of}
+use Rattle.vss_world.proofs.Words.{devices_of, is_fault, later_same, length-map, mark_of}
+use Rattle.vss_model.specs.Words.{Rose}
+use Rattle.vss_names.specs.declared.out_of_memory.OutOfMemory.{OutOfMemory}
+use Rattle.provider.specs.Words.{NeverFails, uncounted}
+use Rattle.cow_volume.proofs.Uncounted.{same_counts, kept_uncounted}
+use Rattle.provider.specs.Calls.{counted_as}
+use Rattle.provider.proofs.Uncounted.{rose_unsaid}
+use Rattle.vss_world.specs.Moves.{HasMark}
+
+-- the devices as they are told to fail
+abbrev pub unsaid : {D : Type 0} → Ghosts D → Ghosts D
+unsaid device = counted_as {X = ℕ} device (Some 0)
+
+-- ## what calls keep
+
+module _ {D : Type 0} (device : Ghosts D) where
+  pub kept_unsaid : (old new : List (GroupValue D)) → AreKept device old new → AreKept (unsaid device) old new
+  kept_unsaid old new kept =
+      let many : length (devices_of new) ≡ length (devices_of old) = sym (length-map (devices_of new) device.size) ∙ ap length kept.sizes ∙ length-map (devices_of old) device.size in
+      record {
+        number = kept.number;
+        each = λ g x y at there. kept_uncounted device.told device.size device.count device.lending x y (kept.each g x y at there);
+        has = kept.has;
+        tells = kept.tells;
+        sizes = kept.sizes;
+        later = later_same (counts_of uncounted old) (counts_of uncounted new) (same_counts (devices_of old) (devices_of new) many);
+      }
+
+  pub room_unsaid : {s : Plan} {x : SessionsValue} {old new : ProviderValue D} {v b up_to : ℕ} {images : List Evicted} → MakesRoom device s x old new v b images up_to
+      → MakesRoom (unsaid device) s x old new v b images up_to
+  room_unsaid {old = old} {new = new} room = record {
+    call = record { kept = kept_unsaid old.groups new.groups room.call.kept; elsewhere = room.call.elsewhere };
+    devices = room.devices;
+    evicted = room.evicted;
+    stands = room.stands;
+    kept = room.kept;
+    room = room.room;
+    rest = room.rest;
+  }
+
+  pub without_unsaid : {old new : List (GroupValue D)} {set stood : ℕ} → AreWithout device old new set stood → AreWithout (unsaid device) old new set stood
+  without_unsaid {old = old} {new = new} without = record {
+    kept = kept_unsaid old new without.kept;
+    devices = without.devices;
+    stands = without.stands;
+    number = without.number;
+    none = without.none;
+  }
+
+  ended_unsaid : (set : ℕ) (result : SetOutcome) (old new : ProviderValue D) → IsEnded device set result old new → IsEnded (unsaid device) set result old new
+  ended_unsaid zero result old new ended = ended
+  ended_unsaid (suc n) Running old new ended = ended
+  ended_unsaid (suc n) Complete old new ended = ended
+  ended_unsaid (suc n) (Failed why) old new ended = (ended.0, without_unsaid ended.1, ended.2)
+
+  released_unsaid : (set : Option ℕ) (old new : ProviderValue D) → IsReleased device set old new → IsReleased (unsaid device) set old new
+  released_unsaid None old new released = released
+  released_unsaid (Some n) old new released = (released.0, without_unsaid released.1, released.2)
+
+  pub settled_unsaid : (m : SessionMove) (old new : ProviderValue D) → IsSettled device m old new → IsSettled (unsaid device) m old new
+  settled_unsaid m old new settled = (
+    settled.0,
+    ended_unsaid m.outcome.set m.outcome.result old settled.0 settled.1,
+    released_unsaid m.released settled.0 new settled.2,
+  )
+
+-- ## moves
+
+many_later : (xs ys : List ℕ) → AreLater xs ys → length ys ≡ length xs
+many_later [] [] h = refl
+many_later [] (y ∷ ys) h = absurd h
+many_later (x ∷ xs) [] h = absurd h
+many_later (x ∷ xs) (y ∷ ys) h = ap (λ (n : ℕ). suc n) (many_later xs ys h.1)
+
+never_alone : {D : Type 0} (count : D → ℕ) (xs ys : List D) (k : ℕ) → NeverFails count → RoseAlone k (map count xs) (map count ys) → ⊥
+never_alone count [] ys zero never rose = rose
+never_alone count [] ys (suc k) never rose = rose
+never_alone count (x ∷ xs) [] zero never rose = rose
+never_alone count (x ∷ xs) [] (suc k) never rose = rose
+never_alone count (x ∷ xs) (y ∷ ys) zero never rose = still (count x) (count y) (never y) rose.0
+  where
+    still : (a b : ℕ) → b ≡ 0 → Rose a b → ⊥
+    still a b e (inl l) = omega arith
+    still a b e (inr m) = omega arith
+never_alone count (x ∷ xs) (y ∷ ys) (suc k) never rose = never_alone count xs ys k never rose.1
+
+module _ {D : Type 0} (told : D → Option (List (List ℕ))) (count : D → ℕ) where
+  rose_for : (s : Plan) (v : Option ℕ) (xs ys : List D) → RoseFor s v (map count xs) (map count ys) → RoseFor s v (map (λ (d : D). uncounted d) xs) (map (λ (d : D). uncounted d) ys)
+  rose_for s None xs ys rose = rose
+  rose_for s (Some v) xs ys (inl rose) = inl (rose_unsaid count xs ys _ rose)
+  rose_for s (Some v) xs ys (inr rose) = inr (rose_unsaid count xs ys _ rose)
+
+  pub step_unsaid : (old new : WorldValue D) (s : Plan) (event : Event) (reply : Reply) → IsStepped told count old new s event reply → IsStepped told uncounted old new s event reply
+  step_unsaid old new s event Blocked step = step
+  step_unsaid old new s event (Moved o) moves =
+      let many : length new.devices ≡ length old.devices =
+      sym (length-map new.devices count) ∙ many_later (map count old.devices) (map count new.devices) moves.later ∙ length-map old.devices count in
+      let same = same_counts old.devices new.devices many in
+      record {
+        is_enabled = moves.is_enabled;
+        is_allowed = moves.is_allowed;
+        outcome = moves.outcome;
+        stands_for = moves.stands_for;
+        is_of = moves.is_of;
+        tells = moves.tells;
+        later = later_same (map (λ (d : D). uncounted d) old.devices) (map (λ (d : D). uncounted d) new.devices) same;
+        rose = λ fault. rose_for s _ old.devices new.devices (moves.rose fault);
+        unfailed = λ clean. same;
+      }
+
+  -- over devices of which no call fails it is clean
+  pub step_clean : (old new : WorldValue D) (s : Plan) (event : Event) (reply : Reply) → NeverFails count → IsStepped told count old new s event reply → HasMark Clean reply
+  step_clean old new s event Blocked never step = tt
+  step_clean old new s event (Moved o) never moves = by_mark (mark_of o.told) refl
+    where
+      none : (v : Option ℕ) → RoseFor s v (map count old.devices) (map count new.devices) → ⊥
+      none None rose = rose
+      none (Some v) (inl rose) = never_alone count old.devices new.devices _ never rose
+      none (Some v) (inr rose) = never_alone count old.devices new.devices _ never rose
+
+      by_mark : (mark : Mark) → mark_of o.told ≡ mark → mark_of o.told ≡ Clean
+      by_mark Clean e = e
+      by_mark Fault e = absurd (none _ (moves.rose (ap is_fault e)))
+      by_mark (FaultAfter k) e = absurd (none _ (moves.rose (ap is_fault e)))
+
+  -- the same where memory may be wanting
+  pub made_unsaid : (old new : WorldValue D) (s : Plan) (event : Event) (r : Result Reply OutOfMemory) → IfOk r (IsStepped told count old new s event)
+      → IfOk r (IsStepped told uncounted old new s event)
+  made_unsaid old new s event (Ok reply) step = step_unsaid old new s event reply step
+  made_unsaid old new s event (Err e) step = tt
+
+  pub made_clean : (old new : WorldValue D) (s : Plan) (event : Event) (r : Result Reply OutOfMemory) → NeverFails count → IfOk r (IsStepped told count old new s event) → IfOk r (HasMark Clean)
+  made_clean old new s event (Ok reply) never step = step_clean old new s event reply never step
+  made_clean old new s event (Err e) never step = tt

@@ -1,0 +1,238 @@
+//! Events with a mark that is told: what they leave where a device fails so, without a failing call.
+
+ghost use Rattle.std.specs.Prelude.{ℕ, List, [], ◌≡◌, ◌<◌, true, length, OnErr, IfOk};
+ghost use Rattle.scenario.specs.Bounds.{IsBlock, IsOp};
+ghost use Rattle.scenario.specs.declared.op.Op.{Op};
+ghost use Rattle.write_history.specs.declared.mark.Mark.TheVariants as mark;
+ghost use Rattle.vss_model.specs.Acts.{event_allows, line_allows};
+ghost use Rattle.vss_model.specs.declared.event.Event.TheVariants.{Line as LineEvent, Provider as ProviderEvent};
+ghost use Rattle.vss_model.specs.declared.told.Told.TheVariants as told;
+ghost use Rattle.provider.specs.Words.{NeverFails, uncounted};
+ghost use Rattle.vss_world.specs.declared.reply.Reply.TheVariants.{Moved};
+ghost use Rattle.vss_world.specs.Stands.{IsOf, IsStanding, IfStands};
+ghost use Rattle.vss_world.specs.Moves.{IsEvent, IsStepped, HasMark, simple_outcome};
+ghost use Rattle.vss_world.specs.Changes.{IsWriteLine};
+
+use crate::outcomes::told;
+use crate::reply::Reply;
+use crate::settling::settle;
+use crate::world::World;
+use scenario::{Line, Op, Scenario};
+use set_agenda::Group;
+use std::alloc::Global;
+use volume_device::Device;
+use vss_model::{Event, Outcome, Told};
+use vss_names::{OutOfMemory, SetOutcome, VssResult};
+use write_history::Mark;
+
+impl<D: Device> World<D> {
+    /// Makes an event, where it is enabled, with this mark: what it leaves where a call of a device fails as the mark says, though no
+    /// such call is made. Where the mark may not come with the event, it is a `step`. Want of memory changes nothing.
+    pub fn step_marked(
+        &mut self,
+        alloc: Global,
+        scenario: &Scenario,
+        event: Event,
+        mark: Mark,
+    ) -> Result<Reply, OutOfMemory>
+        requires of { IsOf self.old scenario.now }
+        requires standing { IsStanding D.told self.old scenario.now }
+        requires in_range { IsEvent scenario.now event }
+        ensures memory { OnErr result (self.new ≡ self.old) }
+        ensures stepped { IfOk result (IsStepped D.told uncounted self.old self.new scenario.now event) }
+        ensures marked { NeverFails D.count → IfStands D.told self.old scenario.now (λ st. event_allows scenario.now st event mark ≡ true → IfOk result (HasMark mark)) }
+    {
+        let reply = self.make_marked(alloc, scenario, event, mark)?;
+        self.end_listing(reply);
+        Ok(reply)
+    }
+
+    /// Makes an event with a mark. What an earlier step listed stays listed.
+    fn make_marked(
+        &mut self,
+        alloc: Global,
+        scenario: &Scenario,
+        event: Event,
+        mark: Mark,
+    ) -> Result<Reply, OutOfMemory>
+        requires of { IsOf self.old scenario.now }
+        requires standing { IsStanding D.told self.old scenario.now }
+        requires in_range { IsEvent scenario.now event }
+        ensures memory { OnErr result (self.new ≡ self.old) }
+        ensures stepped { IfOk result (IsStepped D.told uncounted self.old self.new scenario.now event) }
+        ensures marked { NeverFails D.count → IfStands D.told self.old scenario.now (λ st. event_allows scenario.now st event mark ≡ true → IfOk result (HasMark mark)) }
+    {
+        match mark {
+            Mark::Clean => self.make_clean(alloc, scenario, event),
+            Mark::Fault => self.make_failing(alloc, scenario, event),
+            Mark::FaultAfter(restored) => self.make_stopping(alloc, scenario, event, restored),
+        }
+    }
+
+    /// Makes an event without a mark.
+    fn make_clean(
+        &mut self,
+        alloc: Global,
+        scenario: &Scenario,
+        event: Event,
+    ) -> Result<Reply, OutOfMemory>
+        requires of { IsOf self.old scenario.now }
+        requires standing { IsStanding D.told self.old scenario.now }
+        requires in_range { IsEvent scenario.now event }
+        ensures memory { OnErr result (self.new ≡ self.old) }
+        ensures stepped { IfOk result (IsStepped D.told uncounted self.old self.new scenario.now event) }
+        ensures marked { NeverFails D.count → IfOk result (HasMark mark.Clean) }
+    {
+        self.make(alloc, scenario, event)
+    }
+
+    /// Makes an event in which a device fails, where one may.
+    fn make_failing(
+        &mut self,
+        alloc: Global,
+        scenario: &Scenario,
+        event: Event,
+    ) -> Result<Reply, OutOfMemory>
+        requires of { IsOf self.old scenario.now }
+        requires standing { IsStanding D.told self.old scenario.now }
+        requires in_range { IsEvent scenario.now event }
+        ensures memory { OnErr result (self.new ≡ self.old) }
+        ensures stepped { IfOk result (IsStepped D.told uncounted self.old self.new scenario.now event) }
+        ensures marked { IfStands D.told self.old scenario.now (λ st. event_allows scenario.now st event mark.Fault ≡ true → IfOk result (HasMark mark.Fault)) }
+    {
+        match event {
+            Event::Line { lane, op } => self.fail_line(alloc, scenario, lane, op),
+            Event::Provider => Ok(self.fail_step(scenario)),
+            Event::Answer { .. } | Event::Idle => self.make_clean(alloc, scenario, event),
+        }
+    }
+
+    /// Makes an event that stops after so many restored blocks, where a revert may.
+    fn make_stopping(
+        &mut self,
+        alloc: Global,
+        scenario: &Scenario,
+        event: Event,
+        restored: u32,
+    ) -> Result<Reply, OutOfMemory>
+        requires of { IsOf self.old scenario.now }
+        requires standing { IsStanding D.told self.old scenario.now }
+        requires in_range { IsEvent scenario.now event }
+        ensures memory { OnErr result (self.new ≡ self.old) }
+        ensures stepped { IfOk result (IsStepped D.told uncounted self.old self.new scenario.now event) }
+        ensures marked { NeverFails D.count → IfStands D.told self.old scenario.now (λ st. event_allows scenario.now st event (mark.FaultAfter restored) ≡ true → IfOk result (HasMark (mark.FaultAfter restored))) }
+    {
+        match event {
+            Event::Line {
+                lane,
+                op: Op::Revert { set, volume },
+            } => Ok(self.revert(scenario, lane, set, volume, Some(restored))),
+            _ => self.make_clean(alloc, scenario, event),
+        }
+    }
+
+    /// Makes a line in which a device fails, where one may.
+    fn fail_line(
+        &mut self,
+        alloc: Global,
+        scenario: &Scenario,
+        lane: u32,
+        op: Op,
+    ) -> Result<Reply, OutOfMemory>
+        requires of { IsOf self.old scenario.now }
+        requires standing { IsStanding D.told self.old scenario.now }
+        requires lane { lane < length scenario.now.lanes }
+        requires in_range { IsOp scenario.now op }
+        ensures memory { OnErr result (self.new ≡ self.old) }
+        ensures stepped { IfOk result (IsStepped D.told uncounted self.old self.new scenario.now (LineEvent lane op)) }
+        ensures marked { IfStands D.told self.old scenario.now (λ st. line_allows scenario.now st op mark.Fault ≡ true → IfOk result (HasMark mark.Fault)) }
+    {
+        let event = Event::Line { lane, op };
+        match op.line() {
+            Line::Writes { volume, block, .. } => {
+                return Ok(self.fail_write(scenario, lane, volume, block));
+            }
+            Line::Reads { .. } => return Ok(self.fail_look()),
+            Line::ShowsImage { set, volume } => {
+                if !self.is_kept(scenario, set, volume) {
+                    return self.make_clean(alloc, scenario, event);
+                }
+                return Ok(self.fail_look());
+            }
+            Line::ShowsBlock { set, volume, .. } => {
+                if !self.is_kept(scenario, set, volume) {
+                    return self.make_clean(alloc, scenario, event);
+                }
+                return Ok(self.fail_look());
+            }
+            _ => return self.make_clean(alloc, scenario, event),
+        }
+    }
+
+    /// Answers a line that looks at a volume or an image.
+    fn fail_look(&mut self) -> Reply
+        ensures after { self.new ≡ record self.old { evicted = [] } }
+        ensures told { result ≡ Moved (simple_outcome told.Fault) }
+    {
+        self.evicted.clear();
+        told(Told::Fault)
+    }
+
+    /// Makes room for a write, where that does not wait, and puts nothing.
+    fn fail_write(&mut self, scenario: &Scenario, lane: u32, volume: u32, block: u32) -> Reply
+        requires of { IsOf self.old scenario.now }
+        requires standing { IsStanding D.told self.old scenario.now }
+        requires lane { lane < length scenario.now.lanes }
+        requires in_range { IsBlock scenario.now volume block }
+        ensures stepped { (op : Op) (bytes : List ℕ) → IsWriteLine op volume (record { block = block; bytes = bytes }) → IsStepped D.told uncounted self.old self.new scenario.now (LineEvent lane op) result }
+        ensures marked { HasMark mark.Fault result }
+    {
+        if !self.may_write(scenario, lane, volume) {
+            return Reply::Blocked;
+        }
+        let _facts = scenario.volumes();
+        let up_to = self.evicted.make_room(
+            &mut self.provider,
+            &self.sessions,
+            scenario,
+            volume,
+            block,
+        );
+        let Some(set) = self.sessions.current() else {
+            return told(Told::Fault);
+        };
+        if set != up_to {
+            return told(Told::Fault);
+        }
+        let why = VssResult::InsufficientStorage;
+        let _ = self.sessions.fail(why);
+        let _ = self.provider.abort();
+        Reply::Moved(Outcome {
+            told: Told::Fault,
+            lost: 0,
+            lost_order: None,
+            set,
+            result: SetOutcome::Failed(why),
+        })
+    }
+
+    /// Makes the provider's next step; one of the Flush group fails, and its set with it.
+    fn fail_step(&mut self, scenario: &Scenario) -> Reply
+        requires of { IsOf self.old scenario.now }
+        requires standing { IsStanding D.told self.old scenario.now }
+        ensures stepped { IsStepped D.told uncounted self.old self.new scenario.now ProviderEvent result }
+        ensures marked { IfStands D.told self.old scenario.now (λ st. event_allows scenario.now st ProviderEvent mark.Fault ≡ true → HasMark mark.Fault result) }
+    {
+        let Some(next) = self.sessions.next_step() else {
+            return Reply::Blocked;
+        };
+        match next.0 {
+            Group::Flush => {}
+            _ => return self.make_step(scenario),
+        }
+        let item = self.sessions.step(next.0, next.1, false);
+        settle(&mut self.provider, item);
+        self.evicted.clear();
+        Reply::Moved(item.outcome)
+    }
+}
