@@ -1,79 +1,47 @@
 -- A run by the moves of a report, from its beginning to its own report, and that beside the text.
-use Rattle.std.proofs.Common.{◌≡◌, ℕ, ◌<◌, ◌≤◌, List, [], ◌∷◌, ◌++◌, get_or, length, take, refl, ap, sym, ◌∙◌, Bool, true, false, Option, Some, None, subst, inl, inr, arith}
-use Rattle.std.specs.Prelude.{◌||◌, Result, Ok, Err, IfOk}
-use Rattle.std.specs.List.{list_any}
-use Rattle.std.proofs.lemmas.Option.{slice_get-get_or}
+use Rattle.std.proofs.Common.{◌≡◌, ℕ, ◌+◌, List, [], ◌∷◌, ◌++◌, refl, ap, sym, ◌∙◌, Bool, true, Option, Some, None, subst, inl, inr, arith, cond}
+use Rattle.std.specs.Prelude.{map, Result, Ok, Err, IfOk}
+use Rattle.std.proofs.lemmas.List.Sums.{sum_by-cons}
 use Rattle.vss_names.specs.Faults.{Rose}
 use Rattle.vss_names.specs.TextValue.{TextValue}
-use Rattle.write_history.specs.declared.actor.Actor.{Actor}
+use Rattle.write_history.specs.declared.mark.Mark.{Mark}
+use Rattle.write_history.specs.declared.mark.Mark.TheVariants.{Clean}
 use Rattle.write_history.specs.declared.move_item.Move.{Move}
+use Rattle.cow_volume.specs.Calls.{NeverFails}
 use Rattle.scenario.specs.Plan.{Plan}
-use Rattle.scenario.specs.Grammar.{reading_of, IsScenario}
-use Rattle.vss_model.specs.Trail.{run, may_move, is_fault, faults}
+use Rattle.vss_model.specs.Trail.{is_legal, is_complete, is_fault, faults}
 use Rattle.vss_report.specs.ReadBack.{reading_back}
+use Rattle.vss_report.specs.ToldReport.{told_report}
 use Rattle.vss_play.specs.declared.play_fault.PlayFault.{PlayFault}
-use Rattle.vss_play.specs.Played.{Played, Stays, IsFresh, IsKept}
-use Rattle.vss_play.specs.Acting.{IsLedBy}
+use Rattle.vss_play.specs.Played.{Played, IsFresh}
 use Rattle.orders.specs.declared.replayed.Replayed.{Replayed}
 use Rattle.orders.specs.declared.replayed.Replayed.TheVariants.{Same, Differs, ScenarioRefused, DeviceFault, OutOfMemory}
-use Rattle.orders.specs.Again.{AreTold, AreFirst, IsRead, IsFollowedFar, IsReplayed, IsCompared, IsReportOf, IsOfNoCleanTrail, IsAgain, IsAgainOver}
+use Rattle.orders.specs.Again.{AreTold, IsRead, IsFollowedFar, IsReplayed, IsCompared, IsReportOf, IsAgain, IsAgainOver, IsReplayOver, IsSame, IsSameOver}
 use Rattle.orders.specs.Followed.{IsEndedInTurn}
-use Rattle.orders.specs.Runs.{NeverFails, movers_of, IsReported}
+use Rattle.orders.specs.Runs.{IsOfTrail}
 use Rattle.orders.specs.Told.{OtherLine, first_other}
-use Rattle.orders.proofs.Led.{led_all}
 use Rattle.orders.proofs.OneDrawn.{parts}
 use Rattle.orders.proofs.OtherLines.{same_text, none_of_report}
-use Rattle.orders.proofs.Replay.{may_never, reads_back, replays_it}
-use Rattle.orders.proofs.Reporting.{onward_stands, reported_in_turn, in_turn_as}
-
--- ## as far as they may come
-
-pub far_all : {D : Type 0} (told : D → Option (List (List ℕ))) (count : D → ℕ) (p q : Played D) (moves : List Move) (i : ℕ) → length moves ≤ i
-    → IsLedBy told count p (movers_of (take i moves)) q → IsFollowedFar told count p q moves
-far_all told count p q moves i l led =
-    record { actors = movers_of moves; led = led_all told count p q (λ (m : Move). m.actor) moves i l led; first = inl refl }
-
-pub far_stopped : {D : Type 0} (told : D → Option (List (List ℕ))) (count : D → ℕ) (p q r : Played D) (moves : List Move) (i : ℕ) (d : Move) → i < length moves → IsKept told count r
-    → IsLedBy told count p (movers_of (take i moves)) q → (r ≡ q) × Stays q (get_or moves i d).actor → IsFollowedFar told count p r moves
-far_stopped {D} told count p q r moves i d l kept led stays =
-    let put : Stays r (get_or moves i d).actor = subst (λ (x : Played D). Stays x (get_or moves i d).actor) (sym stays.0) stays.1 in
-    record {
-      actors = movers_of (take i moves);
-      led = subst (λ (x : Played D). IsLedBy told count p (movers_of (take i moves)) x) (sym stays.0) led;
-      first = inr (record {
-        place = i;
-        stop = get_or moves i d;
-        is_stop = slice_get-get_or moves i d l;
-        begins = refl;
-        may_not = may_never told count r (get_or moves i d).actor kept put;
-      });
-    }
-
-first_as : (s t : Plan) (trail first moves : List Move) (actors movers : List Actor) → t ≡ s → trail ≡ first → movers ≡ actors → AreFirst t trail moves actors → AreFirst s first moves movers
-first_as s t trail first moves actors movers plan same_trail same (inl e) = inl (same ∙ e)
-first_as s t trail first moves actors movers plan same_trail same (inr stop) =
-    inr (record {
-      place = stop.place;
-      stop = stop.stop;
-      is_stop = stop.is_stop;
-      begins = same ∙ stop.begins;
-      may_not = subst (λ (ms : List Move). may_move s (run s ms) stop.stop.actor ≡ false) same_trail
-          (subst (λ (x : Plan). may_move x (run x trail) stop.stop.actor ≡ false) plan stop.may_not);
-    })
+use Rattle.orders.proofs.Replay.{reads_back, replays_it}
+use Rattle.orders.proofs.Reporting.{StandsAt, in_turn_as, of_trail_in_turn, none_marked, both_none}
 
 -- ## to the report
 
 replayed : {D : Type 0} {lasting : D → Option (List (List ℕ))} (told : D → Option (List (List ℕ))) (count : D → ℕ) (tells : Bool) (s : Plan) (moves : List Move) (p q : Played D)
     (text : TextValue) → IsFresh told count tells s p → IsFollowedFar told count p q moves → IsEndedInTurn told lasting count q text → IsReplayed count tells s moves text.bytes
-unfolding onward_stands
 replayed told count tells s moves p q text fresh far h =
-    let begun = onward_stands told count tells s p q fresh far.led.onward in
+    let rest = h.turned.played.onward.rest in
+    let made : q.trail ≡ far.made = far.trail ∙ ap (λ (ms : List Move). ms ++ far.made) fresh.trail in
+    let begun : StandsAt told tells s far.made q = record { plan = far.plan ∙ fresh.plan; trail_is = made; tell = λ t. far.tells ∙ fresh.tell t } in
     record {
-      first = far.led.onward.rest;
-      rest = h.turned.played.onward.rest;
-      begins = first_as s q.plan q.trail far.led.onward.rest moves far.actors (movers_of far.led.onward.rest) begun.plan begun.trail_is far.led.by far.first;
-      in_turn = in_turn_as told tells s far.led.onward.rest q h.turned.played.onward.rest begun h.turned.in_turn;
-      reported = reported_in_turn told count tells s far.led.onward.rest q text begun h;
+      first = far.made;
+      rest = rest;
+      in_turn = in_turn_as told tells s far.made q rest begun h.turned.in_turn;
+      reported = of_trail_in_turn told count tells s far.made q text begun h;
+      exact = λ never legal. sym made ∙ far.exact never
+          (subst (λ (x : Plan). is_legal x (p.trail ++ moves) ≡ true) (sym fresh.plan) (subst (λ (ms : List Move). is_legal s (ms ++ moves) ≡ true) (sym fresh.trail) legal))
+          ∙ ap (λ (ms : List Move). ms ++ moves) fresh.trail;
+      unmarked = λ never none. both_none far.made rest (ap faults (sym made) ∙ far.unmarked never none ∙ ap faults fresh.trail) (none_marked told count q h.last h.turned.played.onward never);
     }
 
 pub replayed_if : {D : Type 0} (told lasting : D → Option (List (List ℕ))) (count : D → ℕ) (tells : Bool) (s : Plan) (moves : List Move) (p q : Played D)
@@ -104,81 +72,87 @@ told_of_bad s text line moves bad = λ other read. absurd (no_moves line other (
 no_other : (o : Option OtherLine) (x : OtherLine) → o ≡ None → o ≡ Some x → ⊥
 no_other o x e f = cc
 
-pub compared_so : {D : Type 0} (count : D → ℕ) (tells : Bool) (text given report : List ℕ) (s : Plan) (moves : List Move) (before after : ℕ) (result : Replayed) → IsRead text given s moves
-    → IsReplayed count tells s moves report → IsCompared given report result → IsAgainOver count tells text given before after result
-compared_so count tells text given report s moves before after Same read h compared = record {
-  plan = s;
-  is_scenario = read.is_scenario;
-  trail = h.first ++ h.rest;
-  reported = subst (λ (xs : List ℕ). IsReported count tells s (h.first ++ h.rest) xs) (sym (same_text given report compared)) h.reported;
-}
-compared_so count tells text given report s moves before after (Differs line wanted) read h compared = record {
-  plan = s;
-  is_scenario = read.is_scenario;
-  trail = h.first ++ h.rest;
+pub compared_so : {D : Type 0} (count : D → ℕ) (tells : Bool) (s : Plan) (moves : List Move) (given report : List ℕ) (before after : ℕ) (result : Replayed)
+    → IsReplayed count tells s moves report → IsCompared given report result → IsReplayOver count tells s moves given before after result
+compared_so count tells s moves given report before after Same h compared =
+    let same = sym (same_text given report compared) in
+    record { trail = h.first ++ h.rest; reported = subst (λ (xs : List ℕ). IsOfTrail tells s (h.first ++ h.rest) xs) same h.reported; unmarked = h.unmarked }
+compared_so count tells s moves given report before after (Differs line wanted) h compared = record {
   report = report;
-  reported = h.reported;
+  same = record { trail = h.first ++ h.rest; reported = h.reported; unmarked = h.unmarked };
   first = compared;
-  none = λ never tell other legal complete clean legible is.
-      no_other (first_other given report) (record { line = line; wanted = wanted.bytes })
-      (none_of_report given report (replays_it count tells s moves given report other read.plan read.names read.told h never tell legal complete clean legible is)) compared;
+  exact = λ never tell legal complete. replays_it count tells s moves report h never tell legal complete;
 }
-compared_so count tells text given report s moves before after (ScenarioRefused line reason) read h compared = absurd compared
-compared_so count tells text given report s moves before after DeviceFault read h compared = absurd compared
-compared_so count tells text given report s moves before after OutOfMemory read h compared = tt
+compared_so count tells s moves given report before after (ScenarioRefused line reason) h compared = absurd compared
+compared_so count tells s moves given report before after DeviceFault h compared = absurd compared
+compared_so count tells s moves given report before after OutOfMemory h compared = tt
 
--- ## by the marks
+-- a text that has another line first than the report of these moves is not it
+no_report : (s : Plan) (moves trail : List Move) (given report : List ℕ) (line : ℕ) (wanted : List ℕ) → first_other given report ≡ Some (record { line = line; wanted = wanted })
+    → report ≡ told_report s moves → moves ≡ trail → given ≡ told_report s trail → ⊥
+no_report s moves trail given report line wanted first is same given_is =
+    no_other (first_other given report) (record { line = line; wanted = wanted }) (none_of_report given report (given_is ∙ ap (told_report s) (sym same) ∙ sym is)) first
 
--- where some move is marked, there are faults
-marked_some : (ms : List Move) → list_any (λ (m : Move). is_fault m.mark) ms ≡ true → faults ms ≡ 0 → ⊥
-marked_some [] e none = clash e
-  where
-    clash : false ≡ true → ⊥
-    clash f = cc
-marked_some (m ∷ ms) e none =
+-- ## the devices of a maker give the marks
+
+-- moves without a fault mark are as they are without their marks
+clean_same : (ms : List Move) → faults ms ≡ 0 → map (λ (m : Move). record m { mark = Clean }) ms ≡ ms
+clean_same [] none = refl
+clean_same (m ∷ ms) none =
     let all = parts m ms none in
-    let unmarked : is_fault m.mark ≡ false = ap is_fault all.0 in
-    marked_some ms (ap (λ (b : Bool). b || list_any (λ (x : Move). is_fault x.mark) ms) (sym unmarked) ∙ e) all.1
+    ap (λ (k : Mark). record m { mark = k } ∷ map (λ (x : Move). record x { mark = Clean }) ms) (sym all.0) ∙ ap (λ (xs : List Move). m ∷ xs) (clean_same ms all.1)
 
-one_plan : (s t : Plan) → IsScenario s ≡ IsScenario t → s ≡ t
-one_plan s t e = cc
+no_faults : (ms : List Move) → faults (map (λ (m : Move). record m { mark = Clean }) ms) ≡ 0
+no_faults [] = refl
+no_faults (m ∷ ms) =
+    none (faults (map (λ (x : Move). record x { mark = Clean }) (m ∷ ms))) (faults (map (λ (x : Move). record x { mark = Clean }) ms))
+    (sum_by-cons (λ (x : Move). cond (is_fault x.mark) 1 0) (record m { mark = Clean }) (map (λ (x : Move). record x { mark = Clean }) ms)) (no_faults ms)
+  where
+    none : (n k : ℕ) → n ≡ 0 + k → k ≡ 0 → n ≡ 0
+    none n k e f = omega arith
 
--- a text that tells a fault mark is the report of no trail without
-pub marked_none : (text given : List ℕ) (s : Plan) (moves : List Move) → IsRead text given s moves → list_any (λ (m : Move). is_fault m.mark) moves ≡ true
-    → (t : Plan) → reading_of text ≡ IsScenario t → IsOfNoCleanTrail t given
-marked_none text given s moves read marked t scenario =
-    subst (λ (x : Plan). IsOfNoCleanTrail x given) (one_plan s t (sym read.is_scenario ∙ scenario)) (λ trail legal complete clean legible is.
-    marked_some moves marked (ap faults (read.told trail (reads_back s given trail read.plan read.names legible is)) ∙ clean))
+pub over_so : {D : Type 0} (count : D → ℕ) (tells : Bool) (text given : List ℕ) (s : Plan) (told moves : List Move) (before after : ℕ) (result : Replayed) → IsRead text given s told
+    → moves ≡ map (λ (m : Move). record m { mark = Clean }) told → IsReplayOver count tells s moves given before after result → IsAgainOver count tells text given before after result
+over_so {D} count tells text given s told moves before after result read is h = by_result result (subst (λ (ms : List Move). IsReplayOver count tells s ms given before after result) is h)
+  where
+    same_over : (xs : List ℕ) → IsSame count tells s (map (λ (m : Move). record m { mark = Clean }) told) xs → IsSameOver count tells text xs
+    same_over xs same = record { plan = s; is_scenario = read.is_scenario; trail = same.trail; reported = record { of_trail = same.reported; unmarked = λ never. same.unmarked never (no_faults told) } }
 
-report_of : {D : Type 0} (count : D → ℕ) (text given : List ℕ) (s : Plan) (trail : List Move) → reading_of text ≡ IsScenario s → IsReported count true s trail given → IsReportOf text given
-report_of count text given s trail scenario h = record { plan = s; is_scenario = scenario; trail = trail; legal = h.legal; complete = h.complete; is = h.only refl }
+    by_result : (r : Replayed) → IsReplayOver count tells s (map (λ (m : Move). record m { mark = Clean }) told) given before after r → IsAgainOver count tells text given before after r
+    by_result Same g = same_over given g
+    by_result (Differs line wanted) g = record {
+      report = g.report;
+      same = same_over g.report g.same;
+      first = g.first;
+      none = λ never tell trail legal complete clean legible given_is.
+          let of_text : told ≡ trail = read.told trail (reads_back s given trail read.plan read.names legible given_is) in
+          let moves_are : map (λ (m : Move). record m { mark = Clean }) told ≡ trail = ap (map (λ (m : Move). record m { mark = Clean })) of_text ∙ clean_same trail clean in
+          no_report s (map (λ (m : Move). record m { mark = Clean }) told) trail given g.report line wanted.bytes g.first
+          (g.exact never tell (subst (λ (ms : List Move). is_legal s ms ≡ true) (sym moves_are) legal) (subst (λ (ms : List Move). is_complete s ms ≡ true) (sym moves_are) complete)) moves_are given_is;
+    }
+    by_result (ScenarioRefused line reason) g = absurd g
+    by_result DeviceFault g = g
+    by_result OutOfMemory g = tt
 
--- a replay over devices that tell, which is of no trail without fault marks where it is another or a device fails
-again_by : {D : Type 0} (count : D → ℕ) (text given : List ℕ) (before after : ℕ) (result : Replayed)
-    → ((s : Plan) → reading_of text ≡ IsScenario s → (NeverFails count → IsOfNoCleanTrail s given) → IsOfNoCleanTrail s given)
-    → (Rose before after → (s : Plan) → reading_of text ≡ IsScenario s → IsOfNoCleanTrail s given) → IsAgainOver count true text given before after result → IsAgain text given result
-unfolding report_of
-again_by count text given before after Same none failed h = report_of count text given h.plan h.trail h.is_scenario h.reported
-again_by count text given before after (Differs line wanted) none failed h = record {
+-- ## the text gives the marks
+
+pub again_so : {D : Type 0} (count : D → ℕ) (text given : List ℕ) (s : Plan) (moves : List Move) (result : Replayed) → IsRead text given s moves → NeverFails count
+    → IsReplayOver count true s moves given 0 0 result → IsAgain text given result
+again_so count text given s moves Same read never h =
+    record { plan = s; is_scenario = read.is_scenario; trail = h.trail; legal = h.reported.legal; complete = h.reported.complete; is = h.reported.only refl }
+again_so count text given s moves (Differs line wanted) read never h = record {
   report = h.report;
-  reported = report_of count text h.report h.plan h.trail h.is_scenario h.reported;
+  reported = record { plan = s; is_scenario = read.is_scenario; trail = h.same.trail; legal = h.same.reported.legal; complete = h.same.reported.complete; is = h.same.reported.only refl };
   first = h.first;
-  none = none h.plan h.is_scenario (λ never. h.none never refl);
+  none = λ trail legal complete any legible given_is.
+      let of_text : moves ≡ trail = read.told trail (reads_back s given trail read.plan read.names legible given_is) in
+      no_report s moves trail given h.report line wanted.bytes h.first
+      (h.exact never refl (subst (λ (ms : List Move). is_legal s ms ≡ true) (sym of_text) legal) (subst (λ (ms : List Move). is_complete s ms ≡ true) (sym of_text) complete)) of_text given_is;
 }
-again_by count text given before after (ScenarioRefused line reason) none failed h = h
-again_by count text given before after DeviceFault none failed h = failed h
-again_by count text given before after OutOfMemory none failed h = tt
-
--- of moves without a fault mark, over devices of which no call fails
-pub again_sure : {D : Type 0} (count : D → ℕ) (text given : List ℕ) (result : Replayed) → NeverFails count → IsAgainOver count true text given 0 0 result → IsAgain text given result
-again_sure count text given result never h = again_by count text given 0 0 result (λ s scenario none. none never) (λ rose. absurd (still rose)) h
+again_so count text given s moves (ScenarioRefused line reason) read never h = absurd h
+again_so count text given s moves DeviceFault read never h = still h
   where
     still : Rose 0 0 → ⊥
     still (inl l) = omega arith
     still (inr e) = omega arith
-
--- of moves of which one is marked
-pub again_marked : {D : Type 0} (count : D → ℕ) (text given : List ℕ) (s : Plan) (moves : List Move) (before after : ℕ) (result : Replayed) → IsRead text given s moves
-    → list_any (λ (m : Move). is_fault m.mark) moves ≡ true → IsAgainOver count true text given before after result → IsAgain text given result
-again_marked count text given s moves before after result read marked h =
-    again_by count text given before after result (λ t scenario none. marked_none text given s moves read marked t scenario) (λ rose. marked_none text given s moves read marked) h
+again_so count text given s moves OutOfMemory read never h = tt

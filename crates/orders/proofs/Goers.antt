@@ -158,7 +158,7 @@ none_alone p x e = (if_none (p x) x None e).0
 stays : {D : Type 0} (p : Played D) (actor : Actor) → goes p.plan p.trail actor ≡ false → Stays p actor
 stays p actor e = stays_by (may_move p.plan (run_of p) actor) (is_finished p.plan p.trail actor) e
 
-pub none_goes : {D : Type 0} (told : D → Option (List (List ℕ))) (count : D → ℕ) (p : Played D) (k : ℕ) → IsKept told count p
+pub none_goes : {D : Type 0} (told : D → Option (List (List ℕ))) (count : D → ℕ) (p : Played D) (k : ℕ) → IsKept told p
     → find (goes p.plan p.trail) (asked_from k (actors_in_threads p.plan)) ≡ None → is_complete p.plan p.trail ≡ true
 none_goes told count p k kept e =
     let test = goes p.plan p.trail in
@@ -177,7 +177,7 @@ none_goes told count p k kept e =
 
 pub drawing_none : {D : Type 0} (told : D → Option (List (List ℕ))) (count : D → ℕ) (generator : ℕ) (p : Played D) → IsDrawing told count generator generator p p
 drawing_none told count generator p = record {
-  onward = record { plan = refl; rest = []; trail = sym (append-nil p.trail); longer = longer_same p.lines; tells = refl; later = later-refl (map count p.devices); clean = λ e. refl };
+  onward = record { plan = refl; rest = []; trail = sym (append-nil p.trail); longer = longer_same p.lines; tells = refl; later = later-refl (map count p.devices); clean = λ e. refl; faults = counted_none (map count p.devices) };
   drawn = λ rest h. h;
 }
 
@@ -199,11 +199,11 @@ drawing_more {D} told count first generator p q r so_far h =
           (so_far.drawn (m ∷ rest) (drawn_as p q generator h.0 so_far.onward.plan h.2, subst (λ (ms : List Move). AreDrawn p.plan (generator_after generator) ms rest) moved.trail are));
     }
 
-pub drawing_ends : {D : Type 0} (told : D → Option (List (List ℕ))) (count : D → ℕ) (first generator : ℕ) (p q r : Played D) → IsKept told count r → IsDrawing told count first generator p q
+pub drawing_ends : {D : Type 0} (told : D → Option (List (List ℕ))) (count : D → ℕ) (first generator : ℕ) (p q r : Played D) → IsKept told r → IsDrawing told count first generator p q
     → IsFirstToGo told count q r (asked_from (place_of generator (length (actors_in_threads q.plan))) (actors_in_threads q.plan)) (Ok false) → IsPlayedAsDrawn told count first p r
 drawing_ends {D} told count first generator p q r kept so_far h =
     subst (λ (x : Played D). IsPlayedAsDrawn told count first p x) (sym h.0) (record {
       onward = so_far.onward;
-      complete = none_goes told count q (place_of generator (length (actors_in_threads q.plan))) (subst (λ (x : Played D). IsKept told count x) h.0 kept) h.1;
+      complete = none_goes told count q (place_of generator (length (actors_in_threads q.plan))) (subst (λ (x : Played D). IsKept told x) h.0 kept) h.1;
       drawn = subst (λ (ms : List Move). AreDrawn p.plan first p.trail ms) (append-nil so_far.onward.rest) (so_far.drawn [] tt);
     })

@@ -8,7 +8,7 @@ use Rattle.write_history.specs.declared.move_item.Move.{Move}
 use Rattle.vss_play.specs.Played.{Played, IsOnward, IsMovedOn}
 use Rattle.vss_play.specs.Acting.{IsLedBy}
 use Rattle.vss_play.proofs.ClosingLines.{longer_same, longer_trans, longer_by}
-use Rattle.vss_play.proofs.FaultMarks.{later-refl, later-trans, clean_after}
+use Rattle.vss_play.proofs.FaultMarks.{later-refl, later-trans, clean_after, counted_none, counted_after}
 use Rattle.orders.specs.declared.entry.Entry.{Entry}
 use Rattle.orders.specs.declared.why.Why.{Why}
 use Rattle.orders.specs.Followed.{actors_of, MayNotCome, IsHaltedAt}
@@ -26,12 +26,13 @@ onward_more told count p q r actor so_far one =
       tells = one.tells ∙ so_far.tells;
       later = later-trans (map count p.devices) (map count q.devices) (map count r.devices) so_far.later one.later;
       clean = clean_after so_far.rest m (map count p.devices) (map count q.devices) (map count r.devices) so_far.clean one.clean;
+      faults = counted_after so_far.rest m (map count p.devices) (map count q.devices) (map count r.devices) so_far.faults one.later one.rose;
     }
 
 -- before the first move
 pub led_none : {D : Type 0} (told : D → Option (List (List ℕ))) (count : D → ℕ) (p : Played D) → IsLedBy told count p [] p
 led_none told count p = record {
-  onward = record { plan = refl; rest = []; trail = sym (append-nil p.trail); longer = longer_same p.lines; tells = refl; later = later-refl (map count p.devices); clean = λ e. refl };
+  onward = record { plan = refl; rest = []; trail = sym (append-nil p.trail); longer = longer_same p.lines; tells = refl; later = later-refl (map count p.devices); clean = λ e. refl; faults = counted_none (map count p.devices) };
   by = refl;
 }
 

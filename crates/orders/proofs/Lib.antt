@@ -5,4 +5,5 @@ pub mod OneDrawn
 pub mod OtherLines
 pub mod Quiet
 pub mod Replay
+pub mod Far
 pub mod Beside

@@ -1,11 +1,13 @@
 -- A run that was played to its end has the report of its trail.
-use Rattle.std.proofs.Common.{◌≡◌, ℕ, List, [], ◌∷◌, ◌++◌, refl, ap, sym, ◌∙◌, arith, Bool, true, Option, subst}
-use Rattle.std.specs.Prelude.{map, sum, IsTrue, Result, Ok, Err, IfOk}
-use Rattle.std.proofs.lemmas.List.Sums.{sum_by-cons}
+use Rattle.std.proofs.Common.{◌≡◌, ℕ, ◌+◌, ◌≤◌, List, [], ◌∷◌, ◌++◌, refl, ap, sym, ◌∙◌, arith, Bool, true, Option, subst, cond, inl, inr}
+use Rattle.std.specs.Prelude.{map, sum, ◌⊎◌, IsTrue, Result, Ok, Err, IfOk}
+use Rattle.std.proofs.lemmas.List.Sums.{sum_by-cons, sum_by-append}
+use Rattle.vss_names.specs.Faults.{most}
+use Rattle.cow_volume.specs.Calls.{NeverFails}
 use Rattle.vss_names.specs.TextValue.{TextValue}
 use Rattle.write_history.specs.declared.move_item.Move.{Move}
 use Rattle.scenario.specs.Plan.{Plan}
-use Rattle.vss_model.specs.Trail.{is_complete, faults}
+use Rattle.vss_model.specs.Trail.{is_complete, is_fault, faults}
 use Rattle.vss_report.specs.Report.{IsReport}
 use Rattle.vss_report.specs.ToldReport.{all_tell}
 use Rattle.vss_report.proofs.Telling.{only_told_report}
@@ -21,7 +23,7 @@ use Rattle.orders.specs.declared.halted.Halted.TheVariants as halt
 use Rattle.orders.specs.declared.why.Why.{Why}
 use Rattle.orders.specs.Drawn.{AreDrawn, IsPlayedAsDrawn}
 use Rattle.orders.specs.Followed.{actors_of, IsFollowed, IsHaltedAt, IsEndedInTurn}
-use Rattle.orders.specs.Runs.{NeverFails, IsReported, IsOrdered, IsOfSeed, IsHalted, IsUnplayed, unplayed_at}
+use Rattle.orders.specs.Runs.{IsOfTrail, IsOrdered, IsOfSeed, IsHalted, IsUnplayed, unplayed_at}
 
 none_counted : {D : Type 0} (count : D → ℕ) → NeverFails count → (ds : List D) → sum (map count ds) ≡ 0
 none_counted count never [] = refl
@@ -31,9 +33,16 @@ none_counted count never (d ∷ ds) =
     let rest = none_counted count never ds in
     omega arith
 
--- where no device ever fails, the trail of a run has no fault mark
-pub none_marked : {D : Type 0} (told : D → Option (List (List ℕ))) (count : D → ℕ) (p : Played D) → IsKept told count p → NeverFails count → faults p.trail ≡ 0
-none_marked told count p kept never = let none = none_counted count never p.devices in let most = kept.faults in omega arith
+-- where no device ever fails, a run goes on without a fault mark
+pub none_marked : {D : Type 0} (told : D → Option (List (List ℕ))) (count : D → ℕ) (p q : Played D) (h : IsOnward told count p q) → NeverFails count → faults h.rest ≡ 0
+none_marked told count p q h never = none (faults h.rest) (sum (map count p.devices)) (sum (map count q.devices)) (none_counted count never q.devices) h.faults
+  where
+    none : (n a b : ℕ) → b ≡ 0 → (n + a ≤ b) ⊎ (most ≤ b) → n ≡ 0
+    none n a b e (inl l) = omega arith
+    none n a b e (inr l) = omega arith
+
+pub both_none : (one two : List Move) → faults one ≡ 0 → faults two ≡ 0 → faults (one ++ two) ≡ 0
+both_none one two e f = let all = sum_by-append (λ (m : Move). cond (is_fault m.mark) 1 0) one two in omega arith
 
 -- a run as it stands before its end: its plan, its trail, and which volumes tell
 pub record StandsAt {D : Type 0} (told : D → Option (List (List ℕ))) (tells : Bool) (s : Plan) (trail : List Move) (q : Played D) : Type 0 where
@@ -57,21 +66,20 @@ stands_on told count tells s trail q r at h = record {
   tell = λ t. h.tells ∙ at.tell t;
 }
 
-pub reported : {D : Type 0} {lasting : D → Option (List (List ℕ))} (told : D → Option (List (List ℕ))) (count : D → ℕ) (tells : Bool) (s : Plan) (trail : List Move) (q : Played D)
+pub of_trail : {D : Type 0} {lasting : D → Option (List (List ℕ))} (told : D → Option (List (List ℕ))) (count : D → ℕ) (tells : Bool) (s : Plan) (trail : List Move) (q : Played D)
     (places : ℕ) (kept_first kept_last : Option (List D)) (first last : ℕ) (text : TextValue)
-    → StandsAt told tells s trail q → is_complete q.plan q.trail ≡ true → IsEnded told lasting count q places kept_first kept_last first last (Ok text) → IsReported count tells s trail text.bytes
-reported {D} told count tells s trail q places kept_first kept_last first last text at complete ended =
+    → StandsAt told tells s trail q → is_complete q.plan q.trail ≡ true → IsEnded told lasting count q places kept_first kept_last first last (Ok text) → IsOfTrail tells s trail text.bytes
+of_trail {D} told count tells s trail q places kept_first kept_last first last text at complete ended =
     let r : Played D = ended.new in
     let quiet = ended.quiet in
     let kept = ended.keeps in
     let plan_is : r.plan ≡ s = quiet.plan ∙ at.plan in
     let trail_is : r.trail ≡ trail = quiet.trail ∙ at.trail_is in
     let tell : IsTrue tells → tells_of told r.plan r.devices ≡ all_tell r.plan = λ t. quiet.tells ∙ at.tell t ∙ ap (λ (x : Plan). all_tell x) (sym plan_is) in
-    subst (λ (x : Plan). IsReported count tells x trail text.bytes) plan_is (subst (λ (ms : List Move). IsReported count tells r.plan ms text.bytes) trail_is (record {
+    subst (λ (x : Plan). IsOfTrail tells x trail text.bytes) plan_is (subst (λ (ms : List Move). IsOfTrail tells r.plan ms text.bytes) trail_is (record {
       legal = kept.legal;
       complete = complete_moved told count q r quiet complete;
       only = λ t. only_told_report r.plan r.trail text.bytes (subst (λ (bs : List Bool). IsReport r.plan bs r.trail text.bytes) (tell t) ended.ends.0);
-      unmarked = none_marked told count r kept;
     }))
 
 -- ## by an order
@@ -88,10 +96,10 @@ ended_in_turn told count p q places kept_first kept_last first last (Ok text) tu
 ended_in_turn told count p q places kept_first kept_last first last (Err e) turned ended = tt
 
 -- the report of what was made first and of what came in turn
-pub reported_in_turn : {D : Type 0} {lasting : D → Option (List (List ℕ))} (told : D → Option (List (List ℕ))) (count : D → ℕ) (tells : Bool) (s : Plan) (first : List Move) (q : Played D)
-    (text : TextValue) → StandsAt told tells s first q → (h : IsEndedInTurn told lasting count q text) → IsReported count tells s (first ++ h.turned.played.onward.rest) text.bytes
-reported_in_turn told count tells s first q text at h =
-    reported told count tells s _ h.last h.places h.kept_before h.kept_now h.count_before h.count_now text (stands_on told count tells s first q h.last at h.turned.played.onward)
+pub of_trail_in_turn : {D : Type 0} {lasting : D → Option (List (List ℕ))} (told : D → Option (List (List ℕ))) (count : D → ℕ) (tells : Bool) (s : Plan) (first : List Move) (q : Played D)
+    (text : TextValue) → StandsAt told tells s first q → (h : IsEndedInTurn told lasting count q text) → IsOfTrail tells s (first ++ h.turned.played.onward.rest) text.bytes
+of_trail_in_turn told count tells s first q text at h =
+    of_trail told count tells s _ h.last h.places h.kept_before h.kept_now h.count_before h.count_now text (stands_on told count tells s first q h.last at h.turned.played.onward)
     h.turned.played.complete h.ended
 
 pub ordered : {D : Type 0} {lasting : D → Option (List (List ℕ))} (told : D → Option (List (List ℕ))) (count : D → ℕ) (tells : Bool) (s : Plan) (entries : List Entry) (p q : Played D)
@@ -104,12 +112,15 @@ ordered told count tells s entries p q text fresh led h =
       rest = h.turned.played.onward.rest;
       begins = led.by;
       in_turn = in_turn_as told tells s led.onward.rest q h.turned.played.onward.rest begun h.turned.in_turn;
-      reported = reported_in_turn told count tells s led.onward.rest q text begun h;
+      reported = record {
+        of_trail = of_trail_in_turn told count tells s led.onward.rest q text begun h;
+        unmarked = λ never. both_none led.onward.rest h.turned.played.onward.rest (none_marked told count p q led.onward never) (none_marked told count q h.last h.turned.played.onward never);
+      };
     }
 
 -- the moves before an entry that may not come
 pub halted : {D : Type 0} (told : D → Option (List (List ℕ))) (count : D → ℕ) (tells : Bool) (s : Plan) (entries : List Entry) (p q : Played D) (entry : Entry) (why : Why)
-    → IsFresh told count tells s p → IsHaltedAt told count p q entries entry why → IsKept told count q → IsHalted count s entries entry why
+    → IsFresh told count tells s p → IsHaltedAt told count p q entries entry why → IsKept told q → IsHalted count s entries entry why
 halted {D} told count tells s entries p q entry why fresh h kept =
     let plan_is : q.plan ≡ s = h.led.onward.plan ∙ fresh.plan in
     let begins = onward_stands told count tells s p q fresh h.led.onward in
@@ -120,11 +131,11 @@ halted {D} told count tells s entries p q entry why fresh h kept =
       legal = kept.legal;
       begins = ap (λ (ms : List Move). map (λ (m : Move). m.actor) ms) begins.trail_is ∙ h.led.by;
       may_not = h.may_not;
-      unmarked = none_marked told count q kept;
+      unmarked = λ never. ap faults begins.trail_is ∙ none_marked told count p q h.led.onward never;
     })
 
 pub unplayed_so : {D : Type 0} (told : D → Option (List (List ℕ))) (count : D → ℕ) (tells : Bool) (s : Plan) (entries : List Entry) (p q : Played D) (first last : ℕ) (halted_by : Halted)
-    → IsFresh told count tells s p → IsFollowed told count p q entries (Err halted_by) → IsKept told count q → IsUnplayed count s entries first last (unplayed_at halted_by)
+    → IsFresh told count tells s p → IsFollowed told count p q entries (Err halted_by) → IsKept told q → IsUnplayed count s entries first last (unplayed_at halted_by)
 unplayed_so told count tells s entries p q first last (At entry why) fresh h kept = halted told count tells s entries p q entry why fresh h kept
 unplayed_so told count tells s entries p q first last halt.OutOfMemory fresh h kept = tt
 
@@ -138,7 +149,10 @@ of_seed told count tells s number p r places kept_first kept_last first last tex
     record {
       trail = drawn.onward.rest;
       drawn = subst (λ (ms : List Move). AreDrawn s number ms drawn.onward.rest) fresh.trail (subst (λ (x : Plan). AreDrawn x number p.trail drawn.onward.rest) fresh.plan drawn.drawn);
-      reported = reported told count tells s _ r places kept_first kept_last first last text whole drawn.complete ended;
+      reported = record {
+        of_trail = of_trail told count tells s _ r places kept_first kept_last first last text whole drawn.complete ended;
+        unmarked = λ never. none_marked told count p r drawn.onward never;
+      };
     }
 
 pub of_seed_if : {D : Type 0} {lasting : D → Option (List (List ℕ))} (told : D → Option (List (List ℕ))) (count : D → ℕ) (tells : Bool) (s : Plan) (number : ℕ) (p r : Played D)

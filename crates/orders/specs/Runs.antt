@@ -4,6 +4,7 @@ use Rattle.vss_names.specs.Faults.{Rose}
 use Rattle.write_history.specs.declared.actor.Actor.{Actor}
 use Rattle.write_history.specs.declared.move_item.Move.{Move}
 use Rattle.scenario.specs.Plan.{Plan}
+use Rattle.cow_volume.specs.Calls.{NeverFails}
 use Rattle.vss_model.specs.Trail.{is_legal, is_complete, faults}
 use Rattle.vss_report.specs.ToldReport.{told_report}
 use Rattle.vss_play.specs.Played.{AreInTurn}
@@ -18,20 +19,19 @@ use Rattle.orders.specs.declared.why.Why.{Why}
 use Rattle.orders.specs.Drawn.{AreDrawn}
 use Rattle.orders.specs.Followed.{actors_of, MayNotCome}
 
--- no device counts a fault, so no call of one fails
-abbrev pub NeverFails : {D : Type 0} → (D → ℕ) → Type 0
-NeverFails {D} count = (d : D) → count d ≡ 0
-
 -- the actors of these moves, in order
 abbrev pub movers_of : List Move → List Actor
 movers_of moves = map (λ (m : Move). m.actor) moves
 
--- The text is the report of a legal and complete trail. Where the devices tell their blocks it is this one text, and where none ever
--- fails no move has a fault mark.
-pub record IsReported {D : Type 0} (count : D → ℕ) (tells : Bool) (s : Plan) (trail : List Move) (text : List ℕ) : Type 0 where
+-- the text is the report of a legal and complete trail; where the devices tell their blocks it is this one text
+pub record IsOfTrail (tells : Bool) (s : Plan) (trail : List Move) (text : List ℕ) : Type 0 where
   pub legal : is_legal s trail ≡ true
   pub complete : is_complete s trail ≡ true
   pub only : IsTrue tells → text ≡ told_report s trail
+
+-- and where no call of a device ever fails no move has a fault mark
+pub record IsReported {D : Type 0} (count : D → ℕ) (tells : Bool) (s : Plan) (trail : List Move) (text : List ℕ) : Type 0 where
+  pub of_trail : IsOfTrail tells s trail text
   pub unmarked : NeverFails count → faults trail ≡ 0
 
 -- the report of a trail that begins with the moves of an order, and goes on in turn

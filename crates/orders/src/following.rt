@@ -1,19 +1,17 @@
 //! The moves of an order or of a report, made one after another.
 
 ghost use Rattle.std.specs.Prelude.{OnOk};
-ghost use Rattle.orders.specs.Again.{IsFollowedFar};
+ghost use Rattle.orders.specs.Again.{IsFollowedFar, IsMade};
 ghost use Rattle.orders.specs.Followed.{IsFollowed};
 
 use crate::entry::Entry;
 use crate::halted::Halted;
-use crate::next_fault::NextFault;
 use crate::why::Why;
 use std::alloc::Global;
 use volume_device::Device;
 use vss_names::OutOfMemory;
-use vss_play::in_turn::turn;
 use vss_play::{Moved, Play};
-use write_history::{Mark, Move};
+use write_history::Move;
 
 /// Makes the moves that are asked for, in order, up to the first that may not come. Want of memory leaves the moves that were made.
 pub fn follow<D: Device>(alloc: Global, play: &mut Play<D>, entries: &[Entry]) -> Result<(), Halted>
@@ -40,20 +38,28 @@ pub fn follow<D: Device>(alloc: Global, play: &mut Play<D>, entries: &[Entry]) -
     Ok(())
 }
 
-/// Makes these moves, in order, as far as they may come. A call of a device is planned to fail in each that has a fault mark.
+/// Makes a move with its mark, or answers false where it may not come.
+fn make<D: Device>(alloc: Global, play: &mut Play<D>, item: Move) -> Result<bool, OutOfMemory>
+    ensures { IsMade D.told D.count play.old play.new item result }
+{
+    match play.step_marked(alloc, item) {
+        Ok(Moved::Moved) => Ok(true),
+        Ok(Moved::Blocked) => Ok(false),
+        Ok(Moved::Finished) => Ok(false),
+        Err(_) => Err(OutOfMemory),
+    }
+}
+
+/// Makes these moves, in order, with their marks, as far as they may come.
 pub fn follow_far<D: Device>(
     alloc: Global,
     play: &mut Play<D>,
     moves: &[Move],
-    next: &NextFault,
 ) -> Result<(), OutOfMemory>
     ensures { OnOk result (IsFollowedFar D.told D.count play.old play.new moves.now) }
 {
     for item in moves {
-        next.plan(item.mark);
-        let has_moved = turn(alloc, play, item.actor)?;
-        next.plan(Mark::Clean);
-        if !has_moved {
+        if !make(alloc, play, *item)? {
             let _facts = play.lanes();
             return Ok(());
         }

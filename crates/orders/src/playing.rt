@@ -11,7 +11,6 @@ use crate::drawing::play_drawn;
 use crate::entry::Entry;
 use crate::following::{follow, follow_far};
 use crate::halted::Halted;
-use crate::next_fault::NextFault;
 use crate::unplayed::Unplayed;
 use scenario::Scenario;
 use std::alloc::Global;
@@ -40,7 +39,7 @@ fn report_in_turn<R: Threads + Sync, M: Maker>(
 /// Lets a run go that has no report, and says why it has none.
 fn let_go<D: Device>(play: Play<D>, halted: Halted) -> Unplayed
     ensures why { result ≡ unplayed_at halted }
-    ensures kept { IsKept D.told D.count play }
+    ensures kept { IsKept D.told play }
 {
     let _facts = play.lanes();
     match halted {
@@ -102,20 +101,19 @@ pub fn report_of_seed<R: Threads + Sync, M: Maker>(
     played.finish(rt, maker)
 }
 
-/// The report of a run that makes these moves, as far as they may come, and then goes on in turn to its end.
+/// The report of a run that makes these moves with their marks, as far as they may come, and then goes on in turn to its end.
 pub fn report_of_replay<R: Threads + Sync, M: Maker>(
     rt: &R,
     alloc: Global,
     scenario: Scenario,
     moves: &[Move],
-    next: &NextFault,
     maker: &mut M,
 ) -> Result<Text, PlayFault>
     ensures ran { IfOk result (λ report. IsReplayed M.Made.count (M.tells maker.old Store.Memory) scenario moves.now report.bytes) }
     ensures rose { IsErrOf result PlayFault.Failed → Rose (M.count maker.old) (M.count maker.new) }
 {
     let mut play = Play::new(alloc, scenario, &Store::Memory, maker)?;
-    match follow_far(alloc, &mut play, moves, next) {
+    match follow_far(alloc, &mut play, moves) {
         Ok(()) => {}
         Err(_) => {
             let _ = let_go(play, Halted::OutOfMemory);

@@ -1,16 +1,14 @@
 //! A report that is replayed: whether a text is the report of a run.
 
-ghost use Rattle.std.specs.Prelude.{◌<◌, ◌≤◌, List, ℕ, length, IfOk, IfErr};
-ghost use Rattle.orders.specs.Again.{IsAgain, IsAgainOver, IsCompared, IsRead, IsUnread};
+ghost use Rattle.std.specs.Prelude.{◌<◌, ◌≤◌, length, IfOk, IfErr};
+ghost use Rattle.orders.specs.Again.{IsAgain, IsAgainOver, IsCompared, IsRead, IsReplayOver, IsUnread};
 ghost use Rattle.orders.specs.declared.telling.TheConstants.{MOST_BYTES};
 
 use crate::comparing::first_other;
-use crate::marked_maker::MarkedMaker;
-use crate::next_fault::NextFault;
 use crate::playing::report_of_replay;
 use crate::replayed::Replayed;
 use crate::sure_maker::SureMaker;
-use crate::telling::{MOST_BYTES, has_fault, told_moves};
+use crate::telling::{MOST_BYTES, told_moves, unmarked};
 use scenario::{Refused, Scenario, parse};
 use std::alloc::Global;
 use std::thread::Threads;
@@ -70,22 +68,21 @@ fn replay<R: Threads + Sync, M: Maker>(
     alloc: Global,
     scenario: Scenario,
     moves: &[Move],
-    next: &NextFault,
     report: &[u8],
     maker: &mut M,
 ) -> Replayed
     requires { length report.now ≤ MOST_BYTES }
-    ensures { (text : List ℕ) → IsRead text report.now scenario moves.now → IsAgainOver M.Made.count (M.tells maker.old Store.Memory) text report.now (M.count maker.old) (M.count maker.new) result }
+    ensures { IsReplayOver M.Made.count (M.tells maker.old Store.Memory) scenario moves.now report.now (M.count maker.old) (M.count maker.new) result }
 {
-    match report_of_replay(rt, alloc, scenario, moves, next, maker) {
+    match report_of_replay(rt, alloc, scenario, moves, maker) {
         Ok(replayed) => compared(alloc, report, &replayed),
         Err(PlayFault::Failed) => Replayed::DeviceFault,
         Err(PlayFault::OutOfMemory) => Replayed::OutOfMemory,
     }
 }
 
-/// Replays a report over devices in memory of a maker, which fail as it plans. The text is the same only where it is the report of a legal
-/// and complete trail of the scenario.
+/// Replays a report over devices in memory of a maker, which fail as it plans: its moves get the marks that they give. The text is the same
+/// only where it is the report of a legal and complete trail of the scenario.
 pub fn run_again_over<R: Threads + Sync, M: Maker>(
     rt: &R,
     alloc: Global,
@@ -101,16 +98,15 @@ pub fn run_again_over<R: Threads + Sync, M: Maker>(
         Ok(told) => told,
         Err(ended) => return ended,
     };
-    let Ok(next) = NextFault::new(alloc) else {
+    let Told { scenario, trail } = told;
+    let Ok(moves) = unmarked(alloc, trail.moves()) else {
         return Replayed::OutOfMemory;
     };
-    let Told { scenario, trail } = told;
-    replay(rt, alloc, scenario, trail.moves(), &next, report, maker)
+    replay(rt, alloc, scenario, &moves, report, maker)
 }
 
-/// Replays a report over devices in memory, of which a call fails in each move with a fault mark and no other call does: in a revert that
-/// behind as many blocks as its mark says, else the first. A text without fault marks is the same exactly where it is the report of a legal
-/// and complete trail of the scenario; one with fault marks only where it is.
+/// Replays a report over devices in memory of which no call fails, each move with its mark. The text is the same exactly where it is the
+/// report of a legal and complete trail of the scenario.
 pub fn run_again<R: Threads + Sync>(rt: &R, alloc: Global, text: &[u8], report: &[u8]) -> Replayed
     requires text { length text.now < 4294967295 }
     requires report { length report.now ≤ MOST_BYTES }
@@ -120,18 +116,7 @@ pub fn run_again<R: Threads + Sync>(rt: &R, alloc: Global, text: &[u8], report: 
         Ok(told) => told,
         Err(ended) => return ended,
     };
-    let Ok(next) = NextFault::new(alloc) else {
-        return Replayed::OutOfMemory;
-    };
     let Told { scenario, trail } = told;
-    let moves = trail.moves();
-    if !has_fault(moves) {
-        let mut maker = SureMaker::new(alloc);
-        return replay(rt, alloc, scenario, moves, &next, report, &mut maker);
-    }
-    let Ok(shared) = next.share() else {
-        return Replayed::OutOfMemory;
-    };
-    let mut maker = MarkedMaker::new(alloc, shared);
-    replay(rt, alloc, scenario, moves, &next, report, &mut maker)
+    let mut maker = SureMaker::new(alloc);
+    replay(rt, alloc, scenario, trail.moves(), report, &mut maker)
 }

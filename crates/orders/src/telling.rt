@@ -1,8 +1,7 @@
 //! The moves that a report tells.
 
-ghost use Rattle.std.specs.Prelude.{◌≡◌, ◌≤◌, ◌<◌, length, IfOk};
-ghost use Rattle.std.specs.List.{list_any};
-ghost use Rattle.vss_model.specs.Trail.{is_fault};
+ghost use Rattle.std.specs.Prelude.{◌≡◌, ◌≤◌, ◌<◌, length, map, IfOk};
+ghost use Rattle.write_history.specs.declared.mark.Mark.TheVariants as mark;
 ghost use Rattle.orders.specs.Again.{AreTold};
 ghost use Rattle.orders.specs.declared.telling.TheConstants.{MOST_BYTES};
 
@@ -61,19 +60,20 @@ pub fn told_moves(alloc: Global, scenario: &Scenario, text: &[u8]) -> Result<Tra
     }
 }
 
-/// Whether a device failed in a move with this mark.
-fn is_fault(mark: Mark) -> bool
-    ensures { result ≡ is_fault mark }
+/// These moves without their marks.
+pub fn unmarked(alloc: Global, moves: &[Move]) -> Result<Vec<Move>, OutOfMemory>
+    ensures { IfOk result (λ clean. clean.items ≡ map (λ (m : _). record m { mark = mark.Clean }) moves.now) }
 {
-    match mark {
-        Mark::Clean => false,
-        Mark::Fault | Mark::FaultAfter(_) => true,
+    let mut clean = Vec::new(alloc);
+    for item in moves {
+        let item = Move {
+            actor: item.actor,
+            mark: Mark::Clean,
+        };
+        match clean.push(item) {
+            Ok(()) => {}
+            Err(_) => return Err(OutOfMemory),
+        }
     }
-}
-
-/// Whether a device failed in one of these moves.
-pub fn has_fault(moves: &[Move]) -> bool
-    ensures { result ≡ list_any (λ (m : _). is_fault m.mark) moves.now }
-{
-    moves.iter().any(|item| is_fault(item.mark))
+    Ok(clean)
 }

@@ -30,7 +30,7 @@ use Rattle.vss_play.specs.Digested.{AreDigests, bytes_after}
 use Rattle.vss_play.specs.Played.{Played, AreNamed, device_names, IsFresh, IsPlayedOut, tells_in, AnyRose}
 use Rattle.vss_play.proofs.MakerCount.{rose-positive, rose-counted, member-le-sum}
 use Rattle.vss_main.specs.Generated.{IsOfNumber, AreEight, IsSummed, IsDigested, IsDigestedTo}
-use Rattle.vss_main.proofs.Ran.{IsWhole, same_plan, ends_complete, all_told, made-of}
+use Rattle.vss_main.proofs.Ran.{IsWhole, same_plan, ends_complete, all_told, made-of, marks_below, not_less}
 
 length_map : {X Y : Type 0} (f : X → Y) (xs : List X) → length (map f xs) ≡ length xs
 length_map f [] = refl
@@ -194,23 +194,12 @@ module _ {D : Type 0} {told : D → Option (List (List ℕ))} {count : D → ℕ
   unfolding made-of
   none_counted digests ends = (made-of h ends.3).clean ends.2
 
--- ## a run without a summary
+  -- ## a run without a summary
 
-fault-by : {D : Type 0} → (told lasting : D → Option (List (List ℕ))) (count : D → ℕ) (q : Played D) (places first made last : ℕ) (kept_first kept_last : Option (List D)) (why : PlayFault)
-    → first ≤ made → IsDigested told lasting count q places kept_first kept_last made last (Err why) → Rose first last
-fault-by {D} told lasting count q places first made last kept_first kept_last why later ended = by_cause ended.ends
-  where
-    counts : List ℕ
-    counts = map count ended.new.devices
+  fault-by : (AnyRose (map count q.devices) (map count r.devices)) ⊎ (1 ≤ faults r.trail) → Rose first last
+  fault-by (inl any) =
+      rose-counted first made last (map count r.devices) any.now (rose-positive any.before any.now any.rose) (member-le-sum (map count r.devices) any.at any.now any.is) (not_less h) h.count_is
+  fault-by (inr one) = rose-counted first made last (map count r.devices) (faults r.trail) (omega arith) (marks_below h) (not_less h) h.count_is
 
-    by_cause : (AnyRose (map count q.devices) (map count ended.new.devices)) ⊎ (1 ≤ faults ended.new.trail) → Rose first last
-    by_cause (inl any) = rose-counted first made last (map count ended.new.devices) any.now (rose-positive any.before any.now any.rose)
-        (member-le-sum (map count ended.new.devices) any.at any.now any.is) later ended.count_is
-    by_cause (inr one) = rose-counted first made last (map count ended.new.devices) (faults ended.new.trail) (omega arith) ended.keeps.faults later ended.count_is
-
-pub fault-of : {D : Type 0}
-    → (told lasting : D → Option (List (List ℕ))) (count : D → ℕ) (q : Played D) (places first made last : ℕ) (kept_first kept_last : Option (List D)) (result : Result (List (List ℕ)) PlayFault)
-    (why : PlayFault) → first ≤ made → IsDigested told lasting count q places kept_first kept_last made last result → result ≡ Err why → Rose first last
-fault-of told lasting count q places first made last kept_first kept_last result why later ended e =
-    fault-by told lasting count q places first made last kept_first kept_last why later
-    (subst (λ (r : Result (List (List ℕ)) PlayFault). IsDigested told lasting count q places kept_first kept_last made last r) e ended)
+  pub fault-of : (lasting : D → Option (List (List ℕ))) (result : Result (List (List ℕ)) PlayFault) (why : PlayFault) → IsDigestedTo told lasting count q r result → result ≡ Err why → Rose first last
+  fault-of lasting result why ends e = fault-by (subst (λ (o : Result (List (List ℕ)) PlayFault). IsDigestedTo told lasting count q r o) e ends)

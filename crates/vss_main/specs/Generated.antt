@@ -79,7 +79,7 @@ pub record IsDigested {D : Type 0} (told lasting : D → Option (List (List ℕ)
   -- as it was given back
   pub new : Played D
   pub quiet : IsQuietPlay told count old new
-  pub keeps : IsKept told count new
+  pub keeps : IsKept told new
   pub ends : IsDigestedTo told lasting count old new result
   pub kept : length new.devices ≤ places → kept_now ≡ option_map (λ devices. devices ++ new.devices) kept_before
   pub count_is : count_now ≡ all_counted count_before (map count new.devices)

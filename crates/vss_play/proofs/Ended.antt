@@ -18,7 +18,7 @@ use Rattle.vss_play.proofs.ClosingLines.{closed_as, play_ending}
 use Rattle.vss_play.proofs.Finishing.{play_kept}
 
 pub ended_as : {D : Type 0} (told lasting : D → Option (List (List ℕ))) (count : D → ℕ) (s : Plan) (old new : WorldValue D) (cursors : List ℕ) (trail : List Move) (text : List ℕ) (p : Played D) (ds : List D) (places : ℕ) (kept_first kept_last : Option (List D)) (count_first count_last : ℕ) (result : Result TextValue PlayFault)
-    → record { plan = s; trail = trail; devices = old.devices; lines = text } ≡ p → IsPlay told count s old cursors trail text → IsEnding told count old new s → ds ≡ new.devices
+    → record { plan = s; trail = trail; devices = old.devices; lines = text } ≡ p → IsPlay told s old cursors trail text → IsEnding told count old new s → ds ≡ new.devices
     → (length ds ≤ places → kept_last ≡ option_map (λ xs. xs ++ ds) kept_first) → count_last ≡ all_counted count_first (map count ds)
     → IsEnd told lasting count (record { plan = s; trail = trail; devices = old.devices; lines = text }) (record { plan = s; trail = trail; devices = new.devices; lines = text }) result
     → IsEnded told lasting count p places kept_first kept_last count_first count_last result
@@ -34,7 +34,7 @@ ended_as {D} told lasting count s old new cursors trail text p ds places kept_fi
     })
 
 -- its report is whole
-pub reported : {D : Type 0} (told lasting : D → Option (List (List ℕ))) (count : D → ℕ) (s : Plan) (old new : WorldValue D) (cursors : List ℕ) (trail : List Move) (text : List ℕ) (report : TextValue) → IsPlay told count s old cursors trail text → IsEnding told count old new s
+pub reported : {D : Type 0} (told lasting : D → Option (List (List ℕ))) (count : D → ℕ) (s : Plan) (old new : WorldValue D) (cursors : List ℕ) (trail : List Move) (text : List ℕ) (report : TextValue) → IsPlay told s old cursors trail text → IsEnding told count old new s
     → HasClosing (tells_of told s old.devices) s trail text report.bytes → AreasHold told s trail new.devices → map count new.devices ≡ map count old.devices
     → HaveLasted told lasting s new.devices
     → IsEnd told lasting count (record { plan = s; trail = trail; devices = old.devices; lines = text }) (record { plan = s; trail = trail; devices = new.devices; lines = text }) (Ok report)

@@ -10,14 +10,19 @@ use Rattle.turn_cell.specs.History.{Leads}
 use Rattle.vss_model.specs.Trail.{is_fault, faults}
 use Rattle.vss_play.specs.declared.stepped.Stepped.{Stepped}
 use Rattle.vss_play.specs.declared.stepped.Stepped.TheVariants as stepped
-use Rattle.vss_play.specs.Played.{Played, IsOnward, IsPlayedOut, IsPlayedInTurn}
+use Rattle.provider.specs.Devices.{AreLater}
+use Rattle.vss_play.specs.Played.{Played, AreCounted, IsOnward, IsPlayedOut, IsPlayedInTurn}
 use Rattle.vss_play.specs.Acting.{Turn, IsStep, mover_if, movers, IsLedBy, IsLed}
 use Rattle.vss_play.proofs.ClosingLines.{longer_same, longer_trans}
-use Rattle.vss_play.proofs.FaultMarks.{later-refl, later-trans}
+use Rattle.vss_play.proofs.FaultMarks.{later-refl, later-trans, counted_none, counted_one, counted_then}
 
 -- where none of these moves has a fault mark, the counts are as they were
 clean_both : (one two : List Move) (xs ys zs : List ℕ) → (faults one ≡ 0 → ys ≡ xs) → (faults two ≡ 0 → zs ≡ ys) → faults (one ++ two) ≡ 0 → zs ≡ xs
 clean_both one two xs ys zs before now e = let all = sum_by-append (λ (m : Move). cond (is_fault m.mark) 1 0) one two in now (omega arith) ∙ before (omega arith)
+
+counted_both : (one two : List Move) (xs ys zs : List ℕ) → AreLater ys zs → AreCounted (faults one) xs ys → AreCounted (faults two) ys zs → AreCounted (faults (one ++ two)) xs zs
+counted_both one two xs ys zs later before now =
+    subst (λ n. AreCounted n xs zs) (sym (sum_by-append (λ (m : Move). cond (is_fault m.mark) 1 0) one two)) (counted_then (faults one) (faults two) xs ys zs later before now)
 
 unmarked : (b : Bool) → 0 + cond b 1 0 ≡ 0 → b ≡ false
 unmarked true e = absurd (omega arith)
@@ -38,6 +43,7 @@ onward_on told count p q r one two = record {
   tells = two.tells ∙ one.tells;
   later = later-trans (map count p.devices) (map count q.devices) (map count r.devices) one.later two.later;
   clean = clean_both one.rest two.rest (map count p.devices) (map count q.devices) (map count r.devices) one.clean two.clean;
+  faults = counted_both one.rest two.rest (map count p.devices) (map count q.devices) (map count r.devices) two.later one.faults two.faults;
 }
 
 led_on : {D : Type 0} (told : D → Option (List (List ℕ))) (count : D → ℕ) (p q r : Played D) (xs ys : List Actor) → IsLedBy told count p xs q → IsLedBy told count q ys r → IsLedBy told count p (xs ++ ys) r
@@ -49,13 +55,13 @@ led_on told count p q r xs ys one two = record {
 
 led_none : {D : Type 0} (told : D → Option (List (List ℕ))) (count : D → ℕ) (p q : Played D) → q ≡ p → IsLedBy told count p [] q
 led_none {D} told count p q same =
-    subst (λ (x : Played D). IsLedBy told count p [] x) (sym same) (record { onward = record { plan = refl; rest = []; trail = sym (append-nil p.trail); longer = longer_same p.lines; tells = refl; later = later-refl (map count p.devices); clean = λ e. refl }; by = refl })
+    subst (λ (x : Played D). IsLedBy told count p [] x) (sym same) (record { onward = record { plan = refl; rest = []; trail = sym (append-nil p.trail); longer = longer_same p.lines; tells = refl; later = later-refl (map count p.devices); clean = λ e. refl; faults = counted_none (map count p.devices) }; by = refl })
 
 led_one : {D : Type 0} (told : D → Option (List (List ℕ))) (count : D → ℕ) (p q : Played D) (actor : Actor) (r : Result Stepped OutOfMemory) → MatchResult r (λ reply. IsStep told count p actor reply q) (λ _. q ≡ p) → IsLedBy told count p (mover_if actor r) q
 led_one told count p q actor (Ok stepped.Moved) h =
     let m : Move = record { actor = actor; mark = h.mark } in
     record {
-      onward = record { plan = h.plan; rest = m ∷ []; trail = h.trail; longer = record { text = h.own; is = h.lines }; tells = h.tells; later = h.later; clean = clean_one m (map count p.devices) (map count q.devices) h.clean };
+      onward = record { plan = h.plan; rest = m ∷ []; trail = h.trail; longer = record { text = h.own; is = h.lines }; tells = h.tells; later = h.later; clean = clean_one m (map count p.devices) (map count q.devices) h.clean; faults = counted_one m (map count p.devices) (map count q.devices) h.later h.rose };
       by = refl;
     }
 led_one told count p q actor (Ok stepped.Blocked) h = led_none told count p q h.0

@@ -1,5 +1,5 @@
 -- The end of a run: the faults of its devices in the count of the maker that gets them back.
-use Rattle.std.proofs.Common.{◌≡◌, ℕ, zero, suc, ◌+◌, ◌<◌, ◌≤◌, List, [], ◌∷◌, ◌∙◌, refl, ap, sym, arith, Bool, true, false, Option, Some, subst, inl, inr, add-zero}
+use Rattle.std.proofs.Common.{◌≡◌, ℕ, zero, suc, ◌+◌, ◌<◌, ◌≤◌, List, [], ◌∷◌, ◌++◌, length, ◌∙◌, refl, ap, sym, subst, arith, Bool, true, false, Option, Some, inl, inr, add-zero}
 use Rattle.std.specs.Prelude.{map, sum, slice_get, ◌⊎◌, nat_le, Result, Err, IsErrOf}
 use Rattle.std.proofs.lemmas.Bool.Decides.{nat_tests}
 use Rattle.std.proofs.lemmas.List.Sums.{sum_by-cons}
@@ -7,10 +7,13 @@ use Rattle.vss_names.specs.Faults.{Rose, most, counted, all_counted}
 use Rattle.vss_names.specs.TextValue.{TextValue}
 use Rattle.write_history.specs.declared.move_item.Move.{Move}
 use Rattle.scenario.specs.Plan.{Plan}
-use Rattle.vss_model.specs.Trail.{is_complete}
+use Rattle.vss_model.specs.GoesOn.{most_moves}
+use Rattle.vss_model.specs.Trail.{is_complete, faults}
+use Rattle.vss_model.proofs.TrailLength.{trail_is_short}
 use Rattle.vss_play.specs.declared.play_fault.PlayFault.{PlayFault}
 use Rattle.vss_play.specs.declared.play_fault.PlayFault.TheVariants.{Failed}
-use Rattle.vss_play.specs.Played.{IsEnded, Played, IsQuietPlay}
+use Rattle.vss_play.specs.Played.{IsEnded, Played, IsFresh, IsKept, IsOnward, IsQuietPlay}
+use Rattle.vss_play.proofs.FaultMarks.{counted_all, sum-later}
 use Rattle.vss_play.proofs.GivingBack.{all_most}
 
 -- ## counts that are added up
@@ -68,3 +71,13 @@ pub fault-of : {D : Type 0} {lasting : D → Option (List (List ℕ))} → (told
     (result : Result TextValue PlayFault) → first ≤ made → IsEnded told lasting count q places kept_first kept_last made last result → IsErrOf result Failed → Rose first last
 fault-of {D} {lasting} told count q places first made last kept_first kept_last result later ended e =
     fault-by told count q places first made last kept_first kept_last later (subst (λ (r : Result TextValue PlayFault). IsEnded told lasting count q places kept_first kept_last made last r) e ended)
+
+-- the fault marks of a run are at most the faults that its devices counted
+pub faults-below : {D : Type 0} (told : D → Option (List (List ℕ))) (count : D → ℕ) (tells : Bool) (s : Plan) (p q r : Played D) → IsFresh told count tells s p → IsOnward told count p q → IsQuietPlay told count q r → IsKept told r
+    → faults r.trail ≤ sum (map count r.devices)
+faults-below told count tells s p q r fresh onward quiet kept =
+    let rest : r.trail ≡ onward.rest = quiet.trail ∙ onward.trail ∙ ap (λ (ms : List Move). ms ++ onward.rest) fresh.trail in
+    let short = subst (λ (ms : List Move). length ms ≤ most_moves) rest (trail_is_short r.plan r.trail kept.plan kept.legal) in
+    let below = subst (λ (ms : List Move). faults ms ≤ sum (map count q.devices)) (sym rest) (counted_all onward.rest (map count p.devices) (map count q.devices) fresh.counts short onward.faults) in
+    let more = sum-later (map count q.devices) (map count r.devices) quiet.later in
+    omega arith

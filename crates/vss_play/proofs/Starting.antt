@@ -18,10 +18,10 @@ length_replicate zero x = refl
 length_replicate (suc n) x = ap suc (length_replicate n x)
 
 pub play_fresh : {D : Type 0} (told : D → Option (List (List ℕ))) (count : D → ℕ) (s : Plan) (w : WorldValue D) (cursors : List ℕ) (moves : List Move) (text : List ℕ) (lanes : ℕ)
-    → IsPlan s → Stands told w s [] → IsOf w s → lanes ≡ length s.lanes → cursors ≡ replicate {A = ℕ} lanes 0 → moves ≡ [] → text ≡ first_line → IsPlay told count s w cursors moves text
+    → IsPlan s → Stands told w s [] → IsOf w s → lanes ≡ length s.lanes → cursors ≡ replicate {A = ℕ} lanes 0 → moves ≡ [] → text ≡ first_line → IsPlay told s w cursors moves text
 play_fresh told count s w cursors moves text lanes plan stands of many first none line =
-    subst (λ (ms : List Move). IsPlay told count s w cursors ms text) (sym none)
-    (subst (λ (cs : List ℕ). IsPlay told count s w cs [] text) (sym first)
+    subst (λ (ms : List Move). IsPlay told s w cursors ms text) (sym none)
+    (subst (λ (cs : List ℕ). IsPlay told s w cs [] text) (sym first)
     (record {
       plan = plan;
       legal = refl;
@@ -32,5 +32,4 @@ play_fresh told count s w cursors moves text lanes plan stands of many first non
       short = omega arith;
       made = cursors_first 0 lanes;
       lanes = length_replicate lanes 0 ∙ many;
-      faults = omega arith;
     }))

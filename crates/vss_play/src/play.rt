@@ -5,7 +5,9 @@ ghost use Rattle.vss_report.specs.ToldLines.{IsLineOf};
 ghost use Rattle.vss_play.specs.Digested.{AreDigests};
 ghost use Rattle.vss_play.specs.Lasting.{HaveLasted};
 ghost use Rattle.vss_play.specs.Running.{MayIfCan};
-ghost use Rattle.vss_play.specs.Played.{run_of, is_finished, tells_in, IsKept, IsTurn, IsFresh, IsUndone, IsDropped, IsQuietPlay, IsClosed, IsEnded, AnyRose, AreNamed, AreasHold, device_names};
+ghost use Rattle.write_history.specs.declared.mark.Mark.{Mark};
+ghost use Rattle.cow_volume.specs.Calls.{NeverFails, counted_by, uncounted};
+ghost use Rattle.vss_play.specs.Played.{run_of, is_finished, tells_in, IsKept, IsTurn, IsMarkedTurn, IsFresh, IsUndone, IsDropped, IsQuietPlay, IsClosed, IsEnded, AnyRose, AreNamed, AreasHold, device_names};
 
 use crate::closing::close_all;
 use crate::devices::{give_all, make_devices};
@@ -18,7 +20,7 @@ use crate::play_fault::PlayFault;
 use crate::step_fault::StepFault;
 use crate::turn::{
     advance, answers_no_more, are_used_up, first_cursors, first_lines, lanes_with_lines, mark_of,
-    next_line, push_move, turns_come_to_an_end, write_lines,
+    next_line, push_move, step_by, turns_come_to_an_end, write_lines,
 };
 use lent_digests::DigestsOf;
 use scenario::Scenario;
@@ -30,7 +32,7 @@ use vss_model::Event;
 use vss_names::{Failed, Text};
 use vss_report::MOST_BYTES;
 use vss_world::{Reply, World};
-use write_history::{Actor, Move, Trail, TrailFault};
+use write_history::{Actor, Mark, Move, Trail, TrailFault};
 
 /// A run of a scenario. Contracts see its scenario, its moves, its devices and the report so far.
 #[derive(Drop)]
@@ -53,7 +55,7 @@ impl<D: Device> Model for Play<D> {
 
     ghost view = { λ a. record { plan = a.scenario; trail = a.trail.moves; devices = a.world.devices; lines = a.lines.bytes } };
 
-    ghost invariant = { λ a. IsPlaying D.told D.count a.scenario a.world a.cursors.items a.going a.trail.moves a.lines.bytes };
+    ghost invariant = { λ a. IsPlaying D.told a.scenario a.world a.cursors.items a.going a.trail.moves a.lines.bytes };
 }
 
 impl<D: Device> Play<D> {
@@ -107,12 +109,29 @@ impl<D: Device> Play<D> {
     pub fn step(&mut self, alloc: Global, actor: Actor) -> Result<Moved, StepFault>
         ensures { IsTurn D.told D.count self.old self.new actor result }
     {
+        self.turn(alloc, actor, None)
+    }
+
+    /// Makes the next move of an actor as `step` does, with the mark of a move that is told: what a call of a device leaves that fails so,
+    /// though no such call is made. Where the move may not come with this mark, its mark is as the devices give it.
+    pub fn step_marked(&mut self, alloc: Global, item: Move) -> Result<Moved, StepFault>
+        ensures moved { IsTurn D.told uncounted self.old self.new item.actor result }
+        ensures marked { NeverFails D.count → IsMarkedTurn self.old self.new item result }
+    {
+        self.turn(alloc, item.actor, Some(item.mark))
+    }
+
+    /// The next move of an actor, by the calls of the devices or with a mark that is told.
+    fn turn(&mut self, alloc: Global, actor: Actor, given: Option<Mark>) -> Result<Moved, StepFault>
+        ensures moved { IsTurn D.told (counted_by D.count given) self.old self.new actor result }
+        ensures marked { NeverFails D.count → (mark : Mark) → given ≡ Some mark → IsMarkedTurn self.old self.new (record { actor = actor; mark = mark }) result }
+    {
         match actor {
             Actor::Lane(lane) => match next_line(&self.scenario, &self.cursors, lane) {
                 None => Ok(Moved::Finished),
                 Some(line) => {
                     let event = Event::Line { lane, op: line.op };
-                    self.make(alloc, actor, line.number, event)
+                    self.make(alloc, actor, line.number, event, given)
                 }
             },
             Actor::Writer(writer) => {
@@ -123,7 +142,7 @@ impl<D: Device> Play<D> {
                     None => Ok(Moved::Blocked),
                     Some(answer) => {
                         let event = Event::Answer { writer, answer };
-                        self.make(alloc, actor, 0, event)
+                        self.make(alloc, actor, 0, event, given)
                     }
                 }
             }
@@ -131,7 +150,7 @@ impl<D: Device> Play<D> {
                 if are_used_up(self.going) {
                     return Ok(Moved::Finished);
                 }
-                self.make(alloc, actor, 0, Event::Provider)
+                self.make(alloc, actor, 0, Event::Provider, given)
             }
             Actor::Idle => {
                 if are_used_up(self.going) {
@@ -139,7 +158,7 @@ impl<D: Device> Play<D> {
                 }
                 turns_come_to_an_end();
                 if may_idle(&self.scenario, &self.world, &self.cursors) {
-                    return self.make(alloc, actor, 0, Event::Idle);
+                    return self.make(alloc, actor, 0, Event::Idle, given);
                 }
                 Ok(Moved::Blocked)
             }
@@ -159,12 +178,14 @@ impl<D: Device> Play<D> {
         actor: Actor,
         line: u32,
         event: Event,
+        given: Option<Mark>,
     ) -> Result<Moved, StepFault>
         requires event { event_of self.old.plan (run_of self.old) actor ≡ Some event }
         requires may { MayIfCan self.old.plan (run_of self.old) actor }
         requires line { IsLineOf self.old.plan (run_of self.old) actor line }
         requires going { is_finished self.old.plan self.old.trail actor ≡ false }
-        ensures { IsTurn D.told D.count self.old self.new actor result }
+        ensures moved { IsTurn D.told (counted_by D.count given) self.old self.new actor result }
+        ensures marked { NeverFails D.count → (mark : Mark) → given ≡ Some mark → IsMarkedTurn self.old self.new (record { actor = actor; mark = mark }) result }
     {
         turns_come_to_an_end();
         match self.trail.reserve() {
@@ -175,7 +196,7 @@ impl<D: Device> Play<D> {
         if self.lines.reserve(MOST_BYTES).is_err() {
             return Err(StepFault::OutOfMemory);
         }
-        match self.world.step(alloc, &self.scenario, event) {
+        match step_by(&mut self.world, alloc, &self.scenario, event, given) {
             Err(_) => Err(StepFault::OutOfMemory),
             Ok(Reply::Blocked) => Ok(Moved::Blocked),
             Ok(Reply::Moved(outcome)) => {
@@ -210,7 +231,7 @@ impl<D: Device> Play<D> {
     /// The report so far, without the closing lines.
     pub fn lines(&self) -> &[u8]
         ensures lines { result.now ≡ self.now.lines }
-        ensures kept { IsKept D.told D.count self.now }
+        ensures kept { IsKept D.told self.now }
     {
         self.lines.bytes()
     }
@@ -218,7 +239,7 @@ impl<D: Device> Play<D> {
     /// How many lanes there are.
     pub fn lanes(&self) -> u32
         ensures count { result ≡ length self.now.plan.lanes }
-        ensures kept { IsKept D.told D.count self.now }
+        ensures kept { IsKept D.told self.now }
     {
         self.scenario.lanes()
     }
@@ -226,7 +247,7 @@ impl<D: Device> Play<D> {
     /// How many writers there are.
     pub fn writers(&self) -> u32
         ensures count { result ≡ length self.now.plan.writers }
-        ensures kept { IsKept D.told D.count self.now }
+        ensures kept { IsKept D.told self.now }
     {
         self.scenario.writers()
     }
@@ -244,7 +265,7 @@ impl<D: Device> Play<D> {
         ensures lasted { OnOk result (HaveLasted D.told D.lasting self.new.plan self.new.devices) }
         ensures same { OnErr result (out.new.bytes ≡ out.old.bytes) }
         ensures quiet { IsQuietPlay D.told D.count self.old self.new }
-        ensures kept { IsKept D.told D.count self.new }
+        ensures kept { IsKept D.told self.new }
         ensures unfailed { OnOk result (map D.count self.new.devices ≡ map D.count self.old.devices) }
         ensures wanting { IsErrOf result PlayFault.OutOfMemory → map D.count self.new.devices ≡ map D.count self.old.devices }
         ensures rose { IsErrOf result PlayFault.Failed → AnyRose (map D.count self.old.devices) (map D.count self.new.devices) }
@@ -283,7 +304,7 @@ impl<D: Device> Play<D> {
         ensures areas { OnOk result (AreasHold D.told self.new.plan self.new.trail self.new.devices) }
         ensures lasted { OnOk result (HaveLasted D.told D.lasting self.new.plan self.new.devices) }
         ensures quiet { IsQuietPlay D.told D.count self.old self.new }
-        ensures kept { IsKept D.told D.count self.new }
+        ensures kept { IsKept D.told self.new }
         ensures unfailed { OnOk result (map D.count self.new.devices ≡ map D.count self.old.devices) }
         ensures rose { IsErr result → AnyRose (map D.count self.old.devices) (map D.count self.new.devices) }
     {
