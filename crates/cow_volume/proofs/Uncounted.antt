@@ -1,6 +1,6 @@
 -- A call by the counts of devices that say nothing of their faults, and a revert that stops where it is told to.
 use Rattle.std.proofs.Common.{◌≡◌, ◌<◌, ◌≤◌, ◌+◌, ℕ, zero, suc, Bool, true, false, List, [], ◌∷◌, length, map, refl, ap, sym, subst, ◌∙◌, arith, Option, Some, None, inl, inr}
-use Rattle.std.specs.Prelude.{◌⊎◌, slice_get, slice_set, Result, Ok, Err}
+use Rattle.std.specs.Prelude.{◌⊎◌, slice_get, slice_set, Result, Ok, Err, is_some}
 use Rattle.std.specs.Int.{from_bool}
 use Rattle.vss_names.specs.Faults.{Rose, most}
 use Rattle.write_history.specs.History.{History, point_in, to_restore}
@@ -56,7 +56,7 @@ module _ {D : Type 0} (told : D → Option (List (List ℕ))) (size count : D �
 
   -- one block, by the counts of a revert that is to stop or is not
   pub one_counted : (now new : GroupValue D) (v set b : ℕ) (stop : Option ℕ) (r : Result Bool Cause) → IsOneRestored told size count lending now new v set b r
-      → IsOneRestored told size (counted_by count stop) lending now new v set b r
+      → IsOneRestored told size (counted_by count (is_some stop)) lending now new v set b r
   one_counted now new v set b None r one = one
   one_counted now new v set b (Some k) (Ok false) one = one
   one_counted now new v set b (Some k) (Ok true) one = record {
@@ -86,7 +86,7 @@ module _ {D : Type 0} (told : D → Option (List (List ℕ))) (size count : D �
 
   -- where it stops, a block has a slot and is not put back
   pub one_stopped : (now : GroupValue D) (v set b slot restored : ℕ) (stop : Option ℕ) → v < length now.devices → (stop ≡ Some restored) × IsFirstCopy now.area.records v set b slot
-      → IsOneRestored told size (counted_by count stop) lending now now v set b (Err Volume)
+      → IsOneRestored told size (counted_by count (is_some stop)) lending now now v set b (Err Volume)
   one_stopped now v set b slot restored None inside stopped = cc (stopped.0)
   one_stopped now v set b slot restored (Some k) inside stopped =
       let d = slice_get_inside now.devices v inside in

@@ -201,9 +201,9 @@ abbrev pub uncounted : {D : Type 0} → D → ℕ
 uncounted d = most
 
 -- the counts by which a call is judged; those of one that is told how to fail say nothing
-abbrev pub counted_by : {D X : Type 0} → (D → ℕ) → Option X → D → ℕ
-counted_by count None = count
-counted_by count (Some told) = uncounted
+abbrev pub counted_by : {D : Type 0} → (D → ℕ) → Bool → D → ℕ
+counted_by count false = count
+counted_by count true = uncounted
 
 -- no device counts a fault, so no call of one fails
 abbrev pub NeverFails : {D : Type 0} → (D → ℕ) → Type 0

@@ -338,7 +338,7 @@ impl<D: Device> CowGroup<D> {
     /// there are more it ends as if the volume's device had failed then.
     pub fn revert_some(&mut self, v: u32, set: u32, most: Option<u32>) -> Result<(), RevertFault>
         requires { v < length self.old.area.volumes }
-        ensures revert { IsRevert D.told D.size (counted_by D.count most) D.lending self.old self.new v set result }
+        ensures revert { IsRevert D.told D.size (counted_by D.count (is_some most)) D.lending self.old self.new v set result }
         ensures stops { NeverFails D.count → (k : ℕ) → most ≡ Some k → StopsAfter D.told self.old v set k result }
     {
         revert(

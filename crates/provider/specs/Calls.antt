@@ -129,7 +129,7 @@ IsRevert device s old new v set (Err (Fault restored failed)) = HasImage device.
     → (restored < length (to_restore (blocks_of s v) (history_at hs v).writes p)) × AreGroups device.told s new (change_at v (reverted_in_part (blocks_of s v) set p restored) hs))
 
 -- the devices, with the counts by which a call is judged
-abbrev pub counted_as : {D X : Type 0} → Ghosts D → Option X → Ghosts D
+abbrev pub counted_as : {D : Type 0} → Ghosts D → Bool → Ghosts D
 counted_as device told = record device { count = counted_by device.count told }
 
 -- a revert that is to stop after k blocks: there are no more to restore, no such image stands, or it stopped there

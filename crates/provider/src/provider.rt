@@ -325,7 +325,7 @@ impl<D: Device> Provider<D> {
     ) -> Result<(), RevertFault>
         requires volume { volume < length scenario.now.volumes }
         requires has { HasGroups scenario.now self.old.groups }
-        ensures revert { IsRevert (counted_as D.Device most) scenario.now self.old.groups self.new.groups volume set result }
+        ensures revert { IsRevert (counted_as D.Device (is_some most)) scenario.now self.old.groups self.new.groups volume set result }
         ensures stops { NeverFails D.count → (k : ℕ) → most ≡ Some k → StopsAfter D.told scenario.now self.old.groups volume set k result }
         ensures set { self.new ≡ record self.old { groups = self.new.groups } }
     {

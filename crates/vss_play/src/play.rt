@@ -1,4 +1,4 @@
-ghost use Rattle.std.specs.Prelude.{◌≡◌, ◌+◌, ◌≤◌, ◌++◌, ◌⊎◌, Some, false, length, map, OnOk, OnErr, IfOk, IsErr, IsErrOf, option_map};
+ghost use Rattle.std.specs.Prelude.{◌≡◌, ◌+◌, ◌≤◌, ◌++◌, ◌⊎◌, Some, false, length, map, OnOk, OnErr, IfOk, IsErr, IsErrOf, option_map, is_some};
 ghost use Rattle.vss_names.specs.Faults.{Rose, all_counted};
 ghost use Rattle.vss_model.specs.Trail.{event_of};
 ghost use Rattle.vss_report.specs.ToldLines.{IsLineOf};
@@ -123,7 +123,7 @@ impl<D: Device> Play<D> {
 
     /// The next move of an actor, by the calls of the devices or with a mark that is told.
     fn turn(&mut self, alloc: Global, actor: Actor, given: Option<Mark>) -> Result<Moved, StepFault>
-        ensures moved { IsTurn D.told (counted_by D.count given) self.old self.new actor result }
+        ensures moved { IsTurn D.told (counted_by D.count (is_some given)) self.old self.new actor result }
         ensures marked { NeverFails D.count → (mark : Mark) → given ≡ Some mark → IsMarkedTurn self.old self.new (record { actor = actor; mark = mark }) result }
     {
         match actor {
@@ -184,7 +184,7 @@ impl<D: Device> Play<D> {
         requires may { MayIfCan self.old.plan (run_of self.old) actor }
         requires line { IsLineOf self.old.plan (run_of self.old) actor line }
         requires going { is_finished self.old.plan self.old.trail actor ≡ false }
-        ensures moved { IsTurn D.told (counted_by D.count given) self.old self.new actor result }
+        ensures moved { IsTurn D.told (counted_by D.count (is_some given)) self.old self.new actor result }
         ensures marked { NeverFails D.count → (mark : Mark) → given ≡ Some mark → IsMarkedTurn self.old self.new (record { actor = actor; mark = mark }) result }
     {
         turns_come_to_an_end();

@@ -14,7 +14,7 @@ use Rattle.vss_world.specs.Moves.{HasMark}
 
 -- the devices as they are told to fail
 abbrev pub unsaid : {D : Type 0} → Ghosts D → Ghosts D
-unsaid device = counted_as {X = ℕ} device (Some 0)
+unsaid device = counted_as device true
 
 -- ## what calls keep
 

@@ -1,6 +1,6 @@
 //! Lines that take images away, or bring a volume back to one.
 
-ghost use Rattle.std.specs.Prelude.{ℕ, ◌≡◌, ◌<◌, Some, length};
+ghost use Rattle.std.specs.Prelude.{ℕ, ◌≡◌, ◌<◌, Some, length, is_some};
 ghost use Rattle.scenario.specs.declared.op.Op.TheVariants as op;
 ghost use Rattle.vss_model.specs.declared.event.Event.TheVariants.{Line};
 ghost use Rattle.vss_model.specs.Images.{is_backup};
@@ -71,7 +71,7 @@ impl<D: Device> World<D> {
     ) -> Reply
         requires of { IsOf self.old scenario.now }
         requires in_range { volume < length scenario.now.volumes }
-        ensures stepped { IsStepped D.told (counted_by D.count stop) self.old self.new scenario.now (Line lane (op.Revert set volume)) result }
+        ensures stepped { IsStepped D.told (counted_by D.count (is_some stop)) self.old self.new scenario.now (Line lane (op.Revert set volume)) result }
         ensures stops { NeverFails D.count → (k : ℕ) → stop ≡ Some k → StopsAfter D.told self.old scenario.now set volume k result }
     {
         let kept = self.is_kept(scenario, set, volume);

@@ -1,4 +1,4 @@
-use Rattle.std.proofs.Common.{arith}
+use Rattle.std.proofs.Common.{arith, is_some}
 use Rattle.provider.specs.Calls.{counted_as}
 use Rattle.provider.proofs.Found.{found_by, group_low, inside}
 use Rattle.provider.proofs.Called.{called, revert_kept, revert_of}
@@ -15,13 +15,13 @@ revert_some-requires g c = inside (found_by c.self.view_is c.requires.has c.plac
 pub invariant_of-self : goal.invariant_of-self
 invariant_of-self g c =
     let now = called (found_by c.self.view_is c.requires.has c.place-place.ensures c.index_mut.ensures.value) c.revert_some.new.self in
-    provider_kept (counted_as g.D.Device c.args.most) _ _ c.self.inside.volumes c.self.inside.list
-    (revert_kept (counted_as g.D.Device c.args.most) now c.args.set c.revert_some.result c.revert_some.ensures.revert) c.self.invariant
+    provider_kept (counted_as g.D.Device (is_some c.args.most)) _ _ c.self.inside.volumes c.self.inside.list
+    (revert_kept (counted_as g.D.Device (is_some c.args.most)) now c.args.set c.revert_some.result c.revert_some.ensures.revert) c.self.invariant
 
 pub returns-clause-revert : goal.returns-clause-revert
 returns-clause-revert g c =
     let now = called (found_by c.self.view_is c.requires.has c.place-place.ensures c.index_mut.ensures.value) c.revert_some.new.self in
-    rw (← c.self.view_is) (revert_of (counted_as g.D.Device c.args.most) now c.args.set c.revert_some.result c.revert_some.ensures.revert)
+    rw (← c.self.view_is) (revert_of (counted_as g.D.Device (is_some c.args.most)) now c.args.set c.revert_some.result c.revert_some.ensures.revert)
 
 pub returns-clause-stops : goal.returns-clause-stops
 returns-clause-stops g c = λ never k is.
