@@ -1,11 +1,11 @@
 -- Moves whose mark is told: a line that looks at a volume, a write, a flush and a revert.
 use Rattle.std.proofs.Common.{◌≡◌, ℕ, ◌<◌, ◌≤◌, List, [], ◌∷◌, length, refl, ap, sym, ◌∙◌, subst, arith, Bool, true, false, Option, Some, None}
-use Rattle.std.specs.Prelude.{is_some, is_none, nat_lt, ◌&&◌, IfSome, Ok, Err}
-use Rattle.vss_world.proofs.Words.{Act, Blocked, Clean, Commit, Cut, Evicted, Fault, FaultAfter, Faulted, Fits, Flush, Ghosts, Group, HasGroups, Hold, IfStands, IsAt, IsMove, IsMoved}
+use Rattle.std.specs.Prelude.{is_some, is_none, nat_lt, ◌&&◌, IfSome, Result, Ok, Err}
+use Rattle.vss_world.proofs.Words.{Act, Blocked, Cause, Clean, Commit, Cut, Evicted, Fault, FaultAfter, Faulted, Fits, Flush, Ghosts, Group, HasGroups, Hold, IfStands, IsAt, IsMove, IsMoved}
 use Rattle.vss_world.proofs.Words.{IsNextStep, IsOf, IsOp, IsSettled, IsStepped, Kept, Leaves, Line, Mark, Moved, Op, Open, Orders, Outcome, Plan, PostCommit, PreCommit, Provider, ProviderValue}
 use Rattle.vss_world.proofs.Words.{Release, Replied, Revert, SessionMove, SessionsValue, Stands, State, Told, Volume, VssResult, WorldValue, Write, after, and_parts, blocks_of, head_or_0, image_block}
 use Rattle.vss_world.proofs.Words.{image_blocks, is_flush, is_over_volumes, kept_image, kept_same, line, line_allows, line_of, mark_of, may_stop_after, nat_tests, next_volume, open_group}
-use Rattle.vss_world.proofs.Words.{provided, restorable, revert_refusal, reverted_as, simple_outcome, state, target_in, tells_of, to_restore, told_act, volume_by, volume_if}
+use Rattle.vss_world.proofs.Words.{provided, restorable, revert_refusal, reverted_as, simple_outcome, state, target_in, tells_of, to_restore, told_act, told_if, volume_by, volume_if}
 use Rattle.vss_model.specs.Words.{Reads, ShowsBlock, ShowsImage, allows_by, does, evicted_at, lost_after, may_do, ticks_by}
 use Rattle.provider.specs.Words.{uncounted}
 use Rattle.provider.proofs.Words.{IsPut}
@@ -108,6 +108,9 @@ none_put device {s = s} q v w has within = record {
   stands = λ hs are. are;
   cause = rose_at s q.groups v has within;
 }
+
+pub fault_told : (put : Result Unit Cause) → put ≡ Err Volume → mark_of (told_if put) ≡ Fault
+fault_told put e = ap (λ (r : Result Unit Cause). mark_of (told_if r)) e
 
 -- ## steps
 

@@ -1,5 +1,5 @@
 -- A move, by counts of devices that say nothing of their faults.
-use Rattle.std.proofs.Common.{◌≡◌, ℕ, zero, suc, ◌<◌, List, [], ◌∷◌, length, refl, ap, sym, ◌∙◌, arith, Option, Some, None, map, inl, inr}
+use Rattle.std.proofs.Common.{◌≡◌, ℕ, zero, suc, ◌<◌, List, [], ◌∷◌, length, refl, ap, sym, ◌∙◌, arith, Bool, true, false, Option, Some, None, map, inl, inr}
 use Rattle.std.specs.Prelude.{Result, Ok, Err, IfOk}
 use Rattle.vss_world.proofs.Words.{AreKept, AreLater, AreWithout, Blocked, Clean, Complete, Event, Evicted, Failed, Fault, FaultAfter, Ghosts, GroupValue, IsEnded, IsReleased, IsSettled}
 use Rattle.vss_world.proofs.Words.{IsStepped, MakesRoom, Mark, Moved, Plan, ProviderValue, Reply, RoseAlone, RoseFor, Running, SessionMove, SessionsValue, SetOutcome, WorldValue, counts_of}
@@ -31,7 +31,7 @@ module _ {D : Type 0} (device : Ghosts D) where
         later = later_same (counts_of uncounted old) (counts_of uncounted new) (same_counts (devices_of old) (devices_of new) many);
       }
 
-  pub room_unsaid : {s : Plan} {x : SessionsValue} {old new : ProviderValue D} {v b up_to : ℕ} {images : List Evicted} → MakesRoom device s x old new v b images up_to
+  room_unsaid : {s : Plan} {x : SessionsValue} {old new : ProviderValue D} {v b up_to : ℕ} {images : List Evicted} → MakesRoom device s x old new v b images up_to
       → MakesRoom (unsaid device) s x old new v b images up_to
   room_unsaid {old = old} {new = new} room = record {
     call = record { kept = kept_unsaid old.groups new.groups room.call.kept; elsewhere = room.call.elsewhere };
@@ -43,7 +43,7 @@ module _ {D : Type 0} (device : Ghosts D) where
     rest = room.rest;
   }
 
-  pub without_unsaid : {old new : List (GroupValue D)} {set stood : ℕ} → AreWithout device old new set stood → AreWithout (unsaid device) old new set stood
+  without_unsaid : {old new : List (GroupValue D)} {set stood : ℕ} → AreWithout device old new set stood → AreWithout (unsaid device) old new set stood
   without_unsaid {old = old} {new = new} without = record {
     kept = kept_unsaid old new without.kept;
     devices = without.devices;
@@ -51,6 +51,15 @@ module _ {D : Type 0} (device : Ghosts D) where
     number = without.number;
     none = without.none;
   }
+
+  pub room_counted : (told : Bool) {s : Plan} {x : SessionsValue} {old new : ProviderValue D} {v b up_to : ℕ} {images : List Evicted} → MakesRoom device s x old new v b images up_to
+      → MakesRoom (counted_as device told) s x old new v b images up_to
+  room_counted false room = room
+  room_counted true room = room_unsaid room
+
+  pub without_counted : (told : Bool) {old new : List (GroupValue D)} {set stood : ℕ} → AreWithout device old new set stood → AreWithout (counted_as device told) old new set stood
+  without_counted false without = without
+  without_counted true without = without_unsaid without
 
   ended_unsaid : (set : ℕ) (result : SetOutcome) (old new : ProviderValue D) → IsEnded device set result old new → IsEnded (unsaid device) set result old new
   ended_unsaid zero result old new ended = ended

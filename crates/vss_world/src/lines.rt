@@ -37,7 +37,7 @@ impl<D: Device> World<D> {
             payload,
         } = op.line()
         {
-            return Ok(self.write(scenario, lane, volume, block, &payload));
+            return Ok(self.write(scenario, lane, volume, block, &payload, false));
         }
         match op {
             Op::Read { volume, block } => Ok(self.read(scenario, lane, volume, block)),

@@ -1,8 +1,7 @@
 //! Events with a mark that is told: what they leave where a device fails so, without a failing call.
 
-ghost use Rattle.std.specs.Prelude.{ℕ, List, [], ◌≡◌, ◌<◌, true, length, OnErr, IfOk};
-ghost use Rattle.scenario.specs.Bounds.{IsBlock, IsOp};
-ghost use Rattle.scenario.specs.declared.op.Op.{Op};
+ghost use Rattle.std.specs.Prelude.{[], ◌≡◌, ◌<◌, true, length, OnErr, IfOk};
+ghost use Rattle.scenario.specs.Bounds.{IsOp};
 ghost use Rattle.write_history.specs.declared.mark.Mark.TheVariants as mark;
 ghost use Rattle.vss_model.specs.Acts.{event_allows, line_allows};
 ghost use Rattle.vss_model.specs.declared.event.Event.TheVariants.{Line as LineEvent, Provider as ProviderEvent};
@@ -11,7 +10,6 @@ ghost use Rattle.provider.specs.Words.{NeverFails, uncounted};
 ghost use Rattle.vss_world.specs.declared.reply.Reply.TheVariants.{Moved};
 ghost use Rattle.vss_world.specs.Stands.{IsOf, IsStanding, IfStands};
 ghost use Rattle.vss_world.specs.Moves.{IsEvent, IsStepped, HasMark, simple_outcome};
-ghost use Rattle.vss_world.specs.Changes.{IsWriteLine};
 
 use crate::outcomes::told;
 use crate::reply::Reply;
@@ -21,8 +19,8 @@ use scenario::{Line, Op, Scenario};
 use set_agenda::Group;
 use std::alloc::Global;
 use volume_device::Device;
-use vss_model::{Event, Outcome, Told};
-use vss_names::{OutOfMemory, SetOutcome, VssResult};
+use vss_model::{Event, Told};
+use vss_names::OutOfMemory;
 use write_history::Mark;
 
 impl<D: Device> World<D> {
@@ -149,9 +147,11 @@ impl<D: Device> World<D> {
     {
         let event = Event::Line { lane, op };
         match op.line() {
-            Line::Writes { volume, block, .. } => {
-                return Ok(self.fail_write(scenario, lane, volume, block));
-            }
+            Line::Writes {
+                volume,
+                block,
+                payload,
+            } => return Ok(self.write(scenario, lane, volume, block, &payload, true)),
             Line::Reads { .. } => return Ok(self.fail_look()),
             Line::ShowsImage { set, volume } => {
                 if !self.is_kept(scenario, set, volume) {
@@ -176,44 +176,6 @@ impl<D: Device> World<D> {
     {
         self.evicted.clear();
         told(Told::Fault)
-    }
-
-    /// Makes room for a write, where that does not wait, and puts nothing.
-    fn fail_write(&mut self, scenario: &Scenario, lane: u32, volume: u32, block: u32) -> Reply
-        requires of { IsOf self.old scenario.now }
-        requires standing { IsStanding D.told self.old scenario.now }
-        requires lane { lane < length scenario.now.lanes }
-        requires in_range { IsBlock scenario.now volume block }
-        ensures stepped { (op : Op) (bytes : List ℕ) → IsWriteLine op volume (record { block = block; bytes = bytes }) → IsStepped D.told uncounted self.old self.new scenario.now (LineEvent lane op) result }
-        ensures marked { HasMark mark.Fault result }
-    {
-        if !self.may_write(scenario, lane, volume) {
-            return Reply::Blocked;
-        }
-        let _facts = scenario.volumes();
-        let up_to = self.evicted.make_room(
-            &mut self.provider,
-            &self.sessions,
-            scenario,
-            volume,
-            block,
-        );
-        let Some(set) = self.sessions.current() else {
-            return told(Told::Fault);
-        };
-        if set != up_to {
-            return told(Told::Fault);
-        }
-        let why = VssResult::InsufficientStorage;
-        let _ = self.sessions.fail(why);
-        let _ = self.provider.abort();
-        Reply::Moved(Outcome {
-            told: Told::Fault,
-            lost: 0,
-            lost_order: None,
-            set,
-            result: SetOutcome::Failed(why),
-        })
     }
 
     /// Makes the provider's next step; one of the Flush group fails, and its set with it.

@@ -1,12 +1,16 @@
 //! Lines that write a block.
 
-ghost use Rattle.std.specs.Prelude.{◌≡◌, ◌<◌, length, Result};
+ghost use Rattle.std.specs.Prelude.{◌≡◌, ◌<◌, true, length, Err};
 ghost use Rattle.block_data.specs.PayloadBytes.{payload_bytes};
 ghost use Rattle.scenario.specs.Bounds.{IsBlock};
 ghost use Rattle.scenario.specs.declared.op.Op.{Op};
+ghost use Rattle.write_history.specs.declared.mark.Mark.TheVariants.{Fault};
 ghost use Rattle.vss_model.specs.declared.event.Event.TheVariants.{Line};
+ghost use Rattle.provider.specs.Calls.{HasRoom, IsPut, counted_as};
+ghost use Rattle.provider.specs.Groups.{HasGroups};
+ghost use Rattle.provider.specs.Words.{Volume, counted_by};
 ghost use Rattle.vss_world.specs.Stands.{IsOf, IsStanding};
-ghost use Rattle.vss_world.specs.Moves.{IsStepped};
+ghost use Rattle.vss_world.specs.Moves.{HasMark, IsStepped};
 ghost use Rattle.vss_world.specs.Changes.{IsWriteLine, told_if};
 
 use crate::outcomes::told;
@@ -14,6 +18,7 @@ use crate::reply::Reply;
 use crate::world::World;
 use block_data::Payload;
 use cow_volume::Cause;
+use provider::Provider;
 use scenario::Scenario;
 use volume_device::Device;
 use vss_model::{Outcome, Told};
@@ -21,7 +26,8 @@ use vss_names::{SetOutcome, VssResult};
 
 impl<D: Device> World<D> {
     /// Writes a block, where that does not wait. Where images have to go for it, and one of the set in progress is among them, the set
-    /// fails. It is the step of each line that makes this write.
+    /// fails. It is the step of each line that makes this write. Where `fails`, the block is not put, as if the volume's device had
+    /// failed.
     pub(crate) fn write(
         &mut self,
         scenario: &Scenario,
@@ -29,12 +35,14 @@ impl<D: Device> World<D> {
         volume: u32,
         block: u32,
         payload: &Payload,
+        fails: bool,
     ) -> Reply
         requires of { IsOf self.old scenario.now }
         requires standing { IsStanding D.told self.old scenario.now }
         requires lane { lane < length scenario.now.lanes }
         requires in_range { IsBlock scenario.now volume block }
-        ensures { (op : Op) → IsWriteLine op volume (record { block = block; bytes = payload_bytes payload.now }) → IsStepped D.told D.count self.old self.new scenario.now (Line lane op) result }
+        ensures stepped { (op : Op) → IsWriteLine op volume (record { block = block; bytes = payload_bytes payload.now }) → IsStepped D.told (counted_by D.count fails) self.old self.new scenario.now (Line lane op) result }
+        ensures marked { fails ≡ true → HasMark Fault result }
     {
         if !self.may_write(scenario, lane, volume) {
             return Reply::Blocked;
@@ -47,7 +55,8 @@ impl<D: Device> World<D> {
             volume,
             block,
         );
-        let answer = told_of(self.provider.put(scenario, volume, block, payload));
+        let put = put_or_fail(&mut self.provider, scenario, volume, block, payload, fails);
+        let answer = told_of(put);
         let Some(set) = self.sessions.current() else {
             return told(answer);
         };
@@ -65,6 +74,28 @@ impl<D: Device> World<D> {
             result: SetOutcome::Failed(why),
         })
     }
+}
+
+/// Puts a block for which there is room. Where `fails`, it does not, as if the volume's device had failed.
+fn put_or_fail<D: Device>(
+    provider: &mut Provider<D>,
+    scenario: &Scenario,
+    volume: u32,
+    block: u32,
+    payload: &Payload,
+    fails: bool,
+) -> Result<(), Cause>
+    requires block { IsBlock scenario.now volume block }
+    requires has { HasGroups scenario.now provider.old.groups }
+    requires room { HasRoom scenario.now provider.old.groups volume block }
+    ensures put { IsPut (counted_as D.Device fails) scenario.now provider.old.groups provider.new.groups volume (record { block = block; bytes = payload_bytes payload.now }) result }
+    ensures set { provider.new ≡ record provider.old { groups = provider.new.groups } }
+    ensures fails { fails ≡ true → result ≡ Err Volume }
+{
+    if fails {
+        return Err(Cause::Volume);
+    }
+    provider.put(scenario, volume, block, payload)
 }
 
 /// What a write is answered.

@@ -12,7 +12,7 @@ returns-in-Reads-clause-stepped g c =
 
 pub returns-in-Writes-clause-stepped : goal.returns-in-Writes-clause-stepped
 returns-in-Writes-clause-stepped g c =
-    c.fail_write.ensures.stepped c.args.op (payload_bytes c.in-Writes.payload)
+    c.write.ensures.stepped c.args.op
     (subst (λ (l : Does). IsWriteBy l c.in-Writes.volume (record { block = c.in-Writes.block; bytes = payload_bytes c.in-Writes.payload })) (sym (sym c.line.ensures ∙ c.in-Writes.is)) (refl, refl))
 
 pub returns-in-ShowsImage-clause-stepped : goal.returns-in-ShowsImage-clause-stepped

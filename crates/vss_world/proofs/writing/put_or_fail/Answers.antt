@@ -1,0 +1,5 @@
+use Rattle.vss_world.proofs.ToldMarks.{none_put}
+use Rattle.vss_world.proofs.writing.put_or_fail.Goals as goal
+
+pub returns-then-fails-clause-put : goal.returns-then-fails-clause-put
+returns-then-fails-clause-put g c = rw c.if-fails.true (none_put g.D.Device c.args.provider.now c.args.volume _ c.requires.has c.requires.block.0)
