@@ -116,7 +116,13 @@ pub over_so : {D : Type 0} (count : D → ℕ) (tells : Bool) (text given : List
 over_so {D} count tells text given s told moves before after result read is h = by_result result (subst (λ (ms : List Move). IsReplayOver count tells s ms given before after result) is h)
   where
     same_over : (xs : List ℕ) → IsSame count tells s (map (λ (m : Move). record m { mark = Clean }) told) xs → IsSameOver count tells text xs
-    same_over xs same = record { plan = s; is_scenario = read.is_scenario; trail = same.trail; reported = record { of_trail = same.reported; unmarked = λ never. same.unmarked never (no_faults told) } }
+    same_over xs same = record {
+      plan = s;
+      is_scenario = read.is_scenario;
+      trail = same.trail;
+      reported = record
+          { of_trail = same.reported; unmarked = λ never. same.unmarked never (no_faults told) };
+    }
 
     by_result : (r : Replayed) → IsReplayOver count tells s (map (λ (m : Move). record m { mark = Clean }) told) given before after r → IsAgainOver count tells text given before after r
     by_result Same g = same_over given g
@@ -128,7 +134,8 @@ over_so {D} count tells text given s told moves before after result read is h = 
           let of_text : told ≡ trail = read.told trail (reads_back s given trail read.plan read.names legible given_is) in
           let moves_are : map (λ (m : Move). record m { mark = Clean }) told ≡ trail = ap (map (λ (m : Move). record m { mark = Clean })) of_text ∙ clean_same trail clean in
           no_report s (map (λ (m : Move). record m { mark = Clean }) told) trail given g.report line wanted.bytes g.first
-          (g.exact never tell (subst (λ (ms : List Move). is_legal s ms ≡ true) (sym moves_are) legal) (subst (λ (ms : List Move). is_complete s ms ≡ true) (sym moves_are) complete)) moves_are given_is;
+          (g.exact never tell (subst (λ (ms : List Move). is_legal s ms ≡ true) (sym moves_are) legal) (subst (λ (ms : List Move). is_complete s ms ≡ true) (sym moves_are) complete)) moves_are
+          given_is;
     }
     by_result (ScenarioRefused line reason) g = absurd g
     by_result DeviceFault g = g

@@ -129,7 +129,8 @@ module _ {D : Type 0} (told : D → Option (List (List ℕ))) (count : D → ℕ
             let so_far = legal_before p.plan (p.trail ++ take i moves ++ m ∷ []) rest (subst (λ (ms : List Move). is_legal p.plan ms ≡ true) split legal) in
             let all = legal_first p.plan (p.trail ++ take i moves) m (subst (λ (ms : List Move). is_legal p.plan ms ≡ true) (sym (append_assoc p.trail (take i moves) (m ∷ []))) so_far) in
             let may : may_move p.plan (run p.plan (p.trail ++ take i moves)) m.actor ≡ true =
-            left (may_move p.plan (run p.plan (p.trail ++ take i moves)) m.actor) (allows p.plan (run p.plan (p.trail ++ take i moves)) (event_of p.plan (run p.plan (p.trail ++ take i moves)) m.actor) m.mark) all.1 in
+            left (may_move p.plan (run p.plan (p.trail ++ take i moves)) m.actor) (allows p.plan (run p.plan (p.trail ++ take i moves))
+            (event_of p.plan (run p.plan (p.trail ++ take i moves)) m.actor) m.mark) all.1 in
             let kept_q : IsKept told q = subst (λ (x : Played D). IsKept told x) stays.0 kept in
             let never_may : may_move p.plan (run p.plan (p.trail ++ take i moves)) m.actor ≡ false =
             subst (λ (ms : List Move). may_move p.plan (run p.plan ms) m.actor ≡ false) (far.exact never all.0)

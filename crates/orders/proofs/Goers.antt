@@ -177,7 +177,16 @@ none_goes told count p k kept e =
 
 pub drawing_none : {D : Type 0} (told : D → Option (List (List ℕ))) (count : D → ℕ) (generator : ℕ) (p : Played D) → IsDrawing told count generator generator p p
 drawing_none told count generator p = record {
-  onward = record { plan = refl; rest = []; trail = sym (append-nil p.trail); longer = longer_same p.lines; tells = refl; later = later-refl (map count p.devices); clean = λ e. refl; faults = counted_none (map count p.devices) };
+  onward = record {
+    plan = refl;
+    rest = [];
+    trail = sym (append-nil p.trail);
+    longer = longer_same p.lines;
+    tells = refl;
+    later = later-refl (map count p.devices);
+    clean = λ e. refl;
+    faults = counted_none (map count p.devices);
+  };
   drawn = λ rest h. h;
 }
 

@@ -32,7 +32,16 @@ onward_more told count p q r actor so_far one =
 -- before the first move
 pub led_none : {D : Type 0} (told : D → Option (List (List ℕ))) (count : D → ℕ) (p : Played D) → IsLedBy told count p [] p
 led_none told count p = record {
-  onward = record { plan = refl; rest = []; trail = sym (append-nil p.trail); longer = longer_same p.lines; tells = refl; later = later-refl (map count p.devices); clean = λ e. refl; faults = counted_none (map count p.devices) };
+  onward = record {
+    plan = refl;
+    rest = [];
+    trail = sym (append-nil p.trail);
+    longer = longer_same p.lines;
+    tells = refl;
+    later = later-refl (map count p.devices);
+    clean = λ e. refl;
+    faults = counted_none (map count p.devices);
+  };
   by = refl;
 }
 

@@ -46,12 +46,13 @@ loop-block-preserved g c =
     let counted = one_counted g.D.Device.told g.D.Device.size g.D.Device.count g.D.Device.lending (group_of c.loop-block.devices.items c.loop-block.copies)
     (group_of c.restore_block.new.devices.items c.restore_block.new.copies) c.args.v c.args.set c.loop-block.block c.args.stop (Ok c.in-Ok.has_copy) c.in-Ok.ensures in
     record {
-      done = λ mid m. restoring_one g.D.Device.told g.D.Device.size (counted_by g.D.Device.count (is_some c.args.stop)) g.D.Device.lending (group_of c.args.devices.now.items (merged_as mid c.args.copies.now))
+      done = λ mid m. restoring_one g.D.Device.told g.D.Device.size (counted_by g.D.Device.count (is_some c.args.stop)) g.D.Device.lending
+          (group_of c.args.devices.now.items (merged_as mid c.args.copies.now))
           (group_of c.loop-block.devices.items (merged_as mid c.loop-block.copies)) (group_of c.restore_block.new.devices.items (merged_as mid c.restore_block.new.copies))
           c.args.v c.args.set c.loop-block.block c.loop-block.restored c.in-Ok.has_copy c.from-restored.result c.requires.volume m.gone.most here c.requires.above_zero c.from-restored.ensures
           (c.loop-block.invariant.done mid m)
-          (one_merged g.D.Device.told g.D.Device.size (counted_by g.D.Device.count (is_some c.args.stop)) g.D.Device.lending c.loop-block.devices.items c.restore_block.new.devices.items c.args.copies.now mid c.loop-block.copies
-          c.restore_block.new.copies c.args.v c.args.set c.loop-block.block (Ok c.in-Ok.has_copy) m c.loop-block.invariant.keeps.records counted);
+          (one_merged g.D.Device.told g.D.Device.size (counted_by g.D.Device.count (is_some c.args.stop)) g.D.Device.lending c.loop-block.devices.items c.restore_block.new.devices.items
+          c.args.copies.now mid c.loop-block.copies c.restore_block.new.copies c.args.v c.args.set c.loop-block.block (Ok c.in-Ok.has_copy) m c.loop-block.invariant.keeps.records counted);
       keeps = keeps_one g.D.Device.told g.D.Device.size (counted_by g.D.Device.count (is_some c.args.stop)) g.D.Device.lending (group_of c.args.devices.now.items c.args.copies.now)
           (group_of c.loop-block.devices.items c.loop-block.copies) (group_of c.restore_block.new.devices.items c.restore_block.new.copies)
           c.args.v c.args.set c.loop-block.block (Ok c.in-Ok.has_copy) c.loop-block.invariant.keeps counted;
@@ -75,14 +76,15 @@ returns-in-Err-clause-restored g c = λ mid m.
     (group_of c.loop-block.devices.items (merged_as mid c.loop-block.copies)) (group_of c.restore_block.new.devices.items (merged_as mid c.restore_block.new.copies))
     c.args.v c.args.set c.loop-block.block c.loop-block.restored c.in-Err.cause c.requires.volume m.gone.most here c.requires.above_zero (c.loop-block.invariant.done mid m)
     (record { devices = c.loop-block.invariant.unfailed.devices; area = c.loop-block.invariant.unfailed.area })
-    (one_merged g.D.Device.told g.D.Device.size (counted_by g.D.Device.count (is_some c.args.stop)) g.D.Device.lending c.loop-block.devices.items c.restore_block.new.devices.items c.args.copies.now mid c.loop-block.copies
-    c.restore_block.new.copies c.args.v c.args.set c.loop-block.block (Err c.in-Err.cause) m c.loop-block.invariant.keeps.records counted)
+    (one_merged g.D.Device.told g.D.Device.size (counted_by g.D.Device.count (is_some c.args.stop)) g.D.Device.lending c.loop-block.devices.items c.restore_block.new.devices.items
+    c.args.copies.now mid c.loop-block.copies c.restore_block.new.copies c.args.v c.args.set c.loop-block.block (Err c.in-Err.cause) m c.loop-block.invariant.keeps.records counted)
 
 pub returns-in-Err-clause-keeps : goal.returns-in-Err-clause-keeps
 returns-in-Err-clause-keeps g c =
     let counted = one_counted g.D.Device.told g.D.Device.size g.D.Device.count g.D.Device.lending (group_of c.loop-block.devices.items c.loop-block.copies)
     (group_of c.restore_block.new.devices.items c.restore_block.new.copies) c.args.v c.args.set c.loop-block.block c.args.stop (Err c.in-Err.cause) c.in-Err.ensures in
-    keeps_one g.D.Device.told g.D.Device.size (counted_by g.D.Device.count (is_some c.args.stop)) g.D.Device.lending (group_of c.args.devices.now.items c.args.copies.now) (group_of c.loop-block.devices.items c.loop-block.copies)
+    keeps_one g.D.Device.told g.D.Device.size (counted_by g.D.Device.count (is_some c.args.stop)) g.D.Device.lending (group_of c.args.devices.now.items c.args.copies.now)
+    (group_of c.loop-block.devices.items c.loop-block.copies)
     (group_of c.restore_block.new.devices.items c.restore_block.new.copies)
     c.args.v c.args.set c.loop-block.block (Err c.in-Err.cause) c.loop-block.invariant.keeps counted
 
@@ -104,5 +106,5 @@ returns-in-Some-clause-restored g c = λ mid m.
     (group_of c.loop-block.devices.items (merged_as mid c.loop-block.copies)) (group_of c.loop-block.devices.items (merged_as mid c.loop-block.copies))
     c.args.v c.args.set c.loop-block.block c.loop-block.restored Volume c.requires.volume m.gone.most here c.requires.above_zero (c.loop-block.invariant.done mid m)
     (record { devices = c.loop-block.invariant.unfailed.devices; area = c.loop-block.invariant.unfailed.area })
-    (one_merged g.D.Device.told g.D.Device.size (counted_by g.D.Device.count (is_some c.args.stop)) g.D.Device.lending c.loop-block.devices.items c.loop-block.devices.items c.args.copies.now mid c.loop-block.copies
-    c.loop-block.copies c.args.v c.args.set c.loop-block.block (Err Volume) m c.loop-block.invariant.keeps.records counted)
+    (one_merged g.D.Device.told g.D.Device.size (counted_by g.D.Device.count (is_some c.args.stop)) g.D.Device.lending c.loop-block.devices.items c.loop-block.devices.items c.args.copies.now mid
+    c.loop-block.copies c.loop-block.copies c.args.v c.args.set c.loop-block.block (Err Volume) m c.loop-block.invariant.keeps.records counted)

@@ -30,15 +30,15 @@ returns-in-Ok-clause-revert g c =
     let image = sym c.has_image.ensures.among ∙ c.if-not-has_image.false in
     let mid = mergeable g.D.Device.told c.args.copies.now c.args.v c.args.set c.requires.volume image
     (c.has_image.ensures.above c.if-not-has_image.false) c.volumes-facts.ensures.of_images c.slots-facts.ensures.valid in
-    restored_then_cleared g.D.Device.told g.D.Device.size (counted_by g.D.Device.count (is_some c.args.stop)) g.D.Device.lending c.args.devices.now.items c.restore_blocks.new.devices.items c.args.copies.now mid.mid
-    c.restore_blocks.new.copies c.clear_from.new.self c.args.v c.args.set tt
+    restored_then_cleared g.D.Device.told g.D.Device.size (counted_by g.D.Device.count (is_some c.args.stop)) g.D.Device.lending c.args.devices.now.items c.restore_blocks.new.devices.items
+    c.args.copies.now mid.mid c.restore_blocks.new.copies c.clear_from.new.self c.args.v c.args.set tt
     c.requires.volume image mid.merged_to (c.in-Ok.ensures.restored mid.mid mid.merged_to) c.in-Ok.ensures.keeps c.clear_from.ensures
 
 pub returns-in-Err-clause-revert : goal.returns-in-Err-clause-revert
 returns-in-Err-clause-revert g c =
     let image = sym c.has_image.ensures.among ∙ c.if-not-has_image.false in
-    stopped_then_merged g.D.Device.told g.D.Device.size (counted_by g.D.Device.count (is_some c.args.stop)) g.D.Device.lending c.args.devices.now.items c.restore_blocks.new.devices.items c.args.copies.now c.restore_blocks.new.copies
-    c.drop_newer.new.copies c.args.v c.args.set c.in-Err.fault
+    stopped_then_merged g.D.Device.told g.D.Device.size (counted_by g.D.Device.count (is_some c.args.stop)) g.D.Device.lending c.args.devices.now.items c.restore_blocks.new.devices.items
+    c.args.copies.now c.restore_blocks.new.copies c.drop_newer.new.copies c.args.v c.args.set c.in-Err.fault
     c.requires.volume image c.in-Err.ensures.restored c.in-Err.ensures.keeps c.drop_newer.ensures
 
 pub returns-in-Ok-clause-stops : goal.returns-in-Ok-clause-stops

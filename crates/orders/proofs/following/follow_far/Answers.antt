@@ -13,7 +13,8 @@ loop-item-init g c = far_none g.D.Device.told g.D.Device.count c.args.play.now
 pub returns-then-not-make : goal.returns-then-not-make
 returns-then-not-make g c =
     let here : Move = get_or c.args.moves.now c.loop-item.item-index (record { actor = Lane 0; mark = Clean }) in
-    far_stopped g.D.Device.told g.D.Device.count c.args.play.now c.loop-item.play c.make.new.play c.args.moves.now c.loop-item.item-index (record { actor = Lane 0; mark = Clean }) c.loop-item-test.true
+    far_stopped g.D.Device.told g.D.Device.count c.args.play.now c.loop-item.play c.make.new.play c.args.moves.now c.loop-item.item-index (record { actor = Lane 0; mark = Clean })
+    c.loop-item-test.true
     c.lanes-facts.ensures.kept c.loop-item.invariant
     (subst (λ b. IsMade g.D.Device.told g.D.Device.count c.loop-item.play c.make.new.play here (Ok b)) c.if-not-make.true c.in_ok.ensures)
 

@@ -13,4 +13,5 @@ clean_next ms i d old new l so_far one =
 
 pub loop-item-preserved : goal.loop-item-preserved
 loop-item-preserved c =
-    clean_next c.args.moves.now c.loop-item.item-index (record { actor = Lane 0; mark = Clean }) c.loop-item.clean.items c.push.new.self.items c.loop-item-test.true c.loop-item.invariant c.in-Ok.ensures.items
+    clean_next c.args.moves.now c.loop-item.item-index (record { actor = Lane 0; mark = Clean }) c.loop-item.clean.items c.push.new.self.items c.loop-item-test.true c.loop-item.invariant
+    c.in-Ok.ensures.items

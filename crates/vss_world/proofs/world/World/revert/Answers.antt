@@ -9,7 +9,8 @@ use Rattle.vss_world.proofs.world.World.revert.Goals as goal
 pub returns-then-not-kept-clause-stepped : goal.returns-then-not-kept-clause-stepped
 returns-then-not-kept-clause-stepped g c =
     rw c.coded.ensures (rw (← c.self.view_is)
-    (not_kept_moves (counted_as g.D.Device (is_some c.args.stop)) (rw (← c.self.view_is) at c.requires.of) c.clear.ensures revert_line (rw (← c.self.view_is) at c.is_kept-kept.ensures) c.if-not-kept.true))
+    (not_kept_moves (counted_as g.D.Device (is_some c.args.stop)) (rw (← c.self.view_is) at c.requires.of) c.clear.ensures revert_line (rw (← c.self.view_is) at c.is_kept-kept.ensures)
+    c.if-not-kept.true))
 
 pub returns-in_default-clause-stepped : goal.returns-in_default-clause-stepped
 returns-in_default-clause-stepped g c =
@@ -18,14 +19,14 @@ returns-in_default-clause-stepped g c =
 
 pub returns-then-is_backup-clause-stepped : goal.returns-then-is_backup-clause-stepped
 returns-then-is_backup-clause-stepped g c =
-    rw c.coded-then-is_backup.ensures (rw (← c.self.view_is) (revert_refused (counted_as g.D.Device (is_some c.args.stop)) (rw (← c.self.view_is) at c.requires.of) c.clear.ensures c.args.set c.args.volume
-    (rw (← c.self.view_is) at c.is_kept-kept.ensures) c.if-not-kept.false (λ st keeps. sym c.in-Some.is ∙ c.facts.ensures st keeps)
+    rw c.coded-then-is_backup.ensures (rw (← c.self.view_is) (revert_refused (counted_as g.D.Device (is_some c.args.stop)) (rw (← c.self.view_is) at c.requires.of) c.clear.ensures c.args.set
+    c.args.volume (rw (← c.self.view_is) at c.is_kept-kept.ensures) c.if-not-kept.false (λ st keeps. sym c.in-Some.is ∙ c.facts.ensures st keeps)
     true _ (sym c.is_backup.ensures ∙ c.if-is_backup.true) refl UnsupportedContext refl))
 
 pub returns-then-is_preparing-clause-stepped : goal.returns-then-is_preparing-clause-stepped
 returns-then-is_preparing-clause-stepped g c =
-    rw c.coded-then-is_preparing.ensures (rw (← c.self.view_is) (revert_refused (counted_as g.D.Device (is_some c.args.stop)) (rw (← c.self.view_is) at c.requires.of) c.clear.ensures c.args.set c.args.volume
-    (rw (← c.self.view_is) at c.is_kept-kept.ensures) c.if-not-kept.false (λ st keeps. sym c.in-Some.is ∙ c.facts.ensures st keeps)
+    rw c.coded-then-is_preparing.ensures (rw (← c.self.view_is) (revert_refused (counted_as g.D.Device (is_some c.args.stop)) (rw (← c.self.view_is) at c.requires.of) c.clear.ensures c.args.set
+    c.args.volume (rw (← c.self.view_is) at c.is_kept-kept.ensures) c.if-not-kept.false (λ st keeps. sym c.in-Some.is ∙ c.facts.ensures st keeps)
     false true (sym c.is_backup.ensures ∙ c.if-is_backup.false) (sym c.is_preparing.ensures ∙ c.if-is_preparing.true) SnapshotSetInProgress refl))
 
 pub returns-in-Ok-clause-stepped : goal.returns-in-Ok-clause-stepped
@@ -43,8 +44,8 @@ returns-in-Err-NoSuchImage-clause-stepped g c =
 pub returns-in-Err-Fault-clause-stepped : goal.returns-in-Err-Fault-clause-stepped
 returns-in-Err-Fault-clause-stepped g c =
     let back = rw c.in-Err-Fault.field-0-is at c.in-Err-Fault.ensures.revert in
-    rw c.told-in-Err-Fault.ensures (rw (← c.self.view_is) (revert_stopped (counted_as g.D.Device (is_some c.args.stop)) (rw (← c.self.view_is) at c.requires.of) c.clear.ensures c.args.set c.args.volume
-    (rw (← c.self.view_is) at c.is_kept-kept.ensures) c.if-not-kept.false (λ st keeps. sym c.in-Some.is ∙ c.facts.ensures st keeps)
+    rw c.told-in-Err-Fault.ensures (rw (← c.self.view_is) (revert_stopped (counted_as g.D.Device (is_some c.args.stop)) (rw (← c.self.view_is) at c.requires.of) c.clear.ensures c.args.set
+    c.args.volume (rw (← c.self.view_is) at c.is_kept-kept.ensures) c.if-not-kept.false (λ st keeps. sym c.in-Some.is ∙ c.facts.ensures st keeps)
     false false (sym c.is_backup.ensures ∙ c.if-is_backup.false) (sym c.is_preparing.ensures ∙ c.if-is_preparing.false) c.in-Err-Fault.field-0-1 refl back c.revert.ensures.set))
 
 pub returns-in-Ok-clause-stops : goal.returns-in-Ok-clause-stops
