@@ -1,15 +1,14 @@
 -- A call by the counts of devices that say nothing of their faults, and a revert that stops where it is told to.
-use Rattle.std.proofs.Common.{◌≡◌, ◌<◌, ◌≤◌, ◌+◌, ℕ, zero, suc, Bool, true, false, List, [], ◌∷◌, length, map, refl, ap, sym, subst, ◌∙◌, arith, Option, Some, None, inl, inr}
+use Rattle.std.proofs.Common.{◌≡◌, ◌<◌, ◌≤◌, ◌+◌, ℕ, zero, suc, Bool, true, false, List, [], ◌∷◌, length, map, refl, ap, subst, ◌∙◌, arith, Option, Some, None, inl, inr}
 use Rattle.std.specs.Prelude.{◌⊎◌, slice_get, slice_set, Result, Ok, Err, is_some}
 use Rattle.std.specs.Int.{from_bool}
 use Rattle.vss_names.specs.Faults.{Rose, most}
 use Rattle.write_history.specs.History.{History, point_in, to_restore}
-use Rattle.diff_area.specs.declared.table_record.Record.{Record}
 use Rattle.cow_volume.specs.GroupValue.{GroupValue}
 use Rattle.cow_volume.specs.Tied.{CopiesValue}
 use Rattle.cow_volume.specs.StandsFor.{StandsFor}
 use Rattle.cow_volume.specs.Changes.{IsFirstCopy, HasNoCopy}
-use Rattle.cow_volume.specs.Calls.{history_at, changed_at, blocks_in, blocks_at, IsSameDevice, IsKept, IsUnfailed, IsQuiet, DeviceRose, uncounted, counted_by, NeverFails, StopsAfter}
+use Rattle.cow_volume.specs.Calls.{history_at, changed_at, blocks_in, blocks_at, IsSameDevice, IsKept, DeviceRose, uncounted, counted_by, NeverFails, StopsAfter}
 use Rattle.cow_volume.specs.Parts.{group_of}
 use Rattle.cow_volume.specs.Restoring.{AreNewerGone, AreRestored, IsOneRestored, with_up_to}
 use Rattle.cow_volume.specs.declared.cause.Cause.{Cause}

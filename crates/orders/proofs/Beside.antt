@@ -16,7 +16,7 @@ use Rattle.vss_play.specs.declared.play_fault.PlayFault.{PlayFault}
 use Rattle.vss_play.specs.Played.{Played, IsFresh}
 use Rattle.orders.specs.declared.replayed.Replayed.{Replayed}
 use Rattle.orders.specs.declared.replayed.Replayed.TheVariants.{Same, Differs, ScenarioRefused, DeviceFault, OutOfMemory}
-use Rattle.orders.specs.Again.{AreTold, IsRead, IsFollowedFar, IsReplayed, IsCompared, IsReportOf, IsAgain, IsAgainOver, IsReplayOver, IsSame, IsSameOver}
+use Rattle.orders.specs.Again.{AreTold, IsRead, IsFollowedFar, IsReplayed, IsCompared, IsAgain, IsAgainOver, IsReplayOver, IsSame, IsSameOver}
 use Rattle.orders.specs.Followed.{IsEndedInTurn}
 use Rattle.orders.specs.Runs.{IsOfTrail}
 use Rattle.orders.specs.Told.{OtherLine, first_other}

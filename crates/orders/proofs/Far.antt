@@ -1,6 +1,6 @@
 -- A run that makes the moves of a report with their marks, as far as they may come.
 use Rattle.std.proofs.Common.{◌≡◌, ℕ, ◌+◌, ◌<◌, ◌≤◌, List, [], ◌∷◌, ◌++◌, append_assoc, length, take, drop, get_or, refl, ap, sym, ◌∙◌, arith, Bool, true, false, Option, Some, None, subst, cond}
-use Rattle.std.specs.Prelude.{◌&&◌}
+use Rattle.std.proofs.lemmas.Bool.{and_from, and_parts, true≢false}
 use Rattle.std.proofs.lemmas.List.{append-nil, take_more, take_all, take-append-drop}
 use Rattle.std.proofs.lemmas.List.Sums.{sum_by-append}
 use Rattle.write_history.specs.declared.mark.Mark.{Mark}
@@ -12,31 +12,19 @@ use Rattle.vss_model.specs.Acts.{event_allows}
 use Rattle.vss_model.specs.declared.event.Event.{Event}
 use Rattle.vss_model.specs.declared.event.Event.TheVariants.{Line, Answer, Provider, Idle}
 use Rattle.vss_model.specs.State.{State}
-use Rattle.vss_model.specs.Trail.{Run, run, begin, moved, run_from, event_of, may_move, allows, is_legal_move, is_legal_from, is_legal, is_fault, faults}
+use Rattle.vss_model.specs.Trail.{Run, run, event_of, may_move, allows, is_legal_move, is_legal, is_fault, faults}
 use Rattle.vss_model.proofs.Appending.{is_legal-append, faults-append}
 use Rattle.vss_play.specs.Played.{Played, run_of, Stays, IsKept, IsMovedOn}
-use Rattle.orders.specs.Again.{IsMade, IsFollowedFar}
+use Rattle.orders.specs.Again.{IsFollowedFar}
 use Rattle.orders.proofs.OneDrawn.{parts}
 use Rattle.orders.proofs.Replay.{may_never}
-
-left : (a b : Bool) → (a && b) ≡ true → a ≡ true
-left true b e = refl
-left false b e = absurd cc
-
-right : (a b : Bool) → (a && b) ≡ true → b ≡ true
-right true b e = e
-right false b e = absurd cc
-
-both : (a b : Bool) → a ≡ true → b ≡ true → (a && b) ≡ true
-both a b e f = ap (λ (x : Bool). x && b) e ∙ f
 
 -- ## legal trails
 
 -- what comes first of a legal trail is legal
 pub legal_first : (s : Plan) (trail : List Move) (m : Move) → is_legal s (trail ++ m ∷ []) ≡ true → (is_legal s trail ≡ true) × (is_legal_move s (run s trail) m ≡ true)
 legal_first s trail m legal =
-    let all = sym (is_legal-append s trail m) ∙ legal in
-    (left (is_legal s trail) (is_legal_move s (run s trail) m) all, right (is_legal s trail) (is_legal_move s (run s trail) m) all)
+    and_parts (is_legal s trail) (is_legal_move s (run s trail) m) (sym (is_legal-append s trail m) ∙ legal)
 
 legal_before : (s : Plan) (before after : List Move) → is_legal s (before ++ after) ≡ true → is_legal s before ≡ true
 legal_before s before [] legal = subst (λ (ms : List Move). is_legal s ms ≡ true) (append-nil before) legal
@@ -56,10 +44,9 @@ allows_clean s r (Some event) mark e = clean_allowed s r.state event
 -- a move that may come may come without a fault
 legal_clean : (s : Plan) (r : Run) (m k : Move) → k.actor ≡ m.actor → m.mark ≡ Clean → is_legal_move s r k ≡ true → is_legal_move s r m ≡ true
 legal_clean s r m k actor clean legal =
-    let may = left (may_move s r k.actor) (allows s r (event_of s r k.actor) k.mark) legal in
-    let allowed = allows_clean s r (event_of s r k.actor) k.mark (right (may_move s r k.actor) (allows s r (event_of s r k.actor) k.mark) legal) in
-    both (may_move s r m.actor) (allows s r (event_of s r m.actor) m.mark) (ap (may_move s r) (sym actor) ∙ may)
-    (ap (λ (x : Mark). allows s r (event_of s r m.actor) x) clean ∙ ap (λ a. allows s r (event_of s r a) Clean) (sym actor) ∙ allowed)
+    let was = and_parts (may_move s r k.actor) (allows s r (event_of s r k.actor) k.mark) legal in
+    and_from (may_move s r m.actor) (allows s r (event_of s r m.actor) m.mark) (ap (may_move s r) (sym actor) ∙ was.0)
+    (ap (λ (x : Mark). allows s r (event_of s r m.actor) x) clean ∙ ap (λ a. allows s r (event_of s r a) Clean) (sym actor) ∙ allows_clean s r (event_of s r k.actor) k.mark was.1)
 
 -- ## the next move
 
@@ -129,20 +116,16 @@ module _ {D : Type 0} (told : D → Option (List (List ℕ))) (count : D → ℕ
             let so_far = legal_before p.plan (p.trail ++ take i moves ++ m ∷ []) rest (subst (λ (ms : List Move). is_legal p.plan ms ≡ true) split legal) in
             let all = legal_first p.plan (p.trail ++ take i moves) m (subst (λ (ms : List Move). is_legal p.plan ms ≡ true) (sym (append_assoc p.trail (take i moves) (m ∷ []))) so_far) in
             let may : may_move p.plan (run p.plan (p.trail ++ take i moves)) m.actor ≡ true =
-            left (may_move p.plan (run p.plan (p.trail ++ take i moves)) m.actor) (allows p.plan (run p.plan (p.trail ++ take i moves))
-            (event_of p.plan (run p.plan (p.trail ++ take i moves)) m.actor) m.mark) all.1 in
+            (and_parts (may_move p.plan (run p.plan (p.trail ++ take i moves)) m.actor)
+            (allows p.plan (run p.plan (p.trail ++ take i moves)) (event_of p.plan (run p.plan (p.trail ++ take i moves)) m.actor) m.mark) all.1).0 in
             let kept_q : IsKept told q = subst (λ (x : Played D). IsKept told x) stays.0 kept in
             let never_may : may_move p.plan (run p.plan (p.trail ++ take i moves)) m.actor ≡ false =
             subst (λ (ms : List Move). may_move p.plan (run p.plan ms) m.actor ≡ false) (far.exact never all.0)
             (subst (λ (s : Plan). may_move s (run s q.trail) m.actor ≡ false) far.plan (may_never told q m.actor kept_q stays.1)) in
-            absurd (clash (may_move p.plan (run p.plan (p.trail ++ take i moves)) m.actor) may never_may);
+            absurd (true≢false (sym may ∙ never_may));
         unmarked = λ never none. far.unmarked never (none_before moves i none);
       })
     where
-      clash : (b : Bool) → b ≡ true → b ≡ false → ⊥
-      clash true e f = cc
-      clash false e f = cc
-
       fewer : (a b : ℕ) → a + b ≡ 0 → a ≡ 0
       fewer a b e = omega arith
 

@@ -15,6 +15,9 @@ returns-in-Writes-clause-stepped g c =
     c.write.ensures.stepped c.args.op
     (subst (λ (l : Does). IsWriteBy l c.in-Writes.volume (record { block = c.in-Writes.block; bytes = payload_bytes c.in-Writes.payload })) (sym (sym c.line.ensures ∙ c.in-Writes.is)) (refl, refl))
 
+pub returns-in-Writes-clause-marked : goal.returns-in-Writes-clause-marked
+returns-in-Writes-clause-marked g c = λ acts stands allowed. c.write.ensures.marked refl
+
 pub returns-in-ShowsImage-clause-stepped : goal.returns-in-ShowsImage-clause-stepped
 returns-in-ShowsImage-clause-stepped g c =
     rw c.fail_look-in-ShowsImage.ensures.told (rw c.fail_look-in-ShowsImage.ensures.after
