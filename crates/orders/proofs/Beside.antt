@@ -120,8 +120,7 @@ over_so {D} count tells text given s told moves before after result read is h = 
       plan = s;
       is_scenario = read.is_scenario;
       trail = same.trail;
-      reported = record
-          { of_trail = same.reported; unmarked = λ never. same.unmarked never (no_faults told) };
+      reported = record { of_trail = same.reported; unmarked = λ never. same.unmarked never (no_faults told) };
     }
 
     by_result : (r : Replayed) → IsReplayOver count tells s (map (λ (m : Move). record m { mark = Clean }) told) given before after r → IsAgainOver count tells text given before after r
