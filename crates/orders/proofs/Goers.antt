@@ -14,8 +14,7 @@ use Rattle.scenario.specs.Plan.{Plan}
 use Rattle.vss_model.specs.Trail.{event_of, may_move, allows, is_complete}
 use Rattle.vss_play.specs.Played.{Played, run_of, is_finished, Stays, IsKept, IsMovedOn}
 use Rattle.vss_play.specs.Acting.{actors_in_threads}
-use Rattle.vss_play.proofs.ClosingLines.{longer_same}
-use Rattle.vss_play.proofs.FaultMarks.{later-refl}
+use Rattle.vss_play.proofs.ClosingLines.{onward_still}
 use Rattle.vss_play.proofs.InTurn.{stuck_complete}
 use Rattle.orders.specs.Drawn.{goes, from_place, asked_from, drawn_actor, AreDrawn, generator_after, place_of, IsFirstToGo, IsDrawing, IsPlayedAsDrawn}
 use Rattle.orders.proofs.Led.{onward_more}
@@ -177,16 +176,7 @@ none_goes told count p k kept e =
 
 pub drawing_none : {D : Type 0} (told : D → Option (List (List ℕ))) (count : D → ℕ) (generator : ℕ) (p : Played D) → IsDrawing told count generator generator p p
 drawing_none told count generator p = record {
-  onward = record {
-    plan = refl;
-    rest = [];
-    trail = sym (append-nil p.trail);
-    longer = longer_same p.lines;
-    tells = refl;
-    later = later-refl (map count p.devices);
-    clean = λ e. refl;
-    faults = counted_none (map count p.devices);
-  };
+  onward = onward_still told count p;
   drawn = λ rest h. h;
 }
 

@@ -2,13 +2,13 @@
 use Rattle.std.proofs.Common.{append_assoc, ◌≤◌, ◌≡◌, ℕ, ◌+◌, ◌<◌, List, [], ◌∷◌, ◌++◌, take, get_or, length, refl, ap, sym, ◌∙◌, Option, subst}
 use Rattle.std.specs.Prelude.{map}
 use Rattle.std.proofs.lemmas.Option.{slice_get-get_or}
-use Rattle.std.proofs.lemmas.List.{map-append, append-nil, take_more, take_all}
+use Rattle.std.proofs.lemmas.List.{map-append, take_more, take_all}
 use Rattle.write_history.specs.declared.actor.Actor.{Actor}
 use Rattle.write_history.specs.declared.move_item.Move.{Move}
 use Rattle.vss_play.specs.Played.{Played, IsOnward, IsMovedOn}
 use Rattle.vss_play.specs.Acting.{IsLedBy}
-use Rattle.vss_play.proofs.ClosingLines.{longer_same, longer_trans, longer_by}
-use Rattle.vss_play.proofs.FaultMarks.{later-refl, later-trans, clean_after, counted_none, counted_after}
+use Rattle.vss_play.proofs.ClosingLines.{longer_trans, longer_by, onward_still}
+use Rattle.vss_play.proofs.FaultMarks.{later-trans, clean_after, counted_after}
 use Rattle.orders.specs.declared.entry.Entry.{Entry}
 use Rattle.orders.specs.declared.why.Why.{Why}
 use Rattle.orders.specs.Followed.{actors_of, MayNotCome, IsHaltedAt}
@@ -32,16 +32,7 @@ onward_more told count p q r actor so_far one =
 -- before the first move
 pub led_none : {D : Type 0} (told : D → Option (List (List ℕ))) (count : D → ℕ) (p : Played D) → IsLedBy told count p [] p
 led_none told count p = record {
-  onward = record {
-    plan = refl;
-    rest = [];
-    trail = sym (append-nil p.trail);
-    longer = longer_same p.lines;
-    tells = refl;
-    later = later-refl (map count p.devices);
-    clean = λ e. refl;
-    faults = counted_none (map count p.devices);
-  };
+  onward = onward_still told count p;
   by = refl;
 }
 

@@ -1,7 +1,7 @@
 -- What a history of a run's entries comes to.
 use Rattle.std.proofs.Common.{◌≡◌, ℕ, ◌+◌, List, [], ◌∷◌, ◌++◌, append_assoc, refl, ap, sym, ◌∙◌, Option, subst, arith, Bool, true, false, cond}
 use Rattle.std.specs.Prelude.{Result, Ok, Err, MatchResult, IfOk, map}
-use Rattle.std.proofs.lemmas.List.{map-append, append-nil}
+use Rattle.std.proofs.lemmas.List.{map-append}
 use Rattle.std.proofs.lemmas.List.Sums.{sum_by-append}
 use Rattle.vss_names.specs.declared.out_of_memory.OutOfMemory.{OutOfMemory}
 use Rattle.write_history.specs.declared.actor.Actor.{Actor}
@@ -13,8 +13,8 @@ use Rattle.vss_play.specs.declared.stepped.Stepped.TheVariants as stepped
 use Rattle.provider.specs.Devices.{AreLater}
 use Rattle.vss_play.specs.Played.{Played, AreCounted, IsOnward, IsPlayedOut, IsPlayedInTurn}
 use Rattle.vss_play.specs.Acting.{Turn, IsStep, mover_if, movers, IsLedBy, IsLed}
-use Rattle.vss_play.proofs.ClosingLines.{longer_same, longer_trans}
-use Rattle.vss_play.proofs.FaultMarks.{later-refl, later-trans, counted_none, counted_one, counted_then}
+use Rattle.vss_play.proofs.ClosingLines.{longer_trans, onward_still}
+use Rattle.vss_play.proofs.FaultMarks.{later-trans, counted_one, counted_then}
 
 -- where none of these moves has a fault mark, the counts are as they were
 clean_both : (one two : List Move) (xs ys zs : List ℕ) → (faults one ≡ 0 → ys ≡ xs) → (faults two ≡ 0 → zs ≡ ys) → faults (one ++ two) ≡ 0 → zs ≡ xs
@@ -55,7 +55,7 @@ led_on told count p q r xs ys one two = record {
 
 led_none : {D : Type 0} (told : D → Option (List (List ℕ))) (count : D → ℕ) (p q : Played D) → q ≡ p → IsLedBy told count p [] q
 led_none {D} told count p q same =
-    subst (λ (x : Played D). IsLedBy told count p [] x) (sym same) (record { onward = record { plan = refl; rest = []; trail = sym (append-nil p.trail); longer = longer_same p.lines; tells = refl; later = later-refl (map count p.devices); clean = λ e. refl; faults = counted_none (map count p.devices) }; by = refl })
+    subst (λ (x : Played D). IsLedBy told count p [] x) (sym same) (record { onward = onward_still told count p; by = refl })
 
 led_one : {D : Type 0} (told : D → Option (List (List ℕ))) (count : D → ℕ) (p q : Played D) (actor : Actor) (r : Result Stepped OutOfMemory) → MatchResult r (λ reply. IsStep told count p actor reply q) (λ _. q ≡ p) → IsLedBy told count p (mover_if actor r) q
 led_one told count p q actor (Ok stepped.Moved) h =
