@@ -59,7 +59,8 @@ pub fn follow_far<D: Device>(
     ensures { OnOk result (IsFollowedFar D.told D.count play.old play.new moves.now) }
 {
     for item in moves {
-        if !make(alloc, play, *item)? {
+        let has_moved = make(alloc, play, *item)?;
+        if !has_moved {
             let _facts = play.lanes();
             return Ok(());
         }
