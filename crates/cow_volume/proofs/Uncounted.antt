@@ -34,6 +34,11 @@ counts_set (x ∷ xs) [] v e = cc
 counts_set (x ∷ xs) (y ∷ ys) zero e = ap (λ (ns : List ℕ). most ∷ ns) (same_counts xs ys (omega arith))
 counts_set (x ∷ xs) (y ∷ ys) (suc v) e = ap (λ (ns : List ℕ). most ∷ ns) (counts_set xs ys v (omega arith))
 
+-- a count of none did not rise
+pub no_rise : (a b : ℕ) → b ≡ 0 → Rose a b → ⊥
+no_rise a b e (inl l) = omega arith
+no_rise a b e (inr m) = omega arith
+
 module _ {D : Type 0} (told : D → Option (List (List ℕ))) (size count : D → ℕ) (lending : D → Bool) where
   same_uncounted : (d e : D) → IsSameDevice told size count lending d e → IsSameDevice told size uncounted lending d e
   same_uncounted d e same = record { tells = same.tells; size_is = same.size_is; lends = same.lends; later = omega arith }
@@ -110,16 +115,8 @@ module _ {D : Type 0} (told : D → Option (List (List ℕ))) (size count : D �
   -- no device fails where none ever does
   pub never_rose : (now new : GroupValue D) (v : ℕ) (cause : Cause) → NeverFails count → DeviceRose count v now new cause → ⊥
   never_rose now new v NoSuchBlock never rose = rose
-  never_rose now new v Volume never rose = still (count rose.before) (count rose.now) (never rose.now) rose.rose
-    where
-      still : (a b : ℕ) → b ≡ 0 → Rose a b → ⊥
-      still a b e (inl l) = omega arith
-      still a b e (inr m) = omega arith
-  never_rose now new v Area never rose = still (count now.area.device) (count new.area.device) (never new.area.device) rose.rose
-    where
-      still : (a b : ℕ) → b ≡ 0 → Rose a b → ⊥
-      still a b e (inl l) = omega arith
-      still a b e (inr m) = omega arith
+  never_rose now new v Volume never rose = no_rise (count rose.before) (count rose.now) (never rose.now) rose.rose
+  never_rose now new v Area never rose = no_rise (count now.area.device) (count new.area.device) (never new.area.device) rose.rose
 
   -- all that there were to restore are few enough
   pub few_restored : (old new : GroupValue D) (v set m restored k : ℕ) → m ≡ blocks_at old v → restored ≤ k → AreRestored told size count lending old new v set m restored

@@ -1,13 +1,13 @@
 -- A run by the moves of a report, from its beginning to its own report, and that beside the text.
-use Rattle.std.proofs.Common.{◌≡◌, ℕ, ◌+◌, List, [], ◌∷◌, ◌++◌, refl, ap, sym, ◌∙◌, Bool, true, Option, Some, None, subst, inl, inr, arith, cond}
+use Rattle.std.proofs.Common.{◌≡◌, ℕ, ◌+◌, List, [], ◌∷◌, ◌++◌, refl, ap, sym, ◌∙◌, Bool, true, Option, Some, None, subst, arith, cond}
 use Rattle.std.specs.Prelude.{map, Result, Ok, Err, IfOk}
 use Rattle.std.proofs.lemmas.List.Sums.{sum_by-cons}
-use Rattle.vss_names.specs.Faults.{Rose}
 use Rattle.vss_names.specs.TextValue.{TextValue}
 use Rattle.write_history.specs.declared.mark.Mark.{Mark}
 use Rattle.write_history.specs.declared.mark.Mark.TheVariants.{Clean}
 use Rattle.write_history.specs.declared.move_item.Move.{Move}
 use Rattle.cow_volume.specs.Calls.{NeverFails}
+use Rattle.cow_volume.proofs.Uncounted.{no_rise}
 use Rattle.scenario.specs.Plan.{Plan}
 use Rattle.vss_model.specs.Trail.{is_legal, is_complete, is_fault, faults}
 use Rattle.vss_report.specs.ReadBack.{reading_back}
@@ -156,9 +156,5 @@ again_so count text given s moves (Differs line wanted) read never h = record {
       (h.exact never refl (subst (λ (ms : List Move). is_legal s ms ≡ true) (sym of_text) legal) (subst (λ (ms : List Move). is_complete s ms ≡ true) (sym of_text) complete)) of_text given_is;
 }
 again_so count text given s moves (ScenarioRefused line reason) read never h = absurd h
-again_so count text given s moves DeviceFault read never h = still h
-  where
-    still : Rose 0 0 → ⊥
-    still (inl l) = omega arith
-    still (inr e) = omega arith
+again_so count text given s moves DeviceFault read never h = no_rise 0 0 refl h
 again_so count text given s moves OutOfMemory read never h = tt

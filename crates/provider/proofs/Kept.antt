@@ -206,7 +206,7 @@ called_there old new g x y was is = ap (λ (zs : List (GroupValue _)). slice_get
 
 -- ## the fields of a provider
 
-same_length : {D : Type 0} (size : D → ℕ) (xs ys : List D) → map size ys ≡ map size xs → length ys ≡ length xs
+pub same_length : {D : Type 0} (size : D → ℕ) (xs ys : List D) → map size ys ≡ map size xs → length ys ≡ length xs
 same_length size xs ys e = sym (length-map ys size) ∙ ap length e ∙ length-map xs size
 
 pub provider_kept : {D : Type 0} (device : Ghosts D) (old new : List (GroupValue D)) (volumes : Vec ℕ Global) (list : Vec D Global) → AreKept device old new → IsProvider old volumes list

@@ -1,13 +1,14 @@
 -- Counts of devices that say nothing of faults, and a revert that stops where it is told to.
-use Rattle.std.proofs.Common.{◌≡◌, ℕ, zero, suc, ◌<◌, ◌≤◌, List, [], ◌∷◌, length, refl, ap, sym, ◌∙◌, subst, Option, Some, map, slice_get, inr}
+use Rattle.std.proofs.Common.{◌≡◌, ℕ, zero, suc, ◌<◌, ◌≤◌, List, [], ◌∷◌, length, refl, ap, ◌∙◌, subst, Option, Some, map, slice_get, inr}
 use Rattle.std.specs.Prelude.{Result, Ok, Err}
 use Rattle.vss_model.specs.Words.{History, Plan, blocks_of, place_in, point_in, to_restore}
 use Rattle.provider.specs.Words.{Fault, GroupValue, RevertFault, history_at as group_history_at, uncounted}
-use Rattle.provider.proofs.Words.{HasGroups, RoseAlone, counts_of, devices_of, length-map, slice_get_inside, volume_place}
+use Rattle.provider.proofs.Words.{AreLater, HasGroups, RoseAlone, counts_of, devices_of, slice_get_inside, volume_place}
 use Rattle.cow_volume.specs.Calls.{StopsAfter as StopsInGroup}
 use Rattle.cow_volume.specs.declared.revert_fault.RevertFault.TheVariants.{NoSuchImage as NoImage}
 use Rattle.cow_volume.proofs.Uncounted.{same_counts}
 use Rattle.provider.specs.Calls.{StopsAfter}
+use Rattle.provider.proofs.Kept.{same_length}
 use Rattle.provider.proofs.Places.{group_there}
 use Rattle.provider.proofs.Found.{Found, blocks_here, history_here, own, own_device, stands_here}
 use Rattle.provider.proofs.Called.{Called}
@@ -29,13 +30,20 @@ rose_at s groups v has low =
     let d = own_device found in
     rose_still (devices_of groups) (volume_place s v) d.0 d.2
 
+-- where no count fell, there are as many devices
+pub as_many : {D : Type 0} (count : D → ℕ) (ds es : List D) → AreLater (map count ds) (map count es) → length es ≡ length ds
+as_many count [] [] h = refl
+as_many count [] (e ∷ es) h = absurd h
+as_many count (d ∷ ds) [] h = absurd h
+as_many count (d ∷ ds) (e ∷ es) h = ap (λ (n : ℕ). suc n) (as_many count ds es h.1)
+
 -- a count that rose, as one that says nothing
 pub rose_unsaid : {D : Type 0} (count : D → ℕ) (xs ys : List D) (k : ℕ) → RoseAlone k (map count xs) (map count ys) → RoseAlone k (map (λ (x : D). uncounted x) xs) (map (λ (x : D). uncounted x) ys)
 rose_unsaid count [] ys zero rose = absurd rose
 rose_unsaid count [] ys (suc k) rose = absurd rose
 rose_unsaid count (x ∷ xs) [] zero rose = absurd rose
 rose_unsaid count (x ∷ xs) [] (suc k) rose = absurd rose
-rose_unsaid count (x ∷ xs) (y ∷ ys) zero rose = (inr refl, same_counts xs ys (sym (length-map ys count) ∙ ap length rose.1 ∙ length-map xs count))
+rose_unsaid count (x ∷ xs) (y ∷ ys) zero rose = (inr refl, same_counts xs ys (same_length count xs ys rose.1))
 rose_unsaid count (x ∷ xs) (y ∷ ys) (suc k) rose = (refl, rose_unsaid count xs ys k rose.1)
 
 -- what a group says of where it stops

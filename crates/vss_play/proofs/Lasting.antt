@@ -1,23 +1,17 @@
 -- What was brought to where it lasts has lasted, also after calls that leave what the devices tell as it was.
-use Rattle.std.proofs.Common.{◌≡◌, ℕ, suc, ◌+◌, ◌<◌, ◌≤◌, List, [], ◌∷◌, length, refl, ap, sym, ◌∙◌, arith, Option, subst, inl, inr}
+use Rattle.std.proofs.Common.{◌≡◌, ℕ, ◌+◌, ◌<◌, ◌≤◌, List, [], ◌∷◌, length, refl, ap, sym, ◌∙◌, arith, Option, subst, inl, inr}
 use Rattle.std.specs.Prelude.{◌⊎◌, map}
-use Rattle.std.proofs.lemmas.List.{length-map}
 use Rattle.std.proofs.lemmas.Option.{slice_get_within}
 use Rattle.scenario.specs.Plan.{Plan}
 use Rattle.scenario.specs.Places.{blocks_in_group}
 use Rattle.cow_volume.proofs.Group.{slice_get_inside}
+use Rattle.provider.proofs.Uncounted.{as_many}
 use Rattle.provider.specs.Devices.{AreLater, LastsAt, area_place, volume_place}
 use Rattle.vss_world.specs.Devices.{told_of, told_by}
 use Rattle.vss_world.specs.Stands.{WorldValue}
 use Rattle.vss_world.specs.Quiet.{IsQuiet, IsSynced}
 use Rattle.vss_play.specs.Lasting.{HasLastedAt, FirstAreasLasted, FirstVolumesLasted, HaveLasted}
 use Rattle.vss_play.proofs.Areas.{before_area, below_or_at, told_same}
-
-pub as_long : (xs ys : List ℕ) → AreLater xs ys → length ys ≡ length xs
-as_long [] [] h = refl
-as_long (x ∷ xs) (y ∷ ys) h = ap suc (as_long xs ys h.1)
-as_long [] (y ∷ ys) h = absurd h
-as_long (x ∷ xs) [] h = absurd h
 
 module _ {D : Type 0} (told lasting : D → Option (List (List ℕ))) (count : D → ℕ) (s : Plan) where
   just_flushed : (place : ℕ) (devices : List D) → LastsAt told lasting place devices → HasLastedAt told lasting place devices
@@ -28,7 +22,7 @@ module _ {D : Type 0} (told lasting : D → Option (List (List ℕ))) (count : D
       → HasLastedAt told lasting place old → HasLastedAt told lasting place new
   lasted_as old new place later same h d at =
       let within = slice_get_within new place d at in
-      let long : length new ≡ length old = sym (length-map new count) ∙ as_long (map count old) (map count new) later ∙ length-map old count in
+      let long = as_many count old new later in
       let e = slice_get_inside old place (omega (arith, within, long)) in
       let was = h e.0 e.1 in
       record { flushed = was.flushed; lasts = was.lasts; still = sym (ap (told_of told) at) ∙ same ∙ ap (told_of told) e.1 ∙ was.still }

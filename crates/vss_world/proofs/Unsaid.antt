@@ -1,15 +1,15 @@
 -- A move, by counts of devices that say nothing of their faults.
-use Rattle.std.proofs.Common.{◌≡◌, ℕ, zero, suc, ◌<◌, List, [], ◌∷◌, length, refl, ap, sym, ◌∙◌, arith, Bool, true, false, Option, Some, None, map, inl, inr}
+use Rattle.std.proofs.Common.{◌≡◌, ℕ, zero, suc, ◌<◌, List, [], ◌∷◌, refl, ap, ◌∙◌, Bool, true, false, Option, Some, None, map, inl, inr}
 use Rattle.std.specs.Prelude.{Result, Ok, Err, IfOk}
-use Rattle.vss_world.proofs.Words.{AreKept, AreLater, AreWithout, Blocked, Clean, Complete, Event, Evicted, Failed, Fault, FaultAfter, Ghosts, GroupValue, IsEnded, IsReleased, IsSettled}
+use Rattle.vss_world.proofs.Words.{AreKept, AreWithout, Blocked, Clean, Complete, Event, Evicted, Failed, Fault, FaultAfter, Ghosts, GroupValue, IsEnded, IsReleased, IsSettled}
 use Rattle.vss_world.proofs.Words.{IsStepped, MakesRoom, Mark, Moved, Plan, ProviderValue, Reply, RoseAlone, RoseFor, Running, SessionMove, SessionsValue, SetOutcome, WorldValue, counts_of}
-use Rattle.vss_world.proofs.Words.{devices_of, is_fault, later_same, length-map, mark_of}
-use Rattle.vss_model.specs.Words.{Rose}
+use Rattle.vss_world.proofs.Words.{devices_of, is_fault, later_same, mark_of}
 use Rattle.vss_names.specs.declared.out_of_memory.OutOfMemory.{OutOfMemory}
 use Rattle.provider.specs.Words.{NeverFails, uncounted}
-use Rattle.cow_volume.proofs.Uncounted.{same_counts, kept_uncounted}
+use Rattle.cow_volume.proofs.Uncounted.{same_counts, kept_uncounted, no_rise}
 use Rattle.provider.specs.Calls.{counted_as}
-use Rattle.provider.proofs.Uncounted.{rose_unsaid}
+use Rattle.provider.proofs.Kept.{same_length}
+use Rattle.provider.proofs.Uncounted.{as_many, rose_unsaid}
 use Rattle.vss_world.specs.Moves.{HasMark}
 
 -- the devices as they are told to fail
@@ -21,14 +21,13 @@ unsaid device = counted_as device true
 module _ {D : Type 0} (device : Ghosts D) where
   pub kept_unsaid : (old new : List (GroupValue D)) → AreKept device old new → AreKept (unsaid device) old new
   kept_unsaid old new kept =
-      let many : length (devices_of new) ≡ length (devices_of old) = sym (length-map (devices_of new) device.size) ∙ ap length kept.sizes ∙ length-map (devices_of old) device.size in
       record {
         number = kept.number;
         each = λ g x y at there. kept_uncounted device.told device.size device.count device.lending x y (kept.each g x y at there);
         has = kept.has;
         tells = kept.tells;
         sizes = kept.sizes;
-        later = later_same (counts_of uncounted old) (counts_of uncounted new) (same_counts (devices_of old) (devices_of new) many);
+        later = later_same (counts_of uncounted old) (counts_of uncounted new) (same_counts (devices_of old) (devices_of new) (same_length device.size (devices_of old) (devices_of new) kept.sizes));
       }
 
   room_unsaid : {s : Plan} {x : SessionsValue} {old new : ProviderValue D} {v b up_to : ℕ} {images : List Evicted} → MakesRoom device s x old new v b images up_to
@@ -80,22 +79,12 @@ module _ {D : Type 0} (device : Ghosts D) where
 
 -- ## moves
 
-many_later : (xs ys : List ℕ) → AreLater xs ys → length ys ≡ length xs
-many_later [] [] h = refl
-many_later [] (y ∷ ys) h = absurd h
-many_later (x ∷ xs) [] h = absurd h
-many_later (x ∷ xs) (y ∷ ys) h = ap (λ (n : ℕ). suc n) (many_later xs ys h.1)
-
 never_alone : {D : Type 0} (count : D → ℕ) (xs ys : List D) (k : ℕ) → NeverFails count → RoseAlone k (map count xs) (map count ys) → ⊥
 never_alone count [] ys zero never rose = rose
 never_alone count [] ys (suc k) never rose = rose
 never_alone count (x ∷ xs) [] zero never rose = rose
 never_alone count (x ∷ xs) [] (suc k) never rose = rose
-never_alone count (x ∷ xs) (y ∷ ys) zero never rose = still (count x) (count y) (never y) rose.0
-  where
-    still : (a b : ℕ) → b ≡ 0 → Rose a b → ⊥
-    still a b e (inl l) = omega arith
-    still a b e (inr m) = omega arith
+never_alone count (x ∷ xs) (y ∷ ys) zero never rose = no_rise (count x) (count y) (never y) rose.0
 never_alone count (x ∷ xs) (y ∷ ys) (suc k) never rose = never_alone count xs ys k never rose.1
 
 module _ {D : Type 0} (told : D → Option (List (List ℕ))) (count : D → ℕ) where
@@ -107,9 +96,7 @@ module _ {D : Type 0} (told : D → Option (List (List ℕ))) (count : D → ℕ
   pub step_unsaid : (old new : WorldValue D) (s : Plan) (event : Event) (reply : Reply) → IsStepped told count old new s event reply → IsStepped told uncounted old new s event reply
   step_unsaid old new s event Blocked step = step
   step_unsaid old new s event (Moved o) moves =
-      let many : length new.devices ≡ length old.devices =
-      sym (length-map new.devices count) ∙ many_later (map count old.devices) (map count new.devices) moves.later ∙ length-map old.devices count in
-      let same = same_counts old.devices new.devices many in
+      let same = same_counts old.devices new.devices (as_many count old.devices new.devices moves.later) in
       record {
         is_enabled = moves.is_enabled;
         is_allowed = moves.is_allowed;
