@@ -1,9 +1,9 @@
 -- Moves whose mark is told: a line that looks at a volume, a write, a flush and a revert.
 use Rattle.std.proofs.Common.{◌≡◌, ℕ, ◌<◌, ◌≤◌, List, [], ◌∷◌, length, refl, ap, sym, ◌∙◌, subst, arith, Bool, true, false, Option, Some, None}
 use Rattle.std.specs.Prelude.{is_some, is_none, nat_lt, ◌&&◌, IfSome, Result, Ok, Err}
-use Rattle.vss_world.proofs.Words.{Act, Blocked, Cause, Clean, Commit, Cut, Evicted, Fault, FaultAfter, Faulted, Fits, Flush, Ghosts, Group, HasGroups, Hold, IfStands, IsAt, IsMove, IsMoved}
-use Rattle.vss_world.proofs.Words.{IsNextStep, IsOf, IsOp, IsSettled, IsStepped, Kept, Leaves, Line, Mark, Moved, Op, Open, Orders, Outcome, Plan, PostCommit, PreCommit, Provider, ProviderValue}
-use Rattle.vss_world.proofs.Words.{Release, Replied, Revert, SessionMove, SessionsValue, Stands, State, Told, Volume, VssResult, WorldValue, Write, after, and_parts, blocks_of, head_or_0, image_block}
+use Rattle.vss_world.proofs.Words.{Act, Blocked, Cause, Clean, Evicted, Fault, FaultAfter, Faulted, Fits, Flush, Ghosts, Group, HasGroups, IfStands, IsAt, IsMove, IsMoved}
+use Rattle.vss_world.proofs.Words.{IsNextStep, IsOf, IsOp, IsSettled, IsStepped, Kept, Leaves, Line, Mark, Moved, Op, Open, Outcome, Plan, Provider, ProviderValue}
+use Rattle.vss_world.proofs.Words.{Replied, Revert, SessionMove, SessionsValue, Stands, State, Told, Volume, VssResult, WorldValue, Write, after, and_parts, blocks_of, head_or_0, image_block}
 use Rattle.vss_world.proofs.Words.{image_blocks, is_flush, is_over_volumes, kept_image, kept_same, line, line_allows, line_of, mark_of, may_stop_after, nat_tests, next_volume, open_group}
 use Rattle.vss_world.proofs.Words.{provided, restorable, revert_refusal, reverted_as, simple_outcome, state, target_in, tells_of, to_restore, told_act, told_if, volume_by, volume_if}
 use Rattle.vss_model.specs.Words.{Reads, ShowsBlock, ShowsImage, allows_by, does, evicted_at, lost_after, may_do, ticks_by}
@@ -116,13 +116,7 @@ fault_told put e = ap (λ (r : Result Unit Cause). mark_of (told_if r)) e
 
 pub flush_is : (g : Group) → is_flush (Some g) ≡ true → g ≡ Flush
 flush_is Flush e = refl
-flush_is (Orders o) e = cc
-flush_is PreCommit e = cc
-flush_is Hold e = cc
-flush_is Cut e = cc
-flush_is Commit e = cc
-flush_is Release e = cc
-flush_is PostCommit e = cc
+flush_is _ e = cc
 
 -- a Flush step has a volume
 pub flush_volume : (os : List Open) (volume : Option ℕ) → open_group os ≡ Some Flush → next_volume os ≡ volume → is_some volume ≡ true
