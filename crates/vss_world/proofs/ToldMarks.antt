@@ -4,9 +4,9 @@ use Rattle.std.specs.Prelude.{is_some, is_none, nat_lt, ◌&&◌, IfSome, Result
 use Rattle.vss_world.proofs.Words.{Act, Blocked, Cause, Clean, Evicted, Fault, FaultAfter, Faulted, Fits, Flush, Ghosts, Group, HasGroups, IfStands, IsAt, IsMove, IsMoved}
 use Rattle.vss_world.proofs.Words.{IsNextStep, IsOf, IsOp, IsSettled, IsStepped, Kept, Leaves, Line, Mark, Moved, Op, Open, Outcome, Plan, Provider, ProviderValue}
 use Rattle.vss_world.proofs.Words.{Replied, Revert, SessionMove, SessionsValue, Stands, State, Told, Volume, VssResult, WorldValue, Write, after, and_parts, blocks_of, head_or_0, image_block}
-use Rattle.vss_world.proofs.Words.{image_blocks, is_flush, is_over_volumes, kept_image, kept_same, line, line_allows, line_of, mark_of, may_stop_after, nat_tests, next_volume, open_group}
+use Rattle.vss_world.proofs.Words.{image_blocks, is_flush, is_over_volumes, kept_image, kept_same, line, line_allows, mark_of, may_stop_after, nat_tests, next_volume, open_group}
 use Rattle.vss_world.proofs.Words.{provided, restorable, revert_refusal, reverted_as, simple_outcome, state, target_in, tells_of, to_restore, told_act, told_if, volume_by, volume_if}
-use Rattle.vss_model.specs.Words.{Reads, ShowsBlock, ShowsImage, allows_by, does, evicted_at, lost_after, may_do, ticks_by}
+use Rattle.vss_model.specs.Words.{Reads, ShowsBlock, ShowsImage, allows_by, does, evicted_at, line_of, lost_after, may_do, ticks_by}
 use Rattle.provider.specs.Words.{uncounted}
 use Rattle.provider.proofs.Words.{IsPut}
 use Rattle.scenario.specs.declared.line.Line.{Line as Does}
