@@ -1,6 +1,6 @@
 -- A call by the counts of devices that say nothing of their faults, and a revert that stops where it is told to.
 use Rattle.std.proofs.Common.{◌≡◌, ◌<◌, ◌≤◌, ◌+◌, ℕ, zero, suc, Bool, true, false, List, [], ◌∷◌, length, map, refl, ap, subst, ◌∙◌, arith, Option, Some, None, inl, inr}
-use Rattle.std.specs.Prelude.{◌⊎◌, slice_get, slice_set, Result, Ok, Err, is_some}
+use Rattle.std.specs.Prelude.{slice_get, slice_set, Result, Ok, Err, is_some}
 use Rattle.std.specs.Int.{from_bool}
 use Rattle.vss_names.specs.Faults.{Rose, most}
 use Rattle.write_history.specs.History.{History, point_in, to_restore}

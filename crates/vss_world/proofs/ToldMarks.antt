@@ -1,6 +1,6 @@
 -- Moves whose mark is told: a line that looks at a volume, a write, a flush and a revert.
 use Rattle.std.proofs.Common.{◌≡◌, ℕ, ◌<◌, ◌≤◌, List, [], ◌∷◌, length, refl, ap, sym, ◌∙◌, subst, arith, Bool, true, false, Option, Some, None}
-use Rattle.std.specs.Prelude.{is_some, is_none, nat_lt, ◌&&◌, IfSome, Result, Ok, Err}
+use Rattle.std.specs.Prelude.{is_some, is_none, nat_lt, IfSome, Result, Ok, Err}
 use Rattle.vss_world.proofs.Words.{Act, Blocked, Cause, Clean, Evicted, Fault, FaultAfter, Faulted, Fits, Flush, Ghosts, Group, HasGroups, IfStands, IsAt, IsMove, IsMoved}
 use Rattle.vss_world.proofs.Words.{IsNextStep, IsOf, IsOp, IsSettled, IsStepped, Kept, Leaves, Line, Mark, Moved, Op, Open, Outcome, Plan, Provider, ProviderValue}
 use Rattle.vss_world.proofs.Words.{Replied, Revert, SessionMove, SessionsValue, Stands, State, Told, Volume, VssResult, WorldValue, Write, after, and_parts, blocks_of, head_or_0, image_block}

@@ -1,5 +1,5 @@
 -- A move, by counts of devices that say nothing of their faults.
-use Rattle.std.proofs.Common.{◌≡◌, ℕ, zero, suc, ◌<◌, List, [], ◌∷◌, refl, ap, ◌∙◌, Bool, true, false, Option, Some, None, map, inl, inr}
+use Rattle.std.proofs.Common.{◌≡◌, ℕ, zero, suc, List, [], ◌∷◌, refl, ap, Bool, true, false, Option, Some, None, map, inl, inr}
 use Rattle.std.specs.Prelude.{Result, Ok, Err, IfOk}
 use Rattle.vss_world.proofs.Words.{AreKept, AreWithout, Blocked, Clean, Complete, Event, Evicted, Failed, Fault, FaultAfter, Ghosts, GroupValue, IsEnded, IsReleased, IsSettled}
 use Rattle.vss_world.proofs.Words.{IsStepped, MakesRoom, Mark, Moved, Plan, ProviderValue, Reply, RoseAlone, RoseFor, Running, SessionMove, SessionsValue, SetOutcome, WorldValue, counts_of}

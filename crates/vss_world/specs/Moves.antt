@@ -1,7 +1,7 @@
 -- What a step of the core promises: it waits exactly where the event is not enabled, and else it is answered as defined, and stands for
 -- the acts with this one. (This project's own.)
 use Rattle.std.specs.Prelude.{ℕ, ◌≡◌, ◌<◌, ◌≤◌, Bool, true, false, List, [], ◌∷◌, ◌++◌, length, map, if◌then◌else◌, Option, Some, None, slice_get}
-use Rattle.vss_model.specs.Words.{Act, Flush, IsOp, IsOutcome, Kept, Mark, Op, Plan, Reads, Reverts, Running, ShowsBlock, ShowsImage, WriterRow, Writes, after, enabled, event_allows, is_fault}
+use Rattle.vss_model.specs.Words.{Act, Flush, IsOp, IsOutcome, Kept, Mark, Plan, Reads, Reverts, Running, ShowsBlock, ShowsImage, WriterRow, Writes, after, enabled, event_allows, is_fault}
 use Rattle.vss_model.specs.Words.{kept_image, line_of, mark_of, restorable, state, told_act}
 use Rattle.vss_world.specs.Words.{Answer as AnswerEvent, AreLater, Event, Line, Outcome, Provider, Told, takes_memory as takes_for, volume_place}
 use Rattle.scenario.specs.declared.line.Line.{Line as Does}
