@@ -1,1 +1,1 @@
-pub mod HeapSteps
+pub mod FreeSlots

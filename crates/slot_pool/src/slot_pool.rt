@@ -1,33 +1,39 @@
-ghost use Rattle.std.specs.Prelude.{◌≡◌, ◌+◌, ◌<◌, List, Bool, true, false, length, replicate, slice_set, IsTrue, IfOk, IfSome, IfNone, IsNone, ◌↔◌};
+ghost use Rattle.std.specs.Prelude.{◌≡◌, ◌+◌, ◌<◌, ◌≤◌, List, Bool, true, false, length, replicate, slice_set, IsTrue, IfOk, IfSome, IfNone, IsNone, ◌↔◌};
 ghost use Rattle.slot_pool.specs.Slots.{IsTaken, IsLowestFree, free_count};
-ghost use Rattle.slot_pool.specs.Queue.{HoldsFirst};
+ghost use Rattle.slot_pool.specs.Runs.{IsFirst, AllTakenBelow, MayBeFree};
 
 use std::alloc::Global;
-use std::cmp::Reverse;
-use std::collections::BinaryHeap;
 use std::marker::Model;
 use vss_names::OutOfMemory;
+
+/// How many slots a run has.
+const RUN: usize = 256;
 
 /// The slots of a diff area, numbered from 0, and which of them are free. Contracts see a list with one truth value
 /// for each slot: whether it is free.
 ///
-/// The free slots stand in a heap with the lowest on top, so `take` and `give` cost as many steps as the heap has
-/// levels, 16 at 65,536 slots.
+/// The lowest free slot is known, so `lowest` and `give` look at one slot. `take` looks for the next one: at the slots of two runs at
+/// most, and at one value for each run between them.
 #[derive(Drop)]
 pub struct SlotPool {
     is_free: Vec<bool>,
-    lowest_first: BinaryHeap<Reverse<u32>>,
+    /// For each run of slots, whether one of them may be free.
+    runs: Vec<bool>,
+    /// The lowest free slot; at least the number of slots where none is free.
+    lowest: usize,
+    /// How many slots are free.
+    free: u32,
 }
 
 impl Model for SlotPool {
     ghost use Rattle.std.specs.Prelude.{List, Bool};
-    ghost use Rattle.slot_pool.specs.Queue.{HoldsFree};
+    ghost use Rattle.slot_pool.specs.Runs.{KeepsPool};
 
     ghost Value = { List Bool };
 
     ghost view = { λ pool. pool.is_free.items };
 
-    ghost invariant = { λ pool. HoldsFree pool.is_free.items pool.lowest_first };
+    ghost invariant = { λ pool. KeepsPool pool.is_free.items pool.runs.items pool.lowest pool.free };
 }
 
 impl SlotPool {
@@ -35,10 +41,11 @@ impl SlotPool {
     pub fn new(alloc: Global, n: u32) -> Result<SlotPool, OutOfMemory>
         ensures { IfOk result (λ pool. pool ≡ replicate n true) }
     {
-        let lowest_first = all_slots(alloc, n)?;
         Ok(SlotPool {
             is_free: vec![in alloc; true; n as usize]?,
-            lowest_first,
+            runs: vec![in alloc; true; n as usize / RUN + 1]?,
+            lowest: 0,
+            free: n,
         })
     }
 
@@ -47,10 +54,10 @@ impl SlotPool {
         ensures lowest { IfSome result (IsLowestFree self.now) }
         ensures none { IsNone result ↔ (free_count self.now ≡ 0) }
     {
-        match self.lowest_first.peek() {
-            Some(top) => Some(top.0),
-            None => None,
+        if self.free == 0 {
+            return None;
         }
+        Some(self.lowest as u32)
     }
 
     /// Takes the lowest free slot.
@@ -60,9 +67,14 @@ impl SlotPool {
         ensures none { IsNone result ↔ (free_count self.old ≡ 0) }
         ensures unchanged { IfNone result (self.new ≡ self.old) }
     {
-        let Reverse(slot) = self.lowest_first.pop()?;
-        self.is_free[slot as usize] = false;
-        Some(slot)
+        if self.free == 0 {
+            return None;
+        }
+        let slot = self.lowest;
+        self.is_free[slot] = false;
+        self.free -= 1;
+        self.lowest = next_free(&self.is_free, &mut self.runs, slot);
+        Some(slot as u32)
     }
 
     /// Frees a taken slot.
@@ -70,8 +82,11 @@ impl SlotPool {
         requires { IsTaken self.old slot }
         ensures { self.new ≡ slice_set self.old slot true }
     {
-        self.is_free[slot as usize] = true;
-        let _ = self.lowest_first.push(Reverse(slot));
+        let at = slot as usize;
+        self.is_free[at] = true;
+        self.runs[at / RUN] = true;
+        self.lowest = self.lowest.min(at);
+        self.free += 1;
     }
 
     /// Whether a slot has a copy.
@@ -86,14 +101,14 @@ impl SlotPool {
     pub fn free(&self) -> u32
         ensures { result ≡ free_count self.now }
     {
-        self.lowest_first.len() as u32
+        self.free
     }
 
     /// How many slots are taken.
     pub fn used(&self) -> u32
         ensures { result + free_count self.now ≡ length self.now }
     {
-        self.slots() - self.free()
+        self.slots() - self.free
     }
 
     /// How many slots there are.
@@ -104,13 +119,34 @@ impl SlotPool {
     }
 }
 
-/// A heap with room for `n` slots that holds them all.
-fn all_slots(alloc: Global, n: u32) -> Result<BinaryHeap<Reverse<u32>>, OutOfMemory>
-    ensures { IfOk result (HoldsFirst n n) }
+/// A place after that of a taken slot, below which all are taken too. A run that is left is noted as taken.
+fn place_after(is_free: &[bool], runs: &mut Vec<bool>, at: usize) -> usize
+    requires inside { at < length is_free.now }
+    requires taken { AllTakenBelow is_free.now (at + 1) }
+    requires runs { MayBeFree is_free.now runs.old.items }
+    ensures taken { AllTakenBelow is_free.now result }
+    ensures runs { MayBeFree is_free.now runs.new.items }
+    ensures further { at < result }
 {
-    let mut heap = BinaryHeap::with_capacity(alloc, n as usize)?;
-    for slot in 0..n {
-        heap.push(Reverse(slot))?;
+    if at % RUN == 0 && !runs[at / RUN] {
+        return is_free.len().min(at + RUN);
     }
-    Ok(heap)
+    if at % RUN == RUN - 1 {
+        runs[at / RUN] = false;
+    }
+    at + 1
+}
+
+/// The first free slot from `from` on, below which all are taken. The runs that it leaves are noted as taken.
+fn next_free(is_free: &[bool], runs: &mut Vec<bool>, from: usize) -> usize
+    requires taken { AllTakenBelow is_free.now from }
+    requires runs { MayBeFree is_free.now runs.old.items }
+    ensures first { IsFirst is_free.now result }
+    ensures runs { MayBeFree is_free.now runs.new.items }
+{
+    let mut at = from;
+    'places: while at < is_free.len() && !is_free[at] {
+        at = place_after(is_free, runs, at);
+    }
+    at
 }

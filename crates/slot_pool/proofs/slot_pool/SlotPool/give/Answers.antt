@@ -1,9 +1,17 @@
-use Rattle.slot_pool.proofs.HeapSteps.{HoldsFree-push, room_for_one, on_ok}
+use Rattle.std.proofs.Common.{inl, inr, arith}
+use Rattle.std.proofs.lemmas.Bool.{cases_lt}
+use Rattle.slot_pool.proofs.FreeSlots.{one_more_fits, KeepsPool-given}
 use Rattle.slot_pool.proofs.slot_pool.SlotPool.give.Goals as goal
+
+pub overflow_add-self : goal.overflow_add-self
+overflow_add-self c =
+    let fits = one_more_fits c.self.inside.is_free.items c.args.slot (rw (← c.self.view_is) at c.requires) in
+    let count = c.self.invariant.count in
+    let narrow = c.self.invariant.narrow in
+    omega arith
 
 pub invariant_of-self : goal.invariant_of-self
 invariant_of-self c =
-    let is_taken = rw (← c.self.view_is) at c.requires in
-    let done = c.push.ensures in
-    let is_ok = done.succeeds (room_for_one _ _ c.args.slot c.self.invariant is_taken) in
-    HoldsFree-push _ _ c.push.new.self (record { 0 = c.args.slot }) c.self.invariant is_taken (on_ok c.push.result _ is_ok done.permutation) (on_ok c.push.result _ is_ok done.heap_order) (on_ok c.push.result _ is_ok done.len) done.capacity
+    let least = c.min-self-inside.ensures in
+    KeepsPool-given _ _ _ _ _ _ c.self.invariant (rw (← c.self.view_is) at c.requires) (omega arith) (omega arith)
+    (elim (cases_lt c.args.slot c.self.inside.lowest) [ inl less ↦ inr (omega arith) | inr more ↦ inl (omega arith) ])
