@@ -27,10 +27,11 @@ pub(crate) fn free_copies<D: Device>(
     ensures slots { GivesBack diffs.old.copies diffs.new.copies pool.old pool.new }
     ensures area { area.new ≡ with_records (followed v diffs.new.copies area.old.records) area.old }
 {
-    for i in 0..diffs.images().len() {
+    let (from, to) = going.places(diffs.images());
+    for i in from..to {
         let image = diffs.images()[i];
         if going.takes(image) {
-            'copies: while let Some(entry) = diffs.pop(image) {
+            'copies: while let Some(entry) = diffs.pop_at(i) {
                 area.clear_record(entry.slot);
                 pool.give(entry.slot);
             }

@@ -1,11 +1,12 @@
 -- What a map keeps beside its copies: where an image is cut, a slot is noted or loses its copy, and images go.
-use Rattle.std.proofs.Common.{ℕ, ◌≡◌, ◌≢◌, ◌+◌, ◌-◌, ◌<◌, ◌≤◌, ◌^◌, ◌++◌, inl, inr, Bool, true, false, cond, List, [], ◌∷◌, length, get_or, set, map, Option, Some, None, refl, ap, sym, ◌∙◌, subst}
+use Rattle.std.proofs.Common.{ℕ, ◌≡◌, ◌≢◌, ◌+◌, ◌-◌, ◌<◌, ◌≤◌, ◌^◌, ◌++◌, inl, inr, Bool, true, false, cond, ltb, drop, List, [], ◌∷◌, length, get_or, set, map, Option, Some, None, refl, ap, sym, ◌∙◌, subst}
 use Rattle.std.proofs.Common.{arith, All, Contains, Vec, vec_capacity}
-use Rattle.std.specs.List.{slice_get, filter, AllPairs}
+use Rattle.std.specs.List.{slice_get, filter, AllPairs, AllWithin}
 use Rattle.std.specs.declared.alloc.Global.{Global}
 use Rattle.std.specs.Prelude.{IfSome}
 use Rattle.std.proofs.Math.Seq.{map-set_same}
 use Rattle.std.proofs.lemmas.Bool.{cases_eq, cases_lt}
+use Rattle.std.proofs.lemmas.Bool.Decides.{nat_tests}
 use Rattle.std.proofs.lemmas.List.{get_or-map, get_or-set_same, get_or-set_other, length-append, length-map, length-set, map-append, get_or_default}
 use Rattle.std.proofs.lemmas.List.Elements.{All-nil, All-cons, All-append, All-filter, Contains-append_left}
 use Rattle.std.proofs.lemmas.List.Quantifiers.{all_pairs_push}
@@ -18,7 +19,7 @@ use Rattle.diff_map.specs.Counts.{is_for, used_for, IsFor, IsChain, IsCounted, K
 use Rattle.diff_map.specs.MapValue.{AreImages, KeepsImages}
 use Rattle.diff_map.proofs.Chained.{not_for, IsChain-other, IsChain-other_out, IsChain-noted, IsChain-popped, IsFor-first}
 use Rattle.diff_map.proofs.Counting.{used_noted, used_noted_other, used_none, used_some, used_at, used_out, used_out_other}
-use Rattle.diff_map.proofs.Images.{AreImages-filter, Contains-filter}
+use Rattle.diff_map.proofs.Images.{AreImages-filter, Contains-filter, filter_from}
 use Rattle.diff_map.proofs.Renewal.{row_within}
 
 abbrev none_of : ImageCount
@@ -195,6 +196,24 @@ module _ (images : Vec ℕ Global) (counts : Vec ImageCount Global) (next : List
       keeps index.are_images.ascend inside is items cap refl (omega arith) (popped_here next copies image block value count was count_is.0 value_is count_is.1)
       (popped_other next copies count.first image block was)
 
+-- ## the count that is read at a place is that of the image there
+
+module _ (images : Vec ℕ Global) (counts : Vec ImageCount Global) (next : List ℕ) (copies : List (Option Copied)) (n : ℕ) (count : ImageCount) (index : KeepsImages images copies)
+    (keeps : KeepsCounts images counts next copies) (inside : n < length images.items) (read : count ≡ get_or counts.items n count) where
+  counted : (count.set ≡ get_or images.items n 0) × IsCounted next copies count
+  counted = count_is images counts next copies (get_or images.items n 0) n count index keeps inside (λ e. get_or_default images.items n e 0 inside) read
+
+  pub place_of_count : (d : ℕ) → get_or images.items n d ≡ count.set
+  place_of_count d = get_or_default images.items n d 0 inside ∙ sym counted.0
+
+  pub used_at_place : count.used ≡ used_for copies (get_or images.items n 0)
+  used_at_place = counted.1.used ∙ ap (used_for copies) counted.0
+
+  pub first_at_place : (count.used ≡ 0 → ⊥) → (block : ℕ) × (copied_at copies count.first ≡ Some (copy_of count.set block)) × (count.first < length copies)
+  first_at_place some =
+      let it = first_for next copies count.set count refl counted.1 (omega arith) in
+      (it.0, it.1, row_within copies count.first (copy_of count.set it.0) it.1)
+
 -- ## an image is cut
 
 pub KeepsImages-cut : (images later : Vec ℕ Global) (copies : List (Option Copied)) (image : ℕ) → KeepsImages images copies → length images.items < 512 → 0 < image → image < 2 ^ 32
@@ -250,6 +269,14 @@ KeepsCounts-left p images later counts left next copies keeps fewer less cap = r
   count_room = let r = keeps.count_room in omega arith;
   long = keeps.long;
 }
+
+pub counts_dropped : (set n : ℕ) (images : List ℕ) (counts : List ImageCount) → sets_of counts ≡ images → n ≤ length images → AllWithin (λ image. image ≤ set) images 0 n
+    → AllWithin (λ image. set < image) images n (length images) → drop n counts ≡ filter (λ c. ltb set c.set) counts
+counts_dropped set n images counts same within go stay =
+    let many = as_many images counts same in
+    filter_from (λ c. ltb set c.set) n counts
+    (λ k d low high. let e = set_at images counts k d same (omega arith) in let le = go k 0 low high in grind (arith, nat_tests))
+    (λ k d low high. let e = set_at images counts k d same high in let lt = stay k 0 low (omega arith) in grind (arith, nat_tests))
 
 pub KeepsImages-left : (p : ℕ → Bool) (images later : Vec ℕ Global) (copies : List (Option Copied)) → KeepsImages images copies
     → ((slot : ℕ) (c : Copied) → copied_at copies slot ≡ Some c → p c.set ≡ true) → later.items ≡ filter p images.items → vec_capacity later ≡ vec_capacity images → KeepsImages later copies

@@ -1,10 +1,12 @@
 -- The images of a volume in order of their sets: the next older one, and what is left where some go.
-use Rattle.std.proofs.Common.{ℕ, zero, suc, ◌≡◌, ◌<◌, ◌≤◌, ◌^◌, ◌⊎◌, inl, inr, Bool, true, false, cond, eqb, ltb, not, List, [], ◌∷◌, length, get_or, drop, Option, Some, None, refl, ap, sym, ◌∙◌}
+use Rattle.std.proofs.Common.{ℕ, zero, suc, ◌≡◌, ◌<◌, ◌≤◌, ◌^◌, ◌⊎◌, inl, inr, Bool, true, false, cond, eqb, ltb, not, List, [], ◌∷◌, length, get_or, take, drop, ◌-◌, zero-add, Option, Some, None, refl, ap, sym, ◌∙◌}
 use Rattle.std.proofs.Common.{subst, arith, All, Contains}
-use Rattle.std.specs.List.{AllPairs, filter, fold}
+use Rattle.std.specs.List.{AllPairs, AllWithin, filter, fold, copy_within}
 use Rattle.std.proofs.lemmas.Bool.{cases_eq, cases_lt, lt-ltb, le-ltb}
 use Rattle.std.proofs.lemmas.Bool.Decides.{nat_tests}
-use Rattle.std.proofs.lemmas.List.{get_or_default}
+use Rattle.std.proofs.lemmas.List.{get_or_default, length-drop, take_all}
+use Rattle.std.proofs.Math.Seq.{paste}
+use Rattle.std.proofs.lemmas.List.Edits.{take-paste}
 use Rattle.std.proofs.lemmas.List.Elements.{All-filter, All-head, All-tail}
 use Rattle.std.proofs.lemmas.List.Kept.{AllPairs-filter}
 use Rattle.std.proofs.lemmas.List.Sums.{length-filter, count_by-le-length}
@@ -115,3 +117,24 @@ filter-oldest (x ∷ xs) up =
     let here : not (eqb x x) ≡ false = grind (arith, nat_tests) in
     let above : All (λ y. not (eqb y x) ≡ true) xs = λ k d inside. let more : x < get_or xs k d = up 0 (suc k) d (omega arith) (omega arith) in grind (arith, nat_tests) in
     ap (λ b. cond b (x ∷ filter (λ s. not (eqb s x)) xs) (filter (λ s. not (eqb s x)) xs)) here ∙ filter_all (λ s. not (eqb s x)) xs above
+
+-- without those up to a set the others are left
+pub filter_from : {X : Type 0} (p : X → Bool) (n : ℕ) (xs : List X) → AllWithin (λ x. p x ≡ false) xs 0 n → AllWithin (λ x. p x ≡ true) xs n (length xs) → drop n xs ≡ filter p xs
+filter_from p zero [] go stay = refl
+filter_from p (suc n) [] go stay = refl
+filter_from p zero (x ∷ xs) go stay = sym (filter_all p (x ∷ xs) (λ k d inside. stay k d (omega arith) inside))
+filter_from p (suc n) (x ∷ xs) go stay =
+    filter_from p n xs (λ k d low high. go (suc k) d (omega arith) (omega arith)) (λ k d low high. stay (suc k) d (omega arith) (omega arith))
+    ∙ sym (ap (λ b. cond b (x ∷ filter p xs) (filter p xs)) (go 0 x (omega arith) (omega arith)))
+
+pub images_dropped : (set n : ℕ) (images : List ℕ) → AllWithin (λ image. image ≤ set) images 0 n → AllWithin (λ image. set < image) images n (length images)
+    → drop n images ≡ filter (λ image. ltb set image) images
+images_dropped set n images go stay = filter_from (ltb set) n images (λ k d low high. let le = go k d low high in grind (arith, nat_tests))
+    (λ k d low high. let lt = stay k d low high in grind (arith, nat_tests))
+
+-- the items that are left where the first ones were written over
+pub left_in_front : {X : Type 0} (xs : List X) (n m len : ℕ) → len ≡ length xs → n ≤ length xs → m ≡ len - n → take m (copy_within xs n len 0) ≡ drop n xs
+left_in_front xs n m len as_long within is =
+    let long = length-drop n xs in
+    subst (λ k. take m (paste xs 0 (drop n xs) k) ≡ drop n xs) is
+    (subst (λ k. take k (paste xs 0 (drop n xs) m) ≡ take m (drop n xs)) (zero-add m) (take-paste xs 0 (drop n xs) m (omega arith) (omega arith)) ∙ take_all m (drop n xs) (omega arith))

@@ -142,11 +142,7 @@ none_used slots slot used = let e = row_of_none slots slots slot in omega arith
 
 links_of_none : (blocks slots block : ℕ) (from : Option ℕ) → IsFrom (replicate blocks slots) (none_rows slots) block from
     → IsBelow (none_rows slots) (link_from (replicate blocks slots) (none_rows slots) block from) block (set_of (none_rows slots) from)
-links_of_none blocks slots block None in_range =
-    let l = length-replicate blocks slots in
-    let r : length (none_rows slots) ≡ slots = length-replicate slots (record { block = 0; set = 0; older = slots }) in
-    inl (get_or-replicate blocks block slots 0 (omega arith) ∙ sym r, λ other has low. absurd (none_used slots other has.0))
-links_of_none blocks slots block (Some slot) has = absurd (none_used slots slot has.0)
+links_of_none blocks slots block from is_from other has lt = absurd (none_used slots other has.0)
 
 pub KeepsLinks-new : (blocks slots : ℕ) → blocks < 2 ^ 32 → slots < 2 ^ 32 → KeepsLinks (replicate blocks slots) (none_rows slots)
 KeepsLinks-new blocks slots blocks_narrow slots_narrow = record {
@@ -168,6 +164,10 @@ pub value_after : (newest later : List ℕ) (rows next : List Row) (block slot :
 value_after newest later rows next block slot new above to copy later_is next_is is =
     ap (λ n. LinksValueOf n (map copy_in next)) (ap length later_is ∙ length_after newest block above to)
     ∙ ap (LinksValueOf (length newest)) (ap (map copy_in) next_is ∙ copies_after rows slot new above to copy is)
+
+pub value_at : (blocks : ℕ) (rows : List Row) (slot : ℕ) (new : Row) (copy : Option Copied) → copy_in new ≡ copy
+    → LinksValueOf blocks (map copy_in (set rows slot new)) ≡ LinksValueOf blocks (set (map copy_in rows) slot copy)
+value_at blocks rows slot new copy is = ap (LinksValueOf blocks) (map-set copy_in rows slot new ∙ ap (λ (o : Option Copied). set (map copy_in rows) slot o) is)
 
 pub value_new : (blocks slots : ℕ) (newest : List ℕ) (rows : List Row) → newest ≡ replicate blocks slots → rows ≡ replicate slots (record { block = 0; set = 0; older = slots })
     → LinksValueOf (length newest) (map copy_in rows) ≡ LinksValueOf blocks (replicate slots None)

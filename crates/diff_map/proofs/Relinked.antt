@@ -4,8 +4,8 @@ use Rattle.std.proofs.lemmas.Bool.{cases_eq, cases_lt}
 use Rattle.std.proofs.lemmas.List.{get_or-set_same, get_or-set_other, length-set}
 use Rattle.std.proofs.lemmas.Option.{same_Some, none-some}
 use Rattle.diff_map.specs.declared.row.Row.{Row}
-use Rattle.diff_map.specs.Links.{row_at, HasBlock, LeadsBelow, IsBelow, IsFrom, IsNextAbove, KeepsLinks, link_from, set_of, newest_after, older_after}
-use Rattle.diff_map.proofs.Linked.{used_within, below_has, passes}
+use Rattle.diff_map.specs.Links.{row_at, HasBlock, NoneBetween, LeadsBelow, IsBelow, IsFrom, IsNextAbove, KeepsLinks, link_from, set_of, newest_after, older_after}
+use Rattle.diff_map.proofs.Linked.{used_within, passes}
 
 -- whether two links are one
 pub same_link : (one other : Option ℕ) → (one ≡ other) ⊎ (one ≢ other)
@@ -187,33 +187,14 @@ module _ (newest newest' : List ℕ) (rows rows' : List Row) (block image slot :
   here_block : (b other : ℕ) → other ≡ slot → HasBlock rows' b other → b ≡ block
   here_block b other same has = sym has.1 ∙ ap (λ k. (row_at rows' k).block) same ∙ block_is
 
-  kept : (link b s : ℕ) → IsFree b s → IsBelow rows link b s → IsBelow rows' link b s
-  kept link b s free (inl none) = inl (
-    none.0 ∙ sym is.long,
-    λ other has low. elim (cases_eq other slot) [
-      | inl same ↦
-          let e = here_set other same in
-          let eb = here_block b other same has in
-          elim free [
-            | inl differs ↦ absurd (differs eb)
-            | inr rest ↦ elim rest [
-              | inl le ↦ omega arith
-              | inr passed ↦ let high = none.1 passed.0 (passed.1.0, passed.1.1 ∙ sym eb) passed.1.0 in let low_at = passed.3 in absurd (omega arith)
-            ]
-          ]
-      | inr apart ↦
-          let e = is.sets other apart in
-          let high = none.1 other (was b other apart has) (omega arith) in
-          omega arith
-    ],
-  )
-  kept link b s free (inr leads) =
-      let apart_link = apart_from b link leads.has in
+  leads_still : (link b s : ℕ) → IsFree b s → LeadsBelow rows link b s → LeadsBelow rows' link b s
+  leads_still link b s free leads =
+      let apart_link = apart_from b link leads.between.has in
       let e_link = is.sets link apart_link in
-      let low = leads.below in
-      inr (record {
-        has = still b link apart_link leads.has;
-        below = omega arith;
+      let low = leads.between.below in
+      let over = leads.between.above in
+      record {
+        between = record { has = still b link apart_link leads.between.has; above = omega arith; below = omega arith };
         next = λ other has lt. elim (cases_eq other slot) [
           | inl same ↦
               let e = here_set other same in
@@ -230,19 +211,40 @@ module _ (newest newest' : List ℕ) (rows rows' : List Row) (block image slot :
               let high = leads.next other (was b other apart has) (omega arith) in
               omega arith
         ];
-      })
+      }
+
+  kept : (link b s : ℕ) → IsFree b s → IsBelow rows link b s → IsBelow rows' link b s
+  kept link b s free below other has lt = elim (cases_eq other slot) [
+    | inl same ↦
+        let e = here_set other same in
+        let eb = here_block b other same has in
+        elim free [
+          | inl differs ↦ absurd (differs eb)
+          | inr rest ↦ elim rest [
+            | inl le ↦ absurd (omega arith)
+            | inr passed ↦ leads_still link b s (inr (inr passed)) (below passed.0 (passed.1.0, passed.1.1 ∙ sym eb) passed.3)
+          ]
+        ]
+    | inr apart ↦ let e = is.sets other apart in leads_still link b s free (below other (was b other apart has) (omega arith))
+  ]
 
   -- where the link from above led before, the new copy leads now
   below_new : (link : ℕ) → IsBelow rows link block (set_of rows above) → IsBelow rows link block image
-  below_new link (inl none) = inl (none.0, λ other has low. let high = none.1 other has low in let a = next.above in omega arith)
-  below_new link (inr leads) = inr (record {
-    has = leads.has;
-    below = elim (cases_lt (row_at rows link).set image) [
-      | inl lt ↦ lt
-      | inr ge ↦ absurd (let differs = lacks link leads.has in let high = next.next link leads.has (omega arith) in let low = leads.below in omega arith)
-    ];
-    next = λ other has lt. leads.next other has (let a = next.above in omega arith);
-  })
+  below_new link below any any_has any_lt =
+      let a = next.above in
+      let leads = below any any_has (omega arith) in
+      let low = leads.between.below in
+      record {
+        between = record {
+          has = leads.between.has;
+          above = leads.between.above;
+          below = elim (cases_lt (row_at rows link).set image) [
+            | inl lt ↦ lt
+            | inr ge ↦ absurd (let differs = lacks link leads.between.has in let high = next.next link leads.between.has (omega arith) in omega arith)
+          ];
+        };
+        next = λ other has lt. leads.next other has (omega arith);
+      }
 
   from_above : IsFrom newest rows block above
   from_above = from_next newest rows block image above in_range next
@@ -262,9 +264,8 @@ module _ (newest newest' : List ℕ) (rows rows' : List Row) (block image slot :
       let up = next.above in
       let e = same_above in
       let s = set_is in
-      subst (λ k. IsBelow rows' k block (set_of rows' above)) (sym is.this_link) (inr (record {
-        has = (omega arith, block_is);
-        below = omega arith;
+      subst (λ k. IsBelow rows' k block (set_of rows' above)) (sym is.this_link) (λ any any_has any_lt. record {
+        between = record { has = (omega arith, block_is); above = omega arith; below = omega arith };
         next = λ other has lt. elim (cases_eq other slot) [
           | inl same ↦ let o = here_set other same in omega arith
           | inr apart ↦
@@ -274,7 +275,7 @@ module _ (newest newest' : List ℕ) (rows rows' : List Row) (block image slot :
                 | inr under ↦ omega arith
               ]
         ];
-      }))
+      })
 
   free_of : (b : ℕ) (from : Option ℕ) → (b ≢ block) ⊎ (from ≢ above) → IsFrom newest rows b from → IsFree b (set_of rows from)
   free_of b from (inl differs) is_from = inl differs
@@ -337,137 +338,199 @@ module _ (newest newest' : List ℕ) (rows rows' : List Row) (block image slot :
 
 -- ## a slot loses its copy
 
-module _ (newest newest' : List ℕ) (rows rows' : List Row) (slot : ℕ) (above : Option ℕ) (keeps : KeepsLinks newest rows)
-    (is : AreRelinked newest newest' rows rows' (row_at rows slot).block slot (record { block = (row_at rows slot).block; set = 0; older = (row_at rows slot).older }) above (row_at rows slot).older)
-    (next : IsNextAbove rows (row_at rows slot).block (row_at rows slot).set above) (used : 0 < (row_at rows slot).set) where
+module _ (newest newest' : List ℕ) (rows rows' : List Row) (slot : ℕ) (above : Option ℕ) (to : ℕ) (keeps : KeepsLinks newest rows)
+    (is : AreRelinked newest newest' rows rows' (row_at rows slot).block slot (record { block = (row_at rows slot).block; set = 0; older = (row_at rows slot).older }) above to)
+    (used : 0 < (row_at rows slot).set) where
   abbrev block_out : ℕ
   block_out = (row_at rows slot).block
 
   abbrev set_out : ℕ
   set_out = (row_at rows slot).set
 
-  abbrev older_out : ℕ
-  older_out = (row_at rows slot).older
-
   abbrev gone : Row
-  gone = record { block = block_out; set = 0; older = older_out }
-
-  out_range : block_out < length newest
-  out_range = keeps.in_range slot used
+  gone = record { block = block_out; set = 0; older = (row_at rows slot).older }
 
   out_apart : (b other : ℕ) → HasBlock rows' b other → other ≢ slot
   out_apart b other has same =
       let u = has.0 in
-      let e : (row_at rows' other).set ≡ 0 = ap (λ k. (row_at rows' k).set) same ∙ slot_set newest newest' rows rows' block_out slot gone above older_out is in
+      let e : (row_at rows' other).set ≡ 0 = ap (λ k. (row_at rows' k).set) same ∙ slot_set newest newest' rows rows' block_out slot gone above to is in
       omega arith
 
   was_out : (b other : ℕ) → HasBlock rows' b other → HasBlock rows b other
-  was_out b other has = had newest newest' rows rows' block_out slot gone above older_out is b other (out_apart b other has) has
-
-  still_out : (b other : ℕ) → other ≢ slot → HasBlock rows b other → HasBlock rows' b other
-  still_out = has_still newest newest' rows rows' block_out slot gone above older_out is
+  was_out b other has = had newest newest' rows rows' block_out slot gone above to is b other (out_apart b other has) has
 
   same_out : (b other : ℕ) → HasBlock rows' b other → (row_at rows' other).set ≡ (row_at rows other).set
   same_out b other has = is.sets other (out_apart b other has)
 
-  kept_out : (link b s : ℕ) → link ≢ slot → IsBelow rows link b s → IsBelow rows' link b s
-  kept_out link b s apart (inl none) = inl (none.0 ∙ sym is.long, λ other has low. let e = same_out b other has in let high = none.1 other (was_out b other has) (omega arith) in omega arith)
-  kept_out link b s apart (inr leads) =
+  leads_out : (link b s : ℕ) → link ≢ slot → LeadsBelow rows link b s → LeadsBelow rows' link b s
+  leads_out link b s apart leads =
       let e_link = is.sets link apart in
-      let low = leads.below in
-      inr (record {
-        has = still_out b link apart leads.has;
-        below = omega arith;
+      let low = leads.between.below in
+      let over = leads.between.above in
+      record {
+        between = record { has = has_still newest newest' rows rows' block_out slot gone above to is b link apart leads.between.has; above = omega arith; below = omega arith };
         next = λ other has lt. let e = same_out b other has in let high = leads.next other (was_out b other has) (omega arith) in omega arith;
-      })
+      }
 
-  -- a copy of the block with another slot has another set
-  other_set : (other : ℕ) → HasBlock rows block_out other → other ≢ slot → (row_at rows other).set ≢ set_out
-  other_set other has apart same = apart (sym (keeps.once slot other used has (sym same)))
+  -- another copy of the block has another set
+  other_set : (other : ℕ) → HasBlock rows' block_out other → (row_at rows other).set ≢ set_out
+  other_set other has same = out_apart block_out other has (sym (keeps.once slot other used (was_out block_out other has) (sym same)))
 
-  to_older : (link : ℕ) → IsBelow rows link block_out set_out → IsBelow rows' link block_out (set_of rows above)
-  to_older link (inl none) = inl (
-    none.0 ∙ sym is.long,
-    λ other has low.
-        let e = same_out block_out other has in
-        let had_it = was_out block_out other has in
-        let high = none.1 other had_it (omega arith) in
-        let differs = other_set other had_it (out_apart block_out other has) in
-        let up = next.next other had_it (omega arith) in
-        omega arith,
-  )
-  to_older link (inr leads) =
-      let low = leads.below in
-      let apart : link ≢ slot = λ same. let e : (row_at rows link).set ≡ set_out = ap (λ k. (row_at rows k).set) same in omega arith in
-      let e_link = is.sets link apart in
-      let up = next.above in
-      inr (record {
-        has = still_out block_out link apart leads.has;
-        below = omega arith;
-        next = λ other has lt.
-            let e = same_out block_out other has in
-            let had_it = was_out block_out other has in
-            let differs = other_set other had_it (out_apart block_out other has) in
-            elim (cases_lt (row_at rows other).set set_out) [
-              | inl under ↦ let high = leads.next other had_it under in omega arith
-              | inr over ↦ absurd (let high = next.next other had_it (omega arith) in omega arith)
-            ];
-      })
+  -- the link leads past the slot
+  abbrev IsPast : ℕ → Option ℕ → Type 0
+  IsPast b from = (other : ℕ) → HasBlock rows' b other → (row_at rows other).set < set_of rows from
+      → LeadsBelow rows (link_from newest rows b from) b (set_of rows from) → link_from newest rows b from ≢ slot
+
+  past_out : (b : ℕ) (from : Option ℕ) → IsFrom newest rows b from → IsPast b from → IsBelow rows' (link_from newest rows b from) b (set_of rows from)
+  past_out b from is_from past other has lt =
+      let e = same_out b other has in
+      let low : (row_at rows other).set < set_of rows from = omega arith in
+      let leads = keeps.links b from is_from other (was_out b other has) low in
+      leads_out (link_from newest rows b from) b (set_of rows from) (past other has low leads) leads
+
+  module _ (here : IsBelow rows' (link_from newest' rows' block_out above) block_out (set_of rows' above))
+      (past : (b : ℕ) (from : Option ℕ) → (b ≢ block_out) ⊎ (from ≢ above) → IsFrom newest rows b from → IsPast b from) where
+    links_out : (b : ℕ) (from : Option ℕ) → from ≢ Some slot → IsFrom newest' rows' b from → IsBelow rows' (link_from newest' rows' b from) b (set_of rows' from)
+    links_out b from not_slot is_from' =
+        let is_from = from_before newest newest' rows rows' block_out slot gone above to is b from not_slot is_from' in
+        by_place newest newest' rows rows' block_out slot gone above to is b from here
+        (λ apart. moved newest newest' rows rows' block_out slot gone above to is b from not_slot apart is_from (past_out b from is_from (past b from apart is_from)))
+
+    all_links_out : (b : ℕ) (from : Option ℕ) → IsFrom newest' rows' b from → IsBelow rows' (link_from newest' rows' b from) b (set_of rows' from)
+    all_links_out b None is_from = links_out b None (λ e. none-some slot e) is_from
+    all_links_out b (Some q) is_from = links_out b (Some q) (λ e. out_apart b q is_from (same_Some q slot e)) is_from
+
+    pub KeepsLinks-gone : KeepsLinks newest' rows'
+    KeepsLinks-gone = record {
+      links = all_links_out;
+      once = λ one other one_used has same.
+          let one_has : HasBlock rows' (row_at rows' one).block one = (one_used, refl) in
+          let apart = out_apart (row_at rows' one).block one one_has in
+          let other_apart = out_apart (row_at rows' one).block other has in
+          let was_other = was_out (row_at rows' one).block other has in
+          keeps.once one other (was_out (row_at rows' one).block one one_has).0 (was_other.0, was_other.1 ∙ is.blocks one apart) (sym (is.sets one apart) ∙ same ∙ is.sets other other_apart);
+      in_range = λ other other_used.
+          let other_has : HasBlock rows' (row_at rows' other).block other = (other_used, refl) in
+          let before = was_out (row_at rows' other).block other other_has in
+          let a = keeps.in_range other before.0 in
+          let e = is.blocks other (out_apart (row_at rows' other).block other other_has) in
+          let l = is.long_newest in
+          omega arith;
+      narrow_sets = λ other. elim (cases_eq other slot) [
+        | inl same ↦ let e : (row_at rows' other).set ≡ 0 = ap (λ k. (row_at rows' k).set) same ∙ slot_set newest newest' rows rows' block_out slot gone above to is in omega arith
+        | inr apart ↦ let e = is.sets other apart in let a = keeps.narrow_sets other in omega arith
+      ];
+      narrow = let l = is.long in let n = keeps.narrow in omega arith;
+      narrow_blocks = let l = is.long_newest in let n = keeps.narrow_blocks in omega arith;
+    }
+
+-- the link from above leads to the next older copy now
+module _ (newest newest' : List ℕ) (rows rows' : List Row) (slot : ℕ) (above : Option ℕ) (keeps : KeepsLinks newest rows)
+    (is : AreRelinked newest newest' rows rows' (row_at rows slot).block slot (record { block = (row_at rows slot).block; set = 0; older = (row_at rows slot).older }) above (row_at rows slot).older)
+    (next : IsNextAbove rows (row_at rows slot).block (row_at rows slot).set above) (used : 0 < (row_at rows slot).set) where
+  abbrev b_out : ℕ
+  b_out = (row_at rows slot).block
+
+  abbrev s_out : ℕ
+  s_out = (row_at rows slot).set
+
+  abbrev older_out : ℕ
+  older_out = (row_at rows slot).older
 
   not_above : above ≢ Some slot
-  not_above e = let a : set_out < set_of rows (Some slot) = subst (λ (f : Option ℕ). set_out < set_of rows f) e next.above in omega arith
+  not_above e = let a : s_out < set_of rows (Some slot) = subst (λ (f : Option ℕ). s_out < set_of rows f) e next.above in omega arith
 
-  here_out : IsBelow rows' (link_from newest' rows' block_out above) block_out (set_of rows' above)
-  here_out = subst (λ k. IsBelow rows' k block_out (set_of rows' above)) (sym is.this_link)
-      (subst (λ s. IsBelow rows' older_out block_out s) (sym (same_set_of newest newest' rows rows' block_out slot gone above older_out is above not_above))
-      (to_older older_out (keeps.links block_out (Some slot) (used, refl))))
+  to_older : IsBelow rows' older_out b_out (set_of rows above)
+  to_older any any_has any_lt =
+      let e_any = same_out newest newest' rows rows' slot above older_out keeps is used b_out any any_has in
+      let had_any = was_out newest newest' rows rows' slot above older_out keeps is used b_out any any_has in
+      let differs_any = other_set newest newest' rows rows' slot above older_out keeps is used any any_has in
+      let under_any : (row_at rows any).set < s_out = elim (cases_lt (row_at rows any).set s_out) [
+        | inl under ↦ under
+        | inr over ↦ absurd (let high = next.next any had_any (omega arith) in omega arith)
+      ] in
+      let leads = keeps.links b_out (Some slot) (used, refl) any had_any under_any in
+      let low = leads.between.below in
+      let apart : older_out ≢ slot = λ same. let e : (row_at rows older_out).set ≡ s_out = ap (λ k. (row_at rows k).set) same in omega arith in
+      let now = leads_out newest newest' rows rows' slot above older_out keeps is used older_out b_out s_out apart leads in
+      let up = next.above in
+      let under_now = now.between.below in
+      record {
+        between = record { has = now.between.has; above = now.between.above; below = omega arith };
+        next = λ other has lt.
+            let e = same_out newest newest' rows rows' slot above older_out keeps is used b_out other has in
+            let had_it = was_out newest newest' rows rows' slot above older_out keeps is used b_out other has in
+            let differs = other_set newest newest' rows rows' slot above older_out keeps is used other has in
+            elim (cases_lt (row_at rows other).set s_out) [
+              | inl under ↦ now.next other has (omega arith)
+              | inr over ↦ absurd (let high = next.next other had_it (omega arith) in omega arith)
+            ];
+      }
+
+  here_out : IsBelow rows' (link_from newest' rows' b_out above) b_out (set_of rows' above)
+  here_out = subst (λ k. IsBelow rows' k b_out (set_of rows' above)) (sym is.this_link)
+      (subst (λ s. IsBelow rows' older_out b_out s)
+      (sym (same_set_of newest newest' rows rows' b_out slot (record { block = b_out; set = 0; older = older_out }) above older_out is above not_above)) to_older)
 
   -- no other link leads to the slot
-  leads_past : (b : ℕ) (from : Option ℕ) → (b ≢ block_out) ⊎ (from ≢ above) → IsFrom newest rows b from → link_from newest rows b from ≢ slot
-  leads_past b from apart is_from same =
-      let inside : link_from newest rows b from < length rows = (let w = used_within rows slot used in omega arith) in
-      let leads = below_has rows (link_from newest rows b from) b (set_of rows from) (keeps.links b from is_from) inside in
+  leads_past : (b : ℕ) (from : Option ℕ) → (b ≢ b_out) ⊎ (from ≢ above) → IsFrom newest rows b from → LeadsBelow rows (link_from newest rows b from) b (set_of rows from)
+      → link_from newest rows b from ≢ slot
+  leads_past b from apart is_from leads same =
       let there : LeadsBelow rows slot b (set_of rows from) = subst (λ k. LeadsBelow rows k b (set_of rows from)) same leads in
+      let same_block = there.between.has.1 in
       elim apart [
-        | inl differs ↦ differs (sym there.has.1)
+        | inl differs ↦ differs (sym same_block)
         | inr differs ↦
-            let passed = passes newest rows block_out set_out from above keeps next (subst (λ k. IsFrom newest rows k from) (sym there.has.1) is_from) there.below differs in
-            let high = there.next passed.0 (passed.1.0, passed.1.1 ∙ there.has.1) passed.3 in
+            let passed = passes newest rows b_out s_out from above keeps next (subst (λ k. IsFrom newest rows k from) (sym same_block) is_from) there.between.below differs in
+            let high = there.next passed.0 (passed.1.0, passed.1.1 ∙ same_block) passed.3 in
             let up = passed.2 in
             omega arith
       ]
 
-  links_out : (b : ℕ) (from : Option ℕ) → from ≢ Some slot → IsFrom newest' rows' b from → IsBelow rows' (link_from newest' rows' b from) b (set_of rows' from)
-  links_out b from not_slot is_from' =
-      let is_from = from_before newest newest' rows rows' block_out slot gone above older_out is b from not_slot is_from' in
-      by_place newest newest' rows rows' block_out slot gone above older_out is b from here_out
-      (λ apart. moved newest newest' rows rows' block_out slot gone above older_out is b from not_slot apart is_from
-      (kept_out (link_from newest rows b from) b (set_of rows from) (leads_past b from apart is_from) (keeps.links b from is_from)))
-
-  all_links_out : (b : ℕ) (from : Option ℕ) → IsFrom newest' rows' b from → IsBelow rows' (link_from newest' rows' b from) b (set_of rows' from)
-  all_links_out b None is_from = links_out b None (λ e. none-some slot e) is_from
-  all_links_out b (Some q) is_from = links_out b (Some q) (λ e. out_apart b q is_from (same_Some q slot e)) is_from
-
   pub KeepsLinks-out : KeepsLinks newest' rows'
-  KeepsLinks-out = record {
-    links = all_links_out;
-    once = λ one other one_used has same.
-        let one_has : HasBlock rows' (row_at rows' one).block one = (one_used, refl) in
-        let apart = out_apart (row_at rows' one).block one one_has in
-        let other_apart = out_apart (row_at rows' one).block other has in
-        let was_other = was_out (row_at rows' one).block other has in
-        keeps.once one other (was_out (row_at rows' one).block one one_has).0 (was_other.0, was_other.1 ∙ is.blocks one apart) (sym (is.sets one apart) ∙ same ∙ is.sets other other_apart);
-    in_range = λ other other_used.
-        let other_has : HasBlock rows' (row_at rows' other).block other = (other_used, refl) in
-        let before = was_out (row_at rows' other).block other other_has in
-        let a = keeps.in_range other before.0 in
-        let e = is.blocks other (out_apart (row_at rows' other).block other other_has) in
-        let l = is.long_newest in
-        omega arith;
-    narrow_sets = λ other. elim (cases_eq other slot) [
-      | inl same ↦ let e : (row_at rows' other).set ≡ 0 = ap (λ k. (row_at rows' k).set) same ∙ slot_set newest newest' rows rows' block_out slot gone above older_out is in omega arith
-      | inr apart ↦ let e = is.sets other apart in let a = keeps.narrow_sets other in omega arith
-    ];
-    narrow = let l = is.long in let n = keeps.narrow in omega arith;
-    narrow_blocks = let l = is.long_newest in let n = keeps.narrow_blocks in omega arith;
-  }
+  KeepsLinks-out = KeepsLinks-gone newest newest' rows rows' slot above older_out keeps is used here_out (λ b from apart is_from other has lt leads. leads_past b from apart is_from leads)
+
+-- the oldest copy of a block goes, and no link leads elsewhere
+module _ (newest : List ℕ) (rows : List Row) (slot : ℕ) (keeps : KeepsLinks newest rows) (used : 0 < (row_at rows slot).set)
+    (last : NoneBetween rows (row_at rows slot).block 0 (row_at rows slot).set) where
+  abbrev b_last : ℕ
+  b_last = (row_at rows slot).block
+
+  abbrev row_out : Row
+  row_out = record { block = b_last; set = 0; older = (row_at rows slot).older }
+
+  abbrev rows_out : List Row
+  rows_out = set rows slot row_out
+
+  abbrev link_last : ℕ
+  link_last = link_from newest rows b_last None
+
+  is_last : AreRelinked newest newest rows rows_out b_last slot row_out None link_last
+  is_last = record {
+    long = length-set rows slot row_out;
+    long_newest = refl;
+    new_row = get_or-set_same rows slot row_out empty (used_within rows slot used);
+    sets = λ other apart. ap (λ (r : Row). r.set) (get_or-set_other rows slot other row_out empty apart);
+    blocks = λ other apart. ap (λ (r : Row). r.block) (get_or-set_other rows slot other row_out empty apart);
+    other_links = others;
+    this_link = refl;
+  } where
+    others : (b : ℕ) (from : Option ℕ) → from ≢ Some slot → (b ≢ b_last) ⊎ (from ≢ None) → IsFrom newest rows b from → link_from newest rows_out b from ≡ link_from newest rows b from
+    others b None not_slot apart is_from = refl
+    others b (Some q) not_slot apart is_from = ap (λ (r : Row). r.older) (get_or-set_other rows slot q row_out empty (λ e. not_slot (ap Some e)))
+
+  past_last : (b : ℕ) (from : Option ℕ) → IsPast newest newest rows rows_out slot None link_last keeps is_last used b from
+  past_last b from other has lt leads same =
+      let there : LeadsBelow rows slot b (set_of rows from) = subst (λ k. LeadsBelow rows k b (set_of rows from)) same leads in
+      let same_block = there.between.has.1 in
+      let has_here : HasBlock rows_out b_last other = (has.0, has.1 ∙ sym same_block) in
+      let had_it = was_out newest newest rows rows_out slot None link_last keeps is_last used b_last other has_here in
+      let differs = other_set newest newest rows rows_out slot None link_last keeps is_last used other has_here in
+      let low = there.next other (had_it.0, had_it.1 ∙ same_block) lt in
+      let high = last other had_it had_it.0 in
+      differs (omega arith)
+
+  pub KeepsLinks-last : KeepsLinks newest rows_out
+  KeepsLinks-last = KeepsLinks-gone newest newest rows rows_out slot None link_last keeps is_last used
+      (past_out newest newest rows rows_out slot None link_last keeps is_last used b_last None (keeps.in_range slot used) (past_last b_last None))
+      (λ b from apart is_from. past_last b from)

@@ -1,9 +1,9 @@
 -- Copies that go or are handed down one after the other, and their slots that go back.
 use Rattle.std.proofs.Common.{ℕ, zero, suc, ◌∷◌, [], ◌≡◌, ◌≢◌, ◌+◌, ◌<◌, ◌≤◌, ◌⊎◌, inl, inr, Bool, true, false, leb, List, Option, Some, None, length, get_or, set, map, refl, ap, sym, ◌∙◌, subst}
 use Rattle.std.proofs.Common.{arith, Contains}
-use Rattle.std.specs.List.{slice_get}
+use Rattle.std.specs.List.{slice_get, AllWithin}
 use Rattle.std.specs.Option.{option_and_then, is_some}
-use Rattle.std.proofs.lemmas.Bool.{cases_eq, false≢true}
+use Rattle.std.proofs.lemmas.Bool.{cases_eq, cases_lt, false≢true}
 use Rattle.std.proofs.lemmas.Bool.Decides.{nat_tests}
 use Rattle.std.proofs.lemmas.List.{ext_get_or, get_or-map, length-map, length-set, get_or-set_same, get_or-set_other, get_or_default, set-set}
 use Rattle.std.proofs.lemmas.Option.{same_Some, none-some}
@@ -281,6 +281,21 @@ FreesMapUpTo-past going n image first mid old new up inside read stays = record 
   images = up.images;
   frees = FreesUpTo-past going first.images n image first.copies mid.copies old new up.frees inside
       (read ∙ ap (λ (xs : List ℕ). get_or xs n 0) up.images ∙ get_or_default first.images n 0 image inside) stays;
+}
+
+-- the images between two places do not go
+pub FreesMapUpTo-untaken : (going : Going) (n m : ℕ) (first mid : MapValue) (old new : List Bool) → FreesMapUpTo going n first mid old new → AllWithin (λ image. takes going image ≡ false) first.images n m
+    → FreesMapUpTo going m first mid old new
+FreesMapUpTo-untaken going n m first mid old new up stay = record {
+  blocks = up.blocks;
+  images = up.images;
+  frees = record {
+    renews = up.frees.renews;
+    freed = λ k d low within test. elim (cases_lt k n) [
+      | inl before ↦ up.frees.freed k d before within test
+      | inr after ↦ absurd (false≢true (sym (stay k d after low) ∙ test))
+    ];
+  };
 }
 
 pub freed_map : (going : Going) (n : ℕ) (first after : MapValue) (old new : List Bool) → IsMap first → FreesMapUpTo going n first after old new → length first.images ≤ n

@@ -1,13 +1,13 @@
 -- The row that is read where a copy is taken out.
-use Rattle.std.proofs.Common.{ℕ, ◌≡◌, ◌<◌, ◌∙◌, List, Option, Some, length, get_or, map, set, ap, sym, subst, arith}
+use Rattle.std.proofs.Common.{ℕ, ◌≡◌, ◌<◌, ◌∙◌, List, Option, Some, length, get_or, map, set, refl, ap, sym, subst, arith}
 use Rattle.std.proofs.lemmas.List.{get_or_read}
 use Rattle.diff_map.specs.declared.copied.Copied.{Copied}
 use Rattle.diff_map.specs.declared.row.Row.{Row}
 use Rattle.diff_map.specs.Copies.{copied_at}
-use Rattle.diff_map.specs.Links.{row_at, copy_in, IsNextAbove, KeepsLinks, newest_after, older_after}
+use Rattle.diff_map.specs.Links.{row_at, copy_in, NoneBetween, IsBelow, IsNextAbove, KeepsLinks, newest_after, older_after}
 use Rattle.diff_map.proofs.Linked.{used_within}
 use Rattle.diff_map.proofs.LinkedCopies.{has_from_copy}
-use Rattle.diff_map.proofs.Relinked.{are_relinked, KeepsLinks-out}
+use Rattle.diff_map.proofs.Relinked.{are_relinked, KeepsLinks-out, KeepsLinks-last}
 
 module _ (newest : List ℕ) (rows : List Row) (slot : ℕ) (row : Row) (copied : Copied) (keeps : KeepsLinks newest rows) (had : copied_at (map copy_in rows) slot ≡ Some copied)
     (is : row ≡ get_or rows slot row) where
@@ -36,6 +36,14 @@ module _ (newest : List ℕ) (rows : List Row) (slot : ℕ) (row : Row) (copied 
   KeepsLinks-taken above next =
       subst (λ (r : Row). KeepsLinks (newest_after newest r.block above r.older) (older_after (set rows slot (record { block = r.block; set = 0; older = r.older })) above r.older)) (sym row_is)
       (taken_at above (subst (λ (r : Row). IsNextAbove rows r.block r.set above) row_is next))
+
+  -- the oldest copy of its block
+  pub KeepsLinks-oldest : (IsBelow rows (row_at rows slot).older row.block (row_at rows slot).set → NoneBetween rows row.block 0 (row_at rows slot).set)
+      → KeepsLinks newest (set rows slot (record { block = row.block; set = 0; older = row.older }))
+  KeepsLinks-oldest none =
+      let none_here = subst (λ (r : Row). IsBelow rows (row_at rows slot).older r.block (row_at rows slot).set → NoneBetween rows r.block 0 (row_at rows slot).set) row_is none in
+      subst (λ (r : Row). KeepsLinks newest (set rows slot (record { block = r.block; set = 0; older = r.older }))) (sym row_is)
+      (KeepsLinks-last newest rows slot keeps used (none_here (keeps.links (row_at rows slot).block (Some slot) (used, refl))))
 
   pub block_read : copied.block ≡ row.block
   block_read = sym (has_from_copy rows slot copied.set copied.block had).block_is ∙ ap (λ (r : Row). r.block) (sym row_is)

@@ -1,6 +1,6 @@
--- How the copies of a block hang together: a block leads to the slot of its newest copy, and the row of a copy to the next older one. A
--- link is a slot, or the number of slots where there is no such copy. What a link means is said of the copies, not of the way there: it
--- leads to the copy of the block with the greatest set below. So the sets fall along a chain, and it ends. (This project's own.)
+-- How the copies of a block hang together: a block leads to the slot of its newest copy, and the row of a copy to the next older one. What a
+-- link means is said of the copies, not of the way there: it leads to the copy of the block with the greatest set below, where there is
+-- one. Where there is none, it is not said where it leads, so who follows it looks whether the slot has such a copy. (This project's own.)
 use Rattle.std.specs.Prelude.{ℕ, ◌≡◌, ◌<◌, ◌≤◌, ◌^◌, ◌⊎◌, List, Option, Some, None, ◌==◌, if◌then◌else◌, length, slice_index, slice_index_or, slice_set, IfSome}
 use Rattle.diff_map.specs.declared.copied.Copied.{Copied}
 use Rattle.diff_map.specs.declared.row.Row.{Row}
@@ -33,15 +33,20 @@ HasBlock rows block slot = (0 < (row_at rows slot).set) × ((row_at rows slot).b
 abbrev pub NoneBetween : List Row → ℕ → ℕ → ℕ → Type 0
 NoneBetween rows block low high = (other : ℕ) → HasBlock rows block other → low < (row_at rows other).set → high ≤ (row_at rows other).set
 
+-- the slot has a copy of the block between the two sets
+pub record IsBetween (rows : List Row) (block low high slot : ℕ) : Type 0 where
+  pub has : HasBlock rows block slot
+  pub above : low < (row_at rows slot).set
+  pub below : (row_at rows slot).set < high
+
 -- the link leads to the copy of the block with the greatest set below this one
 pub record LeadsBelow (rows : List Row) (link block set : ℕ) : Type 0 where
-  pub has : HasBlock rows block link
-  pub below : (row_at rows link).set < set
+  pub between : IsBetween rows block 0 set link
   pub next : (other : ℕ) → HasBlock rows block other → (row_at rows other).set < set → (row_at rows other).set ≤ (row_at rows link).set
 
--- the link leads there, or says that there is no such copy
+-- where there is such a copy, the link leads there; else it may be any number
 abbrev pub IsBelow : List Row → ℕ → ℕ → ℕ → Type 0
-IsBelow rows link block set = ((link ≡ length rows) × NoneBetween rows block 0 set) ⊎ LeadsBelow rows link block set
+IsBelow rows link block set = (other : ℕ) → HasBlock rows block other → (row_at rows other).set < set → LeadsBelow rows link block set
 
 -- ## the links of a block: one from the block itself, which stands above all sets, and one from each of its copies
 

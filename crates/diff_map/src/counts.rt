@@ -1,6 +1,6 @@
 //! Where an image stands among the others, and which is the first that has a copy.
 
-ghost use Rattle.std.specs.Prelude.{◌≡◌, ◌<◌, ◌≤◌, length, All, AllPairs, IfSome, IsNone};
+ghost use Rattle.std.specs.Prelude.{◌≡◌, ◌<◌, ◌≤◌, length, drop, vec_capacity, All, AllPairs, IfSome, IsNone};
 ghost use Rattle.std.specs.List.{AllWithin};
 ghost use Rattle.diff_map.specs.Counts.{IsFirstUsed};
 
@@ -14,6 +14,27 @@ pub fn place_from(images: &[u32], set: u32) -> usize
     ensures onward { AllWithin (λ image. set ≤ image) images.now result (length images.now) }
 {
     images.partition_point(|image| *image < set)
+}
+
+/// The place of the first of the ascending images after this set, or of the one that would follow them.
+pub fn place_after(images: &[u32], set: u32) -> usize
+    requires { AllPairs (λ older newer. older < newer) images.now }
+    ensures within { result ≤ length images.now }
+    ensures before { AllWithin (λ image. image ≤ set) images.now 0 result }
+    ensures onward { AllWithin (λ image. set < image) images.now result (length images.now) }
+{
+    images.partition_point(|image| *image <= set)
+}
+
+/// The first so many items go.
+pub fn drop_first<T: Copy + Drop>(items: &mut Vec<T>, count: usize)
+    requires { count ≤ length items.old.items }
+    ensures items { items.new.items ≡ drop count items.old.items }
+    ensures capacity { vec_capacity items.new ≡ vec_capacity items.old }
+{
+    let left = items.len() - count;
+    items.copy_within(count.., 0);
+    items.truncate(left);
 }
 
 /// The first image that has a copy.

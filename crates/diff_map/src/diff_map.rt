@@ -7,7 +7,7 @@ ghost use Rattle.diff_map.specs.Leaving.{rule_of};
 ghost use Rattle.diff_map.specs.Rules.{renewed, dropped, cleared, gone, merged, next_older, GivesBack};
 
 use crate::copied::Copied;
-use crate::counts::{first_used, place_from};
+use crate::counts::{drop_first, first_used, place_after, place_from};
 use crate::entry::Entry;
 use crate::going::Going;
 use crate::image_count::ImageCount;
@@ -219,6 +219,15 @@ impl DiffMap {
         ensures none { IsNone result → (self.new ≡ self.old) × (used_for self.old.copies set ≡ 0) }
     {
         let at = place_from(&self.images, set);
+        self.pop_at(at)
+    }
+
+    /// The same for the image at a place among the images.
+    pub fn pop_at(&mut self, at: usize) -> Option<Entry>
+        requires { at < length self.old.images }
+        ensures some { IfSome result (IsPopped self.old self.new (slice_index self.old.images at)) }
+        ensures none { IsNone result → (self.new ≡ self.old) × (used_for self.old.copies (slice_index self.old.images at) ≡ 0) }
+    {
         let count = self.counts[at];
         if count.used == 0 {
             return None;
@@ -226,12 +235,16 @@ impl DiffMap {
         let slot = count.first;
         let block = self.links.take_out(slot);
         self.counts[at] = ImageCount {
-            set,
+            set: count.set,
             used: count.used - 1,
             first: self.next[slot as usize],
         };
         self.used -= 1;
-        Some(Entry { block, set, slot })
+        Some(Entry {
+            block,
+            set: count.set,
+            slot,
+        })
     }
 
     /// Takes the image of `set` out, which has no copy.
@@ -248,8 +261,9 @@ impl DiffMap {
         requires { (slot : ℕ) (copied : Copied) → copied_at self.old.copies slot ≡ Some copied → set < copied.set }
         ensures { self.new ≡ record self.old { images = filter (λ image. nat_lt set image) self.old.images } }
     {
-        self.images.retain(|&image| image > set);
-        self.counts.retain(|count| count.set > set);
+        let gone = place_after(&self.images, set);
+        drop_first(&mut self.images, gone);
+        drop_first(&mut self.counts, gone);
     }
 
     /// Takes each image newer than `set` out. None of them has a copy.
@@ -267,10 +281,11 @@ impl DiffMap {
         ensures map { self.new ≡ record self.old { copies = renewed (rule_of going) self.old.copies } }
         ensures slots { GivesBack self.old.copies self.new.copies pool.old pool.new }
     {
-        for i in 0..self.images().len() {
+        let (from, to) = going.places(self.images());
+        for i in from..to {
             let image = self.images()[i];
             if going.takes(image) {
-                'copies: while let Some(entry) = self.pop(image) {
+                'copies: while let Some(entry) = self.pop_at(i) {
                     pool.give(entry.slot);
                 }
             }

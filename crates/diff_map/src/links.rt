@@ -3,7 +3,7 @@
 ghost use Rattle.std.specs.Prelude.{◌≡◌, ◌<◌, ◌≤◌, ◌^◌, ◌↔◌, Some, None, length, replicate, slice_get, slice_set, IfOk, IfSome, IsNone};
 ghost use Rattle.diff_map.specs.Copies.{HasCopy, copied_at, copy_of};
 ghost use Rattle.diff_map.specs.Chains.{IsFound, IsAbsent};
-ghost use Rattle.diff_map.specs.Links.{AreLinked, row_at, HasBlock, NoneBetween, IsBelow, IsFrom, IsNextAbove, KeepsLinks, link_from, newest_after, older_after};
+ghost use Rattle.diff_map.specs.Links.{AreLinked, row_at, HasBlock, NoneBetween, IsBetween, IsBelow, IsFrom, IsNextAbove, KeepsLinks, link_from, newest_after, older_after};
 
 use crate::copied::Copied;
 use crate::row::Row;
@@ -30,12 +30,20 @@ impl Model for Links {
     ghost invariant = { λ l. KeepsLinks l.newest.items l.rows.items };
 }
 
-/// The slot that a link names, where its copy is above this set.
-fn reach(rows: &[Row], link: u32, low: u32) -> Option<u32>
-    ensures on { IfSome result (λ at. (at ≡ link) × (at < length rows.now) × (low < (row_at rows.now at).set)) }
-    ensures none { IsNone result → link < length rows.now → (row_at rows.now link).set ≤ low }
+/// All sets are below this one.
+const ABOVE_ALL: u64 = 1 << 32;
+
+/// The slot that a link of a block names, where its copy is of the block and between these sets. Else the link leads to no such copy: what
+/// it named went, and another copy may have its slot.
+fn reach(rows: &[Row], link: u32, block: u32, low: u32, high: u64) -> Option<u32>
+    ensures on { IfSome result (IsBetween rows.now block low high) }
+    ensures none { IsNone result → IsBelow rows.now link block high → NoneBetween rows.now block low high }
 {
-    if (link as usize) < rows.len() && rows[link as usize].set > low {
+    if (link as usize) >= rows.len() {
+        return None;
+    }
+    let row = rows[link as usize];
+    if row.block == block && row.set > low && u64::from(row.set) < high {
         return Some(link);
     }
     None
@@ -47,14 +55,24 @@ fn next_above(newest: &[u32], rows: &[Row], block: u32, low: u32) -> Option<u32>
     requires in_range { block < length newest.now }
     ensures { IsNextAbove rows.now block low result }
 {
-    let Some(first) = reach(rows, newest[block as usize], low) else {
+    let Some(first) = reach(rows, newest[block as usize], block, low, ABOVE_ALL) else {
         return None;
     };
     let mut at = first;
-    'chain: while let Some(older) = reach(rows, rows[at as usize].older, low) {
+    'chain: while let Some(older) = older_above(rows, block, at, low) {
         at = older;
     }
     Some(at)
+}
+
+/// The next older copy of a block than this one, where it is above `low`.
+fn older_above(rows: &[Row], block: u32, at: u32, low: u32) -> Option<u32>
+    requires { at < length rows.now }
+    ensures on { IfSome result (IsBetween rows.now block low (row_at rows.now at).set) }
+    ensures none { IsNone result → IsBelow rows.now (row_at rows.now at).older block (row_at rows.now at).set → NoneBetween rows.now block low (row_at rows.now at).set }
+{
+    let row = rows[at as usize];
+    reach(rows, row.older, block, low, u64::from(row.set))
 }
 
 /// The link of a block from this copy, or from the block itself.
@@ -164,13 +182,18 @@ impl Links {
         lead(&mut self.newest, &mut self.rows, block, above, slot);
     }
 
-    /// Takes the copy of a slot out. The answer is its block.
+    /// Takes the copy of a slot out. The answer is its block. Where no copy of the block is older, the link to it is left as it is: it
+    /// leads to no copy of the block any more.
     pub fn take_out(&mut self, slot: u32) -> u32
         requires { (copied : Copied) × (copied_at self.old.copies slot ≡ Some copied) }
         ensures links { self.new ≡ record self.old { copies = slice_set self.old.copies slot None } }
         ensures block { (copied : Copied) → copied_at self.old.copies slot ≡ Some copied → copied.block ≡ result }
     {
         let row = self.rows[slot as usize];
+        if older_above(&self.rows, row.block, slot, 0).is_none() {
+            self.rows[slot as usize] = Row { set: 0, ..row };
+            return row.block;
+        }
         let above = next_above(&self.newest, &self.rows, row.block, row.set);
         self.rows[slot as usize] = Row { set: 0, ..row };
         lead(
