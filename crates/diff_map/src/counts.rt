@@ -26,8 +26,25 @@ pub fn place_after(images: &[u32], set: u32) -> usize
     images.partition_point(|image| *image <= set)
 }
 
+/// So few items are taken out one by one, each by one move of the others; more by a loop over the others.
+const FEW: usize = 8;
+
 /// The first so many items go.
 pub fn drop_first<T: Copy + Drop>(items: &mut Vec<T>, count: usize)
+    requires { count ≤ length items.old.items }
+    ensures items { items.new.items ≡ drop count items.old.items }
+    ensures capacity { vec_capacity items.new ≡ vec_capacity items.old }
+{
+    if count > FEW {
+        return write_over_first(items, count);
+    }
+    for _i in 0..count {
+        let _first = items.remove(0);
+    }
+}
+
+/// The same, where the others are written over the first.
+fn write_over_first<T: Copy + Drop>(items: &mut Vec<T>, count: usize)
     requires { count ≤ length items.old.items }
     ensures items { items.new.items ≡ drop count items.old.items }
     ensures capacity { vec_capacity items.new ≡ vec_capacity items.old }
