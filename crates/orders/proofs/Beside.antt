@@ -1,6 +1,6 @@
 -- A run by the moves of a report, from its beginning to its own report, and that beside the text.
 use Rattle.std.proofs.Common.{◌≡◌, ℕ, ◌+◌, List, [], ◌∷◌, ◌++◌, refl, ap, sym, ◌∙◌, Bool, true, Option, Some, None, subst, arith, cond}
-use Rattle.std.specs.Prelude.{map, Result, Ok, Err, IfOk}
+use Rattle.std.specs.Prelude.{Result, Ok, Err, IfOk}
 use Rattle.std.proofs.lemmas.List.Sums.{sum_by-cons}
 use Rattle.vss_names.specs.TextValue.{TextValue}
 use Rattle.write_history.specs.declared.mark.Mark.{Mark}
@@ -16,7 +16,7 @@ use Rattle.vss_play.specs.declared.play_fault.PlayFault.{PlayFault}
 use Rattle.vss_play.specs.Played.{Played, IsFresh}
 use Rattle.orders.specs.declared.replayed.Replayed.{Replayed}
 use Rattle.orders.specs.declared.replayed.Replayed.TheVariants.{Same, Differs, ScenarioRefused, DeviceFault, OutOfMemory}
-use Rattle.orders.specs.Again.{AreTold, IsRead, IsFollowedFar, IsReplayed, IsCompared, IsAgain, IsAgainOver, IsReplayOver, IsSame, IsSameOver}
+use Rattle.orders.specs.Again.{AreTold, IsRead, IsFollowedFar, IsReplayed, IsCompared, IsAgain, IsAgainOver, IsReplayOver, IsSame, IsSameOver, without_marks}
 use Rattle.orders.specs.Followed.{IsEndedInTurn}
 use Rattle.orders.specs.Runs.{IsOfTrail}
 use Rattle.orders.specs.Told.{OtherLine, first_other}
@@ -96,26 +96,26 @@ no_report s moves trail given report line wanted first is same given_is =
 -- ## the devices of a maker give the marks
 
 -- moves without a fault mark are as they are without their marks
-clean_same : (ms : List Move) → faults ms ≡ 0 → map (λ (m : Move). record m { mark = Clean }) ms ≡ ms
+clean_same : (ms : List Move) → faults ms ≡ 0 → without_marks ms ≡ ms
 clean_same [] none = refl
 clean_same (m ∷ ms) none =
     let all = parts m ms none in
-    ap (λ (k : Mark). record m { mark = k } ∷ map (λ (x : Move). record x { mark = Clean }) ms) (sym all.0) ∙ ap (λ (xs : List Move). m ∷ xs) (clean_same ms all.1)
+    ap (λ (k : Mark). record m { mark = k } ∷ without_marks ms) (sym all.0) ∙ ap (λ (xs : List Move). m ∷ xs) (clean_same ms all.1)
 
-no_faults : (ms : List Move) → faults (map (λ (m : Move). record m { mark = Clean }) ms) ≡ 0
+no_faults : (ms : List Move) → faults (without_marks ms) ≡ 0
 no_faults [] = refl
 no_faults (m ∷ ms) =
-    none (faults (map (λ (x : Move). record x { mark = Clean }) (m ∷ ms))) (faults (map (λ (x : Move). record x { mark = Clean }) ms))
-    (sum_by-cons (λ (x : Move). cond (is_fault x.mark) 1 0) (record m { mark = Clean }) (map (λ (x : Move). record x { mark = Clean }) ms)) (no_faults ms)
+    none (faults (without_marks (m ∷ ms))) (faults (without_marks ms))
+    (sum_by-cons (λ (x : Move). cond (is_fault x.mark) 1 0) (record m { mark = Clean }) (without_marks ms)) (no_faults ms)
   where
     none : (n k : ℕ) → n ≡ 0 + k → k ≡ 0 → n ≡ 0
     none n k e f = omega arith
 
 pub over_so : {D : Type 0} (count : D → ℕ) (tells : Bool) (text given : List ℕ) (s : Plan) (told moves : List Move) (before after : ℕ) (result : Replayed) → IsRead text given s told
-    → moves ≡ map (λ (m : Move). record m { mark = Clean }) told → IsReplayOver count tells s moves given before after result → IsAgainOver count tells text given before after result
+    → moves ≡ without_marks told → IsReplayOver count tells s moves given before after result → IsAgainOver count tells text given before after result
 over_so {D} count tells text given s told moves before after result read is h = by_result result (subst (λ (ms : List Move). IsReplayOver count tells s ms given before after result) is h)
   where
-    same_over : (xs : List ℕ) → IsSame count tells s (map (λ (m : Move). record m { mark = Clean }) told) xs → IsSameOver count tells text xs
+    same_over : (xs : List ℕ) → IsSame count tells s (without_marks told) xs → IsSameOver count tells text xs
     same_over xs same = record {
       plan = s;
       is_scenario = read.is_scenario;
@@ -123,7 +123,7 @@ over_so {D} count tells text given s told moves before after result read is h = 
       reported = record { of_trail = same.reported; unmarked = λ never. same.unmarked never (no_faults told) };
     }
 
-    by_result : (r : Replayed) → IsReplayOver count tells s (map (λ (m : Move). record m { mark = Clean }) told) given before after r → IsAgainOver count tells text given before after r
+    by_result : (r : Replayed) → IsReplayOver count tells s (without_marks told) given before after r → IsAgainOver count tells text given before after r
     by_result Same g = same_over given g
     by_result (Differs line wanted) g = record {
       report = g.report;
@@ -131,8 +131,8 @@ over_so {D} count tells text given s told moves before after result read is h = 
       first = g.first;
       none = λ never tell trail legal complete clean legible given_is.
           let of_text : told ≡ trail = read.told trail (reads_back s given trail read.plan read.names legible given_is) in
-          let moves_are : map (λ (m : Move). record m { mark = Clean }) told ≡ trail = ap (map (λ (m : Move). record m { mark = Clean })) of_text ∙ clean_same trail clean in
-          no_report s (map (λ (m : Move). record m { mark = Clean }) told) trail given g.report line wanted.bytes g.first
+          let moves_are : without_marks told ≡ trail = ap without_marks of_text ∙ clean_same trail clean in
+          no_report s (without_marks told) trail given g.report line wanted.bytes g.first
           (g.exact never tell (subst (λ (ms : List Move). is_legal s ms ≡ true) (sym moves_are) legal) (subst (λ (ms : List Move). is_complete s ms ≡ true) (sym moves_are) complete)) moves_are
           given_is;
     }

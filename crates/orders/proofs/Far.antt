@@ -110,10 +110,10 @@ module _ {D : Type 0} (told : D → Option (List (List ℕ))) (count : D → ℕ
         exact = λ never legal.
             let m = get_or moves i d in
             let rest = drop (i + 1) moves in
-            let split : p.trail ++ moves ≡ (p.trail ++ take i moves ++ m ∷ []) ++ rest =
+            let split : p.trail ++ moves ≡ (p.trail ++ (take i moves ++ m ∷ [])) ++ rest =
             ap (λ (ms : List Move). p.trail ++ ms) (sym (take-append-drop (i + 1) moves) ∙ ap (λ (ms : List Move). ms ++ rest) (take_more moves i d l))
             ∙ sym (append_assoc p.trail (take i moves ++ m ∷ []) rest) in
-            let so_far = legal_before p.plan (p.trail ++ take i moves ++ m ∷ []) rest (subst (λ (ms : List Move). is_legal p.plan ms ≡ true) split legal) in
+            let so_far = legal_before p.plan (p.trail ++ (take i moves ++ m ∷ [])) rest (subst (λ (ms : List Move). is_legal p.plan ms ≡ true) split legal) in
             let all = legal_first p.plan (p.trail ++ take i moves) m (subst (λ (ms : List Move). is_legal p.plan ms ≡ true) (sym (append_assoc p.trail (take i moves) (m ∷ []))) so_far) in
             let may : may_move p.plan (run p.plan (p.trail ++ take i moves)) m.actor ≡ true =
             (and_parts (may_move p.plan (run p.plan (p.trail ++ take i moves)) m.actor)

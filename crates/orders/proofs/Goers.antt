@@ -167,7 +167,7 @@ none_goes told count p k kept e =
     let all : find test (lanes ++ writers ++ Advance ∷ []) ≡ None = none_in_all test k (actors_in_threads p.plan) ends.0 in
     let most = find_parts test (lanes ++ writers) (Advance ∷ []) all in
     let parts = find_parts test lanes writers most.0 in
-    stuck_complete told count p kept
+    stuck_complete told p kept
     (λ i l. stays p (Lane i) (none_from test (λ j. Lane j) (length p.plan.lanes) i parts.0 l))
     (λ w l. stays p (Writer w) (none_from test (λ j. Writer j) (length p.plan.writers) w parts.1 l))
     (stays p Advance (none_alone test Advance most.1)) (stays p Idle (none_alone test Idle ends.1))

@@ -1,6 +1,6 @@
 -- The replay of the report of a legal and complete trail makes that trail again.
 use Rattle.std.proofs.Common.{◌≡◌, ℕ, ◌+◌, ◌≤◌, List, [], ◌∷◌, ◌++◌, length, refl, ap, sym, ◌∙◌, arith, Bool, true, false, Option, Some, None, subst, inl, inr}
-use Rattle.std.specs.Prelude.{◌&&◌, ◌||◌, ◌⊎◌, nat_le, IsTrue, Ok}
+use Rattle.std.specs.Prelude.{◌||◌, ◌⊎◌, nat_le, IsTrue, Ok}
 use Rattle.std.proofs.lemmas.Bool.Decides.{nat_tests}
 use Rattle.std.proofs.lemmas.List.{append-nil}
 use Rattle.write_history.specs.declared.actor.Actor.{Actor}

@@ -1,7 +1,8 @@
 -- What a replay of a report promises. (This project's own.)
-use Rattle.std.specs.Prelude.{ℕ, ◌≡◌, ◌++◌, Bool, true, false, IsTrue, List, [], ◌∷◌, Option, Some, None, Result, Ok, Err}
+use Rattle.std.specs.Prelude.{ℕ, ◌≡◌, ◌++◌, Bool, true, false, IsTrue, List, [], ◌∷◌, map, Option, Some, None, Result, Ok, Err}
 use Rattle.vss_names.specs.Faults.{Rose}
 use Rattle.vss_names.specs.declared.out_of_memory.OutOfMemory.{OutOfMemory}
+use Rattle.write_history.specs.declared.mark.Mark.TheVariants.{Clean}
 use Rattle.write_history.specs.declared.move_item.Move.{Move}
 use Rattle.cow_volume.specs.Calls.{NeverFails, uncounted}
 use Rattle.scenario.specs.Bounds.{IsPlan}
@@ -39,6 +40,9 @@ IsUnread text (ScenarioRefused line reason) = reading_of text ≡ IsBad line rea
 IsUnread text DeviceFault = ⊥
 IsUnread text WantsMemory = Unit {0}
 
+abbrev pub without_marks : List Move → List Move
+without_marks moves = map (λ (m : Move). record m { mark = Clean }) moves
+
 -- ## a run by these moves, as far as they may come
 
 -- whether a move was made, with its mark where it may come with that and no call of a device fails
@@ -68,7 +72,7 @@ pub record IsReplayed {D : Type 0} (count : D → ℕ) (tells : Bool) (s : Plan)
 
 -- ## what the text is
 
--- no legal and complete trail of which this holds has this text as its report
+-- no legal and complete trail of which this holds, and that is legible, has this text as its report
 abbrev pub IsOfNoTrail : (List Move → Type 0) → Plan → List ℕ → Type 0
 IsOfNoTrail P s given = (trail : List Move) → is_legal s trail ≡ true → is_complete s trail ≡ true → P trail → IsLegibleTrail s (all_tell s) trail → given ≡ told_report s trail → ⊥
 
@@ -147,7 +151,7 @@ IsAgainOver count tells text given first last WantsMemory = Unit {0}
 
 -- ## `again`
 
--- By how it ended: the text is the same exactly where it is the report of a legal and complete trail.
+-- By how it ended: the text is the same exactly where it is the report of a legal and complete trail, of those that are legible.
 abbrev pub IsAgain : List ℕ → List ℕ → Replayed → Type 0
 IsAgain text given Same = IsReportOf text given
 IsAgain text given (Differs line wanted) = IsOtherThan text given line wanted.bytes

@@ -106,7 +106,7 @@ pub fn run_again_over<R: Threads + Sync, M: Maker>(
 }
 
 /// Replays a report over devices in memory of which no call fails, each move with its mark. The text is the same exactly where it is the
-/// report of a legal and complete trail of the scenario.
+/// report of a legal and complete trail of the scenario, of those that are legible.
 pub fn run_again<R: Threads + Sync>(rt: &R, alloc: Global, text: &[u8], report: &[u8]) -> Replayed
     requires text { length text.now < 4294967295 }
     requires report { length report.now ≤ MOST_BYTES }

@@ -1,8 +1,7 @@
 //! The moves that a report tells.
 
-ghost use Rattle.std.specs.Prelude.{◌≡◌, ◌≤◌, ◌<◌, length, map, IfOk};
-ghost use Rattle.write_history.specs.declared.mark.Mark.TheVariants as mark;
-ghost use Rattle.orders.specs.Again.{AreTold};
+ghost use Rattle.std.specs.Prelude.{◌≡◌, ◌≤◌, ◌<◌, length, IfOk};
+ghost use Rattle.orders.specs.Again.{AreTold, without_marks};
 ghost use Rattle.orders.specs.declared.telling.TheConstants.{MOST_BYTES};
 
 use scenario::Scenario;
@@ -62,7 +61,7 @@ pub fn told_moves(alloc: Global, scenario: &Scenario, text: &[u8]) -> Result<Tra
 
 /// These moves without their marks.
 pub fn unmarked(alloc: Global, moves: &[Move]) -> Result<Vec<Move>, OutOfMemory>
-    ensures { IfOk result (λ clean. clean.items ≡ map (λ (m : _). record m { mark = mark.Clean }) moves.now) }
+    ensures { IfOk result (λ clean. clean.items ≡ without_marks moves.now) }
 {
     let mut clean = Vec::new(alloc);
     for item in moves {

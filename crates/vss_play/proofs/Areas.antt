@@ -24,8 +24,8 @@ use Rattle.vss_play.proofs.OneMove.{IsShortLaw, few_of}
 
 -- ## calls that are no moves
 
-pub stands_by : {D : Type 0} (told : D → Option (List (List ℕ))) (count : D → ℕ) (s : Plan) (w : WorldValue D) (cursors : List ℕ) (trail : List Move) (text : List ℕ) → IsShortLaw → IsPlay told s w cursors trail text → StandsAfter told w s trail
-stands_by told count s w cursors trail text short kept = record { of = kept.of; few = few_of told count s w cursors trail text short kept; stands = kept.stands }
+pub stands_by : {D : Type 0} (told : D → Option (List (List ℕ))) (s : Plan) (w : WorldValue D) (cursors : List ℕ) (trail : List Move) (text : List ℕ) → IsShortLaw → IsPlay told s w cursors trail text → StandsAfter told w s trail
+stands_by told s w cursors trail text short kept = record { of = kept.of; few = few_of told s w cursors trail text short kept; stands = kept.stands }
 
 pub ending_same : {D : Type 0} (told : D → Option (List (List ℕ))) (count : D → ℕ) (w : WorldValue D) (s : Plan) → IsOf w s → IsEnding told count w w s
 ending_same told count w s of = record { stands_for = λ xs h. h; is_of = of; tells = refl; later = later-refl (map count w.devices) }

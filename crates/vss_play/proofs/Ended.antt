@@ -27,7 +27,7 @@ ended_as {D} told lasting count s old new cursors trail text p ds places kept_fi
     subst (λ (q : Played D). IsEnded told lasting count q places kept_first kept_last count_first count_last result) is (record {
       new = r;
       quiet = record { plan = refl; trail = refl; lines = refl; tells = ending.tells; later = ending.later };
-      keeps = play_kept told count s new cursors trail text r refl (play_ending told count s old new cursors trail text kept ending);
+      keeps = play_kept told s new cursors trail text r refl (play_ending told count s old new cursors trail text kept ending);
       ends = ends;
       kept = subst (λ (xs : List D). length xs ≤ places → kept_last ≡ option_map (λ ys. ys ++ xs) kept_first) same given;
       count_is = counts ∙ ap (λ (xs : List D). all_counted count_first (map count xs)) same;

@@ -149,6 +149,6 @@ going_by s trail cursors many (Writer w) event e at = tt
 going_by s trail cursors many Advance event e at = tt
 going_by s trail cursors many Idle event e at = tt
 
-pub going_actor : {D : Type 0} (told : D → Option (List (List ℕ))) (count : D → ℕ) (s : Plan) (w : WorldValue D) (cursors : List ℕ) (trail : List Move) (text : List ℕ) (actor : Actor) (line : ℕ) (event : Event)
+pub going_actor : {D : Type 0} (told : D → Option (List (List ℕ))) (s : Plan) (w : WorldValue D) (cursors : List ℕ) (trail : List Move) (text : List ℕ) (actor : Actor) (line : ℕ) (event : Event)
     → IsCalled told s w cursors trail text actor line event → IsGoing s cursors actor
-going_actor told count s w cursors trail text actor line event c = going_by s trail cursors c.kept.lanes actor event c.event_is (λ i l. cursor_is trail cursors i l c.kept.made)
+going_actor told s w cursors trail text actor line event c = going_by s trail cursors c.kept.lanes actor event c.event_is (λ i l. cursor_is trail cursors i l c.kept.made)

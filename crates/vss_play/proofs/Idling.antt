@@ -36,9 +36,9 @@ idle_in s r cursors next =
     ap (λ b. enabled s r.state IdleEvent && (b && list_all (writer_rests s r.state) (range_with_len 0 (length s.writers)) && not (enabled s r.state Provider))) lanes
     ∙ ap (λ b. enabled s r.state IdleEvent && (list_all (λ i. not (can_act s r (Lane i))) (range_with_len 0 (length s.lanes)) && b && not (enabled s r.state Provider))) writers
 
-pub idle_is : {D : Type 0} (told : D → Option (List (List ℕ))) (count : D → ℕ) (s : Plan) (w : WorldValue D) (cursors lent : List ℕ) (trail : List Move) (text : List ℕ) (b d : Bool)
+pub idle_is : {D : Type 0} (told : D → Option (List (List ℕ))) (s : Plan) (w : WorldValue D) (cursors lent : List ℕ) (trail : List Move) (text : List ℕ) (b d : Bool)
     → IsPlay told s w cursors trail text → lent ≡ cursors → IfStands told w s (λ st. b ≡ may_idle_in s lent st) → b ≡ d → may_move s (run s trail) Idle ≡ d
-idle_is told count s w cursors lent trail text b d kept same tested e =
+idle_is told s w cursors lent trail text b d kept same tested e =
     sym (idle_in s (run s trail) cursors (λ i. next_is s trail cursors i kept.made kept.lanes))
     ∙ ap (λ (st : State). may_idle_in s cursors st) (state-run s trail)
     ∙ ap (λ (cs : List ℕ). may_idle_in s cs (state s (acts s trail))) (sym same)
@@ -47,16 +47,16 @@ idle_is told count s w cursors lent trail text b d kept same tested e =
 -- ## what a writer answers
 
 -- the event of a writer is what the core and its script tell
-pub answer_is : {D : Type 0} (told : D → Option (List (List ℕ))) (count : D → ℕ) (s : Plan) (w : WorldValue D) (cursors : List ℕ) (trail : List Move) (text : List ℕ) (v : ℕ) (a : Option Answer)
+pub answer_is : {D : Type 0} (told : D → Option (List (List ℕ))) (s : Plan) (w : WorldValue D) (cursors : List ℕ) (trail : List Move) (text : List ℕ) (v : ℕ) (a : Option Answer)
     → IsPlay told s w cursors trail text → IfStands told w s (λ st. answer_event v a ≡ script_event s st v (order_of_writer st v)) → event_of s (run s trail) (Writer v) ≡ answer_event v a
-answer_is told count s w cursors trail text v a kept tells =
+answer_is told s w cursors trail text v a kept tells =
     ap (λ (st : State). script_event s st v (order_of_writer st v)) (state-run s trail) ∙ sym (tells (acts s trail) kept.stands)
 
 -- a writer that answers nothing does not move
-pub silent_stays : {D : Type 0} (told : D → Option (List (List ℕ))) (count : D → ℕ) (s : Plan) (w : WorldValue D) (cursors : List ℕ) (trail : List Move) (text : List ℕ) (v : ℕ) (a : Option Answer)
+pub silent_stays : {D : Type 0} (told : D → Option (List (List ℕ))) (s : Plan) (w : WorldValue D) (cursors : List ℕ) (trail : List Move) (text : List ℕ) (v : ℕ) (a : Option Answer)
     → IsPlay told s w cursors trail text → IfStands told w s (λ st. answer_event v a ≡ script_event s st v (order_of_writer st v)) → a ≡ None → may_move s (run s trail) (Writer v) ≡ false
-silent_stays told count s w cursors trail text v a kept tells none =
-    ap (event_enabled s (run s trail)) (answer_is told count s w cursors trail text v a kept tells ∙ ap (answer_event v) none)
+silent_stays told s w cursors trail text v a kept tells none =
+    ap (event_enabled s (run s trail)) (answer_is told s w cursors trail text v a kept tells ∙ ap (answer_event v) none)
 
 -- ## all so far
 

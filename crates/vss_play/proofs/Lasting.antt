@@ -1,5 +1,5 @@
 -- What was brought to where it lasts has lasted, also after calls that leave what the devices tell as it was.
-use Rattle.std.proofs.Common.{◌≡◌, ℕ, ◌+◌, ◌<◌, ◌≤◌, List, [], ◌∷◌, length, refl, ap, sym, ◌∙◌, arith, Option, subst, inl, inr}
+use Rattle.std.proofs.Common.{◌≡◌, ℕ, ◌+◌, ◌<◌, ◌≤◌, List, length, refl, ap, sym, ◌∙◌, arith, Option, subst, inl, inr}
 use Rattle.std.specs.Prelude.{◌⊎◌, map}
 use Rattle.std.proofs.lemmas.Option.{slice_get_within}
 use Rattle.scenario.specs.Plan.{Plan}

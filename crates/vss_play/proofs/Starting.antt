@@ -17,9 +17,9 @@ length_replicate : (n x : ℕ) → length (replicate n x) ≡ n
 length_replicate zero x = refl
 length_replicate (suc n) x = ap suc (length_replicate n x)
 
-pub play_fresh : {D : Type 0} (told : D → Option (List (List ℕ))) (count : D → ℕ) (s : Plan) (w : WorldValue D) (cursors : List ℕ) (moves : List Move) (text : List ℕ) (lanes : ℕ)
+pub play_fresh : {D : Type 0} (told : D → Option (List (List ℕ))) (s : Plan) (w : WorldValue D) (cursors : List ℕ) (moves : List Move) (text : List ℕ) (lanes : ℕ)
     → IsPlan s → Stands told w s [] → IsOf w s → lanes ≡ length s.lanes → cursors ≡ replicate {A = ℕ} lanes 0 → moves ≡ [] → text ≡ first_line → IsPlay told s w cursors moves text
-play_fresh told count s w cursors moves text lanes plan stands of many first none line =
+play_fresh told s w cursors moves text lanes plan stands of many first none line =
     subst (λ (ms : List Move). IsPlay told s w cursors ms text) (sym none)
     (subst (λ (cs : List ℕ). IsPlay told s w cs [] text) (sym first)
     (record {
