@@ -1,11 +1,15 @@
 -- A metadata document: what a text says of a writer, or why it is refused. The checks stand in the order in which the
 -- format makes them, so the refusal is the first. (This project's own format.)
-use Rattle.std.specs.Prelude.{ℕ, ◌+◌, Bool, List, [], ◌∷◌, codes, nat_le, if◌then◌else◌, Option, Some, None, ok_or, Result, Ok, Err}
+use Rattle.std.specs.Prelude.{ℕ, ◌+◌, Bool, List, [], ◌∷◌, codes, nat_le, if◌then◌else◌, Option, Some, None, ok_or, option_map, Result, Ok, Err}
+use Rattle.std.specs.Borrow.{Bor}
 use Rattle.std.specs.List.{list_any}
+use Rattle.std.specs.Option.{option_or}
 use Rattle.std.specs.Str.{bytes_eq, is_utf8}
 use Rattle.serde_json.specs.Data.{Data, Items, no_items, item, Members, no_members, member}
 use Rattle.serde_json.specs.Read.{read}
-use Rattle.serde_json.specs.Find.{get, as_array, as_object}
+use Rattle.serde_json.specs.Find.{get, get_member, as_array, as_object}
+use Rattle.serde_json.specs.View.{view}
+use Rattle.serde_json.specs.declared.value.Value.{Value}
 use Rattle.tick_limits.specs.Time.{default_freeze}
 use Rattle.vss_names.specs.declared.level.Level.{Level}
 use Rattle.vss_names.specs.declared.usage.Usage.{Usage}
@@ -13,6 +17,7 @@ use Rattle.vss_names.specs.declared.source_kind.SourceKind.{SourceKind}
 use Rattle.vss_names.specs.declared.component_type.ComponentType.{ComponentType}
 use Rattle.writer_meta.specs.declared.field.Field.{Field}
 use Rattle.writer_meta.specs.declared.field.Field.TheVariants as field
+use Rattle.writer_meta.specs.declared.part_values.PartValues.{PartValues}
 use Rattle.writer_meta.specs.Metadata.{Part, Meta, full_name}
 use Rattle.writer_meta.specs.Refusal.{Refusal, IsNotJson, Misses, HasWrong, HasUnknown, HasDouble, HasTooMany, member_name}
 use Rattle.writer_meta.specs.Values.{class_value, name_value, level_value, usage_value, source_value, freeze_timeout_value, kind_value, path_value, component_name_value, selectable_value}
@@ -29,8 +34,11 @@ abbrev pub value_at : {A : Type 0} → (Data → Option A) → Field → Data �
 value_at value field d = ok_or (value d) (HasWrong field)
 
 -- a member that has to be there
+abbrev pub demanded : {A : Type 0} → (Data → Option A) → Field → Option Data → Result A Refusal
+demanded value field found = then_on (ok_or found (Misses field)) (value_at value field)
+
 abbrev pub required : {A : Type 0} → (Data → Option A) → Field → Data → Result A Refusal
-required value field d = then_on (ok_or (get (member_name field) d) (Misses field)) (value_at value field)
+required value field d = demanded value field (get (member_name field) d)
 
 -- a member that may be missing
 abbrev pub optional : {A : Type 0} → A → (Data → Option A) → Field → Option Data → Result A Refusal
@@ -61,20 +69,20 @@ freeze_timeout_in d = optional default_freeze freeze_timeout_value field.FreezeT
 unfoldable pub components_in : Data → Result Items Refusal
 components_in d = required as_array field.Components d
 
--- ## the rows of a component
+-- ## the rows of a component, by the values of its members
 
-unfoldable pub kind_in : Data → Result ComponentType Refusal
-kind_in d = required kind_value field.Kind d
+unfoldable pub kind_in : Option Data → Result ComponentType Refusal
+kind_in found = demanded kind_value field.Kind found
 
 -- the empty path, where nothing is said
-unfoldable pub path_in : Data → Result (List ℕ) Refusal
-path_in d = optional [] path_value field.Path (get (codes "path") d)
+unfoldable pub path_in : Option Data → Result (List ℕ) Refusal
+path_in found = optional [] path_value field.Path found
 
-unfoldable pub component_name_in : Data → Result (List ℕ) Refusal
-component_name_in d = required component_name_value field.Name d
+unfoldable pub component_name_in : Option Data → Result (List ℕ) Refusal
+component_name_in found = demanded component_name_value field.Name found
 
-unfoldable pub selectable_in : Data → Result Bool Refusal
-selectable_in d = required selectable_value field.Selectable d
+unfoldable pub selectable_in : Option Data → Result Bool Refusal
+selectable_in found = demanded selectable_value field.Selectable found
 
 -- ## unknown members
 
@@ -100,21 +108,47 @@ unless_unknown (Some name) said = Err (HasUnknown name)
 
 -- ## components
 
-unfoldable pub rows_of_part : Data → Result Part Refusal
-rows_of_part d =
-    then_on (kind_in d) (λ kind.
-    then_on (path_in d) (λ path.
-    then_on (component_name_in d) (λ name.
-    then_on (selectable_in d) (λ selectable.
+-- the values of a component's members, where they are
+pub record PartRows : Type 0 where
+  pub kind : Option Data
+  pub path : Option Data
+  pub name : Option Data
+  pub selectable : Option Data
+
+abbrev pub rows_in : Members → PartRows
+rows_in members =
+    record { kind = get_member (codes "type") members; path = get_member (codes "path") members; name = get_member (codes "name") members; selectable = get_member (codes "selectable") members }
+
+-- those of the one, and where it has none, those of the other
+abbrev pub rows_or : PartRows → PartRows → PartRows
+rows_or a b = record { kind = option_or a.kind b.kind; path = option_or a.path b.path; name = option_or a.name b.name; selectable = option_or a.selectable b.selectable }
+
+-- with those of one member more
+abbrev pub rows_with : PartRows → List ℕ → Data → PartRows
+rows_with rows name d = rows_or rows (rows_in (member name d no_members))
+
+-- what is found of a value, as data
+abbrev pub seen : Option (Bor Value) → Option Data
+seen found = option_map (λ v. view v.now) found
+
+abbrev pub rows_seen : PartValues → PartRows
+rows_seen values = record { kind = seen values.kind; path = seen values.path; name = seen values.name; selectable = seen values.selectable }
+
+unfoldable pub rows_of_part : PartRows → Result Part Refusal
+rows_of_part rows =
+    then_on (kind_in rows.kind) (λ kind.
+    then_on (path_in rows.path) (λ path.
+    then_on (component_name_in rows.name) (λ name.
+    then_on (selectable_in rows.selectable) (λ selectable.
     Ok (record { kind = kind; path = path; name = name; selectable = selectable })))))
 
 -- a component is an object
-abbrev pub part_of_members : Data → Option Members → Result Part Refusal
-part_of_members d None = Err (HasWrong field.Components)
-part_of_members d (Some members) = unless_unknown (unknown_in (is_known component_members) members) (rows_of_part d)
+abbrev pub part_of_members : Option Members → Result Part Refusal
+part_of_members None = Err (HasWrong field.Components)
+part_of_members (Some members) = unless_unknown (unknown_in (is_known component_members) members) (rows_of_part (rows_in members))
 
 unfoldable pub part_in : Data → Result Part Refusal
-part_in d = part_of_members d (as_object d)
+part_in d = part_of_members (as_object d)
 
 unfoldable pub parts_in : Items → Result (List Part) Refusal
 parts_in no_items = Ok []
