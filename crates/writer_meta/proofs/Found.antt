@@ -1,5 +1,5 @@
 -- The values of a component's members, one member after another.
-use Rattle.std.proofs.Common.{◌≡◌, ℕ, List, [], ◌∷◌, Option, Some, None, Bool, true, false, true≢false, ◌||◌, Ordering, Less, Equal, Greater, string_bytes, nat_cmp, codes, refl, sym, ◌∙◌}
+use Rattle.std.proofs.Common.{◌≡◌, ℕ, List, ◌∷◌, Option, Some, None, Bool, true, false, true≢false, ◌||◌, Ordering, Less, Equal, Greater, string_bytes, nat_cmp, codes, refl, sym, ◌∙◌}
 use Rattle.std.proofs.lemmas.Slice.Eq.{bytes_eq-Decides}
 use Rattle.std.specs.Cmp.Lexicographic.{slice_cmp}
 use Rattle.std.specs.Option.{option_or}
@@ -9,17 +9,14 @@ use Rattle.serde_json.specs.Data.{Data, Members, no_members, member}
 use Rattle.serde_json.specs.Find.{get_member}
 use Rattle.serde_json.specs.View.{view, members_view}
 use Rattle.serde_json.proofs.Views.{Entry}
-use Rattle.writer_meta.specs.Document.{PartRows, rows_in, rows_or, rows_with, is_known, component_members}
+use Rattle.writer_meta.specs.Document.{PartRows, rows_in, is_known, component_members}
+use Rattle.writer_meta.specs.Members.{rows_or, rows_with}
 
 abbrev rows_of : Option Data → Option Data → Option Data → Option Data → PartRows
 rows_of kind path name selectable = record { kind = kind; path = path; name = name; selectable = selectable }
 
 same_rows : {k l p q n m s t : Option Data} → k ≡ l → p ≡ q → n ≡ m → s ≡ t → rows_of k p n s ≡ rows_of l q m t
 same_rows a b c d = cc
-
-or-none : (found : Option Data) → option_or found None ≡ found
-or-none None = refl
-or-none (Some d) = refl
 
 -- ## a member that no component has
 
@@ -53,6 +50,3 @@ pub rows-further : (k p n s : Option Data) (left more : List Entry) (e : Entry) 
 rows-further k p n s left more e step =
     let f : (found : Option Data) (m : List ℕ) → _ = λ found m. found_further found m (string_bytes e.0) (view e.1) (members_view more) in
     rw step (same_rows (f k (codes "type")) (f p (codes "path")) (f n (codes "name")) (f s (codes "selectable")))
-
-pub rows-all : (k p n s : Option Data) (left : List Entry) → left ≡ [] → rows_or (rows_of k p n s) (rows_in (members_view left)) ≡ rows_of k p n s
-rows-all k p n s left end = rw end (same_rows (or-none k) (or-none p) (or-none n) (or-none s))

@@ -10,7 +10,7 @@ use Rattle.writer_meta.specs.declared.field.Field.TheVariants as field
 use Rattle.writer_meta.specs.Metadata.{Part}
 use Rattle.writer_meta.specs.Refusal.{Refusal}
 use Rattle.writer_meta.specs.Values.{is_writer_name, is_component_name, is_path, is_freeze_timeout, some_if, string_value, freeze_timeout_value, name_value, path_value, component_name_value}
-use Rattle.writer_meta.specs.Document.{then_on, value_at, demanded, optional, name_in, freeze_timeout_in, path_in, component_name_in, kind_in, selectable_in, PartRows, rows_in, rows_of_part, part_of_members, part_in, parts_in, count_of, double_after, unless_double, unless_unknown, list_of_parts}
+use Rattle.writer_meta.specs.Document.{then_on, value_at, required, optional, name_in, freeze_timeout_in, path_in, component_name_in, kind_in, selectable_in, PartRows, rows_in, rows_of_part, part_of_members, part_in, parts_in, count_of, double_after, unless_double, unless_unknown, list_of_parts}
 use Rattle.writer_meta.specs.Allowed.{is_allowed_part}
 
 both : (a b : Bool) → a ≡ true → b ≡ true → (a && b) ≡ true
@@ -52,8 +52,8 @@ then_on-Ok : {A B : Type 0} (said : Result A Refusal) (more : A → Result B Ref
 then_on-Ok (Ok x) more y e = (x, refl, e)
 then_on-Ok (Err refusal) more y e = absurd (cc)
 
-demanded-Ok : {A : Type 0} (value : Data → Option A) (place : Field) (found : Option Data) (x : A) → demanded value place found ≡ Ok x → (v : Data) × (value v ≡ Some x)
-demanded-Ok value place found x e =
+required-Ok : {A : Type 0} (value : Data → Option A) (place : Field) (found : Option Data) (x : A) → required value place found ≡ Ok x → (v : Data) × (value v ≡ Some x)
+required-Ok value place found x e =
     let there = then_on-Ok _ (value_at value place) x e in
     (there.0, from_ok_or (value there.0) _ x there.2)
 
@@ -65,7 +65,7 @@ optional-Ok default value place passes (Some v) x usual good e = good v x (from_
 pub name_in-allowed : (d : Data) (name : List ℕ) → name_in d ≡ Ok name → is_writer_name name ≡ true
 unfolding name_in
 name_in-allowed d name e =
-    let found = demanded-Ok name_value field.Name (get (codes "name") d) name e in
+    let found = required-Ok name_value field.Name (get (codes "name") d) name e in
     string_value-passes is_writer_name found.0 name found.1
 
 pub freeze_timeout_in-allowed : (d : Data) (ticks : ℕ) → freeze_timeout_in d ≡ Ok ticks → is_freeze_timeout ticks ≡ true
@@ -79,7 +79,7 @@ path_in-allowed found path e = optional-Ok [] path_value field.Path is_path foun
 component_name_in-allowed : (found : Option Data) (name : List ℕ) → component_name_in found ≡ Ok name → is_component_name name ≡ true
 unfolding component_name_in
 component_name_in-allowed found name e =
-    let there = demanded-Ok component_name_value field.Name found name e in
+    let there = required-Ok component_name_value field.Name found name e in
     string_value-passes is_component_name there.0 name there.1
 
 rows_of_part-allowed : (rows : PartRows) (part : Part) → rows_of_part rows ≡ Ok part → is_allowed_part part ≡ true

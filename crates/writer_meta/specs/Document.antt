@@ -1,15 +1,11 @@
 -- A metadata document: what a text says of a writer, or why it is refused. The checks stand in the order in which the
 -- format makes them, so the refusal is the first. (This project's own format.)
-use Rattle.std.specs.Prelude.{ℕ, ◌+◌, Bool, List, [], ◌∷◌, codes, nat_le, if◌then◌else◌, Option, Some, None, ok_or, option_map, Result, Ok, Err}
-use Rattle.std.specs.Borrow.{Bor}
+use Rattle.std.specs.Prelude.{ℕ, ◌+◌, Bool, List, [], ◌∷◌, codes, nat_le, if◌then◌else◌, Option, Some, None, ok_or, Result, Ok, Err}
 use Rattle.std.specs.List.{list_any}
-use Rattle.std.specs.Option.{option_or}
 use Rattle.std.specs.Str.{bytes_eq, is_utf8}
 use Rattle.serde_json.specs.Data.{Data, Items, no_items, item, Members, no_members, member}
 use Rattle.serde_json.specs.Read.{read}
 use Rattle.serde_json.specs.Find.{get, get_member, as_array, as_object}
-use Rattle.serde_json.specs.View.{view}
-use Rattle.serde_json.specs.declared.value.Value.{Value}
 use Rattle.tick_limits.specs.Time.{default_freeze}
 use Rattle.vss_names.specs.declared.level.Level.{Level}
 use Rattle.vss_names.specs.declared.usage.Usage.{Usage}
@@ -17,7 +13,6 @@ use Rattle.vss_names.specs.declared.source_kind.SourceKind.{SourceKind}
 use Rattle.vss_names.specs.declared.component_type.ComponentType.{ComponentType}
 use Rattle.writer_meta.specs.declared.field.Field.{Field}
 use Rattle.writer_meta.specs.declared.field.Field.TheVariants as field
-use Rattle.writer_meta.specs.declared.part_values.PartValues.{PartValues}
 use Rattle.writer_meta.specs.Metadata.{Part, Meta, full_name}
 use Rattle.writer_meta.specs.Refusal.{Refusal, IsNotJson, Misses, HasWrong, HasUnknown, HasDouble, HasTooMany, member_name}
 use Rattle.writer_meta.specs.Values.{class_value, name_value, level_value, usage_value, source_value, freeze_timeout_value, kind_value, path_value, component_name_value, selectable_value}
@@ -34,11 +29,12 @@ abbrev pub value_at : {A : Type 0} → (Data → Option A) → Field → Data �
 value_at value field d = ok_or (value d) (HasWrong field)
 
 -- a member that has to be there
-abbrev pub demanded : {A : Type 0} → (Data → Option A) → Field → Option Data → Result A Refusal
-demanded value field found = then_on (ok_or found (Misses field)) (value_at value field)
+abbrev pub required : {A : Type 0} → (Data → Option A) → Field → Option Data → Result A Refusal
+required value field found = then_on (ok_or found (Misses field)) (value_at value field)
 
-abbrev pub required : {A : Type 0} → (Data → Option A) → Field → Data → Result A Refusal
-required value field d = demanded value field (get (member_name field) d)
+-- a member of this data that has to be there
+abbrev pub required_in : {A : Type 0} → (Data → Option A) → Field → Data → Result A Refusal
+required_in value field d = required value field (get (member_name field) d)
 
 -- a member that may be missing
 abbrev pub optional : {A : Type 0} → A → (Data → Option A) → Field → Option Data → Result A Refusal
@@ -48,41 +44,41 @@ optional default value field (Some d) = value_at value field d
 -- ## the rows of the document
 
 unfoldable pub class_in : Data → Result ℕ Refusal
-class_in d = required class_value field.Class d
+class_in d = required_in class_value field.Class d
 
 unfoldable pub name_in : Data → Result (List ℕ) Refusal
-name_in d = required name_value field.Name d
+name_in d = required_in name_value field.Name d
 
 unfoldable pub level_in : Data → Result Level Refusal
-level_in d = required level_value field.Level d
+level_in d = required_in level_value field.Level d
 
 unfoldable pub usage_in : Data → Result Usage Refusal
-usage_in d = required usage_value field.Usage d
+usage_in d = required_in usage_value field.Usage d
 
 unfoldable pub source_in : Data → Result SourceKind Refusal
-source_in d = required source_value field.Source d
+source_in d = required_in source_value field.Source d
 
 -- the longest time-out, where nothing is said
 unfoldable pub freeze_timeout_in : Data → Result ℕ Refusal
 freeze_timeout_in d = optional default_freeze freeze_timeout_value field.FreezeTimeout (get (codes "freeze_timeout") d)
 
 unfoldable pub components_in : Data → Result Items Refusal
-components_in d = required as_array field.Components d
+components_in d = required_in as_array field.Components d
 
 -- ## the rows of a component, by the values of its members
 
 unfoldable pub kind_in : Option Data → Result ComponentType Refusal
-kind_in found = demanded kind_value field.Kind found
+kind_in found = required kind_value field.Kind found
 
 -- the empty path, where nothing is said
 unfoldable pub path_in : Option Data → Result (List ℕ) Refusal
 path_in found = optional [] path_value field.Path found
 
 unfoldable pub component_name_in : Option Data → Result (List ℕ) Refusal
-component_name_in found = demanded component_name_value field.Name found
+component_name_in found = required component_name_value field.Name found
 
 unfoldable pub selectable_in : Option Data → Result Bool Refusal
-selectable_in found = demanded selectable_value field.Selectable found
+selectable_in found = required selectable_value field.Selectable found
 
 -- ## unknown members
 
@@ -118,21 +114,6 @@ pub record PartRows : Type 0 where
 abbrev pub rows_in : Members → PartRows
 rows_in members =
     record { kind = get_member (codes "type") members; path = get_member (codes "path") members; name = get_member (codes "name") members; selectable = get_member (codes "selectable") members }
-
--- those of the one, and where it has none, those of the other
-abbrev pub rows_or : PartRows → PartRows → PartRows
-rows_or a b = record { kind = option_or a.kind b.kind; path = option_or a.path b.path; name = option_or a.name b.name; selectable = option_or a.selectable b.selectable }
-
--- with those of one member more
-abbrev pub rows_with : PartRows → List ℕ → Data → PartRows
-rows_with rows name d = rows_or rows (rows_in (member name d no_members))
-
--- what is found of a value, as data
-abbrev pub seen : Option (Bor Value) → Option Data
-seen found = option_map (λ v. view v.now) found
-
-abbrev pub rows_seen : PartValues → PartRows
-rows_seen values = record { kind = seen values.kind; path = seen values.path; name = seen values.name; selectable = seen values.selectable }
 
 unfoldable pub rows_of_part : PartRows → Result Part Refusal
 rows_of_part rows =

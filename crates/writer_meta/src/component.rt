@@ -1,7 +1,8 @@
 ghost use Rattle.std.specs.Prelude.{◌≡◌, IfOk, IfErr};
 ghost use Rattle.serde_json.specs.View.{view};
 ghost use Rattle.writer_meta.specs.Refusal.{Tells};
-ghost use Rattle.writer_meta.specs.Document.{part_in, rows_of_part, rows_seen};
+ghost use Rattle.writer_meta.specs.Document.{part_in, rows_of_part};
+ghost use Rattle.writer_meta.specs.Members.{rows_seen};
 
 use crate::field::Field;
 use crate::meta_fault::MetaFault;

@@ -1,7 +1,8 @@
 //! The members of a component, found in one pass.
 ghost use Rattle.std.specs.Prelude.{◌≡◌, None, Some, IfOk, IfErr, IfSome, is_some};
 ghost use Rattle.serde_json.specs.View.{view, members_view};
-ghost use Rattle.writer_meta.specs.Document.{unknown_in, is_known, component_members, rows_in, rows_with, rows_seen};
+ghost use Rattle.writer_meta.specs.Document.{unknown_in, is_known, component_members, rows_in};
+ghost use Rattle.writer_meta.specs.Members.{rows_with, rows_seen};
 
 use serde_json::{Map, Value};
 
