@@ -7,6 +7,7 @@ pub mod Changes
 pub mod Groups
 pub mod Kept
 pub mod Whole
+pub mod Spelt
 pub mod Stored
 pub mod Named
 pub mod Places

@@ -141,10 +141,17 @@ impl Word {
     pub fn of(bytes: &[u8]) -> Option<Word>
         ensures { result ≡ word_of bytes.now }
     {
-        Word::ALL
-            .iter()
-            .find(|word| word.name().as_bytes() == bytes)
-            .copied()
+        match bytes {
+            // Most lines begin so.
+            b"write" => Some(Word::Write),
+            b"read" => Some(Word::Read),
+            b"image" => Some(Word::Image),
+            b"query" => Some(Word::Query),
+            _ => Word::ALL
+                .iter()
+                .find(|word| word.name().as_bytes() == bytes)
+                .copied(),
+        }
     }
 
     /// Whether the last field is the rest of the line.

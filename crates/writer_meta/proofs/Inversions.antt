@@ -10,7 +10,7 @@ use Rattle.writer_meta.specs.declared.field.Field.TheVariants as field
 use Rattle.writer_meta.specs.Metadata.{Part}
 use Rattle.writer_meta.specs.Refusal.{Refusal}
 use Rattle.writer_meta.specs.Values.{is_writer_name, is_component_name, is_path, is_freeze_timeout, some_if, string_value, freeze_timeout_value, name_value, path_value, component_name_value}
-use Rattle.writer_meta.specs.Document.{then_on, value_at, required, optional, name_in, freeze_timeout_in, path_in, component_name_in, kind_in, selectable_in, rows_of_part, part_of_members, part_in, parts_in, count_of, double_after, unless_double, unless_unknown, list_of_parts}
+use Rattle.writer_meta.specs.Document.{then_on, value_at, required, optional, name_in, freeze_timeout_in, path_in, component_name_in, kind_in, selectable_in, PartRows, rows_in, rows_of_part, part_of_members, part_in, parts_in, count_of, double_after, unless_double, unless_unknown, list_of_parts}
 use Rattle.writer_meta.specs.Allowed.{is_allowed_part}
 
 both : (a b : Bool) → a ≡ true → b ≡ true → (a && b) ≡ true
@@ -52,10 +52,10 @@ then_on-Ok : {A B : Type 0} (said : Result A Refusal) (more : A → Result B Ref
 then_on-Ok (Ok x) more y e = (x, refl, e)
 then_on-Ok (Err refusal) more y e = absurd (cc)
 
-required-Ok : {A : Type 0} (value : Data → Option A) (place : Field) (d : Data) (x : A) → required value place d ≡ Ok x → (v : Data) × (value v ≡ Some x)
-required-Ok value place d x e =
-    let found = then_on-Ok _ (value_at value place) x e in
-    (found.0, from_ok_or (value found.0) _ x found.2)
+required-Ok : {A : Type 0} (value : Data → Option A) (place : Field) (found : Option Data) (x : A) → required value place found ≡ Ok x → (v : Data) × (value v ≡ Some x)
+required-Ok value place found x e =
+    let there = then_on-Ok _ (value_at value place) x e in
+    (there.0, from_ok_or (value there.0) _ x there.2)
 
 optional-Ok : {A : Type 0} (default : A) (value : Data → Option A) (place : Field) (passes : A → Bool) (found : Option Data) (x : A) → passes default ≡ true
     → ((v : Data) (y : A) → value v ≡ Some y → passes y ≡ true) → optional default value place found ≡ Ok x → passes x ≡ true
@@ -65,44 +65,44 @@ optional-Ok default value place passes (Some v) x usual good e = good v x (from_
 pub name_in-allowed : (d : Data) (name : List ℕ) → name_in d ≡ Ok name → is_writer_name name ≡ true
 unfolding name_in
 name_in-allowed d name e =
-    let found = required-Ok name_value field.Name d name e in
+    let found = required-Ok name_value field.Name (get (codes "name") d) name e in
     string_value-passes is_writer_name found.0 name found.1
 
 pub freeze_timeout_in-allowed : (d : Data) (ticks : ℕ) → freeze_timeout_in d ≡ Ok ticks → is_freeze_timeout ticks ≡ true
 unfolding freeze_timeout_in
 freeze_timeout_in-allowed d ticks e = optional-Ok default_freeze freeze_timeout_value field.FreezeTimeout is_freeze_timeout (get (codes "freeze_timeout") d) ticks refl freeze_timeout_value-passes e
 
-path_in-allowed : (d : Data) (path : List ℕ) → path_in d ≡ Ok path → is_path path ≡ true
+path_in-allowed : (found : Option Data) (path : List ℕ) → path_in found ≡ Ok path → is_path path ≡ true
 unfolding path_in
-path_in-allowed d path e = optional-Ok [] path_value field.Path is_path (get (codes "path") d) path refl (string_value-passes is_path) e
+path_in-allowed found path e = optional-Ok [] path_value field.Path is_path found path refl (string_value-passes is_path) e
 
-component_name_in-allowed : (d : Data) (name : List ℕ) → component_name_in d ≡ Ok name → is_component_name name ≡ true
+component_name_in-allowed : (found : Option Data) (name : List ℕ) → component_name_in found ≡ Ok name → is_component_name name ≡ true
 unfolding component_name_in
-component_name_in-allowed d name e =
-    let found = required-Ok component_name_value field.Name d name e in
-    string_value-passes is_component_name found.0 name found.1
+component_name_in-allowed found name e =
+    let there = required-Ok component_name_value field.Name found name e in
+    string_value-passes is_component_name there.0 name there.1
 
-rows_of_part-allowed : (d : Data) (part : Part) → rows_of_part d ≡ Ok part → is_allowed_part part ≡ true
+rows_of_part-allowed : (rows : PartRows) (part : Part) → rows_of_part rows ≡ Ok part → is_allowed_part part ≡ true
 unfolding rows_of_part
-rows_of_part-allowed d part e =
-    let kind = then_on-Ok (kind_in d) _ part e in
-    let path = then_on-Ok (path_in d) _ part kind.2 in
-    let name = then_on-Ok (component_name_in d) _ part path.2 in
-    let selectable = then_on-Ok (selectable_in d) _ part name.2 in
+rows_of_part-allowed rows part e =
+    let kind = then_on-Ok (kind_in rows.kind) _ part e in
+    let path = then_on-Ok (path_in rows.path) _ part kind.2 in
+    let name = then_on-Ok (component_name_in rows.name) _ part path.2 in
+    let selectable = then_on-Ok (selectable_in rows.selectable) _ part name.2 in
     subst (λ p. is_allowed_part p ≡ true) (same_value _ part selectable.2)
-    (both _ _ (path_in-allowed d path.0 path.1) (component_name_in-allowed d name.0 name.1))
+    (both _ _ (path_in-allowed rows.path path.0 path.1) (component_name_in-allowed rows.name name.0 name.1))
 
 from_unless_unknown : {A : Type 0} (unknown : Option (List ℕ)) (said : Result A Refusal) (x : A) → unless_unknown unknown said ≡ Ok x → said ≡ Ok x
 from_unless_unknown None said x e = e
 from_unless_unknown (Some name) said x e = absurd (cc)
 
-part_of_members-allowed : (d : Data) (members : Option Members) (part : Part) → part_of_members d members ≡ Ok part → is_allowed_part part ≡ true
-part_of_members-allowed d None part e = absurd (cc)
-part_of_members-allowed d (Some ms) part e = rows_of_part-allowed d part (from_unless_unknown _ _ part e)
+part_of_members-allowed : (members : Option Members) (part : Part) → part_of_members members ≡ Ok part → is_allowed_part part ≡ true
+part_of_members-allowed None part e = absurd (cc)
+part_of_members-allowed (Some ms) part e = rows_of_part-allowed (rows_in ms) part (from_unless_unknown _ _ part e)
 
 part_in-allowed : (d : Data) (part : Part) → part_in d ≡ Ok part → is_allowed_part part ≡ true
 unfolding part_in
-part_in-allowed d part e = part_of_members-allowed d (as_object d) part e
+part_in-allowed d part e = part_of_members-allowed (as_object d) part e
 
 parts_in-allowed : (items : Items) (parts : List Part) → parts_in items ≡ Ok parts → (list_all is_allowed_part parts ≡ true) × (length parts ≡ count_of items)
 unfolding parts_in

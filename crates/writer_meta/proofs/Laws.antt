@@ -72,35 +72,12 @@ components_row m = refl
 
 -- ## components
 
-kind_row : (part : Part) → kind_in (part_data part) ≡ Ok part.kind
-unfolding kind_in part_data
-kind_row part = rw (component_type_of_number-number_of part.kind) refl
-
-path_row : (part : Part) → is_path part.path ≡ true → path_in (part_data part) ≡ Ok part.path
-unfolding path_in part_data
-path_row part allowed = rw allowed refl
-
-component_name_row : (part : Part) → is_component_name part.name ≡ true → component_name_in (part_data part) ≡ Ok part.name
-unfolding component_name_in part_data
-component_name_row part allowed = rw allowed refl
-
-selectable_row : (part : Part) → selectable_in (part_data part) ≡ Ok part.selectable
-unfolding selectable_in part_data
-selectable_row part = refl
-
-rows_of_part-part_data : (part : Part) → is_allowed_part part ≡ true → rows_of_part (part_data part) ≡ Ok part
-unfolding rows_of_part
-rows_of_part-part_data part allowed =
-    let path = path_row part (and_left _ _ allowed) in
-    let name = component_name_row part (and_right (is_path part.path) _ allowed) in
-    rw (kind_row part, path, name, selectable_row part) refl
-
-part_in-rows : (part : Part) → part_in (part_data part) ≡ rows_of_part (part_data part)
-unfolding part_in part_data unknown_in
-part_in-rows part = refl
-
 part_in-part_data : (part : Part) → is_allowed_part part ≡ true → part_in (part_data part) ≡ Ok part
-part_in-part_data part allowed = part_in-rows part ∙ rows_of_part-part_data part allowed
+unfolding part_in part_data unknown_in rows_of_part kind_in path_in component_name_in selectable_in
+part_in-part_data part allowed =
+    let path : is_path part.path ≡ true = and_left _ _ allowed in
+    let name : is_component_name part.name ≡ true = and_right (is_path part.path) _ allowed in
+    rw (component_type_of_number-number_of part.kind, path, name) refl
 
 parts_in-parts_data : (parts : List Part) → list_all is_allowed_part parts ≡ true → parts_in (parts_data parts) ≡ Ok parts
 unfolding parts_in

@@ -1,4 +1,5 @@
 pub mod Allowed
+pub mod Found
 pub mod Inversions
 pub mod Laws
 pub mod Lists

@@ -5,7 +5,7 @@ use Rattle.std.specs.List.{list_any}
 use Rattle.std.specs.Str.{bytes_eq, is_utf8}
 use Rattle.serde_json.specs.Data.{Data, Items, no_items, item, Members, no_members, member}
 use Rattle.serde_json.specs.Read.{read}
-use Rattle.serde_json.specs.Find.{get, as_array, as_object}
+use Rattle.serde_json.specs.Find.{get, get_member, as_array, as_object}
 use Rattle.tick_limits.specs.Time.{default_freeze}
 use Rattle.vss_names.specs.declared.level.Level.{Level}
 use Rattle.vss_names.specs.declared.usage.Usage.{Usage}
@@ -29,8 +29,12 @@ abbrev pub value_at : {A : Type 0} → (Data → Option A) → Field → Data �
 value_at value field d = ok_or (value d) (HasWrong field)
 
 -- a member that has to be there
-abbrev pub required : {A : Type 0} → (Data → Option A) → Field → Data → Result A Refusal
-required value field d = then_on (ok_or (get (member_name field) d) (Misses field)) (value_at value field)
+abbrev pub required : {A : Type 0} → (Data → Option A) → Field → Option Data → Result A Refusal
+required value field found = then_on (ok_or found (Misses field)) (value_at value field)
+
+-- a member of this data that has to be there
+abbrev pub required_in : {A : Type 0} → (Data → Option A) → Field → Data → Result A Refusal
+required_in value field d = required value field (get (member_name field) d)
 
 -- a member that may be missing
 abbrev pub optional : {A : Type 0} → A → (Data → Option A) → Field → Option Data → Result A Refusal
@@ -40,41 +44,41 @@ optional default value field (Some d) = value_at value field d
 -- ## the rows of the document
 
 unfoldable pub class_in : Data → Result ℕ Refusal
-class_in d = required class_value field.Class d
+class_in d = required_in class_value field.Class d
 
 unfoldable pub name_in : Data → Result (List ℕ) Refusal
-name_in d = required name_value field.Name d
+name_in d = required_in name_value field.Name d
 
 unfoldable pub level_in : Data → Result Level Refusal
-level_in d = required level_value field.Level d
+level_in d = required_in level_value field.Level d
 
 unfoldable pub usage_in : Data → Result Usage Refusal
-usage_in d = required usage_value field.Usage d
+usage_in d = required_in usage_value field.Usage d
 
 unfoldable pub source_in : Data → Result SourceKind Refusal
-source_in d = required source_value field.Source d
+source_in d = required_in source_value field.Source d
 
 -- the longest time-out, where nothing is said
 unfoldable pub freeze_timeout_in : Data → Result ℕ Refusal
 freeze_timeout_in d = optional default_freeze freeze_timeout_value field.FreezeTimeout (get (codes "freeze_timeout") d)
 
 unfoldable pub components_in : Data → Result Items Refusal
-components_in d = required as_array field.Components d
+components_in d = required_in as_array field.Components d
 
--- ## the rows of a component
+-- ## the rows of a component, by the values of its members
 
-unfoldable pub kind_in : Data → Result ComponentType Refusal
-kind_in d = required kind_value field.Kind d
+unfoldable pub kind_in : Option Data → Result ComponentType Refusal
+kind_in found = required kind_value field.Kind found
 
 -- the empty path, where nothing is said
-unfoldable pub path_in : Data → Result (List ℕ) Refusal
-path_in d = optional [] path_value field.Path (get (codes "path") d)
+unfoldable pub path_in : Option Data → Result (List ℕ) Refusal
+path_in found = optional [] path_value field.Path found
 
-unfoldable pub component_name_in : Data → Result (List ℕ) Refusal
-component_name_in d = required component_name_value field.Name d
+unfoldable pub component_name_in : Option Data → Result (List ℕ) Refusal
+component_name_in found = required component_name_value field.Name found
 
-unfoldable pub selectable_in : Data → Result Bool Refusal
-selectable_in d = required selectable_value field.Selectable d
+unfoldable pub selectable_in : Option Data → Result Bool Refusal
+selectable_in found = required selectable_value field.Selectable found
 
 -- ## unknown members
 
@@ -100,21 +104,32 @@ unless_unknown (Some name) said = Err (HasUnknown name)
 
 -- ## components
 
-unfoldable pub rows_of_part : Data → Result Part Refusal
-rows_of_part d =
-    then_on (kind_in d) (λ kind.
-    then_on (path_in d) (λ path.
-    then_on (component_name_in d) (λ name.
-    then_on (selectable_in d) (λ selectable.
+-- the values of a component's members, where they are
+pub record PartRows : Type 0 where
+  pub kind : Option Data
+  pub path : Option Data
+  pub name : Option Data
+  pub selectable : Option Data
+
+abbrev pub rows_in : Members → PartRows
+rows_in members =
+    record { kind = get_member (codes "type") members; path = get_member (codes "path") members; name = get_member (codes "name") members; selectable = get_member (codes "selectable") members }
+
+unfoldable pub rows_of_part : PartRows → Result Part Refusal
+rows_of_part rows =
+    then_on (kind_in rows.kind) (λ kind.
+    then_on (path_in rows.path) (λ path.
+    then_on (component_name_in rows.name) (λ name.
+    then_on (selectable_in rows.selectable) (λ selectable.
     Ok (record { kind = kind; path = path; name = name; selectable = selectable })))))
 
 -- a component is an object
-abbrev pub part_of_members : Data → Option Members → Result Part Refusal
-part_of_members d None = Err (HasWrong field.Components)
-part_of_members d (Some members) = unless_unknown (unknown_in (is_known component_members) members) (rows_of_part d)
+abbrev pub part_of_members : Option Members → Result Part Refusal
+part_of_members None = Err (HasWrong field.Components)
+part_of_members (Some members) = unless_unknown (unknown_in (is_known component_members) members) (rows_of_part (rows_in members))
 
 unfoldable pub part_in : Data → Result Part Refusal
-part_in d = part_of_members d (as_object d)
+part_in d = part_of_members (as_object d)
 
 unfoldable pub parts_in : Items → Result (List Part) Refusal
 parts_in no_items = Ok []

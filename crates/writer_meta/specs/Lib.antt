@@ -4,4 +4,5 @@ pub mod Metadata
 pub mod Refusal
 pub mod Values
 pub mod Written
+pub mod Members
 pub mod Messages

@@ -1,5 +1,5 @@
 -- What is said of a text that is no metadata document, and the numbers of the faults. (This project's own.)
-use Rattle.std.specs.Prelude.{ℕ, ◌++◌, ◌∷◌, [], List, Option, Some, None, codes, if◌then◌else◌}
+use Rattle.std.specs.Prelude.{ℕ, ◌++◌, List, Option, Some, None, codes, if◌then◌else◌}
 use Rattle.std.specs.List.{flat_map}
 use Rattle.std.specs.Char.{encode_utf8}
 use Rattle.writer_meta.specs.declared.meta_fault.MetaFault.{MetaFault}

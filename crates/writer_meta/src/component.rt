@@ -2,11 +2,13 @@ ghost use Rattle.std.specs.Prelude.{◌≡◌, IfOk, IfErr};
 ghost use Rattle.serde_json.specs.View.{view};
 ghost use Rattle.writer_meta.specs.Refusal.{Tells};
 ghost use Rattle.writer_meta.specs.Document.{part_in, rows_of_part};
+ghost use Rattle.writer_meta.specs.Members.{rows_seen};
 
 use crate::field::Field;
 use crate::meta_fault::MetaFault;
+use crate::part_values::PartValues;
 use crate::utf8::str_of;
-use crate::{rows, unknown, values};
+use crate::{rows, values};
 use serde_json::{Value, json};
 use std::alloc::Global;
 use vss_names::{ComponentType, OutOfMemory, Text};
@@ -71,20 +73,21 @@ impl Component {
         let Some(members) = value.as_object() else {
             return Err(MetaFault::WrongKind(Field::Components));
         };
-        if let Some(name) = unknown::unknown_of_component(members) {
-            return Err(MetaFault::UnknownName(Text::copy(alloc, name.as_bytes())?));
+        match PartValues::of(members) {
+            Ok(values) => Component::from_rows(alloc, values),
+            Err(name) => Err(MetaFault::UnknownName(Text::copy(alloc, name.as_bytes())?)),
         }
-        Component::from_rows(alloc, value)
     }
 
-    fn from_rows(alloc: Global, value: &Value) -> Result<Component, MetaFault>
-        ensures ok { IfOk result (λ component. rows_of_part (view value.now) ≡ Ok (part_of component)) }
-        ensures refused { IfErr result (λ fault. Tells fault (rows_of_part (view value.now))) }
+    fn from_rows(alloc: Global, values: PartValues) -> Result<Component, MetaFault>
+        ensures ok { IfOk result
+            (λ component. rows_of_part (rows_seen values.entry) ≡ Ok (part_of component)) }
+        ensures refused { IfErr result (λ fault. Tells fault (rows_of_part (rows_seen values.entry))) }
     {
-        let kind = rows::kind_in(value)?;
-        let path = rows::path_in(alloc, value)?;
-        let name = rows::component_name_in(alloc, value)?;
-        let selectable = rows::selectable_in(value)?;
+        let kind = rows::kind_in(values.kind)?;
+        let path = rows::path_in(alloc, values.path)?;
+        let name = rows::component_name_in(alloc, values.name)?;
+        let selectable = rows::selectable_in(values.selectable)?;
         Ok(Component {
             kind,
             path,

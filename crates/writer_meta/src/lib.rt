@@ -13,6 +13,7 @@ mod distinct;
 mod field;
 mod meta_fault;
 mod metadata;
+mod part_values;
 mod rows;
 mod shown;
 mod unknown;

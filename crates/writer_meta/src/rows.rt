@@ -3,6 +3,7 @@ ghost use Rattle.std.specs.Prelude.{◌≡◌, IfOk, IfErr};
 ghost use Rattle.serde_json.specs.View.{view, items_view};
 ghost use Rattle.writer_meta.specs.Refusal.{Tells};
 ghost use Rattle.writer_meta.specs.Document.{class_in, name_in, level_in, usage_in, source_in, freeze_timeout_in, components_in, kind_in, path_in, component_name_in, selectable_in};
+ghost use Rattle.writer_meta.specs.Members.{seen};
 
 use crate::field::Field;
 use crate::meta_fault::MetaFault;
@@ -111,11 +112,11 @@ pub(crate) fn components_in(document: &Value) -> Result<&[Value], MetaFault>
 }
 
 #[tactic(auto, unfolding(crate::specs::Document::kind_in))]
-pub(crate) fn kind_in(component: &Value) -> Result<ComponentType, MetaFault>
-    ensures ok { IfOk result (λ it. kind_in (view component.now) ≡ Ok it) }
-    ensures refused { IfErr result (λ fault. Tells fault (kind_in (view component.now))) }
+pub(crate) fn kind_in(found: Option<&Value>) -> Result<ComponentType, MetaFault>
+    ensures ok { IfOk result (λ it. kind_in (seen found.entry) ≡ Ok it) }
+    ensures refused { IfErr result (λ fault. Tells fault (kind_in (seen found.entry))) }
 {
-    let Some(value) = component.get("type") else {
+    let Some(value) = found else {
         return Err(MetaFault::MissingField(Field::Kind));
     };
     let Some(kind) = values::kind_of(value) else {
@@ -125,11 +126,11 @@ pub(crate) fn kind_in(component: &Value) -> Result<ComponentType, MetaFault>
 }
 
 #[tactic(auto, unfolding(crate::specs::Document::path_in))]
-pub(crate) fn path_in(alloc: Global, component: &Value) -> Result<Text, MetaFault>
-    ensures ok { IfOk result (λ it. path_in (view component.now) ≡ Ok it.bytes) }
-    ensures refused { IfErr result (λ fault. Tells fault (path_in (view component.now))) }
+pub(crate) fn path_in(alloc: Global, found: Option<&Value>) -> Result<Text, MetaFault>
+    ensures ok { IfOk result (λ it. path_in (seen found.entry) ≡ Ok it.bytes) }
+    ensures refused { IfErr result (λ fault. Tells fault (path_in (seen found.entry))) }
 {
-    let Some(value) = component.get("path") else {
+    let Some(value) = found else {
         return Ok(Text::new(alloc));
     };
     let Some(path) = values::path_of(value) else {
@@ -139,11 +140,11 @@ pub(crate) fn path_in(alloc: Global, component: &Value) -> Result<Text, MetaFaul
 }
 
 #[tactic(auto, unfolding(crate::specs::Document::component_name_in))]
-pub(crate) fn component_name_in(alloc: Global, component: &Value) -> Result<Text, MetaFault>
-    ensures ok { IfOk result (λ it. component_name_in (view component.now) ≡ Ok it.bytes) }
-    ensures refused { IfErr result (λ fault. Tells fault (component_name_in (view component.now))) }
+pub(crate) fn component_name_in(alloc: Global, found: Option<&Value>) -> Result<Text, MetaFault>
+    ensures ok { IfOk result (λ it. component_name_in (seen found.entry) ≡ Ok it.bytes) }
+    ensures refused { IfErr result (λ fault. Tells fault (component_name_in (seen found.entry))) }
 {
-    let Some(value) = component.get("name") else {
+    let Some(value) = found else {
         return Err(MetaFault::MissingField(Field::Name));
     };
     let Some(name) = values::component_name_of(value) else {
@@ -153,11 +154,11 @@ pub(crate) fn component_name_in(alloc: Global, component: &Value) -> Result<Text
 }
 
 #[tactic(auto, unfolding(crate::specs::Document::selectable_in))]
-pub(crate) fn selectable_in(component: &Value) -> Result<bool, MetaFault>
-    ensures ok { IfOk result (λ it. selectable_in (view component.now) ≡ Ok it) }
-    ensures refused { IfErr result (λ fault. Tells fault (selectable_in (view component.now))) }
+pub(crate) fn selectable_in(found: Option<&Value>) -> Result<bool, MetaFault>
+    ensures ok { IfOk result (λ it. selectable_in (seen found.entry) ≡ Ok it) }
+    ensures refused { IfErr result (λ fault. Tells fault (selectable_in (seen found.entry))) }
 {
-    let Some(value) = component.get("selectable") else {
+    let Some(value) = found else {
         return Err(MetaFault::MissingField(Field::Selectable));
     };
     let Some(selectable) = values::selectable_of(value) else {
