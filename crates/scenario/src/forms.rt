@@ -140,6 +140,7 @@ macro_rules! shape {
 
 /// What the fields of a line say, by the row of its word.
 macro_rules! read {
+    ([$fields:ident $text:ident $draft:ident] () => $says:expr) => { alone($says, $fields) };
     ([$fields:ident $text:ident $draft:ident] $(
         ($($field:ident: $kind:tt $(($($with:ident),*))?),*) $(if $told:ident $by:literal)? => $says:expr
     ),+) => {

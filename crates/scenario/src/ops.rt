@@ -4,7 +4,7 @@ ghost use Rattle.scenario.specs.Words.{reads_or_writes};
 ghost use Rattle.scenario.specs.Fields.{AreFields};
 ghost use Rattle.scenario.specs.Bounds.{IsRanged};
 ghost use Rattle.scenario.specs.Drafts.{IsDraft, by_reason};
-ghost use Rattle.scenario.specs.Ops.{write_of, read_of, op_of};
+ghost use Rattle.scenario.specs.Ops.{write_of, read_of, alone, op_of};
 
 use crate::cause::Cause;
 use crate::draft::Draft;
@@ -40,6 +40,17 @@ pub(crate) fn read_of(text: &[u8], draft: &Draft, fields: Fields) -> Result<Op, 
     ensures ranged { IfOk result (IsRanged (length text.now) draft.now.said.volumes (length draft.now.said.writers)) }
 {
     forms!(Read read [fields text draft])
+}
+
+/// A word alone.
+fn alone(op: Op, fields: Fields) -> Result<Op, Cause>
+    ensures value { by_reason result ≡ alone op fields }
+    ensures same { IfOk result (λ o. o ≡ op) }
+{
+    if let Fields::Zero = fields {
+        return Ok(op);
+    }
+    Err(Cause::no_form())
 }
 
 /// What another line of a lane says, by its first word.
