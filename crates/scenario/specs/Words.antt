@@ -47,7 +47,17 @@ takes_rest Writer = true
 takes_rest Component = true
 takes_rest _ = false
 
--- the word whose line has a document
-abbrev pub takes_document : Word → Bool
-takes_document Writer = true
-takes_document _ = false
+-- the words whose lines declare, but for a writer's, or begin a lane
+abbrev pub declares : Word → Bool
+declares Scenario = true
+declares Area = true
+declares Volume = true
+declares Answer = true
+declares Lane = true
+declares _ = false
+
+-- the words of the lines of blocks, which have a reader each
+abbrev pub reads_or_writes : Word → Bool
+reads_or_writes Write = true
+reads_or_writes Read = true
+reads_or_writes _ = false

@@ -42,13 +42,6 @@ impl Cause {
         }
     }
 
-    /// None of the words that may stand there.
-    pub(crate) fn no_word(found: Field, words: &'static str) -> Cause
-        ensures { result.reason ≡ Reason.UnknownWord }
-    {
-        Cause::field(Reason::UnknownWord, found, Expected::Word(words))
-    }
-
     /// No name of this kind that was declared above.
     pub(crate) fn undeclared(found: Field, kind: NameKind) -> Cause
         ensures { result.reason ≡ Reason.UnknownName }

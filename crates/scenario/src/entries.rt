@@ -6,32 +6,28 @@ ghost use Rattle.scenario.specs.Bounds.{begins_agenda};
 ghost use Rattle.scenario.specs.SoFar.{line_count, agenda_count};
 ghost use Rattle.scenario.specs.Fields.{IsPart, AreFields, words_at};
 ghost use Rattle.scenario.specs.Drafts.{AreCounts, IsDraft, IsEntry, saying_in, told, IsUnread};
-ghost use Rattle.scenario.specs.Words.{takes_document};
 ghost use Rattle.scenario.specs.Entries.{is_printable, is_skipped, has_lane, may_stand, has_line_room, line_if, line_of, row_of, said_of, saying_of};
 
 use crate::cause::Cause;
 use crate::counts::{Counts, begins_agenda};
-use crate::declarations::{area_of, lane_of, opening_of, volume_of};
+use crate::declarations::declaration_of;
 use crate::draft::Draft;
 use crate::entry::Entry;
 use crate::expected::Expected;
 use crate::field::Field;
 use crate::fields::{Fields, bytes_of, fields_for, word_at};
+use crate::forms::{MOST_AGENDA_LINES, MOST_LINES};
 use crate::lane_line::LaneLine;
 use crate::name_kind::NameKind;
 use crate::op::Op;
-use crate::ops::op_of;
+use crate::ops::{op_of, read_of, write_of};
 use crate::reason::Reason;
 use crate::span::Span;
 use crate::text_line::TextLine;
 use crate::unread::Unread;
 use crate::word::Word;
-use crate::writer_lines::{answer_of, writer_of};
+use crate::writer_lines::writer_of;
 use std::alloc::Global;
-
-const MOST_LINES: usize = 100_000;
-/// Of the lines that may begin an agenda.
-const MOST_AGENDA_LINES: usize = 2_000;
 
 /// Whether all are bytes that may stand in a line.
 pub(crate) fn are_printable(bytes: &[u8]) -> bool
@@ -119,7 +115,7 @@ pub(crate) fn line_if(draft: &Draft, number: u32, op: Op) -> Result<Entry, Cause
 }
 
 /// A line of the lane at hand.
-#[tactic(auto, unfolding(crate::specs::Entries::line_of))]
+#[tactic(auto, unfolding(crate::specs::Entries::line_of, crate::specs::Ops::op_of))]
 fn line_of(
     text: &[u8],
     draft: &Draft,
@@ -133,34 +129,12 @@ fn line_of(
     ensures value { told result ≡ line_of text.now draft.now.said number word fields }
     ensures kept { IfOk result (IsEntry text.now draft.now) }
 {
-    let op = op_of(text, draft, word, fields)?;
+    let op = match word {
+        Word::Write => write_of(text, draft, fields)?,
+        Word::Read => read_of(text, draft, fields)?,
+        _ => op_of(text, draft, word, fields)?,
+    };
     line_if(draft, number, op)
-}
-
-/// What a line says that may stand here and has no document.
-#[tactic(auto, unfolding(crate::specs::Entries::row_of))]
-pub(crate) fn row_of(
-    text: &[u8],
-    draft: &Draft,
-    number: u32,
-    word: Word,
-    fields: Fields,
-) -> Result<Entry, Cause>
-    requires parts { AreFields (length text.now) fields }
-    requires draft { IsDraft text.now draft.now }
-    requires placed { IsTrue (may_stand draft.now.said.opened (has_lane draft.now.said.lanes) word) }
-    requires plain { takes_document word ≡ false }
-    ensures value { told result ≡ row_of text.now draft.now.said number word fields }
-    ensures kept { IfOk result (IsEntry text.now draft.now) }
-{
-    match word {
-        Word::Scenario => opening_of(text, fields),
-        Word::Area => area_of(text, draft, fields),
-        Word::Volume => volume_of(text, draft, fields),
-        Word::Answer => answer_of(text, draft, fields),
-        Word::Lane => lane_of(text, draft, fields),
-        _ => line_of(text, draft, number, word, fields),
-    }
 }
 
 /// What a line says that may stand here.
@@ -180,13 +154,14 @@ fn placed_row_of(
     ensures kept { IfOk result (IsEntry text.now draft.now) }
     ensures refused { IfErr result (IsUnread ((row_of text.now draft.now.said number word fields))) }
 {
-    if let Word::Writer = word {
-        return writer_of(alloc, text, draft, fields);
-    }
-    match row_of(text, draft, number, word, fields) {
-        Ok(entry) => Ok(entry),
-        Err(cause) => Err(Unread::Bad(cause)),
-    }
+    let entry = match word {
+        Word::Writer => return writer_of(alloc, text, draft, fields),
+        Word::Scenario | Word::Area | Word::Volume | Word::Answer | Word::Lane => {
+            declaration_of(text, draft, word, fields)?
+        }
+        _ => line_of(text, draft, number, word, fields)?,
+    };
+    Ok(entry)
 }
 
 /// What a line says, by its words.

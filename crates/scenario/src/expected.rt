@@ -35,8 +35,8 @@ pub enum Expected {
     },
     /// A name that was declared above.
     Declared(NameKind),
-    /// These words, or one of them.
-    Word(&'static str),
+    /// The word that a form has there.
+    Word,
     /// The name of an order.
     Order,
     /// The name of a writer's error.

@@ -1,16 +1,16 @@
 //! The values of the fields of a line, after the lines before it.
-ghost use Rattle.std.specs.Prelude.{◌≡◌, ◌<◌, ◌≤◌, length, IfOk, slice_get};
+ghost use Rattle.std.specs.Prelude.{◌≡◌, ◌<◌, ◌≤◌, true, false, length, IfOk, IfErr, OnOk, slice_get};
 ghost use Rattle.scenario.specs.Plan.{blocks_in};
-ghost use Rattle.scenario.specs.Fields.{IsField, AreFields};
+ghost use Rattle.scenario.specs.Fields.{IsField};
 ghost use Rattle.scenario.specs.Drafts.{IsDraft, by_reason};
 ghost use Rattle.scenario.specs.Declarations.{count_of, declared_at};
-ghost use Rattle.scenario.specs.Ops.{number_at, number_below, block_at, is_word, volume_alone, set_and_volume};
+ghost use Rattle.scenario.specs.Ops.{number_at, number_below, block_at, is_word};
 
 use crate::cause::Cause;
 use crate::draft::Draft;
 use crate::expected::Expected;
 use crate::field::Field;
-use crate::fields::{Fields, bytes_of};
+use crate::fields::bytes_of;
 use crate::name_kind::NameKind;
 use crate::numbers::{in_range, number_in};
 use crate::quantity::Quantity;
@@ -131,14 +131,7 @@ pub(crate) fn block_field(
     number_field(text, Quantity::Block(row.name), 0, row.blocks - 1, field)
 }
 
-/// The number of a set, from 1.
-pub(crate) fn set_field(text: &[u8], field: Field) -> Result<u32, Cause>
-    requires { IsField (length text.now) field }
-    ensures { by_reason result ≡ number_at text.now 1 4294967295 field }
-{
-    number_field(text, Quantity::Set, 1, u32::MAX, field)
-}
-
+/// Whether a field is this word.
 pub(crate) fn is_word(text: &[u8], field: Field, name: &[u8]) -> bool
     requires { IsField (length text.now) field }
     ensures { result ≡ is_word text.now field name.now }
@@ -150,36 +143,15 @@ pub(crate) fn is_word(text: &[u8], field: Field, name: &[u8]) -> bool
     }
 }
 
-/// A volume alone.
-#[tactic(auto, unfolding(crate::specs::Ops::volume_alone))]
-pub(crate) fn volume_alone(text: &[u8], draft: &Draft, fields: Fields) -> Result<u32, Cause>
-    requires parts { AreFields (length text.now) fields }
-    requires draft { IsDraft text.now draft.now }
-    ensures value { by_reason result ≡ volume_alone text.now draft.now.said.volumes fields }
-    ensures in_range { IfOk result (λ v. v < length draft.now.said.volumes) }
+/// A word that has to stand there.
+pub(crate) fn word_field(text: &[u8], field: Field, word: &'static str) -> Result<(), Cause>
+    requires { IsField (length text.now) field }
+    ensures ok { OnOk result (is_word text.now field word.now ≡ true) }
+    ensures other { IfErr result (λ cause. is_word text.now field word.now ≡ false) }
+    ensures reason { IfErr result (λ cause. cause.reason ≡ Reason.UnknownWord) }
 {
-    match fields {
-        Fields::One(volume) => declared_field(text, draft, NameKind::Volume, volume),
-        _ => Err(Cause::no_form()),
+    if is_word(text, field, word.as_bytes()) {
+        return Ok(());
     }
-}
-
-/// A set and a volume.
-#[tactic(auto, unfolding(crate::specs::Ops::set_and_volume))]
-pub(crate) fn set_and_volume(
-    text: &[u8],
-    draft: &Draft,
-    fields: Fields,
-) -> Result<(u32, u32), Cause>
-    requires parts { AreFields (length text.now) fields }
-    requires draft { IsDraft text.now draft.now }
-    ensures value { by_reason result ≡ set_and_volume text.now draft.now.said.volumes fields }
-    ensures in_range { IfOk result (λ p. p.1 < length draft.now.said.volumes) }
-{
-    let Fields::Two(set, volume) = fields else {
-        return Err(Cause::no_form());
-    };
-    let set = set_field(text, set)?;
-    let volume = declared_field(text, draft, NameKind::Volume, volume)?;
-    Ok((set, volume))
+    Err(Cause::field(Reason::UnknownWord, field, Expected::Word))
 }

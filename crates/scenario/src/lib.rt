@@ -24,6 +24,7 @@ mod expected;
 mod field;
 mod field_values;
 mod fields;
+mod forms;
 mod given;
 mod group_row;
 mod kept_rows;

@@ -1,16 +1,17 @@
 //! The lines that values are.
-ghost use Rattle.std.specs.Prelude.{◌≡◌, IfOk, length, false};
+ghost use Rattle.std.specs.Prelude.{◌≡◌, IfOk, length, true};
 ghost use Rattle.scenario.specs.Bounds.{IsBlockOf, IsRanged};
 ghost use Rattle.scenario.specs.declared.field.Field.TheVariants.{Number};
 ghost use Rattle.scenario.specs.declared.fields.Fields.TheVariants as fields;
 ghost use Rattle.scenario.specs.Fields.{IsPart, AreFields};
-ghost use Rattle.scenario.specs.Words.{takes_document};
+ghost use Rattle.scenario.specs.Words.{declares};
 ghost use Rattle.scenario.specs.Drafts.{IsDraft, IsEntry, by_reason, told};
 ghost use Rattle.scenario.specs.Built.{of_block, of_part, op_in, line_said, op_said, value_said, IsValue};
 
 use crate::cause::Cause;
+use crate::declarations::declaration_of;
 use crate::draft::Draft;
-use crate::entries::{has_lane, line_if, may_stand, missed_place, row_of};
+use crate::entries::{has_lane, line_if, may_stand, missed_place};
 use crate::entry::Entry;
 use crate::expected::Expected;
 use crate::field::{Field, number};
@@ -18,9 +19,7 @@ use crate::field_values::{block_field, declared_field};
 use crate::fields::Fields;
 use crate::name_kind::NameKind;
 use crate::op::Op;
-use crate::ops::{
-    add_of, delete_of, disable_of, image_of, properties_of, query_of, read_of, revert_of, tick_of,
-};
+use crate::ops::{op_of, read_of};
 use crate::reason::Reason;
 use crate::span::Span;
 use crate::value::Value;
@@ -43,7 +42,7 @@ fn entry_of_line(
     fields: Fields,
 ) -> Result<Entry, Cause>
     requires parts { AreFields (length text.now) fields }
-    requires plain { takes_document word ≡ false }
+    requires declares { declares word ≡ true }
     requires draft { IsDraft text.now draft.now }
     ensures value { told result ≡ line_said text.now draft.now.said line word fields }
     ensures kept { IfOk result (IsEntry text.now draft.now) }
@@ -51,7 +50,7 @@ fn entry_of_line(
     if !may_stand(draft, word) {
         return Err(no_place(draft, word));
     }
-    row_of(text, draft, line, word, fields)
+    declaration_of(text, draft, word, fields)
 }
 
 /// Two numbers as fields.
@@ -88,7 +87,7 @@ fn of_part(text: &[u8], full: Span, op: Op) -> Result<Op, Cause>
 }
 
 /// A line of a lane whose numbers are in range.
-#[tactic(auto, unfolding(crate::specs::Built::op_in))]
+#[tactic(auto, unfolding(crate::specs::Built::op_in, crate::specs::Ops::op_of))]
 fn op_in(text: &[u8], draft: &Draft, op: Op) -> Result<Op, Cause>
     requires { IsDraft text.now draft.now }
     ensures value { by_reason result
@@ -101,19 +100,19 @@ fn op_in(text: &[u8], draft: &Draft, op: Op) -> Result<Op, Cause>
             of_block(text, draft, volume, block, op)
         }
         Op::Read { volume, block } => read_of(text, draft, two(volume, block)),
-        Op::ImageDigest { set, volume } => image_of(text, draft, two(set, volume)),
+        Op::ImageDigest { set, volume } => op_of(text, draft, Word::Image, two(set, volume)),
         Op::ImageBlock { set, volume, block } => {
             let fields = Fields::Three(number(set), number(volume), number(block));
-            image_of(text, draft, fields)
+            op_of(text, draft, Word::Image, fields)
         }
-        Op::Query { volume } => query_of(text, draft, Fields::One(number(volume))),
-        Op::Properties { set, volume } => properties_of(text, draft, two(set, volume)),
-        Op::Revert { set, volume } => revert_of(text, draft, two(set, volume)),
-        Op::DeleteSet { set } => delete_of(text, draft, Fields::One(number(set))),
-        Op::DeleteImage { set, volume } => delete_of(text, draft, two(set, volume)),
-        Op::Tick { ticks } => tick_of(text, Fields::One(number(ticks))),
-        Op::Disable { writer } => disable_of(text, draft, Fields::One(number(writer))),
-        Op::Add { volume } => add_of(text, draft, Fields::One(number(volume))),
+        Op::Query { volume } => op_of(text, draft, Word::Query, Fields::One(number(volume))),
+        Op::Properties { set, volume } => op_of(text, draft, Word::Properties, two(set, volume)),
+        Op::Revert { set, volume } => op_of(text, draft, Word::Revert, two(set, volume)),
+        Op::DeleteSet { set } => op_of(text, draft, Word::Delete, Fields::One(number(set))),
+        Op::DeleteImage { set, volume } => op_of(text, draft, Word::Delete, two(set, volume)),
+        Op::Tick { ticks } => op_of(text, draft, Word::Tick, Fields::One(number(ticks))),
+        Op::Disable { writer } => op_of(text, draft, Word::Disable, Fields::One(number(writer))),
+        Op::Add { volume } => op_of(text, draft, Word::Add, Fields::One(number(volume))),
         Op::Component { writer, full } => {
             declared_field(text, draft, NameKind::Writer, number(writer))?;
             of_part(text, full, op)

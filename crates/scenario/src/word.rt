@@ -1,6 +1,8 @@
 ghost use Rattle.std.specs.Prelude.{◌≡◌};
 ghost use Rattle.scenario.specs.Words.{name_of, word_of, takes_rest};
 
+use crate::forms::{by_word, fields_of, forms, kind_name};
+
 /// The first word of a line.
 #[derive(Clone, Copy)]
 pub enum Word {
@@ -103,38 +105,10 @@ impl Word {
         }
     }
 
-    /// The forms of the lines that begin with it. Names of fields are in upper case, and stand as they are everywhere else.
-    pub fn forms(self) -> &'static str {
-        match self {
-            Word::Scenario => "`scenario 1`",
-            Word::Area => "`area NAME SLOTS`",
-            Word::Volume => "`volume NAME BLOCKS SLOTS` or `volume NAME BLOCKS in AREA`",
-            Word::Writer => "`writer NAME DOCUMENT`",
-            Word::Answer => "`answer WRITER ORDER NTH lost` or `answer WRITER ORDER NTH veto CODE`",
-            Word::Lane => "`lane NAME` or `lane NAME as WRITER`",
-            Word::Write => "`write VOLUME BLOCK fill BYTE` or `write VOLUME BLOCK stamp NUMBER`",
-            Word::Read => "`read VOLUME BLOCK`",
-            Word::Image => "`image SET VOLUME` or `image SET VOLUME BLOCK`",
-            Word::Query => "`query VOLUME`",
-            Word::Properties => "`properties SET VOLUME`",
-            Word::Revert => "`revert SET VOLUME`",
-            Word::Delete => "`delete SET` or `delete SET VOLUME`",
-            Word::Tick => "`tick TICKS`",
-            Word::Begin => "`begin CONTEXT` or `begin CONTEXT all`",
-            Word::Disable => "`disable WRITER`",
-            Word::Component => "`component WRITER FULL-NAME`",
-            Word::Add => "`add VOLUME`",
-            Word::Gather => "`gather`",
-            Word::Document => "`document`",
-            Word::Start => "`start`",
-            Word::Prepare => "`prepare`",
-            Word::Snapshot => "`snapshot`",
-            Word::Await => "`await`",
-            Word::Status => "`status`",
-            Word::Complete => "`complete`",
-            Word::Abort => "`abort`",
-            Word::End => "`end`",
-        }
+    /// The fields of each form of its lines. What they are to be is in upper case; a word that stands as it is, and the number 1, are not.
+    pub fn forms(self) -> &'static [&'static [&'static str]] {
+        let word = self;
+        by_word!(word fields_of [fields text draft] lanes Scenario Area Volume Writer Answer Lane Write Read;)
     }
 
     /// The word that these bytes are, if a line may begin with them.

@@ -13,13 +13,14 @@ ghost use Rattle.writer_meta.specs.Allowed.{IsAllowed};
 
 use crate::asked::Asked;
 use crate::cause::Cause;
-use crate::declarations::new_name;
+use crate::declarations::{at_most, new_name};
 use crate::draft::Draft;
 use crate::entry::Entry;
 use crate::expected::Expected;
 use crate::field::{Field, number};
-use crate::field_values::{declared_field, is_word, number_field};
+use crate::field_values::{declared_field, number_field};
 use crate::fields::{Fields, bytes_of};
+use crate::forms::{MOST_ANSWERS, MOST_NTH, MOST_WRITERS, forms, read, shape, value};
 use crate::name_kind::NameKind;
 use crate::quantity::Quantity;
 use crate::reason::Reason;
@@ -30,21 +31,13 @@ use vss_names::{Order, WriterError};
 use writer_calls::{Answer, Scripted};
 use writer_meta::{MetaFault, Metadata};
 
-const MOST_WRITERS: usize = 64;
-/// Of the orders of a kind that a script speaks of.
-const MOST_NTH: u32 = 2_000;
-/// Of the `answer` lines.
-const MOST_ANSWERS: usize = 10_000;
-
 /// One writer more.
 fn writer_if(draft: &Draft, name: Span, metadata: Metadata) -> Result<Entry, Cause>
     ensures value { told result ≡ writer_if draft.now.said name (meta_of metadata) }
     ensures same { IfOk result (λ e. e ≡ entry.Writer name metadata) }
     ensures few { IfOk result (λ e. length draft.now.said.writers < 64) }
 {
-    if draft.count(NameKind::Writer) >= MOST_WRITERS {
-        return Err(Cause::too_many("writers", MOST_WRITERS as u64));
-    }
+    at_most(draft.count(NameKind::Writer), MOST_WRITERS, "writers")?;
     Ok(Entry::Writer(name, metadata))
 }
 
@@ -81,32 +74,21 @@ pub(crate) fn writer_of(
     ensures kept { IfOk result (IsEntry text.now draft.now) }
     ensures refused { IfErr result (IsUnread (writer_of text.now draft.now.said fields)) }
 {
-    let Fields::Two(name, document) = fields else {
-        return Err(Unread::Bad(Cause::no_form()));
-    };
-    let name = match new_name(text, draft, NameKind::Writer, name.span()) {
-        Ok(name) => name,
-        Err(cause) => return Err(Unread::Bad(cause)),
-    };
+    let (name, document) = forms!(Writer read [fields text draft])?;
     let metadata = match Metadata::from_json(alloc, bytes_of(text, document.span())) {
         Ok(metadata) => metadata,
         Err(MetaFault::OutOfMemory) => return Err(Unread::OutOfMemory),
         Err(_) => {
-            return Err(Unread::Bad(Cause::field(
-                Reason::BadDocument,
-                document,
-                Expected::Document,
-            )));
+            let cause = Cause::field(Reason::BadDocument, document, Expected::Document);
+            return Err(Unread::Bad(cause));
         }
     };
-    match writer_if(draft, name, metadata) {
-        Ok(entry) => Ok(entry),
-        Err(cause) => Err(Unread::Bad(cause)),
-    }
+    let entry = writer_if(draft, name, metadata)?;
+    Ok(entry)
 }
 
 /// An order by its name.
-fn order_field(text: &[u8], field: Field) -> Result<Order, Cause>
+pub(crate) fn order_field(text: &[u8], field: Field) -> Result<Order, Cause>
     requires { IsField (length text.now) field }
     ensures { by_reason result ≡ order_field text.now (span_of field) }
 {
@@ -117,7 +99,7 @@ fn order_field(text: &[u8], field: Field) -> Result<Order, Cause>
 }
 
 /// The code of a veto by its name.
-fn code_field(text: &[u8], field: Field) -> Result<WriterError, Cause>
+pub(crate) fn code_field(text: &[u8], field: Field) -> Result<WriterError, Cause>
     requires { IsField (length text.now) field }
     ensures { by_reason result ≡ code_field text.now (span_of field) }
 {
@@ -128,7 +110,7 @@ fn code_field(text: &[u8], field: Field) -> Result<WriterError, Cause>
 }
 
 /// Which order of its kind a line speaks of, where no line before it does.
-fn nth_field(
+pub(crate) fn nth_field(
     text: &[u8],
     draft: &Draft,
     writer: u32,
@@ -149,41 +131,14 @@ fn nth_field(
     Ok(nth)
 }
 
-/// Which order of which writer an `answer` line speaks of.
-#[tactic(auto, unfolding(crate::specs::Declarations::asked_of))]
-fn asked_of(
-    text: &[u8],
-    draft: &Draft,
-    writer: Field,
-    order: Field,
-    nth: Field,
-) -> Result<Asked, Cause>
-    requires writer { IsField (length text.now) writer }
-    requires order { IsField (length text.now) order }
-    requires nth { IsField (length text.now) nth }
-    requires draft { IsDraft text.now draft.now }
-    ensures value { by_reason result ≡ asked_of text.now draft.now.said.writers writer order nth }
-    ensures known { IfOk result (λ a. a.writer < length draft.now.said.writers) }
-    ensures least { IfOk result (λ a. 0 < a.nth) }
-    ensures most { IfOk result (λ a. a.nth ≤ 2000) }
-    ensures new { IfOk result (λ a. is_answered draft.now.said.writers a.writer a.order a.nth ≡ false) }
-{
-    let writer = declared_field(text, draft, NameKind::Writer, writer)?;
-    let order = order_field(text, order)?;
-    let nth = nth_field(text, draft, writer, order, nth)?;
-    Ok(Asked { writer, order, nth })
-}
-
 /// One row more.
-fn answer_if(draft: &Draft, asked: Asked, answer: Option<Answer>) -> Result<Entry, Cause>
+pub(crate) fn answer_if(draft: &Draft, asked: Asked, answer: Option<Answer>) -> Result<Entry, Cause>
     requires { AreCounts draft.now.said draft.now.counts }
     ensures value { told result ≡ answer_if draft.now.said asked answer }
     ensures same { IfOk result (λ e. e ≡ entry.Answer asked.writer (row_for asked answer)) }
     ensures few { IfOk result (λ e. answer_count draft.now.said.writers < 10000) }
 {
-    if draft.counts().answers >= MOST_ANSWERS {
-        return Err(Cause::too_many("`answer` lines", MOST_ANSWERS as u64));
-    }
+    at_most(draft.counts().answers, MOST_ANSWERS, "`answer` lines")?;
     Ok(Entry::Answer(
         asked.writer,
         Scripted {
@@ -211,70 +166,4 @@ pub(crate) fn answer_of_value(
     let order = row.order;
     let nth = nth_field(text, draft, writer, order, number(row.nth))?;
     answer_if(draft, Asked { writer, order, nth }, row.answer)
-}
-
-/// A lost answer.
-fn lost_if(text: &[u8], draft: &Draft, kind: Field, asked: Asked) -> Result<Entry, Cause>
-    requires part { IsField (length text.now) kind }
-    requires draft { IsDraft text.now draft.now }
-    requires known { asked.writer < length draft.now.said.writers }
-    requires least { 0 < asked.nth }
-    requires most { asked.nth ≤ 2000 }
-    requires new { is_answered draft.now.said.writers asked.writer asked.order asked.nth ≡ false }
-    requires no_lane { draft.now.said.lanes ≡ [] }
-    ensures value { told result ≡ lost_if text.now draft.now.said kind asked }
-    ensures kept { IfOk result (IsEntry text.now draft.now) }
-{
-    if !is_word(text, kind, b"lost") {
-        return Err(Cause::no_word(kind, "`lost`"));
-    }
-    answer_if(draft, asked, None)
-}
-
-/// A veto.
-fn veto_if(
-    text: &[u8],
-    draft: &Draft,
-    kind: Field,
-    code: Field,
-    asked: Asked,
-) -> Result<Entry, Cause>
-    requires kind { IsField (length text.now) kind }
-    requires code { IsField (length text.now) code }
-    requires draft { IsDraft text.now draft.now }
-    requires known { asked.writer < length draft.now.said.writers }
-    requires least { 0 < asked.nth }
-    requires most { asked.nth ≤ 2000 }
-    requires new { is_answered draft.now.said.writers asked.writer asked.order asked.nth ≡ false }
-    requires no_lane { draft.now.said.lanes ≡ [] }
-    ensures value { told result ≡ veto_if text.now draft.now.said kind code asked }
-    ensures kept { IfOk result (IsEntry text.now draft.now) }
-{
-    if !is_word(text, kind, b"veto") {
-        return Err(Cause::no_word(kind, "`veto`"));
-    }
-    let error = code_field(text, code)?;
-    answer_if(draft, asked, Some(Answer::Veto(error)))
-}
-
-/// `answer writer order nth lost`, `answer writer order nth veto code`.
-#[tactic(auto, unfolding(crate::specs::Declarations::answer_of))]
-pub(crate) fn answer_of(text: &[u8], draft: &Draft, fields: Fields) -> Result<Entry, Cause>
-    requires parts { AreFields (length text.now) fields }
-    requires draft { IsDraft text.now draft.now }
-    requires no_lane { draft.now.said.lanes ≡ [] }
-    ensures value { told result ≡ answer_of text.now draft.now.said fields }
-    ensures kept { IfOk result (IsEntry text.now draft.now) }
-{
-    match fields {
-        Fields::Four(writer, order, nth, kind) => {
-            let asked = asked_of(text, draft, writer, order, nth)?;
-            lost_if(text, draft, kind, asked)
-        }
-        Fields::Five(writer, order, nth, kind, code) => {
-            let asked = asked_of(text, draft, writer, order, nth)?;
-            veto_if(text, draft, kind, code, asked)
-        }
-        _ => Err(Cause::no_form()),
-    }
 }

@@ -6,6 +6,7 @@ use crate::document_hint::say_document;
 use crate::field_hint::{
     say_answered, say_code, say_new_name, say_number, say_order, say_undeclared,
 };
+use crate::form_hint::{say_forms, words_at};
 use crate::near::say_nearest;
 use crate::notes::Notes;
 use crate::piece::Piece::{Number, Shown, Words};
@@ -13,17 +14,6 @@ use crate::showing::marked_line;
 use scenario::{Expected, Reason, Refusal, Word};
 use std::alloc::Global;
 use vss_names::OutOfMemory;
-
-/// Says which forms the lines of a word have.
-fn say_forms(notes: &mut Notes, word: Word) -> Result<(), OutOfMemory> {
-    let forms = word.forms();
-    let form = if forms.contains("` or `") {
-        "the forms are {}"
-    } else {
-        "the form is {}"
-    };
-    notes.say(form, &[Words(forms)])
-}
 
 /// The words that lines begin with.
 fn first_words(alloc: Global) -> Result<Vec<&'static [u8]>, OutOfMemory> {
@@ -108,11 +98,23 @@ fn say_count(notes: &mut Notes, bad: &BadLine<'_>, word: Word) -> Result<(), Out
     Ok(())
 }
 
+/// Says which word, or words, a form has there.
+fn say_fixed_word(notes: &mut Notes, bad: &BadLine<'_>) -> Result<(), OutOfMemory> {
+    let Some(word) = bad.word() else {
+        return Ok(());
+    };
+    let words = words_at(notes.alloc(), word, bad.fields(), bad.field())?;
+    notes.say(
+        "`{}` stands where {} has to",
+        &[Shown(bad.found()), Words(words.as_str())],
+    )
+}
+
 /// The place of the space that is one too many, where it made the line be refused.
 fn space_of(bad: &BadLine<'_>) -> Option<usize> {
     let word = bad.word()?;
     let is_its_doing = match bad.refusal.cause.expected {
-        Expected::Form | Expected::Word(_) => !word.takes_rest(),
+        Expected::Form | Expected::Word => !word.takes_rest(),
         _ => bad.refusal.cause.found.is_some() && bad.found().is_empty(),
     };
     if is_its_doing {
@@ -136,10 +138,7 @@ fn say_expected(notes: &mut Notes, bad: &BadLine<'_>) -> Result<(), OutOfMemory>
         } => say_number(notes, bad, quantity, least, most),
         Expected::NewName { kind, taken } => say_new_name(notes, bad, kind, taken),
         Expected::Declared(kind) => say_undeclared(notes, bad, kind),
-        Expected::Word(words) => notes.say(
-            "`{}` stands where {} has to",
-            &[Shown(bad.found()), Words(words)],
-        ),
+        Expected::Word => say_fixed_word(notes, bad),
         Expected::Order => say_order(notes, bad),
         Expected::Code => say_code(notes, bad),
         Expected::NewAnswer => say_answered(notes, bad),
@@ -161,7 +160,7 @@ fn say_expected(notes: &mut Notes, bad: &BadLine<'_>) -> Result<(), OutOfMemory>
 /// Whether the forms of the line's word help.
 fn shows_forms(expected: Expected) -> bool {
     match expected {
-        Expected::Form | Expected::Word(_) => true,
+        Expected::Form | Expected::Word => true,
         Expected::Number { .. } | Expected::NewName { .. } | Expected::Declared(_) => true,
         _ => false,
     }

@@ -1,14 +1,15 @@
 //! The program that says what is wrong with what `vss` has refused.
 //!
 //! `vss_explain scenario` reads the scenario from the standard input, and asks the reader of scenarios itself why it refuses it: what it
-//! says of line and reason is what `vss` says. `vss_explain words WORD..` says which of the words given to `vss` is wrong. It writes a few
-//! lines to the standard output, or nothing where there is nothing to say.
+//! says of line and reason is what `vss` says. `vss_explain words WORD..` says which of the words given to `vss` is wrong.
+//! `vss_explain forms` says all forms of lines. It writes lines to the standard output, or nothing where there is nothing to say.
 #![tactic(auto)]
 
 mod bad_line;
 mod byte_hint;
 mod document_hint;
 mod field_hint;
+mod form_hint;
 mod line_hint;
 mod near;
 mod notes;
@@ -16,6 +17,7 @@ mod piece;
 mod showing;
 mod word_hint;
 
+use form_hint::say_all_forms;
 use io_edge::{InSource, ReadError, read_all};
 use line_hint::say_refusal;
 use notes::Notes;
@@ -63,7 +65,8 @@ fn explained(rt: &HostRuntime) -> Result<Notes, OutOfMemory> {
         Some(first) if first.as_str() == "words" => {
             say_words(&mut notes, words.get(1..).unwrap_or(&[]))?
         }
-        _ => notes.add("usage: vss_explain scenario < FILE, or vss_explain words WORD..")?,
+        Some(first) if first.as_str() == "forms" => say_all_forms(&mut notes)?,
+        _ => notes.add("usage: vss_explain scenario < FILE, words WORD.., or forms")?,
     }
     Ok(notes)
 }
