@@ -2,7 +2,6 @@ pub mod Added
 pub mod Allowed
 pub mod Alone
 pub mod Known
-pub mod Longer
 pub mod Named
 pub mod Numbers
 pub mod Order
@@ -11,3 +10,4 @@ pub mod ReadBack
 pub mod Takers
 pub mod Told
 pub mod Values
+pub mod Behind

@@ -5,3 +5,4 @@ pub mod Document
 pub mod Reading
 pub mod Refusal
 pub mod Messages
+pub mod Behind

@@ -1,5 +1,5 @@
 //! The choices of one writer, put behind those of the writers before it.
-ghost use Rattle.std.specs.Prelude.{◌≡◌, ◌≤◌, ◌++◌, [], map, length, option_map, IfOk, OnOk, IsTrue};
+ghost use Rattle.std.specs.Prelude.{◌≡◌, ◌≤◌, ◌++◌, [], map, length, option_map, OnOk, IsTrue};
 ghost use Rattle.writer_meta.specs.Metadata.{part_of, meta_of};
 ghost use Rattle.component_doc.specs.Held.{selected_of, has_few};
 ghost use Rattle.component_doc.specs.Selection as selection;
@@ -9,13 +9,11 @@ use crate::choice::Choice;
 use crate::pair::Pair;
 use crate::taken::Taken;
 use crate::{ancestors, pairs};
-use std::alloc::Global;
 use vss_names::OutOfMemory;
 use writer_meta::{Component, Metadata};
 
 /// Adds the choices of a writer, if it takes part.
 pub(crate) fn choose_of_writer(
-    alloc: Global,
     taken: &Taken,
     writer: u32,
     known: Option<&Metadata>,
@@ -33,13 +31,12 @@ pub(crate) fn choose_of_writer(
     }
     let components = metadata.components.items();
     match taken {
-        Taken::Named(pairs) => choose_by_names(alloc, pairs, writer, components, choices),
+        Taken::Named(pairs) => choose_by_names(pairs, writer, components, choices),
         Taken::AllOf(_) => choose_all(writer, components, choices),
     }
 }
 
 fn choose_by_names(
-    alloc: Global,
     pairs: &[Pair],
     writer: u32,
     components: &[Component],
@@ -54,7 +51,7 @@ fn choose_by_names(
             writer,
             component: i as u32,
         };
-        let chosen = is_chosen(alloc, pairs, components, pair, component)?;
+        let chosen = is_chosen(pairs, components, pair, component);
         let explicit = pairs::has(pairs, pair);
         choose_if(chosen, pair, explicit, choices)?;
     }
@@ -100,25 +97,12 @@ fn choose_if(
 }
 
 /// Whether a component is chosen by the pairs that were named.
-fn is_chosen(
-    alloc: Global,
-    pairs: &[Pair],
-    components: &[Component],
-    pair: Pair,
-    component: &Component,
-) -> Result<bool, OutOfMemory>
+fn is_chosen(pairs: &[Pair], components: &[Component], pair: Pair, component: &Component) -> bool
     requires { length components.now ≤ 1024 }
-    ensures { IfOk result (λ answer. answer
-        ≡ selection.is_chosen pairs.now (map part_of components.now) pair.writer pair.component (part_of component.now)) }
+    ensures { result
+        ≡ selection.is_chosen pairs.now (map part_of components.now) pair.writer pair.component (part_of component.now) }
 {
-    if pairs::has(pairs, pair) {
-        return Ok(true);
-    }
-    if ancestors::has_named_ancestor(alloc, pairs, pair.writer, component, components)? {
-        return Ok(true);
-    }
-    if component.selectable {
-        return Ok(false);
-    }
-    Ok(!ancestors::has_selectable_ancestor(alloc, component, components)?)
+    pairs::has(pairs, pair)
+        || ancestors::has_named_ancestor(pairs, pair.writer, component, components)
+        || (!component.selectable && !ancestors::has_selectable_ancestor(component, components))
 }

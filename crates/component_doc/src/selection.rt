@@ -155,13 +155,7 @@ impl Selection {
     {
         let mut choices = Vec::new(alloc);
         for writer in 0..self.writers {
-            choose_of_writer(
-                alloc,
-                &self.taken,
-                writer,
-                metas.of_writer(writer),
-                &mut choices,
-            )?;
+            choose_of_writer(&self.taken, writer, metas.of_writer(writer), &mut choices)?;
         }
         Ok(Choices::of(choices))
     }

@@ -1,4 +1,4 @@
-use Rattle.std.proofs.Common.{◌≡◌, ◌+◌, arith, length, rules, sym}
+use Rattle.std.proofs.Common.{◌≡◌, ◌+◌, length, rules, sym}
 use Rattle.component_doc.proofs.Order.{last-before}
 use Rattle.component_doc.proofs.pairs.is_before_next.Goals as goal
 

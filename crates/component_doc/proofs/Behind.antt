@@ -1,0 +1,55 @@
+-- What a path has behind a component's full name, and so whether the component is an ancestor on that path.
+use Rattle.std.proofs.Common.{◌≡◌, ◌≢◌, ◌∙◌, ℕ, List, [], ◌∷◌, ◌++◌, length, length-append, Bool, true, false, Option, Some, None, nat_eq, ◌==◌, ◌||◌, arith, refl, ap, sym, Bor, get_or}
+use Rattle.std.proofs.lemmas.Bool.{false_from_ne_true, true≢false}
+use Rattle.std.proofs.lemmas.Bool.Decides.{Decides-eqb}
+use Rattle.std.proofs.lemmas.List.{append-nil, append_assoc, append_cancel_left}
+use Rattle.std.proofs.lemmas.Slice.Eq.{bytes_eq-Decides, starts_is}
+use Rattle.std.specs.List.{starts_with}
+use Rattle.std.specs.Str.{bytes_eq}
+use Rattle.writer_meta.specs.Metadata.{joined, backslash}
+use Rattle.component_doc.specs.Behind.{IsBehind}
+
+-- ## behind two beginnings, one after the other
+
+pub not_behind : (p q text : List ℕ) → ((more : List ℕ) → text ≢ p ++ more) → IsBehind text (p ++ q) None
+not_behind p q text none more is = none (q ++ more) (is ∙ append_assoc p q more)
+
+pub behind_both : (p q text x : List ℕ) (rest : Option (Bor (List ℕ))) → text ≡ p ++ x → IsBehind x q rest → IsBehind text (p ++ q) rest
+behind_both p q text x None is none = λ more all. none more (append_cancel_left p x (q ++ more) (sym is ∙ all ∙ append_assoc p q more))
+behind_both p q text x (Some y) is some = is ∙ ap (λ (xs : List ℕ). p ++ xs) some ∙ sym (append_assoc p q y.now)
+
+pub joined_is : (path name : List ℕ) → path ≢ [] → joined path name ≡ path ++ backslash ∷ name
+joined_is [] name some = absurd (some refl)
+joined_is (c ∷ path) name some = refl
+
+-- ## whether a path is that name, or goes on below it
+
+abbrev is_below : List ℕ → List ℕ → Bool
+is_below path name = bytes_eq path name || starts_with nat_eq path (name ++ backslash ∷ [])
+
+not_begun : (path name : List ℕ) → ((more : List ℕ) → path ≢ name ++ more) → starts_with nat_eq path name ≡ false
+not_begun path name none = false_from_ne_true _ (λ e. none _ ((starts_is Decides-eqb path name _ refl).0 e))
+
+pub not_below : (path name : List ℕ) → ((more : List ℕ) → path ≢ name ++ more) → is_below path name ≡ false
+not_below path name none =
+    let other = false_from_ne_true (bytes_eq path name) (λ e. none [] ((bytes_eq-Decides path name).0 e ∙ sym (append-nil name))) in
+    rw (other, not_begun path (name ++ backslash ∷ []) (λ more e. none (backslash ∷ more) (e ∙ append_assoc name (backslash ∷ []) more))) refl
+
+pub below_all : (path name rest : List ℕ) → path ≡ name ++ rest → (length rest == 0) ≡ true → is_below path name ≡ true
+below_all path name [] is none = rw ((bytes_eq-Decides path name).1 (is ∙ append-nil name)) refl
+below_all path name (b ∷ rest) is none = absurd (let same = (Decides-eqb (length (b ∷ rest)) 0).0 none in omega (arith, same))
+
+pub below_at : (path name rest : List ℕ) → path ≡ name ++ rest → (length rest == 0) ≡ false → is_below path name ≡ nat_eq (get_or rest 0 0) backslash
+below_at path name [] is some = absurd (true≢false some)
+below_at path name (b ∷ rest) is some = rw other (by_byte (b == backslash) refl) where
+  other : bytes_eq path name ≡ false
+  other = false_from_ne_true (bytes_eq path name) (λ e. let same = ap length (sym ((bytes_eq-Decides path name).0 e) ∙ is) in omega (arith, length-append name (b ∷ rest), same))
+
+  by_byte : (t : Bool) → (b == backslash) ≡ t → starts_with nat_eq path (name ++ backslash ∷ []) ≡ t
+  by_byte true e =
+      let same = (Decides-eqb b backslash).0 e in
+      (starts_is Decides-eqb path (name ++ backslash ∷ []) _ refl).1 rest (is ∙ ap (λ (c : ℕ). name ++ c ∷ rest) same ∙ sym (append_assoc name (backslash ∷ []) rest))
+  by_byte false e = not_begun path (name ++ backslash ∷ []) (λ more all.
+      let heads = append_cancel_left name (b ∷ rest) (backslash ∷ more) (sym is ∙ all ∙ append_assoc name (backslash ∷ []) more) in
+      let same : b ≡ backslash = cc in
+      true≢false (sym ((Decides-eqb b backslash).1 same) ∙ e))
