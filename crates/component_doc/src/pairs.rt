@@ -14,7 +14,7 @@ use vss_names::OutOfMemory;
 pub(crate) fn has(pairs: &[Pair], pair: Pair) -> bool
     ensures { result ≡ has_pair pairs.now pair.writer pair.component }
 {
-    pairs.iter().any(|p| p.writer == pair.writer && p.component == pair.component)
+    pairs.contains(&pair)
 }
 
 /// Whether one of the pairs is of the writer.

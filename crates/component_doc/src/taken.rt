@@ -1,5 +1,4 @@
-ghost use Rattle.std.specs.Prelude.{◌≡◌, ◌↔◌, ◌==◌, ◌<◌, ◌^◌, length, IfOk, IsTrue};
-ghost use Rattle.std.specs.List.{list_any};
+ghost use Rattle.std.specs.Prelude.{◌≡◌, ◌↔◌, ◌<◌, ◌^◌, length, IfOk, IsTrue};
 ghost use Rattle.component_doc.specs.Held.{metas_of, selected_of, is_named};
 ghost use Rattle.component_doc.specs.Over.{IsSelectedOver};
 ghost use Rattle.component_doc.specs.Selection.{is_taker};
@@ -50,7 +49,7 @@ impl Taken {
     {
         match self {
             Taken::Named(pairs) => pairs::has_writer(pairs, writer),
-            Taken::AllOf(writers) => has(writers, writer),
+            Taken::AllOf(writers) => writers.contains(&writer),
         }
     }
 }
@@ -59,10 +58,4 @@ fn are_same(writers: &[u32], others: &[u32]) -> bool
     ensures { IsTrue result ↔ (writers.now ≡ others.now) }
 {
     writers == others
-}
-
-fn has(writers: &[u32], writer: u32) -> bool
-    ensures { result ≡ list_any (λ x. x == writer) writers.now }
-{
-    writers.iter().any(|w| *w == writer)
 }
