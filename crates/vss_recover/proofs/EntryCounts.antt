@@ -3,25 +3,20 @@ use Rattle.std.proofs.Common.{ℕ, zero, suc, ◌≡◌, ◌<◌, ◌≤◌, ◌
 use Rattle.std.specs.Prelude.{◌==◌, nat_lt, if◌then◌else◌, count_by}
 use Rattle.std.specs.Option.{option_and_then}
 use Rattle.std.proofs.lemmas.Bool.{false≢true}
-use Rattle.std.proofs.lemmas.Bool.Decides.{nat_tests}
 use Rattle.std.proofs.lemmas.List.{take_all}
 use Rattle.std.proofs.lemmas.List.Sums.{sum_by-cons, count_by_more_yes, count_by_more_no}
 use Rattle.std.proofs.lemmas.Option.{none-some, same_Some}
 use Rattle.diff_area.specs.Records.{free}
 use Rattle.diff_area.specs.declared.table_record.Record.{Record}
-use Rattle.diff_map.specs.Copies.{copy_of}
-use Rattle.diff_map.specs.Counts.{is_for, used_for}
 use Rattle.diff_map.specs.Index.{IsIndex}
 use Rattle.diff_map.specs.declared.copied.Copied.{Copied}
 use Rattle.diff_map.specs.declared.entry.Entry.{Entry}
 use Rattle.cow_volume.specs.StandsFor.{record_of}
 use Rattle.cow_volume.specs.Tied.{copied_for}
-use Rattle.cow_volume.specs.Changes.{is_of}
-use Rattle.cow_volume.specs.Counts.{is_on, count_on, count_of}
 use Rattle.cow_volume.specs.Followed.{record_for, followed_row, followed}
-use Rattle.cow_volume.proofs.Rows.{copied_for-is, copied_for-none, of_volume, record_of_row, both_from}
+use Rattle.cow_volume.proofs.Rows.{both_from}
 use Rattle.cow_volume.proofs.FollowedRows.{follows-of, follows-other}
-use Rattle.vss_recover.proofs.Passing.{passed, passed_more, passed_all, still_there, entry_at, entry_is, noted_at}
+use Rattle.vss_recover.proofs.Passing.{passed, passed_more, passed_all, still_there, entry_at, entry_is}
 
 abbrev none : Copied → Option Copied
 none c = None

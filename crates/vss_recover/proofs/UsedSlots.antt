@@ -1,5 +1,5 @@
 -- The ordered list of the used slots of an overlay: what is found in it, a slot that is noted, and images that go.
-use Rattle.std.proofs.Common.{◌≡◌, ◌<◌, ◌≤◌, ◌+◌, ◌^◌, ◌⊎◌, ℕ, zero, suc, List, [], ◌∷◌, length, map, take, replicate, get_or, refl, ap, sym, subst, ◌∙◌, arith, Bool, true, false, cond, not, Option}
+use Rattle.std.proofs.Common.{◌≡◌, ◌<◌, ◌≤◌, ◌+◌, ◌^◌, ◌⊎◌, ℕ, zero, suc, List, [], ◌∷◌, length, map, take, replicate, get_or, refl, ap, sym, subst, ◌∙◌, arith, Bool, true, false, cond, Option}
 use Rattle.std.proofs.Common.{Some, None, inl, inr, All, Vec, vec_capacity}
 use Rattle.std.specs.List.{AllWithin, filter, filter_map, cons_option, insert}
 use Rattle.std.specs.Option.{option_and_then, option_map}
@@ -45,14 +45,6 @@ abbrev pub rows : List Record → List (Option Copied)
 rows records = map (copied_for 0) records
 
 -- ## tests
-
-pub not_true : (b : Bool) → not b ≡ true → b ≡ false
-not_true true e = cc
-not_true false e = refl
-
-pub not_false : (b : Bool) → not b ≡ false → b ≡ true
-not_false true e = refl
-not_false false e = cc
 
 pub both_same : (a b c d : ℕ) → ((a == b) && (c == d)) ≡ true → (a ≡ b) × (c ≡ d)
 both_same a b c d e = (grind (arith, nat_tests), grind (arith, nat_tests))

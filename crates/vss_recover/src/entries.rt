@@ -1,10 +1,9 @@
 //! The ordered list of the used slots of an overlay: what is found in it, and which slots are given back.
 
-ghost use Rattle.std.specs.Prelude.{◌≡◌, ◌≤◌, ◌<◌, ◌==◌, ◌&&◌, ◌^◌, [], true, false, not, length, map, count_by, vec_capacity};
+ghost use Rattle.std.specs.Prelude.{◌≡◌, ◌≤◌, ◌<◌, ◌==◌, ◌&&◌, ◌^◌, [], true, false, length, map, count_by, vec_capacity};
 ghost use Rattle.std.specs.List.{AllWithin};
 ghost use Rattle.diff_area.specs.Records.{AreRecords, is_free};
 ghost use Rattle.diff_map.specs.Index.{IsInOrder, IsIndex, place, place_of};
-ghost use Rattle.cow_volume.specs.Calls.{is_among};
 ghost use Rattle.cow_volume.specs.CopiesAfter.{with_records};
 ghost use Rattle.cow_volume.specs.Tied.{copied_for};
 ghost use Rattle.vss_recover.specs.OverlayCalls.{IsNotedIn, kept_records};
@@ -89,23 +88,9 @@ pub(crate) fn free_gone<D: Device>(
     ensures pool { pool.new ≡ map is_free area.new.records }
 {
     for entry in entries {
-        if is_gone(images, entry.set) {
+        if !images.contains(&entry.set) {
             area.clear_record(entry.slot);
             pool.give(entry.slot);
         }
     }
-}
-
-/// Whether none of these images is of the set.
-fn is_gone(images: &[u32], set: u32) -> bool
-    ensures { result ≡ not (is_among set images.now) }
-{
-    !is_one_of(images, set)
-}
-
-/// Whether one of these images is of the set.
-pub(crate) fn is_one_of(images: &[u32], set: u32) -> bool
-    ensures { result ≡ is_among set images.now }
-{
-    images.iter().any(|image| *image == set)
 }

@@ -5,7 +5,6 @@ ghost use Rattle.cow_volume.specs.Calls.{is_among};
 ghost use Rattle.vss_recover.specs.Recoveries.{kept_window, with_final};
 
 use crate::claim::Claim;
-use crate::entries::is_one_of;
 use block_data::BlockBuf;
 use diff_map::MOST_IMAGES;
 use std::alloc::Global;
@@ -52,7 +51,7 @@ pub(crate) fn kept_window(images: &[u32], window: Option<u32>) -> Option<u32>
     ensures { result ≡ kept_window images.now window }
 {
     let set = window?;
-    if is_one_of(images, set) {
+    if images.contains(&set) {
         Some(set)
     } else {
         None
@@ -78,7 +77,7 @@ pub(crate) fn final_among(images: &[u32], set: u32, finals: &[u32], out: &mut Ve
 fn is_final(image: u32, set: u32, finals: &[u32]) -> bool
     ensures { result ≡ ((image == set) || is_among image finals.now) }
 {
-    image == set || is_one_of(finals, image)
+    image == set || finals.contains(&image)
 }
 
 /// Appends a number to those that there is room for.

@@ -14,7 +14,7 @@ ghost use Rattle.cow_volume.specs.CopiesAfter.{with_records};
 ghost use Rattle.vss_recover.specs.OverlayCalls.{IsPut, IsWrittenIn, count_in, kept_records};
 ghost use Rattle.vss_recover.specs.Syncing.{KeepsSlots};
 
-use crate::entries::{entries_of, free_gone, is_at, is_one_of, note_used, place_from};
+use crate::entries::{entries_of, free_gone, is_at, note_used, place_from};
 use crate::recover_fault::RecoverFault;
 use block_data::{BLOCK, BlockBuf, BlockView, Payload};
 use cow_volume::pool_of;
@@ -221,7 +221,7 @@ impl<D: Device> Overlay<D> {
     {
         let _valid = self.area.slots();
         free_gone(&mut self.area, &mut self.pool, &self.entries, images);
-        self.entries.retain(|entry| is_one_of(images, entry.set));
+        self.entries.retain(|entry| images.contains(&entry.set));
     }
 }
 

@@ -16,7 +16,6 @@ ghost use Rattle.vss_recover.specs.TakingUp.{AreOfImages, taken_up};
 
 use crate::claim::Claim;
 use crate::claims::{first_out, first_overlap, owner_of};
-use crate::entries::is_one_of;
 use crate::finals::{MOST_CLAIMS, Room, final_among, kept_window, take_claims};
 use crate::open_fault::OpenFault;
 use crate::overlay::{Overlay, put_payload};
@@ -366,7 +365,7 @@ impl<D: Device> RecoverVolume<D> {
     fn has_image(&self, set: u32) -> bool
         ensures { result ≡ is_among set (image_sets self.now.volume) }
     {
-        is_one_of(self.volume.images(), set)
+        self.volume.images().contains(&set)
     }
 
     /// Looks whether the window of a set may be opened.
@@ -385,7 +384,7 @@ impl<D: Device> RecoverVolume<D> {
         if let Some(open) = self.window {
             return Err(OpenFault::AlreadyOpen { set: open });
         }
-        if is_one_of(&self.finals, set) {
+        if self.finals.contains(&set) {
             return Err(OpenFault::Final);
         }
         Ok(())
@@ -418,6 +417,6 @@ impl<D: Device> RecoverVolume<D> {
         let images = self.volume.images();
         self.overlay.keep(images);
         self.window = kept_window(images, self.window);
-        self.finals.retain(|set| is_one_of(images, *set));
+        self.finals.retain(|set| images.contains(set));
     }
 }
