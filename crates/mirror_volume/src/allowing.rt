@@ -5,6 +5,7 @@ ghost use Rattle.mirror_volume.specs.declared.command.Command.{Command as Given}
 ghost use Rattle.mirror_volume.specs.Replies.{AreAllowed, MayBeGiven};
 
 use crate::command::Command;
+use diff_map::MOST_IMAGES;
 
 /// What is left as it is, where the block is one of so many.
 fn within(blocks: u32, newest: u32, room: u32, block: u32) -> Option<(u32, u32)>
@@ -44,16 +45,16 @@ fn after_command(blocks: u32, newest: u32, room: u32, command: Command) -> Optio
 /// Whether these commands may be given to a volume of so many blocks that has images of these sets, none of them past `newest`.
 pub fn may_be_given(blocks: u32, sets: &[u32], newest: u32, commands: &[Command]) -> bool
     ensures may { IsTrue result → MayBeGiven blocks sets.now commands.now }
-    ensures exact { length sets.now ≤ 512 → All (λ s. s ≤ newest) sets.now → AreAllowed blocks newest (512 - length sets.now) commands.now → IsTrue result }
+    ensures exact { length sets.now ≤ MOST_IMAGES → All (λ s. s ≤ newest) sets.now → AreAllowed blocks newest (MOST_IMAGES - length sets.now) commands.now → IsTrue result }
 {
-    if sets.len() > 512 {
+    if sets.len() > MOST_IMAGES {
         return false;
     }
     if !sets.iter().all(|set| *set <= newest) {
         return false;
     }
     let mut greatest = newest;
-    let mut room = 512 - sets.len() as u32;
+    let mut room = (MOST_IMAGES - sets.len()) as u32;
     for command in commands {
         let Some(left) = after_command(blocks, greatest, room, *command) else {
             return false;

@@ -13,7 +13,6 @@ mod catalog;
 mod catalog_fault;
 mod entry;
 pub mod laws;
-mod limits;
 mod lists;
 mod names;
 mod reading;
@@ -21,4 +20,4 @@ mod writing;
 
 pub use catalog::Catalog;
 pub use catalog_fault::CatalogFault;
-pub use limits::{MOST_IMAGES, MOST_NAME};
+pub use names::MOST_NAME;

@@ -2,8 +2,10 @@ ghost use Rattle.std.specs.Prelude.{◌≡◌, ◌<◌, ◌≤◌, length, slice
 ghost use Rattle.std.specs.List.{list_all};
 ghost use Rattle.vss_catalog.specs.Names.{is_name_byte, is_name, are_names, bytes_in};
 
-use crate::limits::MOST_NAME;
 use vss_names::Text;
+
+/// The most bytes of a volume's name.
+pub const MOST_NAME: u32 = 32;
 
 fn is_name_byte(byte: u8) -> bool
     ensures { result ≡ is_name_byte byte }

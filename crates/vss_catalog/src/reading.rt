@@ -5,11 +5,11 @@ ghost use Rattle.vss_catalog.specs.Reading.{Tells, number_in, name_of_length, na
 
 use crate::catalog_fault::CatalogFault;
 use crate::entry::Entry;
-use crate::limits::{MOST_IMAGES, MOST_NAME};
-use crate::names::is_name;
+use crate::names::{MOST_NAME, is_name};
 use block_data::digest;
 use byteorder::{ByteOrder, LittleEndian};
 use diff_area::{MOST_BLOCKS, MOST_VOLUMES};
+use diff_map::MOST_IMAGES;
 use std::alloc::Global;
 use vss_names::Numbers;
 
@@ -89,7 +89,7 @@ fn count_in(v: u32, at: u32, rest: &[u8]) -> Result<u32, CatalogFault>
     ensures few { IfOk result (λ count. count ≤ MOST_IMAGES) }
 {
     let found = number_in(at, rest)?;
-    if found > MOST_IMAGES {
+    if found as usize > MOST_IMAGES {
         return Err(CatalogFault::Images { volume: v, found });
     }
     Ok(found)
