@@ -1,14 +1,8 @@
 //! Numbers as scenarios and reports write them.
 ghost use Rattle.std.specs.Prelude.{◌≡◌, ◌<◌, ◌≤◌, ◌+◌, Some, length, IfOk};
-ghost use Rattle.scenario.specs.Numbers.{is_digit, begins_number, value_from, in_range, number_in, capped};
+ghost use Rattle.scenario.specs.Numbers.{begins_number, value_from, in_range, number_in, capped};
 
 use crate::reason::Reason;
-
-fn is_digit(byte: u8) -> bool
-    ensures { result ≡ is_digit byte }
-{
-    b'0' <= byte && byte <= b'9'
-}
 
 fn begins_number(digits: &[u8]) -> bool
     ensures { result ≡ begins_number digits.now }
@@ -44,7 +38,7 @@ fn value_of(digits: &[u8], low: u64, high: u64) -> Result<u64, Reason>
 {
     let mut value = 0u128;
     for byte in digits {
-        if !is_digit(*byte) {
+        if !byte.is_ascii_digit() {
             return Err(Reason::BadNumber);
         }
         value = capped(value * 10 + u128::from(*byte - b'0'), high);

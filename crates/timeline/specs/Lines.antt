@@ -1,13 +1,13 @@
 -- Which lines a report has, as a picture reads them: a move's line begins with a digit; another begins with one of six words. (This
 -- project's own.)
 use Rattle.std.specs.Prelude.{ℕ, Bool, false, List, [], ◌∷◌, nat_eq, ◌||◌, codes}
+use Rattle.std.specs.Char.{is_ascii_digit}
 use Rattle.std.specs.List.{starts_with}
 use Rattle.std.specs.Str.{bytes_eq}
-use Rattle.timeline.specs.Words.{is_digit}
 
 abbrev pub is_move : List ℕ → Bool
 is_move [] = false
-is_move (first ∷ rest) = is_digit first
+is_move (first ∷ rest) = is_ascii_digit first
 
 abbrev pub is_effect : List ℕ → Bool
 is_effect line = starts_with nat_eq line (codes "= ")

@@ -1,12 +1,13 @@
 -- What a picture tells of each line of a report: the line itself, its label, and the shape of its mark. A label is what was asked and
 -- what was answered, where that is more than `ok`; a digest at its end is shown by its first eight digits. (This project's own.)
-use Rattle.std.specs.Prelude.{ℕ, ◌+◌, ◌-◌, ◌&&◌, ◌||◌, Bool, not, nat_eq, nat_le, List, [], ◌∷◌, ◌++◌, length, take, drop, map, codes, if◌then◌else◌}
+use Rattle.std.specs.Prelude.{ℕ, ◌+◌, ◌-◌, ◌&&◌, ◌||◌, Bool, not, nat_eq, nat_le, List, [], ◌∷◌, ◌++◌, length, take, drop, codes, if◌then◌else◌}
+use Rattle.std.specs.Char.{is_ascii_digit}
 use Rattle.std.specs.List.{list_all, starts_with}
 use Rattle.std.specs.Str.{bytes_eq}
 use Rattle.std.specs.Str.Lines.{lines}
 use Rattle.timeline.specs.Lines.{is_effect, is_move}
 use Rattle.timeline.specs.Script.{said_at}
-use Rattle.timeline.specs.Words.{is_empty, is_digit, number_of, rest_of, word_of}
+use Rattle.timeline.specs.Words.{is_empty, number_of, rest_of, word_of}
 use Rattle.timeline.specs.declared.label.Label.{Label}
 use Rattle.timeline.specs.declared.mark.Mark.{Mark}
 use Rattle.timeline.specs.declared.shape.Shape.{Shape}
@@ -16,7 +17,7 @@ use Rattle.timeline.specs.declared.span.Span.{Span}
 -- ## the label
 
 abbrev pub is_hex_digit : ℕ → Bool
-is_hex_digit byte = is_digit byte || (nat_le 97 byte && nat_le byte 102)
+is_hex_digit byte = is_ascii_digit byte || (nat_le 97 byte && nat_le byte 102)
 
 -- whether 64 hexadecimal digits stand at the end
 abbrev pub has_digest : List ℕ → Bool

@@ -5,7 +5,6 @@ ghost use Rattle.std.specs.List.{list_all};
 ghost use Rattle.timeline.specs.Told.{colon_between, has_digest, is_hex_digit, shortened, written};
 
 use crate::label::Label;
-use crate::lines::is_digit;
 use vss_names::{OutOfMemory, Text};
 
 /// How many bytes of a text that ends with a digest are not shown.
@@ -17,7 +16,7 @@ const DIGEST: usize = 64;
 fn is_hex_digit(byte: u8) -> bool
     ensures { result ≡ is_hex_digit byte }
 {
-    is_digit(byte) || (b'a' <= byte && byte <= b'f')
+    byte.is_ascii_digit() || (b'a' <= byte && byte <= b'f')
 }
 
 fn are_hex_digits(text: &[u8]) -> bool

@@ -3,14 +3,6 @@
 ghost use Rattle.std.specs.Prelude.{◌≡◌, nat_eq};
 ghost use Rattle.std.specs.List.{starts_with};
 ghost use Rattle.timeline.specs.Lines.{is_closing, is_effect, is_line, is_move};
-ghost use Rattle.timeline.specs.Words.{is_digit};
-
-/// Whether a byte is a decimal digit.
-pub fn is_digit(byte: u8) -> bool
-    ensures { result ≡ is_digit byte }
-{
-    b'0' <= byte && byte <= b'9'
-}
 
 /// Whether a line is that of a move: it begins with a digit.
 pub fn is_move(line: &str) -> bool
@@ -18,7 +10,7 @@ pub fn is_move(line: &str) -> bool
 {
     match line.as_bytes().first() {
         None => false,
-        Some(first) => is_digit(*first),
+        Some(first) => first.is_ascii_digit(),
     }
 }
 

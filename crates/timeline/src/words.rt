@@ -1,10 +1,10 @@
 //! A text in lines, and a line in words.
 
 ghost use Rattle.std.specs.Prelude.{◌≡◌, map, IfOk, IsTrue};
+ghost use Rattle.std.specs.Char.{is_ascii_digit};
 ghost use Rattle.std.specs.Str.Lines.{lines};
-ghost use Rattle.timeline.specs.Words.{is_digit, number_of, rest_of, with_digit, word_of};
+ghost use Rattle.timeline.specs.Words.{number_of, rest_of, with_digit, word_of};
 
-use crate::lines::is_digit;
 use std::alloc::{AllocError, Global};
 
 /// The lines of a text.
@@ -41,7 +41,7 @@ pub fn rest_of(line: &str) -> &str
 
 /// A number with one digit more; one of ten digits takes no more.
 fn with_digit(value: u64, byte: u8) -> u64
-    requires { IsTrue (is_digit byte) }
+    requires { IsTrue (is_ascii_digit byte) }
     ensures { result ≡ with_digit value byte }
 {
     if value <= 999_999_999 {
@@ -57,7 +57,7 @@ pub fn number(word: &str) -> u64
 {
     let mut value = 0u64;
     for byte in word.as_bytes() {
-        if !is_digit(*byte) {
+        if !byte.is_ascii_digit() {
             return 0;
         }
         value = with_digit(value, *byte);

@@ -12,10 +12,6 @@ use vss_names::{Order, OutOfMemory, WriterError};
 const NAMES: &str =
     "a name has 1 to 32 letters, digits, `_`, `-` and `.`, and begins with a letter";
 
-fn is_digit(byte: u8) -> bool {
-    b'0' <= byte && byte <= b'9'
-}
-
 /// What makes a field no number.
 fn no_number(found: &[u8]) -> &'static str {
     let first = found.first().copied().unwrap_or(b' ');
@@ -23,7 +19,7 @@ fn no_number(found: &[u8]) -> &'static str {
         "a number has no sign"
     } else if found.starts_with(b"0x") {
         "a number is decimal"
-    } else if found.iter().all(|byte| is_digit(*byte)) {
+    } else if found.iter().all(|byte| byte.is_ascii_digit()) {
         "a number has no zeros before it"
     } else {
         "a number is decimal digits alone"

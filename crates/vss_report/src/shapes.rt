@@ -17,12 +17,6 @@ pub fn is(word: &[u8], text: &str) -> bool
     word == text.as_bytes()
 }
 
-fn is_digit(byte: u8) -> bool
-    ensures { result ≡ numbers.is_digit byte }
-{
-    b'0' <= byte && byte <= b'9'
-}
-
 fn begins_number(word: &[u8]) -> bool
     ensures { result ≡ numbers.begins_number word.now }
 {
@@ -35,7 +29,7 @@ fn begins_number(word: &[u8]) -> bool
 fn are_digits(word: &[u8]) -> bool
     ensures { result ≡ list_all numbers.is_digit word.now }
 {
-    word.iter().all(|byte| is_digit(*byte))
+    word.iter().all(|byte| byte.is_ascii_digit())
 }
 
 /// Whether a word is a number, of any length.
@@ -61,7 +55,7 @@ fn value_of(digits: &[u8], most: u32) -> Option<u32>
 {
     let mut value = 0u64;
     for byte in digits {
-        if !is_digit(*byte) {
+        if !byte.is_ascii_digit() {
             return None;
         }
         value = capped(value * 10 + u64::from(*byte - b'0'), most);
@@ -85,7 +79,7 @@ pub fn number_up_to(word: &[u8], most: u32) -> Option<u32>
 fn is_hex_digit(byte: u8) -> bool
     ensures { result ≡ shapes.is_hex_digit byte }
 {
-    is_digit(byte) || (b'a' <= byte && byte <= b'f')
+    byte.is_ascii_digit() || (b'a' <= byte && byte <= b'f')
 }
 
 fn are_hex_digits(word: &[u8]) -> bool
