@@ -4,10 +4,12 @@ ghost use Rattle.turn_cell.specs.Callers.{standing, Calls};
 ghost use Rattle.vss_play.specs.Acting.{HasActed, IsPlayedInThreads, actors_in_threads};
 ghost use Rattle.vss_play.specs.Played.{IsPlayedOut};
 
-use crate::actor_loop::take_turns;
+use crate::actor_loop::take_turns_as;
 use crate::gate::Gate;
+use crate::guest::Guest;
 use crate::in_turn::play_in_turn;
 use crate::play::Play;
+use crate::room::Room;
 use std::alloc::Global;
 use std::sync::Wait;
 use std::thread;
@@ -41,6 +43,7 @@ fn act_all<R: Threads + Wait + Sync, D: Device + Send, G: Gate>(
     callers: &mut [Caller<Play<D>>],
     actors: &[Actor],
     gate: &G,
+    room: &Room,
 )
     requires some { 0 < length callers.old }
     requires each { length callers.old ≡ length actors.now }
@@ -57,7 +60,9 @@ fn act_all<R: Threads + Wait + Sync, D: Device + Send, G: Gate>(
             requires { (i < length actors.now) × Calls caller.old turn.now }
             ensures { Calls caller.new turn.entry.now × HasActed (slice_get actors.entry.now i) (standing caller.old) (standing caller.new) }
         {
-            let _ = take_turns(rt, turn, caller, actors[i], gate);
+            let mut guest = Guest::new(Some(room), i);
+            let _ = take_turns_as(rt, turn, caller, actors[i], gate, &mut guest);
+            guest.leave(rt);
         },
     );
 }
@@ -75,7 +80,15 @@ pub fn play_all<R: Threads + Wait + Sync, D: Device + Send, G: Gate>(
     ensures threads { IfOk result (IsPlayedInThreads D.told D.count play) }
 {
     let actors = actors_of(alloc, &play)?;
+    let room = Room::new(alloc, actors.len())?;
     let (turn, mut callers) = Turn::new(alloc, play, actors.len() as u32)?;
-    act_all(rt, &turn, callers.as_mut_slice(), actors.as_slice(), gate);
+    act_all(
+        rt,
+        &turn,
+        callers.as_mut_slice(),
+        actors.as_slice(),
+        gate,
+        &room,
+    );
     play_in_turn(alloc, turn.close(callers))
 }

@@ -3,7 +3,7 @@ use Rattle.std.specs.Prelude.{Result, Err, IsErr, OnErr}
 use Rattle.std.proofs.lemmas.Bool.Decides.{nat_tests}
 use Rattle.turn_cell.proofs.Histories.{prefix_self, prefix_trans}
 use Rattle.vss_play.proofs.ActorLoop.{begins, moved, blocked_once, turns, left_finished, left_full, left_blocked, wanted}
-use Rattle.vss_play.proofs.actor_loop.take_turns.Goals as goal
+use Rattle.vss_play.proofs.actor_loop.take_turns_as.Goals as goal
 
 when_err : {T E P : Type 0} (r : Result T E) → P → OnErr r P
 when_err (Ok x) p = tt
