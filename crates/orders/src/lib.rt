@@ -2,8 +2,8 @@
 //!
 //! `run_order` takes the bytes of a scenario and of an order, and `run_seed` a number in place of the order; at `Done` they have written
 //! the report of a legal and complete trail that begins with the order, or that the number draws. `run_again` takes a report, makes its
-//! moves with their fault marks over devices of which no call fails, and compares: the text is `Same` exactly where it is such a report.
-//! Every other status has its cause in the texts or in a count of faults that rose; want of memory alone has none. `specs/Calls.antt` and `specs/Again.antt` have what they promise, `specs/Lines.antt` and `specs/Order.antt` which text is which
+//! moves with their fault marks over devices of which no call fails, and compares: the text is `Same` exactly where it is such a report,
+//! of a trail that is legible. Every other status has its cause in the texts or in a count of faults that rose; want of memory alone has none. `specs/Calls.antt` and `specs/Again.antt` have what they promise, `specs/Lines.antt` and `specs/Order.antt` which text is which
 //! order, `specs/Drawn.antt` which order a number draws.
 //!
 //! A run may be over devices of any maker: over those of `SureMaker`, of which no call ever fails, no move has a fault mark.
