@@ -1,9 +1,10 @@
 ghost use Rattle.std.specs.Prelude.{◌≡◌, length, IsTrue, is_err, ◌==◌};
 ghost use Rattle.vss_names.specs.Faults.{counted, HasCause};
-ghost use Rattle.volume_device.specs.Schedules.{Schedule, IsCall, failing_at, after_call, fails_next, next_call};
+ghost use Rattle.vss_names.specs.Schedules.{Schedule, IsCall, failing_at, after_call, fails_next, next_call};
 
+use crate::failed::Failed;
+use crate::numbers::Numbers;
 use std::marker::Model;
-use vss_names::{Failed, Numbers};
 
 /// The calls of one kind: how many were made, and the numbers of those that fail, counted from 1.
 #[derive(Debug, Drop)]
@@ -13,7 +14,7 @@ pub struct FailingCalls {
 }
 
 impl Model for FailingCalls {
-    ghost use Rattle.volume_device.specs.Schedules.{Schedule};
+    ghost use Rattle.vss_names.specs.Schedules.{Schedule};
 
     ghost Value = { Schedule };
 
