@@ -11,7 +11,7 @@ ghost use Rattle.diff_area.specs.Records.{free, AreVolumes, AreRecords, IsUsed};
 ghost use Rattle.diff_area.specs.Written.{table_blocks};
 
 use crate::area_fault::AreaFault;
-use crate::layout::{MOST_SLOTS, PAGE_RECORDS, place_of_slot};
+use crate::layout::{PAGE_RECORDS, place_of_slot};
 use crate::loading::read_tables;
 use crate::table_record::Record;
 use crate::tables::Tables;
@@ -21,7 +21,7 @@ use block_data::{BLOCK, BlockView};
 use std::alloc::Global;
 use std::marker::Model;
 use volume_device::Device;
-use vss_names::{Failed, OutOfMemory};
+use vss_names::{Failed, MOST_SLOTS, OutOfMemory};
 
 /// The diff area of a group of volumes: slots of one block each, and a record for each slot that says of which copy
 /// it is.

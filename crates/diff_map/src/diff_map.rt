@@ -16,10 +16,7 @@ use crate::links::Links;
 use slot_pool::SlotPool;
 use std::alloc::Global;
 use std::marker::Model;
-use vss_names::OutOfMemory;
-
-/// The most images that a volume has at a time.
-pub const MOST_IMAGES: usize = 512;
+use vss_names::{MOST_IMAGES, OutOfMemory};
 
 /// The images of a volume, and which slot of the diff area holds which old block of which image. Several maps may
 /// share one pool of slots.

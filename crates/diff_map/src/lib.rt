@@ -18,7 +18,7 @@ mod links;
 mod row;
 
 pub use copied::Copied;
-pub use diff_map::{DiffMap, MOST_IMAGES};
+pub use diff_map::DiffMap;
 pub use entry::Entry;
 pub use going::Going;
 pub use index::next_older;

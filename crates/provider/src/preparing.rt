@@ -4,13 +4,10 @@ ghost use Rattle.std.specs.Prelude.{◌≡◌};
 ghost use Rattle.cow_volume.specs.Calls.{is_among};
 ghost use Rattle.provider.specs.Preparing.{refusal};
 
-use vss_names::VssResult;
+use vss_names::{MOST_IMAGES, VssResult};
 
 /// A set has at most so many volumes.
 pub(crate) const MOST_VOLUMES: usize = 64;
-
-/// So many images stand on a volume at most.
-const MOST_IMAGES: usize = 512;
 
 /// Whether a number is among these.
 pub(crate) fn is_among(numbers: &[u32], number: u32) -> bool
