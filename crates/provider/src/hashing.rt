@@ -6,7 +6,6 @@ ghost use Rattle.cow_volume.specs.Calls.{DeviceRose, IsUnfailed, blocks_at, is_a
 ghost use Rattle.provider.specs.GroupCalls.{Adds, ImageRose, IsGroupDigest, IsGroupImageDigest, IsQuietGroup};
 
 use crate::lending::lend;
-use crate::preparing::is_among;
 use block_data::{BlockBuf, Hasher};
 use cow_volume::{Cause, CowGroup, ImageFault};
 use volume_device::Device;
@@ -98,7 +97,7 @@ pub(crate) fn digest_of_image<D: Device>(
     ensures digest { IsGroupImageDigest D.Device group.old group.new volume set result }
     ensures wide { IfOk result (λ digest. (length digest ≡ 32) × IsBytes digest) }
 {
-    if !is_among(group.images(volume), set) {
+    if !group.images(volume).contains(&set) {
         return Err(ImageFault::NoSuchImage);
     }
     let mut hasher = Hasher::new();

@@ -21,7 +21,7 @@ use crate::ending::list_devices;
 use crate::hashing::{digest_of, digest_of_image};
 use crate::lending::digests_in;
 use crate::making::device_count;
-use crate::preparing::{MOST_VOLUMES, is_among, refusal};
+use crate::preparing::{MOST_VOLUMES, refusal};
 use crate::renumbering::renumber;
 use block_data::{BLOCK, BlockBuf, Payload};
 use cow_volume::{Cause, CowGroup, ImageFault, RevertFault};
@@ -272,7 +272,7 @@ impl<D: Device> Provider<D> {
         requires has { HasGroups scenario.now self.now.groups }
         ensures { HasImage D.told scenario.now self.now.groups volume set result }
     {
-        is_among(self.images(scenario, volume), set)
+        self.images(scenario, volume).contains(&set)
     }
 
     /// How many slots the images of a volume use.
@@ -376,7 +376,7 @@ impl<D: Device> Provider<D> {
     pub fn is_preparing(&self, volume: u32) -> bool
         ensures { result ≡ is_among volume self.now.volumes }
     {
-        is_among(&self.volumes, volume)
+        self.volumes.contains(&volume)
     }
 
     /// Makes a step of the provider, of a volume where the group has one for each. In a Flush step the volume's device is flushed, and
