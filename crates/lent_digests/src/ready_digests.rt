@@ -1,4 +1,4 @@
-ghost use Rattle.std.specs.Prelude.{◌≡◌, ◌+◌, ◌⊎◌, Some, None, IfSome, Contains, slice_get};
+ghost use Rattle.std.specs.Prelude.{◌≡◌, ◌≢◌, ◌+◌, ◌⊎◌, Some, None, IfSome, Contains, slice_get};
 ghost use Rattle.lent_digests.specs.declared.digested.Digested.{Digested};
 
 use crate::digested::Digested;
@@ -25,7 +25,8 @@ impl ReadyDigests {
     pub fn take(&mut self, volume: u32, set: Option<u32>) -> Option<[u8; 32]>
         ensures stands { IfSome result (λ digest. Contains self.old.rows.items (record { volume = volume; set = set; digest = Some digest })) }
         ensures given { (row : Digested) → slice_get self.old.rows.items self.old.next ≡ Some row → row.volume ≡ volume → row.set ≡ set → (result ≡ row.digest) × (self.new.next ≡ self.old.next + 1) }
-        ensures passed { (self.new.next ≡ self.old.next + 1) ⊎ ((result ≡ None) × (self.new.next ≡ self.old.next)) }
+        ensures stays { (row : Digested) → slice_get self.old.rows.items self.old.next ≡ Some row → (row.volume ≢ volume) ⊎ (row.set ≢ set) → (result ≡ None) × (self.new.next ≡ self.old.next) }
+        ensures ended { slice_get self.old.rows.items self.old.next ≡ None → (result ≡ None) × (self.new.next ≡ self.old.next) }
         ensures rows { self.new.rows ≡ self.old.rows }
     {
         let Some(row) = self.rows.get(self.next) else {
