@@ -260,6 +260,15 @@ impl<D: Device> Copies<D> {
         self.area.lend_slot(slot)
     }
 
+    /// Fills `out` with the block of a slot, while other threads may read too. False if that cannot be, or failed.
+    pub(crate) fn read_slot_shared(&self, slot: u32, out: &mut [u8]) -> bool
+        requires slot { slot < length self.now.area.records }
+        requires whole { length out.old ≡ BLOCK }
+        ensures { result ≡ true → IfSome (D.told self.now.area.device) (λ blocks. slice_get blocks (place_of_slot (length self.now.area.records) slot) ≡ Some out.new) }
+    {
+        self.area.read_slot_shared(slot, out)
+    }
+
     /// Writes the records of the copies to the area's device. Where that fails, those already written stand there.
     pub(crate) fn sync(&mut self) -> Result<(), AreaFault>
         ensures written { OnOk result (D.told self.new.area.device ≡ option_map (with_first (table_blocks self.old.area.volumes self.old.area.records)) (D.told self.old.area.device)) }

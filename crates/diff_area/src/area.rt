@@ -1,4 +1,4 @@
-ghost use Rattle.std.specs.Prelude.{◌≡◌, ◌<◌, ◌≤◌, ℕ, List, Some, length, replicate, slice_get, slice_index, slice_set, option_map, is_some, IfOk, IfErr, IfSome, OnOk, OnErr};
+ghost use Rattle.std.specs.Prelude.{◌≡◌, true, ◌<◌, ◌≤◌, ℕ, List, Some, length, replicate, slice_get, slice_index, slice_set, option_map, is_some, IfOk, IfErr, IfSome, OnOk, OnErr};
 ghost use Rattle.vss_names.specs.Faults.{HasCause};
 ghost use Rattle.volume_device.specs.Blocks.{AreBlocks};
 ghost use Rattle.write_history.specs.Slots.{Copy};
@@ -190,6 +190,16 @@ impl<D: Device> Area<D> {
     {
         let place = place_of_slot(self.records.len() as u32, slot);
         self.device.lend(place)
+    }
+
+    /// Fills `out` with the block of a slot, while other threads may read too. False if that cannot be, or failed.
+    pub fn read_slot_shared(&self, slot: u32, out: &mut [u8]) -> bool
+        requires slot { slot < length self.now.records }
+        requires whole { length out.old ≡ BLOCK }
+        ensures { result ≡ true → IfSome (D.told self.now.device) (λ blocks. slice_get blocks (place_of_slot (length self.now.records) slot) ≡ Some out.new) }
+    {
+        let place = place_of_slot(self.records.len() as u32, slot);
+        self.device.read_shared(place, out)
     }
 
     /// Notes a slot for a copy, in memory alone.
