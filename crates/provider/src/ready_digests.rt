@@ -1,5 +1,5 @@
 ghost use Rattle.std.specs.Prelude.{◌≡◌, ◌+◌, ◌⊎◌, Some, None, IfSome, Contains, slice_get};
-ghost use Rattle.lent_digests.specs.declared.digested.Digested.{Digested};
+ghost use Rattle.provider.specs.declared.digested.Digested.{Digested};
 
 use crate::digested::Digested;
 

@@ -4,6 +4,6 @@ pub struct Digested {
     pub volume: u32,
     /// None where it is of the volume itself.
     pub set: Option<u32>,
-    /// None where the blocks were not lent.
+    /// None where it is not made.
     pub digest: Option<[u8; 32]>,
 }
