@@ -1,0 +1,11 @@
+pub mod Plain
+pub mod Steps
+pub mod Course
+pub mod FileBytes
+pub mod Head
+pub mod StoreValue
+pub mod Keeping
+pub mod Updating
+pub mod Cutting
+pub mod Showing
+pub mod Reverting

@@ -1,0 +1,91 @@
+ghost use Rattle.std.specs.Prelude.{◌≡◌, ◌<◌, length, slice_get, Some, IfOk};
+ghost use Rattle.vss_catalog.specs.Allowed.{IsCatalog};
+ghost use Rattle.vss_catalog.specs.Entries.{EntryValue};
+ghost use Rattle.image_store.specs.Head.{bytes_of_head};
+
+use crate::open_fault::OpenFault;
+use byteorder::{ByteOrder, LittleEndian};
+use std::alloc::Global;
+use std::marker::Model;
+use vss_catalog::Catalog;
+use vss_names::{OutOfMemory, Text};
+
+/// The letters with which a head begins.
+const LETTERS: &[u8; 8] = b"VSSIMG01";
+
+/// How many bytes are before the catalog.
+const FRONT: usize = 16;
+
+/// The head of a state: the last set that was given, and the catalog of the volumes. Contracts see both.
+#[derive(Drop)]
+pub struct Head {
+    last: u32,
+    catalog: Catalog,
+}
+
+impl Model for Head {
+    ghost use Rattle.image_store.specs.Head.{HeadValue};
+
+    ghost Value = { HeadValue };
+
+    ghost view = { λ h. record { last = h.last; entries = h.catalog } };
+}
+
+/// The bytes of a head.
+pub fn bytes_with(alloc: Global, last: u32, catalog: &Catalog) -> Result<Text, OutOfMemory> {
+    let catalog = catalog.encode(alloc)?;
+    let mut numbers = [0; 8];
+    LittleEndian::write_u32(&mut numbers, last);
+    LittleEndian::write_u32(&mut numbers[4..], catalog.len() as u32);
+    let mut text = Text::copy(alloc, LETTERS.as_slice())?;
+    text.add(numbers.as_slice())?;
+    text.add(catalog.bytes())?;
+    Ok(text)
+}
+
+impl Head {
+    /// How many bytes the head has with which bytes begin, by its own numbers; None where they are too few to say it.
+    pub fn length_in(bytes: &[u8]) -> Option<usize> {
+        if bytes.len() < FRONT {
+            return None;
+        }
+        let catalog = LittleEndian::read_u32(&bytes[12..]) as usize;
+        if bytes.len() - FRONT < catalog {
+            return None;
+        }
+        Some(FRONT + catalog)
+    }
+
+    /// The head that these bytes are.
+    pub fn read(alloc: Global, bytes: &[u8]) -> Result<Head, OpenFault>
+        ensures ok { IfOk result (λ head. bytes_of_head head ≡ bytes.now) }
+        ensures allowed { IfOk result (λ head. IsCatalog head.entries) }
+    {
+        if Head::length_in(bytes) != Some(bytes.len()) {
+            return Err(OpenFault::Length {
+                found: bytes.len() as u64,
+            });
+        }
+        if !bytes.starts_with(LETTERS.as_slice()) {
+            return Err(OpenFault::Letters);
+        }
+        Ok(Head {
+            last: LittleEndian::read_u32(&bytes[8..]),
+            catalog: Catalog::decode(alloc, &bytes[FRONT..])?,
+        })
+    }
+
+    /// The last set that was given, 0 where none was.
+    pub fn last(&self) -> u32
+        ensures { result ≡ self.now.last }
+    {
+        self.last
+    }
+
+    /// The catalog of the volumes.
+    pub fn catalog(&self) -> &Catalog
+        ensures { result.now ≡ self.now.entries }
+    {
+        &self.catalog
+    }
+}

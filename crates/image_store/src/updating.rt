@@ -1,0 +1,118 @@
+//! The three passes of an update, over a group.
+
+ghost use Rattle.std.specs.Prelude.{◌≡◌, ◌<◌, ◌≤◌, ◌*◌, false, length, vec_capacity, IsTrue};
+ghost use Rattle.cow_volume.specs.Calls.{blocks_at};
+
+use crate::pass::Pass;
+use crate::pass_fault::PassFault;
+use crate::piece::Piece;
+use cow_volume::{Cause, CowGroup};
+use volume_device::Device;
+use write_history::Evicted;
+
+/// Whether two blocks are the same.
+fn are_same(a: &[u8], b: &[u8]) -> bool
+    ensures { IsTrue result → a.now ≡ b.now }
+{
+    a == b
+}
+
+/// Marks the blocks in which a volume and another device differ.
+pub fn compare_blocks<D: Device, I: Device>(
+    group: &mut CowGroup<D>,
+    piece: &mut Piece,
+    wanted: &mut Piece,
+    v: u32,
+    input: &mut I,
+    differs: &mut [bool],
+) -> Result<(), PassFault>
+    requires volume { v < length group.old.area.volumes }
+    requires sizes { I.size input.old ≡ blocks_at group.old v }
+    requires marks { length differs.old ≡ blocks_at group.old v }
+{
+    for b in 0..group.blocks(v) {
+        if input.read_into(b, wanted.bytes_mut()).is_err() {
+            return Err(PassFault::Input);
+        }
+        group.read_into(v, b, piece.bytes_mut())?;
+        differs[b as usize] = !are_same(piece.bytes(), wanted.bytes());
+    }
+    Ok(())
+}
+
+/// Puts a block's own bytes, so that they are copied where they have to be. Whether they were is answered.
+fn copy_one<D: Device>(
+    group: &mut CowGroup<D>,
+    piece: &mut Piece,
+    v: u32,
+    b: u32,
+) -> Result<bool, Cause>
+    requires volume { v < length group.old.area.volumes }
+    requires in_range { b < blocks_at group.old v }
+{
+    let before = group.used_all();
+    group.read_into(v, b, piece.bytes_mut())?;
+    group.put(v, b, piece.payload())?;
+    Ok(group.used_all() > before)
+}
+
+/// The second pass: the old bytes of the marked blocks are copied. How many were is added to `copied`.
+pub fn copy_blocks<D: Device>(
+    group: &mut CowGroup<D>,
+    piece: &mut Piece,
+    v: u32,
+    differs: &[bool],
+    from: u32,
+    copied: &mut u32,
+    gone: &mut Vec<Evicted>,
+) -> Result<Pass, Cause>
+    requires volume { v < length group.old.area.volumes }
+    requires marks { length differs.now ≡ blocks_at group.old v }
+    requires space { 512 * length group.old.area.volumes ≤ vec_capacity gone.old }
+{
+    if group.images(v).is_empty() {
+        return Ok(Pass::Done);
+    }
+    for b in from..group.blocks(v) {
+        if differs[b as usize] {
+            let up_to = group.make_room(v, b, gone);
+            if up_to > 0 {
+                return Ok(Pass::Evicted { at: b, up_to });
+            }
+            if copy_one(group, piece, v, b)? {
+                *copied = copied.saturating_add(1);
+            }
+        }
+    }
+    Ok(Pass::Done)
+}
+
+/// The third pass: the marked blocks are put as the other device has them.
+pub fn overwrite_blocks<D: Device, I: Device>(
+    group: &mut CowGroup<D>,
+    wanted: &mut Piece,
+    v: u32,
+    input: &mut I,
+    differs: &[bool],
+    from: u32,
+    gone: &mut Vec<Evicted>,
+) -> Result<Pass, PassFault>
+    requires volume { v < length group.old.area.volumes }
+    requires sizes { I.size input.old ≡ blocks_at group.old v }
+    requires marks { length differs.now ≡ blocks_at group.old v }
+    requires space { 512 * length group.old.area.volumes ≤ vec_capacity gone.old }
+{
+    for b in from..group.blocks(v) {
+        if differs[b as usize] {
+            let up_to = group.make_room(v, b, gone);
+            if up_to > 0 {
+                return Ok(Pass::Evicted { at: b, up_to });
+            }
+            if input.read_into(b, wanted.bytes_mut()).is_err() {
+                return Err(PassFault::Input);
+            }
+            group.put(v, b, wanted.payload())?;
+        }
+    }
+    Ok(Pass::Done)
+}

@@ -1,0 +1,72 @@
+//! The files of a folder as devices.
+
+use crate::ended::Ended;
+use crate::folder::{AREA, Folder};
+use crate::state::State;
+use crate::status::Status;
+use crate::store_device::StoreDevice;
+use crate::way::Way;
+use block_data::BLOCK;
+use std::fs::File;
+use volume_device::FileDevice;
+
+/// Opens a file of the folder, and compares its size where one is wanted. Its blocks are answered.
+fn open_blocks(
+    rt: &HostRuntime,
+    path: &str,
+    way: Way,
+    wanted: Option<u32>,
+) -> Result<(File, u32), Ended> {
+    let file = match File::options()
+        .read(true)
+        .write(way == Way::Writing)
+        .open(rt, path)
+    {
+        Ok(file) => file,
+        Err(error) => return Err(Ended::by_file(rt.alloc(), path, "could not be opened", &error)),
+    };
+    let size = match file.metadata() {
+        Ok(found) => found.len(),
+        Err(error) => return Err(Ended::by_file(rt.alloc(), path, "could not be read", &error)),
+    };
+    let blocks = match wanted {
+        Some(blocks) => blocks,
+        None => (size / BLOCK as u64).min(u64::from(u32::MAX)) as u32,
+    };
+    if size == u64::from(blocks) * BLOCK as u64 {
+        return Ok((file, blocks));
+    }
+    Err(Ended::said(
+        Status::Damaged,
+        format!(in rt.alloc(); "{path}: size: {size}, and {} are wanted", u64::from(blocks) * BLOCK as u64),
+    ))
+}
+
+/// The device of a volume.
+pub fn volume_device(
+    rt: &HostRuntime,
+    folder: &Folder,
+    state: &State,
+    volume: u32,
+    way: Way,
+) -> Result<StoreDevice, Ended> {
+    let catalog = state.head.catalog();
+    let path = folder.path_of_volume(rt, catalog.name(volume).bytes())?;
+    let (file, blocks) = open_blocks(rt, path.as_str(), way, Some(catalog.blocks(volume)))?;
+    Ok(StoreDevice::new(
+        FileDevice::new(file, path, blocks),
+        Vec::new(rt.alloc()),
+    ))
+}
+
+/// The device of the area, over the state's front.
+pub fn area_device(
+    rt: &HostRuntime,
+    folder: &Folder,
+    front: Vec<u8>,
+    way: Way,
+) -> Result<StoreDevice, Ended> {
+    let path = folder.path_of(rt, AREA)?;
+    let (file, blocks) = open_blocks(rt, path.as_str(), way, None)?;
+    Ok(StoreDevice::new(FileDevice::new(file, path, blocks), front))
+}

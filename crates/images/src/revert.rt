@@ -1,0 +1,32 @@
+//! `revert F SET NAME`: a volume is brought back to its image of a set. The order of the steps is the point: the newer images go and that is
+//! committed, then blocks are restored and synced, and then the slots that this set free are committed as free.
+
+use crate::committing::{commit, mark};
+use crate::ended::Ended;
+use crate::finish::Finish;
+use crate::folder::Folder;
+use crate::opened::Opened;
+use crate::refusals::{has_image, place_of};
+
+pub fn revert(
+    rt: &HostRuntime,
+    folder: &Folder,
+    opened: &mut Opened,
+    set: u32,
+    name: &str,
+) -> Result<Finish, Ended> {
+    let store = &mut opened.store;
+    let volume = place_of(rt, folder, store, name)?;
+    has_image(rt, folder, store, volume, set)?;
+    mark(rt, folder, store, "revert", &[volume])?;
+    store.drop_newer(set, volume);
+    commit(rt, folder, store)?;
+    if store.revert(set, volume).is_err() || store.flush(volume).is_err() {
+        return Err(Ended::by_device());
+    }
+    commit(rt, folder, store)?;
+    Ok(Finish {
+        text: String::new(rt.alloc()),
+        is_marked: true,
+    })
+}
