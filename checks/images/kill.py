@@ -213,4 +213,5 @@ def main():
     print(f"{places} places")
 
 
-main()
+if __name__ == "__main__":
+    main()

@@ -29,9 +29,13 @@ __attribute__((constructor)) static void begin(void) {
     is_short = getenv("FAIL_SHORT") != NULL;
 }
 
-/* The programs end by _exit. */
+static void tell(void) { dprintf(2, "calls %ld failed %ld\n", atomic_load(&calls), atomic_load(&failed)); }
+
+/* Programs end by _exit, or return from main. */
+__attribute__((destructor)) static void end(void) { tell(); }
+
 void _exit(int status) {
-    dprintf(2, "calls %ld failed %ld\n", atomic_load(&calls), atomic_load(&failed));
+    tell();
     syscall(SYS_exit_group, status);
     __builtin_unreachable();
 }

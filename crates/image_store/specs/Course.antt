@@ -1,11 +1,10 @@
 -- What holds of every list of steps, in the words of a person who keeps files in a store. (This project's own.)
-use Rattle.std.specs.Prelude.{ℕ, ◌≡◌, ◌<◌, ◌+◌, ◌≤◌, ◌⊎◌, true, List, [], ◌∷◌, ◌++◌, length, Some, ◌^◌}
-use Rattle.block_data.specs.declared.block_buf.TheConstants.{BLOCK}
+use Rattle.std.specs.Prelude.{ℕ, ◌≡◌, ◌<◌, ◌⊎◌, true, List, ◌∷◌, ◌++◌, length, Some}
 use Rattle.cow_volume.specs.Calls.{is_among}
 use Rattle.image_store.specs.Plain.{PlainStore, plain_at, image_of}
 use Rattle.image_store.specs.Steps.{Step, AreAllowed, after_all, stays}
 use Rattle.image_store.specs.Steps.Step.{Cut, Updated, Shown}
-use Rattle.image_store.specs.FileBytes.{blocks_of_file, file_in, FitsIn}
+use Rattle.image_store.specs.FileBytes.{blocks_of_file, FitsIn}
 
 -- An image that was cut has, until it goes, the blocks that its volume had at that cut, whatever else was done.
 abbrev pub ImagesAreOfTheirCut : Type 0

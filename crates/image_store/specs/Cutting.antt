@@ -1,6 +1,6 @@
 -- Why no set is cut: nothing changes. (The most images of a volume are the Volume Shadow Copy Service's; set numbers are this project's own.)
 use Rattle.std.specs.Prelude.{ℕ, ◌≡◌, ◌<◌, ◌≤◌, List, length, slice_get, Some}
-use Rattle.cow_volume.specs.Calls.{is_among, sets_at}
+use Rattle.cow_volume.specs.Calls.{sets_at}
 use Rattle.image_store.specs.StoreValue.{StoreValue}
 use Rattle.image_store.specs.declared.cut_fault.CutFault.{CutFault}
 use Rattle.image_store.specs.declared.cut_fault.CutFault.TheVariants.{NoNextSet, TooManyImages}

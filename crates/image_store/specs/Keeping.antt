@@ -1,6 +1,6 @@
 -- What is kept of a store that was closed: its devices, its area's device, and the head of its state; and for which whole copies they
 -- stand. `held` is what is read of a device later: what it tells, or what lasts of it. (This project's own.)
-use Rattle.std.specs.Prelude.{ℕ, ◌≡◌, ◌≤◌, List, map, length, All, Option, Some, slice_get, is_some}
+use Rattle.std.specs.Prelude.{ℕ, ◌≡◌, ◌≤◌, true, List, map, length, All, Option, Some, slice_get, is_some}
 use Rattle.write_history.specs.History.{History, contents, sets_of}
 use Rattle.write_history.specs.Slots.{copies}
 use Rattle.diff_area.specs.Copies.{AreStored}

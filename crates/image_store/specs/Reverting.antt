@@ -1,10 +1,10 @@
 -- What a revert of a volume comes to. (This project's own.)
-use Rattle.std.specs.Prelude.{ℕ, ◌≡◌, true, false, List, [], ◌∷◌, Option, Some, Result, Ok, Err}
+use Rattle.std.specs.Prelude.{ℕ, ◌≡◌, false, List, Option, Result, Ok, Err}
 use Rattle.cow_volume.specs.Calls.{is_among, sets_at}
 use Rattle.cow_volume.specs.declared.revert_fault.RevertFault.{RevertFault}
 use Rattle.cow_volume.specs.declared.revert_fault.RevertFault.TheVariants.{NoSuchImage, Fault}
-use Rattle.image_store.specs.Plain.{PlainStore, plain_at, image_of}
-use Rattle.image_store.specs.Steps.{Step, AreMixed, IsAllowed, after}
+use Rattle.image_store.specs.Plain.{PlainStore}
+use Rattle.image_store.specs.Steps.{IsAllowed, after}
 use Rattle.image_store.specs.Steps.Step.{Reverted, RevertedInPart}
 use Rattle.image_store.specs.StoreValue.{StoreValue, StandsAs, IsStep}
 

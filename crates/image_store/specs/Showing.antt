@@ -1,6 +1,5 @@
 -- What is shown of a volume, or of its image of a set: the file that its blocks have, to the file's length. (This project's own.)
-use Rattle.std.specs.Prelude.{ℕ, ◌≡◌, ◌<◌, ◌≤◌, Bool, true, false, List, length, take, Option, Some, None, Result, Ok, Err}
-use Rattle.vss_names.specs.Faults.{Rose}
+use Rattle.std.specs.Prelude.{ℕ, ◌≡◌, false, List, length, take, Option, Some, Result, Ok, Err}
 use Rattle.io_edge.specs.Streams.{Took}
 use Rattle.cow_volume.specs.Calls.{is_among, sets_at}
 use Rattle.image_store.specs.FileBytes.{file_in, has_length, length_in}

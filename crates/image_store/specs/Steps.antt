@@ -1,8 +1,8 @@
 -- What the calls on a store come to, as steps of its whole copies: what happened, with the answer; when a step may be taken; and what it
 -- leaves. An update is the evictions that
 -- it told, and then one step, whatever its writes were. (This project's own.)
-use Rattle.std.specs.Prelude.{ℕ, ◌≡◌, ◌<◌, ◌⊎◌, ◌&&◌, not, Bool, true, false, List, [], ◌∷◌, ◌++◌, length, nat_le, nat_lt, ◌==◌, Option, Some, None, slice_get}
-use Rattle.image_store.specs.Plain.{PlainStore, Plain, plain_at, image_of, cut_on, gone_on, with_blocks, dropped_on, older_on, reverted_on, changed, all_changed}
+use Rattle.std.specs.Prelude.{ℕ, ◌≡◌, ◌<◌, ◌⊎◌, ◌&&◌, not, Bool, true, false, List, [], ◌∷◌, length, nat_le, nat_lt, ◌==◌, Some, None, slice_get}
+use Rattle.image_store.specs.Plain.{PlainStore, plain_at, image_of, cut_on, gone_on, with_blocks, dropped_on, older_on, reverted_on, changed, all_changed}
 use Rattle.image_store.specs.FileBytes.{file_in}
 
 pub data Step : Type 0 where

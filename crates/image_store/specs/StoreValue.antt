@@ -1,6 +1,6 @@
 -- What a contract sees of a store: the group of its volumes, their names, and the last set that was given; and for which whole copies it
 -- stands, where its devices tell their blocks. (This project's own.)
-use Rattle.std.specs.Prelude.{ℕ, ◌≡◌, ◌≤◌, true, List, length, All, Option, Some, is_some, slice_get}
+use Rattle.std.specs.Prelude.{ℕ, ◌≡◌, ◌≤◌, true, List, All, Option, Some, is_some, slice_get}
 use Rattle.vss_names.specs.TextValue.{TextValue}
 use Rattle.write_history.specs.History.{History}
 use Rattle.cow_volume.specs.GroupValue.{GroupValue}

@@ -1,11 +1,11 @@
 -- How a volume is brought to the blocks of another device, in three passes. The first marks the blocks that differ, and changes nothing.
 -- The second copies their old bytes into slots, and the volume is as it was. The third writes them. (This project's own: what is kept after
 -- the second shows each image as it is, whenever the third is broken off.)
-use Rattle.std.specs.Prelude.{ℕ, ◌≡◌, ◌<◌, ◌≤◌, Bool, false, List, [], ◌∷◌, length, Option, Some, slice_get, Result, Ok, Err}
+use Rattle.std.specs.Prelude.{ℕ, ◌≡◌, ◌<◌, Bool, false, List, [], ◌∷◌, length, Option, Some, slice_get, Result, Ok, Err}
 use Rattle.write_history.specs.declared.evicted.Evicted.{Evicted}
 use Rattle.cow_volume.specs.Room.{images_going}
 use Rattle.image_store.specs.Plain.{PlainStore, plain_at, gone_on, with_blocks, changed, all_changed}
-use Rattle.image_store.specs.Steps.{Step, AreMixed}
+use Rattle.image_store.specs.Steps.{AreMixed}
 use Rattle.image_store.specs.Steps.Step.{Gone, Updated}
 use Rattle.image_store.specs.StoreValue.{StoreValue, StandsAs, IsStep, StandsStill}
 use Rattle.image_store.specs.declared.pass.Pass.{Pass}

@@ -1,6 +1,6 @@
 //! A file's bytes as blocks: the end of the last ones, and the length back.
 
-ghost use Rattle.std.specs.Prelude.{◌≡◌, ◌≤◌, ◌<◌, ◌+◌, ◌-◌, ◌*◌, ◌×◌, ◌++◌, length, take, drop, false, IsTrue, IfOk, IfErr};
+ghost use Rattle.std.specs.Prelude.{◌≡◌, ◌≤◌, ◌<◌, ◌+◌, ◌-◌, ◌*◌, ◌++◌, length, take, drop, false, IsTrue, IfOk, IfErr};
 ghost use Rattle.byteorder.specs.Endian.{little_number};
 ghost use Rattle.block_data.specs.Runs.{run_of};
 ghost use Rattle.image_store.specs.FileBytes.{length_bytes};

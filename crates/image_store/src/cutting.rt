@@ -5,8 +5,8 @@ ghost use Rattle.std.specs.List.{AllPairs};
 ghost use Rattle.cow_volume.specs.Calls.{sets_at};
 
 use cow_volume::CowGroup;
-use vss_catalog::MOST_IMAGES;
 use volume_device::Device;
+use vss_catalog::MOST_IMAGES;
 
 /// The first of these volumes that has as many images as it may have.
 pub fn first_full<D: Device>(group: &CowGroup<D>, volumes: &[u32]) -> Option<u32>

@@ -34,7 +34,9 @@ pub use bytes::end_block;
 pub use closed::Closed;
 pub use cut_fault::CutFault;
 pub use head::Head;
-pub use laws::{files_come_back, images_are_of_their_cut, images_come_of_cuts, what_lasts_is_found};
+pub use laws::{
+    files_come_back, images_are_of_their_cut, images_come_of_cuts, what_lasts_is_found,
+};
 pub use new_fault::NewFault;
 pub use open_fault::OpenFault;
 pub use pass::Pass;

@@ -37,8 +37,14 @@ impl fmt::Display for OpenFault {
             OpenFault::Letters => f.write_str("letters: others"),
             OpenFault::Catalog(fault) => write!(f, "catalog: {fault}"),
             OpenFault::Devices { found } => write!(f, "devices: {found}"),
-            OpenFault::DoubleName { volume } => write!(f, "catalog: volume {volume} has the name of an earlier one"),
-            OpenFault::Set { volume, set } => write!(f, "catalog: volume {volume} has an image of set {set}, which was not given"),
+            OpenFault::DoubleName { volume } => write!(
+                f,
+                "catalog: volume {volume} has the name of an earlier one"
+            ),
+            OpenFault::Set { volume, set } => write!(
+                f,
+                "catalog: volume {volume} has an image of set {set}, which was not given"
+            ),
             OpenFault::Area(fault) => write!(f, "{fault}"),
             OpenFault::Volumes { found } => write!(f, "header: {found} volumes"),
             OpenFault::Blocks { volume, found } => write!(f, "volume {volume}: {found} blocks"),

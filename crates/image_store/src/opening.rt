@@ -5,9 +5,9 @@ ghost use Rattle.std.specs.Prelude.{◌≡◌, ◌<◌, length};
 use crate::open_fault::OpenFault;
 use diff_area::Area;
 use std::alloc::Global;
+use volume_device::Device;
 use vss_catalog::Catalog;
 use vss_names::Text;
-use volume_device::Device;
 
 /// Whether volume `v` has the name of an earlier one.
 fn is_double(catalog: &Catalog, v: u32) -> bool

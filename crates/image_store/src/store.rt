@@ -1,4 +1,4 @@
-ghost use Rattle.std.specs.Prelude.{◌≡◌, ◌≢◌, ◌<◌, ◌≤◌, ◌+◌, ◌*◌, ◌×◌, ◌∷◌, [], ℕ, Bool, true, false, List, Some, None, length, replicate, map, slice_get, vec_capacity, is_some, All, IfOk, IfErr, IfSome, IsNone, OnOk, OnErr, IsTrue};
+ghost use Rattle.std.specs.Prelude.{◌≡◌, ◌≢◌, ◌<◌, ◌≤◌, ◌+◌, ◌*◌, ◌∷◌, [], ℕ, Bool, true, false, List, Some, None, length, replicate, map, slice_get, vec_capacity, is_some, All, IfOk, IfErr, IfSome, IsNone, OnOk, OnErr, IsTrue};
 ghost use Rattle.std.specs.List.{AllPairs};
 ghost use Rattle.block_data.specs.Runs.{zeros};
 ghost use Rattle.block_data.specs.Digest.{sha256};
@@ -374,13 +374,7 @@ impl<D: Device> Store<D> {
         ensures still { StandsStill D.told self.old self.new }
     {
         let mut sink = DigestSink::new();
-        show_blocks(
-            &mut self.group,
-            &mut self.piece,
-            v,
-            which,
-            &mut sink,
-        )?;
+        show_blocks(&mut self.group, &mut self.piece, v, which, &mut sink)?;
         Ok(sink.finish())
     }
 

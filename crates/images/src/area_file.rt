@@ -38,7 +38,10 @@ fn open_blocks(
     }
     Err(Ended::said(
         Status::Damaged,
-        format!(in rt.alloc(); "{path}: size: {size}, and {} are wanted", u64::from(blocks) * BLOCK as u64),
+        format!(in rt.alloc();
+            "{path}: size: {size}, and {} are wanted",
+            u64::from(blocks) * BLOCK as u64
+        ),
     ))
 }
 
@@ -53,10 +56,7 @@ pub fn volume_device(
     let catalog = state.head.catalog();
     let path = folder.path_of_volume(rt, catalog.name(volume).bytes())?;
     let (file, blocks) = open_blocks(rt, path.as_str(), way, Some(catalog.blocks(volume)))?;
-    Ok(StoreDevice::new(
-        FileDevice::new(file, path, blocks),
-        Vec::new(rt.alloc()),
-    ))
+    Ok(StoreDevice::new(FileDevice::new(file, path, blocks), Vec::new(rt.alloc())))
 }
 
 /// The device of the area, over the state's front.

@@ -39,11 +39,7 @@ fn reads_whole(rt: &HostRuntime, device: StoreDevice) -> Result<StoreDevice, End
 }
 
 /// The devices of the volumes that are whole; of each other one a line is printed.
-fn devices_of(
-    rt: &HostRuntime,
-    folder: &Folder,
-    state: &State,
-) -> Result<Vec<StoreDevice>, Ended> {
+fn devices_of(rt: &HostRuntime, folder: &Folder, state: &State) -> Result<Vec<StoreDevice>, Ended> {
     let mut devices = Vec::new(rt.alloc());
     for volume in 0..state.head.catalog().volumes() {
         let whole = match volume_device(rt, folder, state, volume, Way::Showing) {
@@ -86,7 +82,9 @@ fn read_all(rt: &HostRuntime, folder: &Folder) -> Result<Opened, Ended> {
 /// Whether the present contents of a volume are in transit.
 fn is_in_transit(opened: &Opened, volume: u32) -> bool {
     match &opened.marker {
-        Some(marker) => marker.has(std::str::from_utf8(opened.store.name(volume).bytes()).unwrap_or("")),
+        Some(marker) => marker.has(std::str::from_utf8(opened.store.name(volume).bytes()).unwrap_or(
+            "",
+        )),
         None => false,
     }
 }
@@ -116,7 +114,12 @@ fn check_volume(
 }
 
 /// What is left to do of a folder that was left open and is whole else.
-fn say_unclean(rt: &HostRuntime, folder: &Folder, opened: &Opened, marker: &Marker) -> Result<(), Ended> {
+fn say_unclean(
+    rt: &HostRuntime,
+    folder: &Folder,
+    opened: &Opened,
+    marker: &Marker,
+) -> Result<(), Ended> {
     let mut names = String::new(rt.alloc());
     for volume in 0..opened.store.volumes() {
         let name = std::str::from_utf8(opened.store.name(volume).bytes()).unwrap_or("");
@@ -130,7 +133,10 @@ fn say_unclean(rt: &HostRuntime, folder: &Folder, opened: &Opened, marker: &Mark
     let line = if names.is_empty() {
         format!(in rt.alloc(); "whole; remove {}/images.open to go on\n", folder.path)?
     } else {
-        format!(in rt.alloc(); "whole but for{names}; remove {}/images.open to go on, and update{names}\n", folder.path)?
+        format!(in rt.alloc();
+            "whole but for{names}; remove {}/images.open to go on, and update{names}\n",
+            folder.path
+        )?
     };
     say(rt, line.as_str())?;
     Err(Ended {
@@ -146,7 +152,12 @@ fn say_whole(rt: &HostRuntime, opened: &Opened) -> Result<(), Ended> {
     for volume in 0..store.volumes() {
         images = images.saturating_add(store.images(volume).len());
     }
-    let line = format!(in rt.alloc(); "whole: {} volumes, {images} images, {} of {} slots\n", store.volumes(), store.used_all(), store.slots())?;
+    let line = format!(in rt.alloc();
+        "whole: {} volumes, {images} images, {} of {} slots\n",
+        store.volumes(),
+        store.used_all(),
+        store.slots()
+    )?;
     say(rt, line.as_str())
 }
 

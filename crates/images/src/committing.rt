@@ -1,5 +1,6 @@
 use crate::ended::Ended;
 use crate::folder::Folder;
+use crate::status::Status;
 use crate::store_device::StoreDevice;
 use diff_area::pages_for;
 use image_store::Store;
@@ -15,6 +16,15 @@ pub fn commit(
     }
     let head = store.head(rt.alloc())?;
     folder.commit(rt, head.bytes(), 1 + pages_for(store.slots()))
+}
+
+/// Ends a call whose volumes have what they had. Where what is committed is known, it is as before too, but for evictions that were printed, so
+/// the marker goes.
+pub fn give_up(rt: &HostRuntime, folder: &Folder, ended: Ended) -> Ended {
+    if ended.status != Status::Unsettled {
+        let _ = folder.unmark(rt);
+    }
+    ended
 }
 
 /// Makes the marker of a call on a store, with the names of these volumes.

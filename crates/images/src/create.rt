@@ -30,12 +30,18 @@ fn refused(line: Result<String, AllocError>) -> Result<(), Ended> {
 fn check_words(rt: &HostRuntime, path: &str, slots: u32, pairs: &[Pair<'_>]) -> Result<(), Ended> {
     for (place, pair) in pairs.iter().enumerate() {
         may_name(rt, pair.name)?;
-        if pairs[..place].iter().any(|earlier| earlier.name == pair.name) {
+        if pairs[..place]
+            .iter()
+            .any(|earlier| earlier.name == pair.name)
+        {
             return Err(twice(rt, path, pair.name));
         }
         if let Some(blocks) = pair.blocks {
             if !(1 <= blocks && blocks <= MOST_BLOCKS) {
-                return refused(format!(in rt.alloc(); "{}: blocks: {blocks}, and a volume has 1 to {MOST_BLOCKS}", pair.name));
+                return refused(format!(in rt.alloc();
+                    "{}: blocks: {blocks}, and a volume has 1 to {MOST_BLOCKS}",
+                    pair.name
+                ));
             }
         }
     }
@@ -154,12 +160,7 @@ fn put_all(
 }
 
 /// Fills a new folder, and sees that it lasts.
-fn fill(
-    rt: &HostRuntime,
-    folder: &Folder,
-    slots: u32,
-    parts: Vec<Part<'_>>,
-) -> Result<(), Ended> {
+fn fill(rt: &HostRuntime, folder: &Folder, slots: u32, parts: Vec<Part<'_>>) -> Result<(), Ended> {
     let mut store = new_store(rt, folder, slots, &parts)?;
     match put_all(rt, &mut store, parts) {
         Err(ended) if ended.line.is_none() => {
@@ -227,9 +228,16 @@ pub fn create(rt: &HostRuntime, path: &str, slots: u32, words: &[String]) -> Res
     match fs::create_dir(rt, new.as_str()) {
         Ok(()) => {}
         Err(error) if error.kind() == ErrorKind::AlreadyExists => {
-            return refused(format!(in rt.alloc(); "{new}: is left of a create that did not end; remove it"));
+            return refused(format!(in rt.alloc();
+                "{new}: is left of a create that did not end; remove it"
+            ));
         }
-        Err(error) => return Err(Ended::by_file(rt.alloc(), new.as_str(), "could not be created", &error)),
+        Err(error) => return Err(Ended::by_file(
+            rt.alloc(),
+            new.as_str(),
+            "could not be created",
+            &error,
+        )),
     }
     let made = make(rt, path, new.as_str(), slots, parts);
     if made.is_err() {

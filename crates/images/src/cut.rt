@@ -1,4 +1,4 @@
-use crate::committing::{commit, mark};
+use crate::committing::{commit, give_up, mark};
 use crate::ended::Ended;
 use crate::finish::Finish;
 use crate::folder::Folder;
@@ -11,7 +11,11 @@ use image_store::CutFault;
 fn refusal(rt: &HostRuntime, folder: &Folder, opened: &Opened, fault: CutFault) -> Ended {
     let line = match fault {
         CutFault::NoNextSet => {
-            format!(in rt.alloc(); "{}: sets: {} was given, there is no next", folder.path, u32::MAX)
+            format!(in rt.alloc();
+                "{}: sets: {} was given, there is no next",
+                folder.path,
+                u32::MAX
+            )
         }
         CutFault::TooManyImages { volume } => {
             let name = std::str::from_utf8(opened.store.name(volume).bytes()).unwrap_or("");
@@ -37,7 +41,9 @@ pub fn cut(
         Err(fault) => return Err(refusal(rt, folder, opened, fault)),
     };
     mark(rt, folder, &opened.store, "cut", &[])?;
-    commit(rt, folder, &mut opened.store)?;
+    if let Err(ended) = commit(rt, folder, &mut opened.store) {
+        return Err(give_up(rt, folder, ended));
+    }
     Ok(Finish {
         text: format!(in rt.alloc(); "set {set}\n")?,
         is_marked: true,

@@ -1,4 +1,4 @@
-use crate::committing::{commit, mark};
+use crate::committing::{commit, give_up, mark};
 use crate::ended::Ended;
 use crate::finish::Finish;
 use crate::folder::Folder;
@@ -48,7 +48,9 @@ pub fn delete(
     for volume in volumes.iter() {
         let _ = opened.store.drop_image(set, *volume);
     }
-    commit(rt, folder, &mut opened.store)?;
+    if let Err(ended) = commit(rt, folder, &mut opened.store) {
+        return Err(give_up(rt, folder, ended));
+    }
     Ok(Finish {
         text: format!(in rt.alloc(); "deleted {}\n", volumes.len())?,
         is_marked: true,

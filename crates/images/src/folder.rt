@@ -17,7 +17,9 @@ pub const AREA: &str = "images.area";
 
 /// The names of the marker's file, and of what becomes one of these files by a rename.
 const MARKER: &str = "images.open";
+
 const MARKER_NEW: &str = "images.open.new";
+
 const STATE_NEW: &str = "images.state.new";
 
 /// An open folder of images. It is locked until this is dropped.
@@ -107,12 +109,7 @@ impl Folder {
                 path: String::from_str(rt.alloc(), path)?,
                 held,
             }),
-            Err(error) => Err(Ended::by_file(
-                rt.alloc(),
-                path,
-                "could not be opened",
-                &error,
-            )),
+            Err(error) => Err(Ended::by_file(rt.alloc(), path, "could not be opened", &error)),
         }
     }
 
@@ -146,12 +143,7 @@ impl Folder {
     pub fn mark(&self, rt: &HostRuntime, text: &str) -> Result<(), Ended> {
         let new = self.path_of(rt, MARKER_NEW)?;
         if let Err(error) = write_whole(rt, new.as_str(), text.as_bytes()) {
-            return Err(Ended::by_file(
-                rt.alloc(),
-                new.as_str(),
-                "could not be written",
-                &error,
-            ));
+            return Err(Ended::by_file(rt.alloc(), new.as_str(), "could not be written", &error));
         }
         self.rename(rt, new.as_str(), MARKER)
     }
@@ -160,12 +152,7 @@ impl Folder {
     pub fn unmark(&self, rt: &HostRuntime) -> Result<(), Ended> {
         let path = self.path_of(rt, MARKER)?;
         if let Err(error) = fs::remove_file(rt, path.as_str()) {
-            return Err(Ended::by_file(
-                rt.alloc(),
-                path.as_str(),
-                "could not be removed",
-                &error,
-            ));
+            return Err(Ended::by_file(rt.alloc(), path.as_str(), "could not be removed", &error));
         }
         self.sync(rt)
     }
@@ -175,7 +162,12 @@ impl Folder {
         let area = self.path_of(rt, AREA)?;
         let area = match File::open(rt, area.as_str()) {
             Ok(file) => file,
-            Err(error) => return Err(Ended::by_file(rt.alloc(), area.as_str(), "could not be opened", &error)),
+            Err(error) => return Err(Ended::by_file(
+                rt.alloc(),
+                area.as_str(),
+                "could not be opened",
+                &error,
+            )),
         };
         let new = self.path_of(rt, STATE_NEW)?;
         let made = match File::create(rt, new.as_str()) {
@@ -201,11 +193,9 @@ impl Folder {
     pub fn sync(&self, rt: &HostRuntime) -> Result<(), Ended> {
         match self.held.sync_all() {
             Ok(()) => Ok(()),
-            Err(error) => Err(Ended::by_file(
-                rt.alloc(),
-                self.path.as_str(),
-                "could not be synced",
-                &error,
+            Err(error) => Err(Ended::said(
+                Status::Unsettled,
+                format!(in rt.alloc(); "{}: could not be synced: {error}", self.path),
             )),
         }
     }

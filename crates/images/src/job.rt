@@ -32,10 +32,7 @@ pub fn open_file(rt: &HostRuntime, path: &str) -> Result<(File, Metadata), Ended
     };
     match file.metadata() {
         Ok(found) if found.is_file() => Ok((file, found)),
-        Ok(_) => Err(Ended::said(
-            Status::Unread,
-            format!(in rt.alloc(); "{path}: is no file"),
-        )),
+        Ok(_) => Err(Ended::said(Status::Unread, format!(in rt.alloc(); "{path}: is no file"))),
         Err(error) => Err(unread(rt, path, &error)),
     }
 }
@@ -92,9 +89,8 @@ impl<'a> Job<'a> {
     /// What is said of a pass that failed: a read of the file, or a device of the folder.
     pub fn fault(&self, rt: &HostRuntime, fault: PassFault) -> Ended {
         match (fault, self.input.last_fault()) {
-            (PassFault::Input, Some(error)) if error.kind() != std::io::ErrorKind::UnexpectedEof => {
-                unread(rt, self.path, error)
-            }
+            (PassFault::Input, Some(error)) if error.kind() != std::io::ErrorKind::UnexpectedEof =>
+                { unread(rt, self.path, error) }
             (PassFault::Input, _) => self.changed(rt, ""),
             _ => Ended::by_device(),
         }
@@ -108,7 +104,11 @@ impl<'a> Job<'a> {
         };
         Ended::said(
             Status::InputChanged,
-            format!(in rt.alloc(); "{}: changed while it was read: {} bytes and then {now}{more}", self.path, self.input.length()),
+            format!(in rt.alloc();
+                "{}: changed while it was read: {} bytes and then {now}{more}",
+                self.path,
+                self.input.length()
+            ),
         )
     }
 

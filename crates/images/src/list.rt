@@ -29,7 +29,10 @@ fn add_volume(
 ) -> Result<(), Ended> {
     let length = length_of(rt, folder, opened, volume, Which::Now)?;
     let name = std::str::from_utf8(opened.store.name(volume).bytes()).unwrap_or("");
-    let line = format!(in rt.alloc(); "volume {name} blocks {} length {length}\n", opened.store.blocks(volume))?;
+    let line = format!(in rt.alloc();
+        "volume {name} blocks {} length {length}\n",
+        opened.store.blocks(volume)
+    )?;
     text.push_str(line.as_str())?;
     let sets = opened.store.images(volume).to_vec(rt.alloc())?;
     for set in sets.iter() {
@@ -48,7 +51,12 @@ pub fn list(rt: &HostRuntime, folder: &Folder, opened: &mut Opened) -> Result<Fi
         add_volume(rt, folder, opened, volume, &mut text)?;
     }
     let store = &opened.store;
-    let line = format!(in rt.alloc(); "slots {} of {}, last set {}\n", store.used_all(), store.slots(), store.last())?;
+    let line = format!(in rt.alloc();
+        "slots {} of {}, last set {}\n",
+        store.used_all(),
+        store.slots(),
+        store.last()
+    )?;
     text.push_str(line.as_str())?;
     Ok(Finish {
         text,

@@ -15,11 +15,11 @@
 
 mod area_file;
 mod check;
+mod committing;
 mod create;
 mod cut;
 mod delete;
 mod ended;
-mod committing;
 mod file_input;
 mod finish;
 mod folder;

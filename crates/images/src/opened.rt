@@ -76,7 +76,9 @@ pub fn open(rt: &HostRuntime, folder: &Folder, way: Way) -> Result<Opened, Ended
             let (path, call) = (folder.path.as_str(), marker.told(rt.alloc())?);
             return Err(Ended::said(
                 Status::Unclean,
-                format!(in rt.alloc(); "{path}: left open by {call}; ./images check {path} says what is whole"),
+                format!(in rt.alloc();
+                    "{path}: left open by {call}; ./images check {path} says what is whole"
+                ),
             ));
         }
     }

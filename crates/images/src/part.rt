@@ -29,7 +29,11 @@ fn blocks_of(rt: &HostRuntime, pair: Pair<'_>, length: u64) -> Result<u32, Ended
     }
     Err(Ended::said(
         Status::Refused,
-        format!(in rt.alloc(); "{}: length: {length} bytes, and a volume has at most {}", pair.file, u64::from(MOST_BLOCKS) * BLOCK as u64 - 8),
+        format!(in rt.alloc();
+            "{}: length: {length} bytes, and a volume has at most {}",
+            pair.file,
+            u64::from(MOST_BLOCKS) * BLOCK as u64 - 8
+        ),
     ))
 }
 

@@ -60,7 +60,10 @@ pub fn has_image(
     let name = std::str::from_utf8(store.name(volume).bytes()).unwrap_or("");
     Err(Ended::said(
         Status::Refused,
-        format!(in rt.alloc(); "{}: set {set}: there is no image of it on {name}", folder.path),
+        format!(in rt.alloc();
+            "{}: set {set}: there is no image of it on {name}",
+            folder.path
+        ),
     ))
 }
 

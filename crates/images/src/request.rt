@@ -48,15 +48,25 @@ pub enum Request<'a> {
 
 /// The forms of the words.
 const CREATE: &str = "create F SLOTS NAME[:BLOCKS]=FILE ..";
+
 const CUT: &str = "cut F NAME ..";
+
 const UPDATE: &str = "update F NAME=FILE ..";
+
 const LIST: &str = "list F";
+
 const SHOW: &str = "show F [SET] NAME";
+
 const DIGEST: &str = "digest F [SET] NAME";
+
 const DELETE: &str = "delete F SET [NAME]";
+
 const REVERT: &str = "revert F SET NAME";
+
 const CHECK: &str = "check F";
-const ALL: &str = "create F SLOTS NAME[:BLOCKS]=FILE .. | cut F NAME .. | update F NAME=FILE .. | list F | show F [SET] NAME | digest F [SET] NAME | delete F SET [NAME] | revert F SET NAME | check F";
+
+const ALL: &str =
+    "create F SLOTS NAME[:BLOCKS]=FILE .. | cut F NAME .. | update F NAME=FILE .. | list F | show F [SET] NAME | digest F [SET] NAME | delete F SET [NAME] | revert F SET NAME | check F";
 
 /// Whether each word has the form of a pair; only those of `create` may have a number of blocks.
 fn are_pairs(words: &[String], may_size: bool) -> bool {

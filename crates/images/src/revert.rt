@@ -1,7 +1,7 @@
 //! `revert F SET NAME`: a volume is brought back to its image of a set. The order of the steps is the point: the newer images go and that is
 //! committed, then blocks are restored and synced, and then the slots that this set free are committed as free.
 
-use crate::committing::{commit, mark};
+use crate::committing::{commit, give_up, mark};
 use crate::ended::Ended;
 use crate::finish::Finish;
 use crate::folder::Folder;
@@ -20,7 +20,9 @@ pub fn revert(
     has_image(rt, folder, store, volume, set)?;
     mark(rt, folder, store, "revert", &[volume])?;
     store.drop_newer(set, volume);
-    commit(rt, folder, store)?;
+    if let Err(ended) = commit(rt, folder, store) {
+        return Err(give_up(rt, folder, ended));
+    }
     if store.revert(set, volume).is_err() || store.flush(volume).is_err() {
         return Err(Ended::by_device());
     }

@@ -65,7 +65,10 @@ pub fn refusal(
         ShowFault::BadLength { found } => match place_told(rt, folder, name, which) {
             Ok(place) => Ended::said(
                 Status::Damaged,
-                format!(in rt.alloc(); "{place}: length: {found} in {} bytes", u64::from(opened.store.blocks(volume)) * 16384),
+                format!(in rt.alloc();
+                    "{place}: length: {found} in {} bytes",
+                    u64::from(opened.store.blocks(volume)) * 16384
+                ),
             ),
             Err(error) => Ended::from(error),
         },

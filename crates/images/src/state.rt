@@ -21,10 +21,7 @@ pub struct State {
 
 /// A state of which this is wrong.
 fn damaged(rt: &HostRuntime, path: &str, what: &str) -> Ended {
-    Ended::said(
-        Status::Damaged,
-        format!(in rt.alloc(); "{path}: {what}"),
-    )
+    Ended::said(Status::Damaged, format!(in rt.alloc(); "{path}: {what}"))
 }
 
 /// The bytes of the state's file.
@@ -53,10 +50,7 @@ fn is_front(front: &[u8]) -> bool {
 fn head_fault(rt: &HostRuntime, path: &str, fault: OpenFault) -> Ended {
     match fault {
         OpenFault::OutOfMemory => Ended::from(vss_names::OutOfMemory),
-        fault => Ended::said(
-            Status::Damaged,
-            format!(in rt.alloc(); "{path}: {fault}"),
-        ),
+        fault => Ended::said(Status::Damaged, format!(in rt.alloc(); "{path}: {fault}")),
     }
 }
 

@@ -11,6 +11,8 @@ pub enum Status {
     WriteFault,
     /// A file of the folder failed.
     FolderFault,
+    /// A file of the folder has another name, and whether that lasts is not known.
+    Unsettled,
     OutOfMemory,
     /// A file of the folder is not of its format.
     Damaged,
@@ -30,7 +32,7 @@ impl Status {
             Status::Refused => 3,
             Status::Unread => 4,
             Status::WriteFault => 5,
-            Status::FolderFault => 6,
+            Status::FolderFault | Status::Unsettled => 6,
             Status::OutOfMemory => 7,
             Status::Damaged => 9,
             Status::InUse => 10,

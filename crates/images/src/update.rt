@@ -2,7 +2,7 @@
 //! file: the blocks that differ are found; their old bytes are copied into slots, and that is committed; and then they are overwritten. So
 //! what is committed shows every image at each moment.
 
-use crate::committing::{commit, mark};
+use crate::committing::{commit, give_up, mark};
 use crate::ended::Ended;
 use crate::finish::{Finish, say};
 use crate::folder::Folder;
@@ -156,7 +156,10 @@ fn counts_of(rt: &HostRuntime, store: &Files, jobs: &[Job<'_>]) -> Result<String
     let mut text = String::new(rt.alloc());
     for job in jobs {
         let name = std::str::from_utf8(store.name(job.volume).bytes()).unwrap_or("");
-        let line = format!(in rt.alloc(); "{name} written {} copied {}\n", job.written, job.copied)?;
+        let line = format!(in rt.alloc();
+            "{name} written {} copied {}\n",
+            job.written, job.copied
+        )?;
         text.push_str(line.as_str())?;
     }
     Ok(text)
@@ -178,9 +181,7 @@ pub fn update(
     if is_marked {
         mark(rt, folder, store, "update", &volumes)?;
         if let Err(ended) = copy_all(rt, folder, store, jobs.as_mut_slice(), &mut gone) {
-            // the volumes and what is committed are as before, but for evictions that were printed and committed
-            let _ = folder.unmark(rt);
-            return Err(ended);
+            return Err(give_up(rt, folder, ended));
         }
         overwrite_all(rt, store, jobs.as_mut_slice(), &mut gone)?;
     }
