@@ -2,6 +2,7 @@ pub mod Plain
 pub mod Steps
 pub mod Course
 pub mod FileBytes
+pub mod BlockPayload
 pub mod Head
 pub mod StoreValue
 pub mod Keeping

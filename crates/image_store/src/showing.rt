@@ -1,7 +1,6 @@
 //! The file that a volume or an image has, to its length.
 
-ghost use Rattle.std.specs.Prelude.{◌≡◌, ◌<◌, length};
-ghost use Rattle.block_data.specs.declared.block_buf.TheConstants.{BLOCK};
+ghost use Rattle.std.specs.Prelude.{◌<◌, length};
 ghost use Rattle.cow_volume.specs.Calls.{blocks_at};
 
 use crate::bytes::length_said;
@@ -19,19 +18,18 @@ fn read_which<D: Device>(
     v: u32,
     which: Which,
     b: u32,
-    out: &mut [u8],
+    piece: &mut Piece,
 ) -> Result<(), ShowFault>
     requires volume { v < length group.old.area.volumes }
     requires in_range { b < blocks_at group.old v }
-    requires whole { length out.old ≡ BLOCK }
 {
     match which {
-        Which::Now => match group.read_into(v, b, out) {
+        Which::Now => match piece.read_volume(group, v, b) {
             Ok(()) => Ok(()),
             Err(Cause::Area) => Err(ShowFault::Area),
             Err(_) => Err(ShowFault::Volume),
         },
-        Which::Of(set) => match group.read_image_into(v, set, b, out) {
+        Which::Of(set) => match piece.read_image(group, v, set, b) {
             Ok(()) => Ok(()),
             Err(ImageFault::NoSuchImage) => Err(ShowFault::NoSuchImage),
             Err(ImageFault::Area) => Err(ShowFault::Area),
@@ -50,7 +48,7 @@ pub fn length_of<D: Device>(
     requires { v < length group.old.area.volumes }
 {
     let blocks = group.blocks(v);
-    read_which(group, v, which, blocks - 1, piece.bytes_mut())?;
+    read_which(group, v, which, blocks - 1, piece)?;
     match length_said(piece.bytes(), blocks) {
         Ok(length) => Ok(length),
         Err(found) => Err(ShowFault::BadLength { found }),
@@ -72,7 +70,7 @@ pub fn show_blocks<D: Device, K: Sink>(
         if left == 0 {
             break;
         }
-        read_which(group, v, which, b, piece.bytes_mut())?;
+        read_which(group, v, which, b, piece)?;
         let more = left.min(BLOCK as u64);
         if write_all(sink, &piece.bytes()[..more as usize]).is_err() {
             return Err(ShowFault::Sink);

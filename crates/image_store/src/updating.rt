@@ -40,10 +40,10 @@ pub fn compare_blocks<D: Device, I: Device>(
     requires marks { length differs.old ≡ blocks_at group.old v }
 {
     for b in 0..group.blocks(v) {
-        if input.read_into(b, wanted.bytes_mut()).is_err() {
+        if wanted.read_device(input, b).is_err() {
             return Err(PassFault::Input);
         }
-        group.read_into(v, b, piece.bytes_mut())?;
+        piece.read_volume(group, v, b)?;
         differs[b as usize] = !are_same(piece.bytes(), wanted.bytes());
     }
     Ok(())
@@ -60,7 +60,7 @@ fn copy_one<D: Device>(
     requires in_range { b < blocks_at group.old v }
 {
     let before = group.used_all();
-    group.read_into(v, b, piece.bytes_mut())?;
+    piece.read_volume(group, v, b)?;
     group.put(v, b, piece.payload())?;
     Ok(group.used_all() > before)
 }
@@ -117,7 +117,7 @@ pub fn overwrite_blocks<D: Device, I: Device>(
             if up_to > 0 {
                 return Ok(Pass::Evicted { at: b, up_to });
             }
-            if input.read_into(b, wanted.bytes_mut()).is_err() {
+            if wanted.read_device(input, b).is_err() {
                 return Err(PassFault::Input);
             }
             group.put(v, b, wanted.payload())?;
