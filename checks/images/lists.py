@@ -4,7 +4,7 @@
     lists.py PROGRAM FOLDER SEED COUNT
 
 Each list has 6 to 14 calls over 1 to 3 files of 0 to 6 blocks, with 0 to 12 slots; some calls have a wrong word, name or set. At the end of each list every volume and
-image is shown, and the folder is checked.
+image is shown, and the folder is checked. Before them, the most images and volumes are made.
 """
 import os
 import random
@@ -146,9 +146,25 @@ def one_list(program, room, draw):
     return calls
 
 
+def limits(program, room):
+    """As many images as a volume may have and one more, and one volume too many."""
+    drawing = Drawing(random.Random(0), room)
+    drawing.keep("db", b"d" * 5)
+    calls = [["create", "F", "1", "db=db", "wal=db"], *[["cut", "F", "db"]] * 513, ["cut", "F", "wal", "db"], ["cut", "F", "wal"], ["delete", "F", "512"], ["cut", "F", "db"], ["list", "F"],
+             ["check", "F"], ["create", "G", "1", *[f"v{v}=db" for v in range(129)]], ["create", "G", "1", *[f"v{v}=db" for v in range(128)]], ["list", "G"]]
+    for words in calls:
+        want, got = wanted(drawing.plain.answer(words)), made(program, room, words)
+        if want != got:
+            sys.exit(f"limits: {words}: wanted {want}, got {got}")
+
+
 def main():
     program, folder, seed, count = os.path.abspath(sys.argv[1]), sys.argv[2], int(sys.argv[3]), int(sys.argv[4])
     calls = 0
+    room = os.path.join(folder, "limits")
+    os.mkdir(room)
+    limits(program, room)
+    shutil.rmtree(room)
     for number in range(seed, seed + count):
         room = os.path.join(folder, f"list{number}")
         os.mkdir(room)
