@@ -1,6 +1,6 @@
 //! A set is cut over some volumes of a group.
 
-ghost use Rattle.std.specs.Prelude.{◌≡◌, ◌<◌, ◌≢◌, length, All};
+ghost use Rattle.std.specs.Prelude.{◌<◌, ◌≢◌, length, All};
 ghost use Rattle.std.specs.List.{AllPairs};
 ghost use Rattle.cow_volume.specs.Calls.{sets_at};
 

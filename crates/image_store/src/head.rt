@@ -1,6 +1,5 @@
-ghost use Rattle.std.specs.Prelude.{◌≡◌, ◌<◌, length, slice_get, Some, IfOk};
+ghost use Rattle.std.specs.Prelude.{◌≡◌, IfOk};
 ghost use Rattle.vss_catalog.specs.Allowed.{IsCatalog};
-ghost use Rattle.vss_catalog.specs.Entries.{EntryValue};
 ghost use Rattle.image_store.specs.Head.{bytes_of_head};
 
 use crate::open_fault::OpenFault;

@@ -1,4 +1,4 @@
-ghost use Rattle.std.specs.Prelude.{◌≡◌, ◌≢◌, ◌<◌, ◌≤◌, ◌+◌, ◌*◌, ◌∷◌, [], ℕ, Bool, true, false, List, Some, None, length, replicate, map, slice_get, vec_capacity, is_some, All, IfOk, IfErr, IfSome, IsNone, OnOk, OnErr, IsTrue};
+ghost use Rattle.std.specs.Prelude.{◌≡◌, ◌≢◌, ◌<◌, ◌≤◌, ◌+◌, ◌*◌, ◌∷◌, [], ℕ, true, false, List, Some, None, length, replicate, map, slice_get, vec_capacity, is_some, All, IfOk, IfErr, IfSome, IsNone, OnOk, OnErr, IsTrue};
 ghost use Rattle.std.specs.List.{AllPairs};
 ghost use Rattle.block_data.specs.Runs.{zeros};
 ghost use Rattle.block_data.specs.Digest.{sha256};
@@ -10,7 +10,7 @@ ghost use Rattle.cow_volume.specs.Ending.{AllTell};
 ghost use Rattle.cow_volume.specs.Resuming.{NoneTell};
 ghost use Rattle.cow_volume.specs.StandsFor.{StandsFor};
 ghost use Rattle.vss_names.specs.Faults.{Rose};
-ghost use Rattle.image_store.specs.Plain.{PlainStore, plain_at, changed, older_on, fresh_store};
+ghost use Rattle.image_store.specs.Plain.{PlainStore, changed, older_on, fresh_store};
 ghost use Rattle.image_store.specs.Steps.Step.{Cut, Dropped};
 ghost use Rattle.image_store.specs.StoreValue.{StandsAs, IsStep, StandsStill, StandsAfter};
 ghost use Rattle.image_store.specs.Updating.{IsReady, IsAhead, IsOverwriting};

@@ -1,7 +1,6 @@
 //! The three passes of an update, over a group.
 
-ghost use Rattle.std.specs.Prelude.{◌≡◌, ◌<◌, ◌≤◌, ◌*◌, false, length, vec_capacity, IsTrue};
-ghost use Rattle.block_data.specs.declared.block_buf.TheConstants.{BLOCK};
+ghost use Rattle.std.specs.Prelude.{◌≡◌, ◌<◌, ◌≤◌, ◌*◌, length, vec_capacity, IsTrue};
 ghost use Rattle.cow_volume.specs.Calls.{blocks_at};
 
 use crate::pass::Pass;
