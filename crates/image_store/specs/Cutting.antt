@@ -1,17 +1,18 @@
 -- Why no set is cut: nothing changes. (The most images of a volume are the Volume Shadow Copy Service's; set numbers are this project's own.)
 use Rattle.std.specs.Prelude.{ℕ, ◌≡◌, ◌<◌, ◌≤◌, List, length, slice_get, Some}
 use Rattle.cow_volume.specs.Calls.{sets_at}
+use Rattle.cow_volume.specs.GroupValue.{GroupValue}
 use Rattle.image_store.specs.StoreValue.{StoreValue}
 use Rattle.image_store.specs.declared.cut_fault.CutFault.{CutFault}
 use Rattle.image_store.specs.declared.cut_fault.CutFault.TheVariants.{NoNextSet, TooManyImages}
 
 -- this volume is the first of these that has as many images as there may be
-pub record IsFirstFull {D : Type 0} (s : StoreValue D) (vs : List ℕ) (v : ℕ) : Type 0 where
+pub record IsFirstFull {D : Type 0} (g : GroupValue D) (vs : List ℕ) (v : ℕ) : Type 0 where
   pub place : ℕ
   pub at : slice_get vs place ≡ Some v
-  pub full : 512 ≤ length (sets_at s.group v)
-  pub first : (earlier u : ℕ) → earlier < place → slice_get vs earlier ≡ Some u → length (sets_at s.group u) < 512
+  pub full : 512 ≤ length (sets_at g v)
+  pub first : (earlier u : ℕ) → earlier < place → slice_get vs earlier ≡ Some u → length (sets_at g u) < 512
 
 abbrev pub IsCutRefused : {D : Type 0} → StoreValue D → List ℕ → CutFault → Type 0
 IsCutRefused s vs NoNextSet = s.last ≡ 4294967295
-IsCutRefused s vs (TooManyImages v) = IsFirstFull s vs v
+IsCutRefused s vs (TooManyImages v) = IsFirstFull s.group vs v

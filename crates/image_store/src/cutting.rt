@@ -1,8 +1,9 @@
 //! A set is cut over some volumes of a group.
 
-ghost use Rattle.std.specs.Prelude.{◌<◌, ◌≢◌, length, All};
+ghost use Rattle.std.specs.Prelude.{◌<◌, ◌≢◌, length, All, IfSome, IsNone};
 ghost use Rattle.std.specs.List.{AllPairs};
 ghost use Rattle.cow_volume.specs.Calls.{sets_at};
+ghost use Rattle.image_store.specs.Cutting.{IsFirstFull};
 
 use cow_volume::CowGroup;
 use volume_device::Device;
@@ -11,6 +12,8 @@ use vss_catalog::MOST_IMAGES;
 /// The first of these volumes that has as many images as it may have.
 pub fn first_full<D: Device>(group: &CowGroup<D>, volumes: &[u32]) -> Option<u32>
     requires { All (λ v. v < length group.now.area.volumes) volumes.now }
+    ensures found { IfSome result (λ v. IsFirstFull group.now volumes.now v) }
+    ensures none { IsNone result → All (λ v. length (sets_at group.now v) < 512) volumes.now }
 {
     for volume in volumes {
         if group.images(*volume).len() >= MOST_IMAGES as usize {

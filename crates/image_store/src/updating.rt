@@ -1,7 +1,7 @@
 //! The three passes of an update, over a group.
 
-ghost use Rattle.std.specs.Prelude.{◌≡◌, ◌<◌, ◌≤◌, ◌*◌, length, vec_capacity, IsTrue};
-ghost use Rattle.cow_volume.specs.Calls.{blocks_at};
+ghost use Rattle.std.specs.Prelude.{◌≡◌, ◌<◌, ◌≤◌, ◌*◌, ℕ, List, Some, false, length, slice_get, vec_capacity, IsTrue, OnOk};
+ghost use Rattle.cow_volume.specs.Calls.{IsNow, IsQuiet, blocks_at};
 
 use crate::pass::Pass;
 use crate::pass_fault::PassFault;
@@ -37,6 +37,11 @@ pub fn compare_blocks<D: Device, I: Device>(
     requires volume { v < length group.old.area.volumes }
     requires sizes { I.size input.old ≡ blocks_at group.old v }
     requires marks { length differs.old ≡ blocks_at group.old v }
+    ensures marked { OnOk result ((blocks : List (List ℕ)) (b : ℕ) (bytes : List ℕ) → I.told input.old ≡ Some blocks → slice_get differs.new b ≡ Some false
+        → slice_get blocks b ≡ Some bytes → IsNow D.told group.old v b bytes) }
+    ensures quiet { IsQuiet D.told D.size D.count D.lending group.old group.new }
+    ensures told { I.told input.new ≡ I.told input.old }
+    ensures len { length differs.new ≡ length differs.old }
 {
     for b in 0..group.blocks(v) {
         if wanted.read_device(input, b).is_err() {
