@@ -12,16 +12,16 @@ use byteorder::{ByteOrder, LittleEndian};
 const LENGTH: usize = 8;
 
 /// Ends a block of which the first `have` bytes are the file's: zeros, and in the last block of the volume the file's length in bytes.
-pub fn end_block(out: &mut [u8], have: usize, is_last: bool, length: u64)
+pub fn end_block(out: &mut [u8], have: usize, is_last: bool, file_length: u64)
     requires whole { length out.old ≡ BLOCK }
     requires within { have ≤ BLOCK }
     requires room { IsTrue is_last → have + 8 ≤ BLOCK }
     ensures inner { is_last ≡ false → out.new ≡ take have out.old ++ run_of (BLOCK - have) 0 }
-    ensures last { IsTrue is_last → out.new ≡ take have out.old ++ run_of (BLOCK - 8 - have) 0 ++ length_bytes length }
+    ensures last { IsTrue is_last → out.new ≡ take have out.old ++ run_of (BLOCK - 8 - have) 0 ++ length_bytes file_length }
 {
     out[have..].fill(0);
     if is_last {
-        LittleEndian::write_u64(&mut out[BLOCK - LENGTH..], length);
+        LittleEndian::write_u64(&mut out[BLOCK - LENGTH..], file_length);
     }
 }
 
