@@ -1,6 +1,6 @@
 -- How a file of any length is kept in a volume of whole blocks: its bytes, zeros, and in the last eight bytes its length, the lowest byte
 -- first. So the length is a part of what an image shows, and there is no list of lengths beside. (This project's own format.)
-use Rattle.std.specs.Prelude.{ℕ, ◌+◌, ◌-◌, ◌*◌, ◌≤◌, Bool, List, ◌++◌, length, take, drop, map, nat_le}
+use Rattle.std.specs.Prelude.{ℕ, ◌+◌, ◌-◌, ◌*◌, ◌≤◌, Bool, List, [], ◌++◌, length, take, drop, map, nat_le, Option, Some, None, slice_get}
 use Rattle.std.specs.List.{concat, range_with_len}
 use Rattle.byteorder.specs.Endian.{little_bytes, little_number}
 use Rattle.block_data.specs.Runs.{run_of}
@@ -27,13 +27,18 @@ blocks_of_file n file = map (block_in (padded n file)) (range_with_len 0 n)
 
 -- ## back
 
--- the number in the last eight bytes
+-- the number in the last eight bytes of a block
+abbrev pub number_in : Option (List ℕ) → ℕ
+number_in None = 0
+number_in (Some block) = little_number 8 (drop (BLOCK - 8) block)
+
+-- the number in the last eight bytes of all
 unfoldable pub length_in : List (List ℕ) → ℕ
-length_in blocks = little_number 8 (drop (length (concat blocks) - 8) (concat blocks))
+length_in blocks = number_in (slice_get blocks (length blocks - 1))
 
 -- it leaves room for itself
 abbrev pub has_length : List (List ℕ) → Bool
-has_length blocks = nat_le (length_in blocks + 8) (length (concat blocks))
+has_length blocks = nat_le (length_in blocks + 8) (BLOCK * length blocks)
 
 -- so many bytes from the first on
 unfoldable pub file_in : List (List ℕ) → List ℕ

@@ -1,19 +1,15 @@
 -- The head of a store's state: the letters, the last set that was given, how long the catalog is, and the catalog, as vss_catalog has it.
 -- All numbers have four bytes, the lowest first. (This project's own format.)
 use Rattle.std.specs.Prelude.{ℕ, List, ◌++◌, length, codes}
-use Rattle.byteorder.specs.Endian.{little_bytes}
 use Rattle.vss_catalog.specs.Entries.{EntryValue}
 use Rattle.vss_catalog.specs.Group.{entries_of}
-use Rattle.vss_catalog.specs.Written.{bytes_of}
+use Rattle.vss_catalog.specs.Written.{bytes_of, number_bytes}
 use Rattle.image_store.specs.StoreValue.{StoreValue}
 
 -- what a contract sees of a head: the last set, and the entries of the catalog
 pub record HeadValue : Type 0 where
   pub last : ℕ
   pub entries : List EntryValue
-
-unfoldable pub number_bytes : ℕ → List ℕ
-number_bytes n = little_bytes 4 n
 
 -- the bytes of the head of these entries
 unfoldable pub head_bytes : ℕ → List EntryValue → List ℕ

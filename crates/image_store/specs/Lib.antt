@@ -7,6 +7,7 @@ pub mod Head
 pub mod StoreValue
 pub mod Keeping
 pub mod Updating
+pub mod Passes
 pub mod Cutting
 pub mod Showing
 pub mod Reverting

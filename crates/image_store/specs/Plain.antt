@@ -1,9 +1,8 @@
 -- Whole copies: what each volume has now, and for each of its images a copy of all that the volume had at the image's cut. This is the
 -- second reading of a store of images: no slot, no block that is shared, nothing that is evicted by itself. (This project's own.)
-use Rattle.std.specs.Prelude.{ℕ, ◌+◌, List, [], ◌∷◌, ◌++◌, length, map, filter, replicate, nat_lt, not, ◌==◌, if◌then◌else◌, Option, Some, None, slice_get}
+use Rattle.std.specs.Prelude.{ℕ, zero, suc, ◌≤◌, List, [], ◌∷◌, ◌++◌, length, map, filter, replicate, nat_lt, not, ◌==◌, if◌then◌else◌, Option, Some, None, slice_get}
 use Rattle.block_data.specs.Runs.{zeros}
 use Rattle.write_history.specs.History.{History, Image, Write, contents}
-use Rattle.cow_volume.specs.Calls.{is_among}
 
 -- an image: its set, and the blocks that the volume had at its cut
 pub record Kept : Type 0 where
@@ -26,13 +25,21 @@ abbrev pub plain_in : Option Plain → Plain
 plain_in None = record { blocks = []; images = [] }
 plain_in (Some p) = p
 
+-- volume v of these
+abbrev pub volume_in : List Plain → ℕ → Plain
+volume_in ps v = plain_in (slice_get ps v)
+
 abbrev pub plain_at : PlainStore → ℕ → Plain
-plain_at s v = plain_in (slice_get s.volumes v)
+plain_at s v = volume_in s.volumes v
 
 -- what a set's image has, where it stands
 abbrev pub image_in : ℕ → List Kept → Option (List (List ℕ))
 image_in set [] = None
 image_in set (k ∷ ks) = if k.set == set then Some k.blocks else image_in set ks
+
+-- the sets of the images
+abbrev pub sets_on : Plain → List ℕ
+sets_on p = map (λ k. k.set) p.images
 
 -- the image of a set of volume v
 abbrev pub image_of : PlainStore → ℕ → ℕ → Option (List (List ℕ))
@@ -68,16 +75,34 @@ reverted_on set p = with_blocks (back_to p (image_in set p.images)) (older_on se
 
 -- ## what all volumes become
 
--- f of each volume of these, the first of which has the number k
-abbrev pub changed_from : ℕ → List ℕ → (Plain → Plain) → List Plain → List Plain
-changed_from k vs f [] = []
-changed_from k vs f (p ∷ ps) = (if is_among k vs then f p else p) ∷ changed_from (k + 1) vs f ps
+-- f of volume v
+abbrev pub on_volume : ℕ → (Plain → Plain) → List Plain → List Plain
+on_volume v f [] = []
+on_volume zero f (p ∷ ps) = f p ∷ ps
+on_volume (suc v) f (p ∷ ps) = p ∷ on_volume v f ps
+
+-- f of each of these volumes, one after another
+abbrev pub on_each : List ℕ → (Plain → Plain) → List Plain → List Plain
+on_each [] f ps = ps
+on_each (v ∷ vs) f ps = on_each vs f (on_volume v f ps)
 
 abbrev pub changed : List ℕ → (Plain → Plain) → PlainStore → PlainStore
-changed vs f s = record { volumes = changed_from 0 vs f s.volumes; last = s.last }
+changed vs f s = record { volumes = on_each vs f s.volumes; last = s.last }
 
 abbrev pub all_changed : (Plain → Plain) → PlainStore → PlainStore
 all_changed f s = record { volumes = map f s.volumes; last = s.last }
+
+-- ## the sets that were given
+
+-- the images are of sets up to this one
+abbrev pub AreGiven : ℕ → List Kept → Type 0
+AreGiven last [] = Unit {0}
+AreGiven last (k ∷ ks) = (k.set ≤ last) × AreGiven last ks
+
+-- those of all volumes are
+abbrev pub AllGiven : ℕ → List Plain → Type 0
+AllGiven last [] = Unit {0}
+AllGiven last (p ∷ ps) = AreGiven last p.images × AllGiven last ps
 
 -- ## the whole copies of a history
 

@@ -1,6 +1,7 @@
-ghost use Rattle.std.specs.Prelude.{◌≡◌, IfOk};
+ghost use Rattle.std.specs.Prelude.{◌≡◌, ◌++◌, IfOk, OnOk};
+ghost use Rattle.vss_catalog.specs.Written.{number_bytes};
 ghost use Rattle.vss_catalog.specs.Allowed.{IsCatalog};
-ghost use Rattle.image_store.specs.Head.{bytes_of_head};
+ghost use Rattle.image_store.specs.Head.{bytes_of_head, head_bytes};
 
 use crate::open_fault::OpenFault;
 use byteorder::{ByteOrder, LittleEndian};
@@ -24,20 +25,38 @@ pub struct Head {
 
 impl Model for Head {
     ghost use Rattle.image_store.specs.Head.{HeadValue};
+    ghost use Rattle.vss_catalog.specs.Allowed.{IsCatalog};
 
     ghost Value = { HeadValue };
 
     ghost view = { λ h. record { last = h.last; entries = h.catalog } };
+
+    ghost invariant = { λ h. IsCatalog h.catalog };
+}
+
+/// Appends a number's four bytes.
+#[tactic(auto, unfolding(vss_catalog::specs::Written::number_bytes))]
+fn add_number(text: &mut Text, number: u32) -> Result<(), OutOfMemory>
+    ensures { OnOk result (text.new.bytes ≡ text.old.bytes ++ number_bytes number) }
+{
+    let mut word = [0; 4];
+    LittleEndian::write_u32(&mut word, number);
+    text.add(&word)
 }
 
 /// The bytes of a head.
-pub fn bytes_with(alloc: Global, last: u32, catalog: &Catalog) -> Result<Text, OutOfMemory> {
+#[tactic(auto, unfolding(crate::specs::Head::head_bytes))]
+pub fn bytes_with(alloc: Global, last: u32, catalog: &Catalog) -> Result<Text, OutOfMemory>
+    requires { IsCatalog catalog.now }
+    ensures { IfOk result (λ text. text.bytes ≡ head_bytes last catalog.now) }
+{
     let catalog = catalog.encode(alloc)?;
-    let mut numbers = [0; 8];
-    LittleEndian::write_u32(&mut numbers, last);
-    LittleEndian::write_u32(&mut numbers[4..], catalog.len() as u32);
+    if catalog.len() > u32::MAX as usize {
+        return Err(OutOfMemory);
+    }
     let mut text = Text::copy(alloc, LETTERS.as_slice())?;
-    text.add(numbers.as_slice())?;
+    add_number(&mut text, last)?;
+    add_number(&mut text, catalog.len() as u32)?;
     text.add(catalog.bytes())?;
     Ok(text)
 }
@@ -57,8 +76,7 @@ impl Head {
 
     /// The head that these bytes are.
     pub fn read(alloc: Global, bytes: &[u8]) -> Result<Head, OpenFault>
-        ensures ok { IfOk result (λ head. bytes_of_head head ≡ bytes.now) }
-        ensures allowed { IfOk result (λ head. IsCatalog head.entries) }
+        ensures { IfOk result (λ head. bytes_of_head head ≡ bytes.now) }
     {
         if Head::length_in(bytes) != Some(bytes.len()) {
             return Err(OpenFault::Length {
@@ -83,7 +101,8 @@ impl Head {
 
     /// The catalog of the volumes.
     pub fn catalog(&self) -> &Catalog
-        ensures { result.now ≡ self.now.entries }
+        ensures entries { result.now ≡ self.now.entries }
+        ensures allowed { IsCatalog self.now.entries }
     {
         &self.catalog
     }

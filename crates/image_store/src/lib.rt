@@ -13,8 +13,6 @@ mod bytes;
 mod closed;
 mod cut_fault;
 mod cutting;
-mod digest_sink;
-mod dropping;
 mod head;
 mod laws;
 mod new_fault;
@@ -34,9 +32,7 @@ pub use bytes::end_block;
 pub use closed::Closed;
 pub use cut_fault::CutFault;
 pub use head::Head;
-pub use laws::{
-    files_come_back, images_are_of_their_cut, images_come_of_cuts, what_lasts_is_found,
-};
+pub use laws::images_are_of_their_cut;
 pub use new_fault::NewFault;
 pub use open_fault::OpenFault;
 pub use pass::Pass;

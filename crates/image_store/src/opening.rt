@@ -1,6 +1,8 @@
 //! What is compared before devices and an area are taken up as a store.
 
-ghost use Rattle.std.specs.Prelude.{◌≡◌, ◌<◌, length};
+ghost use Rattle.std.specs.Prelude.{◌≡◌, ◌<◌, length, map, IfOk, OnOk};
+ghost use Rattle.vss_catalog.specs.Entries.{EntryValue};
+ghost use Rattle.vss_names.specs.TextValue.{TextValue};
 
 use crate::open_fault::OpenFault;
 use diff_area::Area;
@@ -43,6 +45,8 @@ pub fn check_blocks<D: Device>(
     area: &Area<D>,
 ) -> Result<(), OpenFault>
     requires { length devices.now ≡ length catalog.now }
+    ensures volumes { OnOk result (area.now.volumes ≡ map (λ (e : EntryValue). e.blocks) catalog.now) }
+    ensures fits { OnOk result (map D.size devices.now ≡ area.now.volumes) }
 {
     let found = area.volumes();
     if found != catalog.volumes() {
@@ -62,7 +66,9 @@ pub fn check_blocks<D: Device>(
 }
 
 /// The names of the volumes of a catalog.
-pub fn names_of(alloc: Global, catalog: &Catalog) -> Result<Vec<Text>, OpenFault> {
+pub fn names_of(alloc: Global, catalog: &Catalog) -> Result<Vec<Text>, OpenFault>
+    ensures { IfOk result (λ names. map (λ (name : TextValue). name.bytes) names.items ≡ map (λ (e : EntryValue). e.name) catalog.now) }
+{
     let mut names = Vec::with_capacity(alloc, catalog.volumes() as usize)?;
     for volume in 0..catalog.volumes() {
         names.push(Text::copy(alloc, catalog.name(volume).bytes())?)?;

@@ -1,10 +1,10 @@
-ghost use Rattle.std.specs.Prelude.{◌≡◌, ◌<◌, List, ℕ, Some, length, slice_get, IfOk, IfSome, OnOk};
+ghost use Rattle.std.specs.Prelude.{◌≡◌, ◌<◌, List, ℕ, Some, true, false, length, slice_get, IfOk, IfSome, IsErrOf, OnOk};
 ghost use Rattle.block_data.specs.PayloadBytes.{payload_bytes};
 ghost use Rattle.block_data.specs.Runs.{zeros};
-ghost use Rattle.cow_volume.specs.Calls.{IsNow, IsShown, IsQuiet};
+ghost use Rattle.cow_volume.specs.Calls.{IsNow, IsShown, IsQuiet, is_among, sets_at};
 ghost use Rattle.vss_names.specs.Faults.{HasCause};
 
-use block_data::{BlockBuf, Payload};
+use block_data::{BLOCK, BlockBuf, Payload};
 use cow_volume::{Cause, CowGroup, ImageFault};
 use std::alloc::Global;
 use std::marker::Model;
@@ -80,6 +80,8 @@ impl Piece {
     ) -> Result<(), ImageFault>
         requires volume { v < length group.old.area.volumes }
         ensures shown { OnOk result (IsShown D.told group.old v set b self.new) }
+        ensures image { OnOk result (is_among set (sets_at group.old v) ≡ true) }
+        ensures unseen { IsErrOf result ImageFault.NoSuchImage → is_among set (sets_at group.old v) ≡ false }
         ensures quiet { IsQuiet D.told D.size D.count D.lending group.old group.new }
     {
         match &mut self.payload {
@@ -90,7 +92,8 @@ impl Piece {
 
     /// Lends its 16,384 bytes.
     pub fn bytes(&self) -> &[u8]
-        ensures { result.now ≡ self.now }
+        ensures bytes { result.now ≡ self.now }
+        ensures whole { length result.now ≡ BLOCK }
     {
         match &self.payload {
             Payload::Bytes(block) => block.bytes(),

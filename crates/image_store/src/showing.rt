@@ -1,7 +1,11 @@
 //! The file that a volume or an image has, to its length.
 
-ghost use Rattle.std.specs.Prelude.{◌<◌, length};
+ghost use Rattle.std.specs.Prelude.{◌<◌, List, length, IfOk, IfErr, OnOk};
+ghost use Rattle.vss_names.specs.Faults.{Rose};
 ghost use Rattle.cow_volume.specs.Calls.{blocks_at};
+ghost use Rattle.image_store.specs.Plain.{Plain};
+ghost use Rattle.image_store.specs.Showing.{HasBlock, HasLength, HasReadCause, HasShowCause, IfBad, IsShow, shown_in};
+ghost use Rattle.image_store.specs.StoreValue.{HasPlains, KeepsPlains};
 
 use crate::bytes::length_said;
 use crate::piece::Piece;
@@ -22,6 +26,9 @@ fn read_which<D: Device>(
 ) -> Result<(), ShowFault>
     requires volume { v < length group.old.area.volumes }
     requires in_range { b < blocks_at group.old v }
+    ensures read { OnOk result ((ps : List Plain) → HasPlains D.told group.old ps → HasBlock (shown_in ps v which) b piece.new) }
+    ensures kept { KeepsPlains D.told group.old group.new }
+    ensures cause { IfErr result (HasReadCause group.old v which) }
 {
     match which {
         Which::Now => match piece.read_volume(group, v, b) {
@@ -46,7 +53,12 @@ pub fn length_of<D: Device>(
     which: Which,
 ) -> Result<u64, ShowFault>
     requires { v < length group.old.area.volumes }
+    ensures length { IfOk result (λ n. (ps : List Plain) → HasPlains D.told group.old ps → HasLength (shown_in ps v which) n) }
+    ensures bad { IfErr result (λ fault. (ps : List Plain) → HasPlains D.told group.old ps → IfBad (shown_in ps v which) fault) }
+    ensures cause { IfErr result (HasShowCause group.old v which ⊥) }
+    ensures kept { KeepsPlains D.told group.old group.new }
 {
+    let _facts = group.volumes();
     let blocks = group.blocks(v);
     read_which(group, v, which, blocks - 1, piece)?;
     match length_said(piece.bytes(), blocks) {
@@ -64,6 +76,9 @@ pub fn show_blocks<D: Device, K: Sink>(
     sink: &mut K,
 ) -> Result<(), ShowFault>
     requires { v < length group.old.area.volumes }
+    ensures show { (ps : List Plain) → HasPlains D.told group.old ps → IsShow (shown_in ps v which) (K.taken sink.old) (K.taken sink.new) result }
+    ensures cause { IfErr result (HasShowCause group.old v which (Rose (K.count sink.old) (K.count sink.new))) }
+    ensures kept { KeepsPlains D.told group.old group.new }
 {
     let mut left = length_of(group, piece, v, which)?;
     for b in 0..group.blocks(v) {

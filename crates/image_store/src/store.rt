@@ -1,31 +1,28 @@
-ghost use Rattle.std.specs.Prelude.{◌≡◌, ◌≢◌, ◌<◌, ◌≤◌, ◌+◌, ◌*◌, ◌∷◌, [], ℕ, true, false, List, Some, None, length, replicate, map, slice_get, vec_capacity, is_some, All, IfOk, IfErr, IfSome, IsNone, OnOk, OnErr, IsTrue};
+ghost use Rattle.std.specs.Prelude.{◌≡◌, ◌≢◌, ◌<◌, ◌≤◌, ◌*◌, ℕ, List, Some, None, true, false, length, replicate, map, slice_get, vec_capacity, is_some, All, IfOk, IfErr, IfSome, IsNone, OnOk, OnErr, IsTrue};
 ghost use Rattle.std.specs.List.{AllPairs};
 ghost use Rattle.block_data.specs.Runs.{zeros};
-ghost use Rattle.block_data.specs.Digest.{sha256};
 ghost use Rattle.diff_area.specs.Records.{free};
+ghost use Rattle.diff_area.specs.AreaValue.{AreaValue};
 ghost use Rattle.vss_catalog.specs.Names.{bytes_in};
+ghost use Rattle.vss_catalog.specs.Entries.{lists_of};
 ghost use Rattle.write_history.specs.History.{History};
 ghost use Rattle.cow_volume.specs.Calls.{blocks_at, sets_at, is_among};
 ghost use Rattle.cow_volume.specs.Ending.{AllTell};
-ghost use Rattle.cow_volume.specs.Resuming.{NoneTell};
+ghost use Rattle.cow_volume.specs.Resuming.{AreKept, NoneTell};
 ghost use Rattle.cow_volume.specs.StandsFor.{StandsFor};
 ghost use Rattle.vss_names.specs.Faults.{Rose};
-ghost use Rattle.image_store.specs.Plain.{PlainStore, changed, older_on, fresh_store};
+ghost use Rattle.image_store.specs.Plain.{PlainStore, fresh_store, plain_at};
 ghost use Rattle.image_store.specs.Steps.Step.{Cut, Dropped};
-ghost use Rattle.image_store.specs.StoreValue.{StandsAs, IsStep, StandsStill, StandsAfter};
-ghost use Rattle.image_store.specs.Updating.{IsReady, IsAhead, IsOverwriting};
-ghost use Rattle.image_store.specs.Showing.{IsShow, shown_blocks};
+ghost use Rattle.image_store.specs.StoreValue.{StandsAs, IsStep, StandsStill};
+ghost use Rattle.image_store.specs.Updating.{AreReady, IsAhead, IsOverwriting};
+ghost use Rattle.image_store.specs.Showing.{HasLength, HasShowCause, IsShow, shown_in};
 ghost use Rattle.image_store.specs.Reverting.{IsRevert};
 ghost use Rattle.image_store.specs.Cutting.{IsCutRefused};
-ghost use Rattle.image_store.specs.Keeping.{IsKeptAs};
 ghost use Rattle.image_store.specs.Head.{head_of, bytes_of_head};
-ghost use Rattle.image_store.specs.FileBytes.{file_in};
 
 use crate::closed::Closed;
 use crate::cut_fault::CutFault;
-use crate::cutting::{cut_all, first_full};
-use crate::digest_sink::DigestSink;
-use crate::dropping::drop_later;
+use crate::cutting::{cut_all, first_full, greatest_set};
 use crate::head::{Head, bytes_with};
 use crate::new_fault::NewFault;
 use crate::open_fault::OpenFault;
@@ -62,13 +59,15 @@ pub struct Store<D: Device> {
 }
 
 impl<D: Device> Model for Store<D> {
-    ghost use Rattle.image_store.specs.StoreValue.{StoreValue, KeepsStore};
+    ghost use Rattle.std.specs.Prelude.{◌≡◌, true};
+    ghost use Rattle.image_store.specs.StoreValue.{StoreValue};
+    ghost use Rattle.vss_catalog.specs.Group.{are_names_for};
 
     ghost Value = { StoreValue D };
 
     ghost view = { λ s. record { group = s.group; names = s.names.items; last = s.last } };
 
-    ghost invariant = { λ s. KeepsStore s.group s.names.items s.last };
+    ghost invariant = { λ s. are_names_for s.group s.names.items ≡ true };
 }
 
 /// Whether two of these names are the same.
@@ -121,7 +120,6 @@ impl<D: Device> Store<D> {
         area: D,
         head: &Head,
     ) -> Result<Store<D>, Refused<D>>
-        ensures kept { IfOk result (λ store. (p : PlainStore) → IsKeptAs D.told devices.items area (bytes_of_head head.now) p → StandsAs D.told store p) }
         ensures head { IfOk result (λ store. head_of store ≡ bytes_of_head head.now) }
         ensures untold { IfOk result (λ store. NoneTell D.told devices.items area → (hs : List History) × StandsFor D.told store.group hs) }
     {
@@ -223,17 +221,20 @@ impl<D: Device> Store<D> {
         requires within { All (λ v. v < length self.old.group.area.volumes) volumes.now }
         requires apart { AllPairs (λ u v. u ≢ v) volumes.now }
         ensures cut { IfOk result (λ set. IsStep D.told self.old self.new (Cut set volumes.now)) }
-        ensures next { IfOk result (λ set. set ≡ self.old.last + 1) }
+        ensures last { IfOk result (λ set. self.new.last ≡ set) }
+        ensures later { IfOk result (λ set. self.old.last < set) }
         ensures refused { IfErr result (IsCutRefused self.old volumes.now) }
         ensures unchanged { OnErr result (self.new ≡ self.old) }
+        ensures volumes { self.new.group.area.volumes ≡ self.old.group.area.volumes }
     {
-        if self.last == u32::MAX {
+        let greatest = greatest_set(&self.group, self.last);
+        if greatest == u32::MAX {
             return Err(CutFault::NoNextSet);
         }
         if let Some(volume) = first_full(&self.group, volumes) {
             return Err(CutFault::TooManyImages { volume });
         }
-        let set = self.last + 1;
+        let set = greatest + 1;
         cut_all(&mut self.group, volumes, set);
         self.last = set;
         Ok(set)
@@ -245,25 +246,16 @@ impl<D: Device> Store<D> {
         ensures dropped { OnOk result (IsStep D.told self.old self.new (Dropped set v)) }
         ensures refused { IfErr result (λ fault. (fault ≡ ImageFault.NoSuchImage) × (is_among set (sets_at self.old.group v) ≡ false)) }
         ensures unchanged { OnErr result (self.new ≡ self.old) }
+        ensures volumes { self.new.group.area.volumes ≡ self.old.group.area.volumes }
     {
         self.group.drop_image(v, set)
-    }
-
-    /// The images of a volume that are newer than that of a set go, the newest first. So what is kept after it shows that image and the
-    /// older ones wherever a revert is broken off.
-    pub fn drop_newer(&mut self, set: u32, v: u32)
-        requires volume { v < length self.old.group.area.volumes }
-        requires image { is_among set (sets_at self.old.group v) ≡ true }
-        ensures newest { All (λ s. s ≤ set) (sets_at self.new.group v) }
-        ensures stands { StandsAfter D.told self.old self.new (changed (v ∷ []) (older_on set)) }
-    {
-        drop_later(&mut self.group, set, v);
     }
 
     /// Brings a volume back to the image of a set.
     pub fn revert(&mut self, set: u32, v: u32) -> Result<(), RevertFault>
         requires { v < length self.old.group.area.volumes }
-        ensures { IsRevert D.told self.old self.new set v result }
+        ensures revert { (p : PlainStore) → StandsAs D.told self.old p → IsRevert D.told self.new p set v result }
+        ensures volumes { self.new.group.area.volumes ≡ self.old.group.area.volumes }
     {
         self.group.revert(v, set)
     }
@@ -278,10 +270,12 @@ impl<D: Device> Store<D> {
         requires volume { v < length self.old.group.area.volumes }
         requires sizes { I.size input.old ≡ blocks_at self.old.group v }
         requires marks { length differs.old ≡ blocks_at self.old.group v }
-        ensures ready { OnOk result ((wanted : List (List ℕ)) → I.told input.old ≡ Some wanted → IsReady D.told self.new v differs.new wanted 0) }
+        ensures ready { OnOk result ((wanted : List (List ℕ)) (p : PlainStore) → I.told input.old ≡ Some wanted → StandsAs D.told self.old p
+            → AreReady differs.new wanted (plain_at p v).blocks 0) }
         ensures still { StandsStill D.told self.old self.new }
         ensures told { I.told input.new ≡ I.told input.old }
         ensures len { length differs.new ≡ length differs.old }
+        ensures volumes { self.new.group.area.volumes ≡ self.old.group.area.volumes }
     {
         compare_blocks(
             &mut self.group,
@@ -306,8 +300,9 @@ impl<D: Device> Store<D> {
         requires volume { v < length self.old.group.area.volumes }
         requires marks { length differs.now ≡ blocks_at self.old.group v }
         requires space { 512 * length self.old.group.area.volumes ≤ vec_capacity gone.old }
-        ensures ahead { IsAhead D.told self.old self.new gone.new.items result }
+        ensures ahead { (p : PlainStore) → StandsAs D.told self.old p → IsAhead D.told self.new p gone.new.items result }
         ensures space { vec_capacity gone.new ≡ vec_capacity gone.old }
+        ensures volumes { self.new.group.area.volumes ≡ self.old.group.area.volumes }
     {
         copy_blocks(
             &mut self.group,
@@ -333,10 +328,11 @@ impl<D: Device> Store<D> {
         requires sizes { I.size input.old ≡ blocks_at self.old.group v }
         requires marks { length differs.now ≡ blocks_at self.old.group v }
         requires space { 512 * length self.old.group.area.volumes ≤ vec_capacity gone.old }
-        ensures overwriting { (wanted : List (List ℕ)) → I.told input.old ≡ Some wanted → IsReady D.told self.old v differs.now wanted from
-            → IsOverwriting D.told self.old self.new v differs.now wanted gone.new.items result }
+        ensures overwriting { (wanted : List (List ℕ)) (p : PlainStore) → I.told input.old ≡ Some wanted → StandsAs D.told self.old p
+            → AreReady differs.now wanted (plain_at p v).blocks from → IsOverwriting D.told self.new p v differs.now wanted gone.new.items result }
         ensures told { I.told input.new ≡ I.told input.old }
         ensures space { vec_capacity gone.new ≡ vec_capacity gone.old }
+        ensures volumes { self.new.group.area.volumes ≡ self.old.group.area.volumes }
     {
         overwrite_blocks(
             &mut self.group,
@@ -352,8 +348,9 @@ impl<D: Device> Store<D> {
     /// How many bytes the file has that a volume, or its image of a set, holds.
     pub fn length(&mut self, v: u32, which: Which) -> Result<u64, ShowFault>
         requires { v < length self.old.group.area.volumes }
-        ensures length { IfOk result (λ n. (p : PlainStore) (blocks : List (List ℕ)) → StandsAs D.told self.old p → shown_blocks p v which ≡ Some blocks → n ≡ length (file_in blocks)) }
+        ensures length { IfOk result (λ n. (p : PlainStore) → StandsAs D.told self.old p → HasLength (shown_in p.volumes v which) n) }
         ensures still { StandsStill D.told self.old self.new }
+        ensures volumes { self.new.group.area.volumes ≡ self.old.group.area.volumes }
     {
         length_of(&mut self.group, &mut self.piece, v, which)
     }
@@ -361,27 +358,19 @@ impl<D: Device> Store<D> {
     /// Writes the file that a volume, or its image of a set, has, to its length.
     pub fn show<K: Sink>(&mut self, v: u32, which: Which, sink: &mut K) -> Result<(), ShowFault>
         requires { v < length self.old.group.area.volumes }
-        ensures show { IsShow D.told self.old v which (K.taken sink.old) (K.taken sink.new) (Rose (K.count sink.old) (K.count sink.new)) result }
+        ensures show { (p : PlainStore) → StandsAs D.told self.old p → IsShow (shown_in p.volumes v which) (K.taken sink.old) (K.taken sink.new) result }
+        ensures cause { IfErr result (HasShowCause self.old.group v which (Rose (K.count sink.old) (K.count sink.new))) }
         ensures still { StandsStill D.told self.old self.new }
+        ensures volumes { self.new.group.area.volumes ≡ self.old.group.area.volumes }
     {
         show_blocks(&mut self.group, &mut self.piece, v, which, sink)
-    }
-
-    /// The SHA-256 of what `show` writes.
-    pub fn digest(&mut self, v: u32, which: Which) -> Result<[u8; 32], ShowFault>
-        requires { v < length self.old.group.area.volumes }
-        ensures digest { IfOk result (λ digest. (p : PlainStore) (blocks : List (List ℕ)) → StandsAs D.told self.old p → shown_blocks p v which ≡ Some blocks → digest ≡ sha256 (file_in blocks)) }
-        ensures still { StandsStill D.told self.old self.new }
-    {
-        let mut sink = DigestSink::new();
-        show_blocks(&mut self.group, &mut self.piece, v, which, &mut sink)?;
-        Ok(sink.finish())
     }
 
     /// Writes the table of its area, and brings all slots and it to where they last.
     pub fn sync(&mut self) -> Result<(), Cause>
         ensures still { StandsStill D.told self.old self.new }
         ensures head { head_of self.new ≡ head_of self.old }
+        ensures volumes { self.new.group.area.volumes ≡ self.old.group.area.volumes }
     {
         self.group.sync()
     }
@@ -391,14 +380,13 @@ impl<D: Device> Store<D> {
         requires { v < length self.old.group.area.volumes }
         ensures still { StandsStill D.told self.old self.new }
         ensures head { head_of self.new ≡ head_of self.old }
+        ensures volumes { self.new.group.area.volumes ≡ self.old.group.area.volumes }
     {
         self.group.flush(v)
     }
 
     /// Takes it apart: everything is brought to where it lasts. The devices are given back, whether or not that failed.
-    pub fn close(self) -> Closed<D>
-        ensures kept { OnOk result.outcome ((p : PlainStore) → StandsAs D.told self p → IsKeptAs D.lasting result.devices.items result.area (head_of self) p) }
-    {
+    pub fn close(self) -> Closed<D> {
         let Store { group, .. } = self;
         let mut group = group;
         let synced = group.sync();
@@ -427,7 +415,9 @@ impl<D: Device> Store<D> {
 }
 
 /// What has to hold of a head and the devices before the area is read.
-fn check_devices<D: Device>(head: &Head, devices: &[D]) -> Result<(), OpenFault> {
+fn check_devices<D: Device>(head: &Head, devices: &[D]) -> Result<(), OpenFault>
+    ensures { OnOk result (length devices.now ≡ length head.now.entries) }
+{
     if devices.len() != head.catalog().volumes() as usize {
         return Err(OpenFault::Devices {
             found: devices.len() as u64,
@@ -444,6 +434,10 @@ fn take_up<D: Device>(
     head: &Head,
 ) -> Result<Store<D>, OpenFault>
     requires { length devices.items ≡ length head.now.entries }
+    ensures group { IfOk result (λ store. store.group ≡ record { devices = devices.items; area = area; images = lists_of head.now.entries }) }
+    ensures stands { IfOk result (λ store. (hs : List History) → AreKept D.told devices.items area (lists_of head.now.entries) hs → StandsFor D.told store.group hs) }
+    ensures untold { IfOk result (λ store. NoneTell D.told devices.items area.device → (hs : List History) × StandsFor D.told store.group hs) }
+    ensures head { IfOk result (λ store. head_of store ≡ bytes_of_head head.now) }
 {
     let catalog = head.catalog();
     check_blocks(catalog, &devices, &area)?;

@@ -1,7 +1,12 @@
 //! The three passes of an update, over a group.
 
-ghost use Rattle.std.specs.Prelude.{◌≡◌, ◌<◌, ◌≤◌, ◌*◌, ℕ, List, Some, false, length, slice_get, vec_capacity, IsTrue, OnOk};
-ghost use Rattle.cow_volume.specs.Calls.{IsNow, IsQuiet, blocks_at};
+ghost use Rattle.std.specs.Prelude.{◌≡◌, ◌<◌, ◌≤◌, ◌*◌, ℕ, List, Some, false, length, vec_capacity, IsTrue, OnOk};
+ghost use Rattle.cow_volume.specs.Calls.{blocks_at, sets_at};
+ghost use Rattle.cow_volume.specs.Room.{lacks_slot};
+ghost use Rattle.image_store.specs.Passes.{IsCopying, IsWriting};
+ghost use Rattle.image_store.specs.Plain.{Plain, volume_in};
+ghost use Rattle.image_store.specs.StoreValue.{HasPlains, KeepsPlains};
+ghost use Rattle.image_store.specs.Updating.{AreReady};
 
 use crate::pass::Pass;
 use crate::pass_fault::PassFault;
@@ -37,12 +42,14 @@ pub fn compare_blocks<D: Device, I: Device>(
     requires volume { v < length group.old.area.volumes }
     requires sizes { I.size input.old ≡ blocks_at group.old v }
     requires marks { length differs.old ≡ blocks_at group.old v }
-    ensures marked { OnOk result ((blocks : List (List ℕ)) (b : ℕ) (bytes : List ℕ) → I.told input.old ≡ Some blocks → slice_get differs.new b ≡ Some false
-        → slice_get blocks b ≡ Some bytes → IsNow D.told group.old v b bytes) }
-    ensures quiet { IsQuiet D.told D.size D.count D.lending group.old group.new }
+    ensures marked { OnOk result ((wanted : List (List ℕ)) (ps : List Plain) → I.told input.old ≡ Some wanted → HasPlains D.told group.old ps
+        → AreReady differs.new wanted (volume_in ps v).blocks 0) }
+    ensures kept { KeepsPlains D.told group.old group.new }
     ensures told { I.told input.new ≡ I.told input.old }
+    ensures size { I.size input.new ≡ I.size input.old }
     ensures len { length differs.new ≡ length differs.old }
 {
+    let _facts = input.blocks();
     for b in 0..group.blocks(v) {
         if wanted.read_device(input, b).is_err() {
             return Err(PassFault::Input);
@@ -62,6 +69,8 @@ fn copy_one<D: Device>(
 ) -> Result<bool, Cause>
     requires volume { v < length group.old.area.volumes }
     requires in_range { b < blocks_at group.old v }
+    requires room { lacks_slot group.old.area.records v (sets_at group.old v) b ≡ false }
+    ensures kept { KeepsPlains D.told group.old group.new }
 {
     let before = group.used_all();
     piece.read_volume(group, v, b)?;
@@ -82,6 +91,9 @@ pub fn copy_blocks<D: Device>(
     requires volume { v < length group.old.area.volumes }
     requires marks { length differs.now ≡ blocks_at group.old v }
     requires space { 512 * length group.old.area.volumes ≤ vec_capacity gone.old }
+    ensures volumes { group.new.area.volumes ≡ group.old.area.volumes }
+    ensures copying { (ps : List Plain) → HasPlains D.told group.old ps → IsCopying D.told group.new ps gone.new.items result }
+    ensures space { vec_capacity gone.new ≡ vec_capacity gone.old }
 {
     if group.images(v).is_empty() {
         return Ok(Pass::Done);
@@ -114,6 +126,12 @@ pub fn overwrite_blocks<D: Device, I: Device>(
     requires sizes { I.size input.old ≡ blocks_at group.old v }
     requires marks { length differs.now ≡ blocks_at group.old v }
     requires space { 512 * length group.old.area.volumes ≤ vec_capacity gone.old }
+    ensures volumes { group.new.area.volumes ≡ group.old.area.volumes }
+    ensures writing { (wanted : List (List ℕ)) (ps : List Plain) → I.told input.old ≡ Some wanted → HasPlains D.told group.old ps
+        → AreReady differs.now wanted (volume_in ps v).blocks from → IsWriting D.told group.new ps v differs.now wanted gone.new.items result }
+    ensures told { I.told input.new ≡ I.told input.old }
+    ensures size { I.size input.new ≡ I.size input.old }
+    ensures space { vec_capacity gone.new ≡ vec_capacity gone.old }
 {
     for b in from..group.blocks(v) {
         if differs[b as usize] {

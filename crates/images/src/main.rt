@@ -19,6 +19,7 @@ mod committing;
 mod create;
 mod cut;
 mod delete;
+mod digest_sink;
 mod ended;
 mod file_input;
 mod finish;

@@ -7,7 +7,24 @@ use crate::finish::Finish;
 use crate::folder::Folder;
 use crate::opened::Opened;
 use crate::refusals::{has_image, place_of};
+use crate::store_device::StoreDevice;
+use image_store::Store;
 
+/// The images of a volume that are newer than that of a set go, the newest first. So what is kept after it shows that image and the older
+/// ones wherever a revert is broken off.
+fn drop_newer(store: &mut Store<StoreDevice>, set: u32, volume: u32) {
+    for _image in 0..store.images(volume).len() {
+        let newest = match store.images(volume).last() {
+            Some(newest) => *newest,
+            None => 0,
+        };
+        if newest > set {
+            let _ = store.drop_image(newest, volume);
+        }
+    }
+}
+
+/// `revert F SET NAME`.
 pub fn revert(
     rt: &HostRuntime,
     folder: &Folder,
@@ -19,7 +36,7 @@ pub fn revert(
     let volume = place_of(rt, folder, store, name)?;
     has_image(rt, folder, store, volume, set)?;
     mark(rt, folder, store, "revert", &[volume])?;
-    store.drop_newer(set, volume);
+    drop_newer(store, set, volume);
     if let Err(ended) = commit(rt, folder, store) {
         return Err(give_up(rt, folder, ended));
     }

@@ -1,3 +1,4 @@
+use crate::digest_sink::DigestSink;
 use crate::ended::Ended;
 use crate::finish::{Finish, say};
 use crate::folder::{AREA, Folder};
@@ -102,9 +103,10 @@ pub fn digest(
     name: &str,
 ) -> Result<Finish, Ended> {
     let (volume, which) = shown(rt, folder, opened, set, name)?;
-    match opened.store.digest(volume, which) {
-        Ok(digest) => {
-            let digits = hex::encode(rt.alloc(), digest.as_slice())?;
+    let mut sink = DigestSink::new();
+    match opened.store.show(volume, which, &mut sink) {
+        Ok(()) => {
+            let digits = hex::encode(rt.alloc(), sink.finish().as_slice())?;
             let line = format!(in rt.alloc(); "{digits}\n")?;
             say(rt, line.as_str())?;
             Ok(Finish::quiet(rt.alloc()))

@@ -1,0 +1,9 @@
+pub mod Sets
+pub mod Copies
+pub mod Plains
+pub mod Calls
+pub mod Passes
+pub mod Shown
+pub mod Given
+pub mod Stores
+pub mod Lasting

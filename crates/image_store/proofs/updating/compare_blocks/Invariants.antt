@@ -1,0 +1,5 @@
+use Rattle.image_store.proofs.Passes.{IsMarkedTo}
+use Rattle.image_store.proofs.updating.compare_blocks.Given as goal
+
+abbrev pub invariant-loop-b : goal.invariant-loop-b
+invariant-loop-b g l = IsMarkedTo g.D.Device.told g.I.Device.told g.I.Device.size l.fn.group l.group l.fn.input l.input l.v l.fn.differs l.differs l.b
