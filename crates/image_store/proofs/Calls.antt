@@ -120,7 +120,7 @@ put_plains told size count lending old new ps v b bytes l m is has =
     has_changed told size count lending old new ps v (written (record { block = b; bytes = bytes })) (put_on b bytes) has is.kept l (is.stands has.hs has.stands)
     (λ at. plain-written at.blocks (record { block = b; bytes = bytes }) at.history (let n = at.blocks_at_is in omega arith) at.time)
 
-not_put_kept : {D : Type 0} → (told : D → Option (List (List ℕ))) (size count : D → ℕ) (lending : D → Bool) (old new : GroupValue D) (v : ℕ) (cause : Cause) → IsNotPut told size count lending old new v cause
+pub not_put_kept : {D : Type 0} → (told : D → Option (List (List ℕ))) (size count : D → ℕ) (lending : D → Bool) (old new : GroupValue D) (v : ℕ) (cause : Cause) → IsNotPut told size count lending old new v cause
     → KeepsPlains told old new
 not_put_kept told size count lending old new v cause is = record {
   volumes = is.kept.volumes;
@@ -153,11 +153,6 @@ copy_kept told size count lending old mid new v b bytes r l m quiet now is =
       plains = λ ps has. put_same told size count lending mid new ps v b bytes r (omega arith) (omega arith) is (block_now told old ps v b bytes has l m now)
           ((quiet_kept told size count lending old mid quiet).plains ps has);
     }
-
--- a put that failed
-pub failed_kept : {D : Type 0} → (told : D → Option (List (List ℕ))) (size count : D → ℕ) (lending : D → Bool) (old new : GroupValue D) (v : ℕ) (w : Write) (cause : Cause)
-    → IsPutOr told size count lending old new v w (Err cause) → KeepsPlains told old new
-failed_kept told size count lending old new v w cause is = not_put_kept told size count lending old new v cause is
 
 -- a read leaves the room for a write
 pub room_left : {D : Type 0} → (told : D → Option (List (List ℕ))) (size count : D → ℕ) (lending : D → Bool) (old new : GroupValue D) (v b : ℕ) → IsQuiet told size count lending old new

@@ -1,20 +1,22 @@
 -- The loops of an update.
 use Rattle.std.proofs.Common.{◌≡◌, ◌≢◌, ℕ, zero, suc, ◌+◌, ◌<◌, ◌≤◌, List, [], ◌∷◌, length, map, refl, ap, sym, subst, ◌∙◌, arith, Bool, true, false, Option, Some, None, inl, inr}
-use Rattle.std.specs.Prelude.{◌⊎◌, slice_get, slice_set}
+use Rattle.std.specs.Prelude.{◌⊎◌, IfSome, not, slice_get, slice_set}
+use Rattle.volume_device.specs.Blocks.{AreBlocks}
 use Rattle.std.proofs.lemmas.Option.{slice_get_within}
 use Rattle.write_history.specs.declared.evicted.Evicted.{Evicted}
 use Rattle.cow_volume.specs.GroupValue.{GroupValue}
 use Rattle.cow_volume.specs.Room.{HasRoom, images_going}
 use Rattle.cow_volume.specs.Steps.{IsPut}
-use Rattle.cow_volume.specs.Calls.{blocks_at, blocks_in}
+use Rattle.cow_volume.specs.Calls.{blocks_at, blocks_in, IsNow}
 use Rattle.cow_volume.proofs.Group.{slice_get-set_same, slice_get-set_other, length-slice_set, slice_get_inside, same_number}
 use Rattle.image_store.specs.Plain.{Plain, volume_in, sets_on, with_blocks, gone_on, on_volume}
 use Rattle.image_store.specs.Passes.{IsGone, HasSome, HasSomeGone, HasMixed}
 use Rattle.image_store.specs.Steps.{AreMixed}
 use Rattle.image_store.specs.StoreValue.{HasPlains, KeepsPlains}
 use Rattle.image_store.specs.Updating.{AreReady}
-use Rattle.image_store.proofs.Plains.{same_lists, on_volume-same, on_volume-at, on_volume-twice, volume_on, as_many_plains, as_many_blocks, sets_of_volumes, kept_refl, kept_then}
-use Rattle.image_store.proofs.Calls.{gone_plains, put_on, put_plains}
+use Rattle.image_store.proofs.Plains.{same_lists, on_volume-same, on_volume-at, on_volume-twice, volume_on, as_many_plains, as_many_blocks, sets_of_volumes, kept_refl, kept_then, block_now}
+use Rattle.image_store.proofs.Calls.{gone_plains, room_plains, put_on, put_plains}
+use Rattle.image_store.proofs.Sets.{at_or_below}
 
 -- ## the first pass
 
@@ -44,15 +46,6 @@ marked_more told has size old now new input input_now input_new v before differs
   len = length-slice_set differs k mark ∙ so.len;
   marked = λ wanted ps is plains b m at. by_place wanted ps is plains b m at (at_or_below b k (omega arith));
 } where
-  at_or_below : (b k : ℕ) → b < k + 1 → (b ≡ k) ⊎ (b < k)
-  at_or_below zero zero l = inl refl
-  at_or_below zero (suc k) l = inr (omega arith)
-  at_or_below (suc b) zero l = absurd (omega arith)
-  at_or_below (suc b) (suc k) l = further b k (at_or_below b k (omega arith)) where
-    further : (b k : ℕ) → (b ≡ k) ⊎ (b < k) → (suc b ≡ suc k) ⊎ (suc b < suc k)
-    further b k (inl e) = inl (ap suc e)
-    further b k (inr l) = inr (omega arith)
-
   by_place : (wanted : List (List ℕ)) (ps : List Plain) → has input ≡ Some wanted → HasPlains told old ps → (b : ℕ) → b < k + 1 → slice_get (slice_set differs k mark) b ≡ Some false → (b ≡ k) ⊎ (b < k)
       → slice_get (volume_in ps v).blocks b ≡ slice_get wanted b
   by_place wanted ps is plains b m at (inl e) =
@@ -81,7 +74,25 @@ marked_all told has size old now input input_now v before differs k l marks all 
       first = λ b m. absurd (omega arith);
     }
 
+-- the block is that of the other device
+pub compared : {D : Type 0} (told : D → Option (List (List ℕ))) (g : GroupValue D) (ps : List Plain) (v k : ℕ) (piece other a b : List ℕ) (same : Bool) (input : Option (List (List ℕ))) (wanted : List (List ℕ))
+    → HasPlains told g ps → v < length g.area.volumes → k < blocks_at g v → IsNow told g v k piece → IfSome input (λ blocks. slice_get blocks k ≡ Some other) → input ≡ Some wanted
+    → (same ≡ true → a ≡ b) → a ≡ piece → b ≡ other → not same ≡ false → slice_get (volume_in ps v).blocks k ≡ slice_get wanted k
+compared told g ps v k piece other a b true input wanted has l m now read is equal first second e =
+    let there : slice_get wanted k ≡ Some other = subst (λ (o : Option (List (List ℕ))). IfSome o (λ blocks. slice_get blocks k ≡ Some other)) is read in
+    block_now told g ps v k piece has l m now ∙ ap Some (sym first ∙ equal refl ∙ second) ∙ sym there
+compared told g ps v k piece other a b false input wanted has l m now read is equal first second e = cc
+
+pub as_many_wanted : (size n : ℕ) (input : Option (List (List ℕ))) (wanted : List (List ℕ)) → IfSome input (AreBlocks size) → size ≡ n → input ≡ Some wanted → length wanted ≡ n
+as_many_wanted size n input wanted whole e is = (subst (λ (o : Option (List (List ℕ))). IfSome o (AreBlocks size)) is whole).number ∙ e
+
 -- ## the second pass
+
+-- one more block is copied
+pub copy_more : {D : Type 0} (told : D → Option (List (List ℕ))) (old now room new : GroupValue D) (v b up_to : ℕ) → KeepsPlains told old now → up_to ≤ 0 → HasRoom told now room v b up_to → KeepsPlains told room new
+    → KeepsPlains told old new
+copy_more told old now room new v b up_to kept none made more =
+    kept_then told old now new kept (kept_then told now room new (room_plains told now room v b up_to (omega arith) made) more)
 
 -- it stops where images went
 pub copying_stopped : {D : Type 0} (told : D → Option (List (List ℕ))) (old now new : GroupValue D) (ps : List Plain) (v b up_to : ℕ) (list : List Evicted) → KeepsPlains told old now → 0 < up_to
@@ -95,6 +106,11 @@ copying_stopped told old now new ps v b up_to list kept some room list_is has =
     }
 
 -- ## the third pass
+
+-- what was read of the other device
+pub read_there : (input : Option (List (List ℕ))) (wanted : List (List ℕ)) (k : ℕ) (piece bytes : List ℕ) → IfSome input (λ blocks. slice_get blocks k ≡ Some piece) → input ≡ Some wanted → bytes ≡ piece
+    → slice_get wanted k ≡ Some bytes
+read_there input wanted k piece bytes read is same = subst (λ (o : Option (List (List ℕ))). IfSome o (λ blocks. slice_get blocks k ≡ Some piece)) is read ∙ ap Some (sym same)
 
 pub record IsWrittenTo {D I : Type 0} (told : D → Option (List (List ℕ))) (has : I → Option (List (List ℕ))) (size : I → ℕ) (old now : GroupValue D) (input input_now : I) (v : ℕ) (differs : List Bool) (from k : ℕ) : Type 0 where
   pub volumes : now.area.volumes ≡ old.area.volumes
@@ -118,15 +134,6 @@ written_none told has size old input v differs from = record {
     plains = subst (λ (qs : List Plain). HasPlains told old qs) (sym (on_volume-same ps v (with_blocks (volume_in ps v).blocks) (with_own (volume_in ps v)))) plains;
   };
 }
-
-at_or_below : (b k : ℕ) → b < k + 1 → (b ≡ k) ⊎ (b < k)
-at_or_below zero zero l = inl refl
-at_or_below zero (suc k) l = inr (omega arith)
-at_or_below (suc b) zero l = absurd (omega arith)
-at_or_below (suc b) (suc k) l = further b k (at_or_below b k (omega arith)) where
-  further : (b k : ℕ) → (b ≡ k) ⊎ (b < k) → (suc b ≡ suc k) ⊎ (suc b < suc k)
-  further b k (inl e) = inl (ap suc e)
-  further b k (inr l) = inr (omega arith)
 
 -- a block is the wanted one, by either list of which it comes
 wanted_at : (x y z : Option (List ℕ)) → x ≡ z → (y ≡ x) ⊎ (y ≡ z) → y ≡ z

@@ -1,5 +1,5 @@
 -- The sets of the images of a group, volume by volume.
-use Rattle.std.proofs.Common.{◌≡◌, ◌≢◌, ℕ, zero, suc, ◌+◌, ◌<◌, ◌≤◌, List, [], ◌∷◌, length, refl, ap, sym, subst, ◌∙◌, arith, true, Option, Some, None, inl, inr}
+use Rattle.std.proofs.Common.{◌≡◌, ◌≢◌, ℕ, zero, suc, ◌+◌, ◌<◌, ◌≤◌, List, [], ◌∷◌, length, refl, ap, sym, subst, ◌∙◌, arith, Bool, true, false, Option, Some, None, inl, inr}
 use Rattle.std.specs.Prelude.{◌⊎◌, All, slice_get, slice_index, slice_index_or}
 use Rattle.std.proofs.lemmas.Option.{slice_get_within}
 use Rattle.cow_volume.specs.GroupValue.{GroupValue}
@@ -15,6 +15,12 @@ pub get_is : (xs : List ℕ) (i x : ℕ) → slice_get xs i ≡ Some x → x ≡
 get_is xs i x at = some_same (sym at ∙ place_is xs i (slice_get_within xs i x at)) where
   some_same : {x y : ℕ} → Some x ≡ Some y → x ≡ y
   some_same e = cc
+
+-- a mark that is not set
+pub flag_is : (xs : List Bool) (i : ℕ) (d : Bool) → i < length xs → slice_index_or xs i d ≡ false → slice_get xs i ≡ Some false
+flag_is [] i d l e = absurd (omega arith)
+flag_is (x ∷ xs) zero d l e = ap Some e
+flag_is (x ∷ xs) (suc i) d l e = flag_is xs i d (omega arith) e
 
 pub at_or_below : (b k : ℕ) → b < k + 1 → (b ≡ k) ⊎ (b < k)
 at_or_below zero zero l = inl refl
@@ -44,6 +50,7 @@ pub sets_more : {D : Type 0} (g : GroupValue D) (n greatest newest result : ℕ)
 sets_more g n greatest newest result sets before here are first second v l = by_place (at_or_below v n l) where
   raised : (bound : ℕ) (xs : List ℕ) → bound ≤ result → All (λ s. s ≤ bound) xs → All (λ s. s ≤ result) xs
   raised bound xs m all = λ k d within. let one = all k d within in omega arith
+
   by_place : (v ≡ n) ⊎ (v < n) → All (λ s. s ≤ result) (sets_at g v)
   by_place (inl e) = subst (λ (w : ℕ). All (λ s. s ≤ result) (sets_at g w)) (sym e) (subst (λ (xs : List ℕ). All (λ s. s ≤ result) xs) are (raised newest sets second here))
   by_place (inr m) = raised greatest (sets_at g v) first (before v m)

@@ -16,18 +16,20 @@ abbrev pub shown_in : List Plain → ℕ → Which → Option (List (List ℕ))
 shown_in ps v Now = Some (volume_in ps v).blocks
 shown_in ps v (Of set) = image_in set (volume_in ps v).images
 
--- the bytes are those of block b of what is shown
-pub record HasBlock (shown : Option (List (List ℕ))) (b : ℕ) (bytes : List ℕ) : Type 0 where
+-- the bytes are those of block b of what is shown, which has n blocks
+pub record HasBlock (shown : Option (List (List ℕ))) (n b : ℕ) (bytes : List ℕ) : Type 0 where
   pub blocks : List (List ℕ)
   pub are : shown ≡ Some blocks
+  pub many : length blocks ≡ n
   pub at : slice_get blocks b ≡ Some bytes
 
--- the file in what is shown has this length, with which it leaves room for itself
-pub record HasLength (shown : Option (List (List ℕ))) (n : ℕ) : Type 0 where
+-- the file in what is shown, which has n blocks, has this length, with which it leaves room for itself
+pub record HasLength (shown : Option (List (List ℕ))) (n len : ℕ) : Type 0 where
   pub blocks : List (List ℕ)
   pub are : shown ≡ Some blocks
-  pub length_is : n ≡ length_in blocks
-  pub room : n + 8 ≤ BLOCK * length blocks
+  pub many : length blocks ≡ n
+  pub length_is : len ≡ length_in blocks
+  pub room : len + 8 ≤ BLOCK * length blocks
 
 -- what is shown says this length, and has no room for it
 abbrev pub HasNoLength : Option (List (List ℕ)) → ℕ → Type 0

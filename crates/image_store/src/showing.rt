@@ -1,6 +1,6 @@
 //! The file that a volume or an image has, to its length.
 
-ghost use Rattle.std.specs.Prelude.{◌<◌, List, length, IfOk, IfErr, OnOk};
+ghost use Rattle.std.specs.Prelude.{◌≡◌, ◌≤◌, ◌⊎◌, ◌<◌, List, length, IfOk, IfErr, OnOk};
 ghost use Rattle.vss_names.specs.Faults.{Rose};
 ghost use Rattle.cow_volume.specs.Calls.{blocks_at};
 ghost use Rattle.image_store.specs.Plain.{Plain};
@@ -26,8 +26,9 @@ fn read_which<D: Device>(
 ) -> Result<(), ShowFault>
     requires volume { v < length group.old.area.volumes }
     requires in_range { b < blocks_at group.old v }
-    ensures read { OnOk result ((ps : List Plain) → HasPlains D.told group.old ps → HasBlock (shown_in ps v which) b piece.new) }
+    ensures read { OnOk result ((ps : List Plain) → HasPlains D.told group.old ps → HasBlock (shown_in ps v which) (blocks_at group.old v) b piece.new) }
     ensures kept { KeepsPlains D.told group.old group.new }
+    ensures images { group.new.images ≡ group.old.images }
     ensures cause { IfErr result (HasReadCause group.old v which) }
 {
     match which {
@@ -53,10 +54,11 @@ pub fn length_of<D: Device>(
     which: Which,
 ) -> Result<u64, ShowFault>
     requires { v < length group.old.area.volumes }
-    ensures length { IfOk result (λ n. (ps : List Plain) → HasPlains D.told group.old ps → HasLength (shown_in ps v which) n) }
+    ensures length { IfOk result (λ n. (ps : List Plain) → HasPlains D.told group.old ps → HasLength (shown_in ps v which) (blocks_at group.old v) n) }
     ensures bad { IfErr result (λ fault. (ps : List Plain) → HasPlains D.told group.old ps → IfBad (shown_in ps v which) fault) }
     ensures cause { IfErr result (HasShowCause group.old v which ⊥) }
     ensures kept { KeepsPlains D.told group.old group.new }
+    ensures images { group.new.images ≡ group.old.images }
 {
     let _facts = group.volumes();
     let blocks = group.blocks(v);
@@ -65,6 +67,18 @@ pub fn length_of<D: Device>(
         Ok(length) => Ok(length),
         Err(found) => Err(ShowFault::BadLength { found }),
     }
+}
+
+/// How many bytes of a block are shown, where so many are left.
+fn part_of(left: u64) -> u64
+    ensures most { result ≤ BLOCK }
+    ensures within { result ≤ left }
+    ensures part { (result ≡ BLOCK) ⊎ (result ≡ left) }
+{
+    if left > BLOCK as u64 {
+        return BLOCK as u64;
+    }
+    left
 }
 
 /// Writes the file. Its length is read first, of the last block.
@@ -86,10 +100,10 @@ pub fn show_blocks<D: Device, K: Sink>(
             break;
         }
         read_which(group, v, which, b, piece)?;
-        let more = left.min(BLOCK as u64);
-        if write_all(sink, &piece.bytes()[..more as usize]).is_err() {
+        let more = part_of(left);
+        let Ok(()) = write_all(sink, &piece.bytes()[..more as usize]) else {
             return Err(ShowFault::Sink);
-        }
+        };
         left -= more;
     }
     Ok(())

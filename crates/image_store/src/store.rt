@@ -348,7 +348,7 @@ impl<D: Device> Store<D> {
     /// How many bytes the file has that a volume, or its image of a set, holds.
     pub fn length(&mut self, v: u32, which: Which) -> Result<u64, ShowFault>
         requires { v < length self.old.group.area.volumes }
-        ensures length { IfOk result (λ n. (p : PlainStore) → StandsAs D.told self.old p → HasLength (shown_in p.volumes v which) n) }
+        ensures length { IfOk result (λ n. (p : PlainStore) → StandsAs D.told self.old p → HasLength (shown_in p.volumes v which) (blocks_at self.old.group v) n) }
         ensures still { StandsStill D.told self.old self.new }
         ensures volumes { self.new.group.area.volumes ≡ self.old.group.area.volumes }
     {

@@ -51,9 +51,9 @@ pub fn compare_blocks<D: Device, I: Device>(
 {
     let _facts = input.blocks();
     for b in 0..group.blocks(v) {
-        if wanted.read_device(input, b).is_err() {
+        let Ok(()) = wanted.read_device(input, b) else {
             return Err(PassFault::Input);
-        }
+        };
         piece.read_volume(group, v, b)?;
         differs[b as usize] = !are_same(piece.bytes(), wanted.bytes());
     }
@@ -139,9 +139,9 @@ pub fn overwrite_blocks<D: Device, I: Device>(
             if up_to > 0 {
                 return Ok(Pass::Evicted { at: b, up_to });
             }
-            if wanted.read_device(input, b).is_err() {
+            let Ok(()) = wanted.read_device(input, b) else {
                 return Err(PassFault::Input);
-            }
+            };
             group.put(v, b, wanted.payload())?;
         }
     }
