@@ -1,4 +1,5 @@
 pub mod Sets
+pub mod Opens
 pub mod Copies
 pub mod Plains
 pub mod Calls

@@ -30,7 +30,7 @@ pub image_read : {D : Type 0} (told : D → Option (List (List ℕ))) (g : Group
     → IsImage told g v set b bytes → (ps : List Plain) → HasPlains told g ps → HasBlock (shown_in ps v (Of set)) (blocks_at g v) b bytes
 image_read told g v set b bytes l m among is ps has =
     let found = block_shown told g ps v set b bytes has l m among is in
-    record { blocks = found.0; are = found.1.0; many = found.1.1.1; at = found.1.1.0 }
+    record { blocks = found.0; are = found.1; many = found.3; at = found.2 }
 
 -- ## the length
 
@@ -58,6 +58,18 @@ no_length_read shown n said bytes has is room = λ blocks are.
     subst (λ (bs : List (List ℕ)). (has_length bs ≡ false) × (said ≡ length_in bs)) equal
     (no_room (length_in has.blocks + 8) (BLOCK * length has.blocks) (subst (λ k. BLOCK * k < length_in has.blocks + 8) (sym has.many) (subst (λ m. BLOCK * n < m + 8) said_equal room)), said_equal)
 
+-- the same, where the length was read of the bytes of the last block
+pub length_at : (shown : Option (List (List ℕ))) (n blocks said : ℕ) (piece bytes : List ℕ) → blocks ≡ n → HasBlock shown n (blocks - 1) piece → bytes ≡ piece
+    → (said ≡ little_number 8 (drop (BLOCK - 8) bytes)) × (said + 8 ≤ BLOCK * blocks) → HasLength shown n said
+length_at shown n blocks said piece bytes same has are is =
+    length_read shown n said bytes (subst (λ k. HasBlock shown n (k - 1) bytes) same (subst (λ (x : List ℕ). HasBlock shown n (blocks - 1) x) (sym are) has)) is.0 (subst (λ k. said + 8 ≤ BLOCK * k) same is.1)
+
+pub no_length_at : (shown : Option (List (List ℕ))) (n blocks said : ℕ) (piece bytes : List ℕ) → blocks ≡ n → HasBlock shown n (blocks - 1) piece → bytes ≡ piece
+    → (said ≡ little_number 8 (drop (BLOCK - 8) bytes)) × (BLOCK * blocks < said + 8) → HasNoLength shown said
+no_length_at shown n blocks said piece bytes same has are is =
+    no_length_read shown n said bytes (subst (λ k. HasBlock shown n (k - 1) bytes) same (subst (λ (x : List ℕ). HasBlock shown n (blocks - 1) x) (sym are) has)) is.0
+    (subst (λ k. BLOCK * k < said + 8) same is.1)
+
 -- ## what the sink took
 
 pub took_none : (before : Option (List ℕ)) → Took before [] before
@@ -84,6 +96,10 @@ pub record IsShownTo {D : Type 0} (told : D → Option (List (List ℕ))) (old n
   pub count_is : count_now ≡ count
   pub taken : (ps : List Plain) → HasPlains told old ps → HasTaken (shown_in ps v which) (blocks_at old v) before after left k
 
+file_is : (blocks : List (List ℕ)) (m : ℕ) → m ≡ length_in blocks → take m (concat blocks) ≡ file_in blocks
+unfolding file_in
+file_is blocks m e = ap (λ j. take j (concat blocks)) e
+
 -- before the first
 pub shown_none : (shown : Option (List (List ℕ))) (n left : ℕ) (before : Option (List ℕ)) → HasLength shown n left → HasTaken shown n before before left 0
 shown_none shown n left before has = record {
@@ -93,10 +109,7 @@ shown_none shown n left before has = record {
   bytes = [];
   took = took_none before;
   rest = file_is has.blocks left has.length_is;
-} where
-  file_is : (blocks : List (List ℕ)) (m : ℕ) → m ≡ length_in blocks → take m (concat blocks) ≡ file_in blocks
-  unfolding file_in
-  file_is blocks m e = ap (λ j. take j (concat blocks)) e
+}
 
 drop_at : (blocks : List (List ℕ)) (k : ℕ) (bytes : List ℕ) → slice_get blocks k ≡ Some bytes → drop k blocks ≡ bytes ∷ drop (k + 1) blocks
 drop_at [] k bytes at = cc
@@ -122,9 +135,10 @@ take_two left more rest xs ys sum (inr h) =
     let same : left ≡ more = omega arith in
     take-append-le left xs ys h.1 ∙ ap (λ n. take n xs) same ∙ sym (append-nil (take more xs)) ∙ ap (λ n. take more xs ++ take n ys) (sym none)
 
-take_none : (left : ℕ) → take left ([] : List ℕ) ≡ []
-take_none zero = refl
-take_none (suc left) = refl
+take_none : (left : ℕ) (xs : List ℕ) → xs ≡ [] → take left xs ≡ []
+take_none zero xs e = refl
+take_none (suc left) [] e = refl
+take_none (suc left) (x ∷ xs) e = cc
 
 -- one more block
 pub shown_more : (shown : Option (List (List ℕ))) (n left more rest k : ℕ) (before now next : Option (List ℕ)) (bytes : List ℕ) → HasTaken shown n before now left k → HasBlock shown n k bytes → Took now (take more bytes) next
@@ -152,7 +166,15 @@ shown_end shown n left k before now so end = record {
 } where
   none : (left ≡ 0) ⊎ (n ≤ k) → take left (concat (drop k so.blocks)) ≡ []
   none (inl e) = ap (λ m. take m (concat (drop k so.blocks))) e
-  none (inr l) = let many = so.many in ap (λ (bs : List (List ℕ)). take left (concat bs)) (drop_past so.blocks k (omega arith)) ∙ take_none left
+  none (inr l) = let many = so.many in ap (λ (bs : List (List ℕ)). take left (concat bs)) (drop_past so.blocks k (omega arith)) ∙ take_none left [] refl
+
+-- a block of the group as it is now
+pub block_of : (shown : Option (List (List ℕ))) (m n k : ℕ) (piece bytes : List ℕ) → m ≡ n → bytes ≡ piece → HasBlock shown m k piece → HasBlock shown n k bytes
+block_of shown m n k piece bytes same are has = record { blocks = has.blocks; are = has.are; many = has.many ∙ same; at = has.at ∙ ap Some (sym are) }
+
+pub part_is : (left more len block : ℕ) → (more ≡ block) ⊎ (more ≡ left) → len ≡ block → more ≤ block → (more ≡ len) ⊎ ((left - more ≡ 0) × (left ≤ len))
+part_is left more len block (inl e) whole most = inl (e ∙ sym whole)
+part_is left more len block (inr e) whole most = inr (omega arith, omega arith)
 
 -- no more is shown
 part_of_all : (shown : Option (List (List ℕ))) (blocks : List (List ℕ)) (bytes rest : List ℕ) → shown ≡ Some blocks → bytes ++ rest ≡ file_in blocks

@@ -1,18 +1,23 @@
 -- A store and the whole copies that it stands for: its calls as steps.
 use Rattle.std.proofs.Common.{◌≡◌, ℕ, zero, suc, ◌+◌, ◌<◌, ◌≤◌, List, [], ◌∷◌, length, map, refl, ap, sym, subst, ◌∙◌, arith, Bool, true, false, Option, Some, None, is_some}
-use Rattle.std.specs.Prelude.{◌||◌, ◌==◌, not, nat_lt, if◌then◌else◌, slice_get, replicate, Result, Ok, Err, OnOk, IsErr}
+use Rattle.std.specs.Prelude.{◌||◌, ◌&&◌, ◌==◌, not, nat_lt, if◌then◌else◌, slice_get, replicate, Result, Ok, Err, OnOk, IsErr}
+use Rattle.std.specs.List.{range_with_len}
+use Rattle.vss_names.specs.TextValue.{TextValue}
+use Rattle.vss_catalog.specs.Group.{are_names_for}
+use Rattle.vss_catalog.specs.Names.{are_names, bytes_in}
 use Rattle.write_history.specs.declared.evicted.Evicted.{Evicted}
 use Rattle.block_data.specs.Runs.{zeros}
 use Rattle.write_history.specs.History.{History, fresh, dropped}
 use Rattle.cow_volume.specs.GroupValue.{GroupValue}
 use Rattle.cow_volume.specs.StandsFor.{StandsFor}
-use Rattle.cow_volume.specs.Ending.{AllTell}
-use Rattle.cow_volume.specs.Calls.{IsDropped, is_among, sets_at}
+use Rattle.cow_volume.specs.Ending.{AllTell, IsSync, IsSynced}
+use Rattle.cow_volume.specs.Calls.{IsDropped, is_among, blocks_in, sets_at, sets_in}
 use Rattle.cow_volume.specs.Calls.{IsRevert as IsGroupRevert}
 use Rattle.cow_volume.specs.declared.cause.Cause.{Cause}
 use Rattle.cow_volume.specs.declared.image_fault.ImageFault.{ImageFault}
 use Rattle.cow_volume.specs.declared.revert_fault.RevertFault.{RevertFault}
 use Rattle.cow_volume.specs.declared.revert_fault.RevertFault.TheVariants.{NoSuchImage, Fault}
+use Rattle.image_store.specs.Head.{head_bytes, head_of}
 use Rattle.image_store.specs.Passes.{IsCopying, IsWriting}
 use Rattle.image_store.specs.Plain.{Kept, Plain, PlainStore, plain_at, volume_in, on_each, cut_on, gone_on, with_blocks, dropped_on, older_on, reverted_on, image_in, fresh_store, plains_of, AllGiven}
 use Rattle.image_store.specs.Reverting.{IsRevert}
@@ -25,6 +30,25 @@ use Rattle.image_store.proofs.Calls.{dropped_plains, reverted_plains, in_part_pl
 use Rattle.image_store.proofs.Copies.{plain-fresh}
 use Rattle.image_store.proofs.Given.{given-filter, given-on, given-all, given-cut, ungiven, given-at}
 use Rattle.image_store.proofs.Plains.{image_there, sets_of_volume}
+
+-- a store of these parts
+abbrev pub store_of : {D : Type 0} → GroupValue D → List TextValue → ℕ → StoreValue D
+store_of group names last = record { group = group; names = names; last = last }
+
+pub named_still : {D : Type 0} (old new : GroupValue D) (names : List TextValue) → new.area.volumes ≡ old.area.volumes → are_names_for old names ≡ true → are_names_for new names ≡ true
+named_still old new names same named = ap (λ (ns : List ℕ). (length names == length ns) && are_names names) same ∙ named
+
+-- the head is that of the volumes and the images
+pub head_still : {D : Type 0} (old new : GroupValue D) (names : List TextValue) (last : ℕ) → new.area.volumes ≡ old.area.volumes → new.images ≡ old.images → head_of (store_of new names last) ≡ head_of (store_of old names last)
+head_still old new names last volumes images =
+    ap (λ (ns : List ℕ). head_bytes last (map (λ v. record { name = bytes_in (slice_get names v); blocks = blocks_in (slice_get ns v); images = sets_in (slice_get new.images v) }) (range_with_len 0 (length ns)))) volumes
+    ∙ ap (λ (is : List (List ℕ)). head_bytes last (map (λ v. record { name = bytes_in (slice_get names v); blocks = blocks_in (slice_get old.area.volumes v); images = sets_in (slice_get is v) })
+    (range_with_len 0 (length old.area.volumes)))) images
+
+pub synced : {D : Type 0} (told : D → Option (List (List ℕ))) (size count : D → ℕ) (lending : D → Bool) (old new : GroupValue D) (r : Result Unit Cause) → IsSync told size count lending old new r
+    → IsSynced told size count lending old new
+synced told size count lending old new (Ok done) is = is.0
+synced told size count lending old new (Err cause) is = is.0
 
 pub still : {D : Type 0} (told : D → Option (List (List ℕ))) (old new : StoreValue D) → KeepsPlains told old.group new.group → new.last ≡ old.last → StandsStill told old new
 still told old new kept last = λ p stands. record { group = kept.plains p.volumes stands.group; last = stands.last ∙ sym last; given = stands.given }
@@ -52,7 +76,7 @@ dropped_step told size count lending old new set v (Err fault) last l is = tt
 pub dropped_volumes : {D : Type 0} (told : D → Option (List (List ℕ))) (size count : D → ℕ) (lending : D → Bool) (old new : GroupValue D) (set v : ℕ) (r : Result Unit ImageFault)
     → IsDropped told size count lending old new v set r → new.area.volumes ≡ old.area.volumes
 dropped_volumes told size count lending old new set v (Ok done) is = is.1.kept.volumes
-dropped_volumes told size count lending old new set v (Err fault) is = ap (λ (g : GroupValue _). g.area.volumes) is.1.1
+dropped_volumes told size count lending old new set v (Err fault) is = ap (λ (g : GroupValue _). g.area.volumes) is.2
 
 -- ## reverts
 

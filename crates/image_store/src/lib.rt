@@ -28,7 +28,6 @@ mod store;
 mod updating;
 mod which;
 
-pub use bytes::end_block;
 pub use closed::Closed;
 pub use cut_fault::CutFault;
 pub use head::Head;

@@ -1,5 +1,5 @@
 use block_data::BLOCK;
-use image_store::end_block;
+use byteorder::{ByteOrder, LittleEndian};
 use std::fs::{File, Metadata};
 use std::io;
 use std::os::unix::fs::{FileExt, MetadataExt};
@@ -16,6 +16,17 @@ pub struct FileInput {
     changed: (i64, i64),
     count: u64,
     last: Option<io::Error>,
+}
+
+/// How many bytes the length of a file has.
+const LENGTH: usize = 8;
+
+/// Ends a block of which the first `have` bytes are the file's: zeros, and in the last block of the volume the file's length in bytes.
+fn end_block(out: &mut [u8], have: usize, is_last: bool, file_length: u64) {
+    out[have..].fill(0);
+    if is_last {
+        LittleEndian::write_u64(&mut out[BLOCK - LENGTH..], file_length);
+    }
 }
 
 /// When a file was changed last.
