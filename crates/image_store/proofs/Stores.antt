@@ -163,8 +163,8 @@ overwriting told old new v differs wanted from list (Ok (Stopped at up_to)) last
 )
 overwriting told old new v differs wanted from list (Err failed) last p stands ready is = (
   is.0,
-  is.1.0,
-  record { group = is.1.1; last = stands.last ∙ sym last; given = given-on p.last v (with_blocks is.0) p.volumes (λ q given. given) stands.given },
+  is.1,
+  record { group = is.2; last = stands.last ∙ sym last; given = given-on p.last v (with_blocks is.0) p.volumes (λ q given. given) stands.given },
 )
 
 -- ## a store that is new
