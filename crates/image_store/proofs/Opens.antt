@@ -1,12 +1,13 @@
 -- What is compared before a store is taken up.
 use Rattle.std.proofs.Common.{◌≡◌, ℕ, zero, suc, ◌+◌, ◌<◌, ◌≤◌, List, [], ◌∷◌, ◌++◌, length, map, take, refl, ap, sym, subst, ◌∙◌, arith, Bool, true, false, Option, Some, None}
-use Rattle.std.specs.Prelude.{◌&&◌, slice_get}
+use Rattle.std.specs.Prelude.{◌&&◌, ◌==◌, slice_get}
 use Rattle.std.specs.List.{list_all}
-use Rattle.std.proofs.lemmas.List.{map-append}
+use Rattle.std.proofs.lemmas.List.{map-append, length-map}
 use Rattle.vss_names.specs.TextValue.{TextValue}
 use Rattle.vss_catalog.specs.Allowed.{IsCatalog, AreEntries}
-use Rattle.vss_catalog.specs.Entries.{EntryValue}
+use Rattle.vss_catalog.specs.Entries.{EntryValue, lists_of}
 use Rattle.vss_catalog.specs.Names.{are_names, is_name}
+use Rattle.cow_volume.proofs.Group.{number_is}
 use Rattle.cow_volume.proofs.Reverting.{take_next}
 
 -- each volume has the blocks of its entry
@@ -49,3 +50,20 @@ names_allowed (t ∷ names) (e ∷ es) same allowed =
     let first : t.bytes ≡ e.name = cc in
     let rest : map (λ (name : TextValue). name.bytes) names ≡ map (λ (f : EntryValue). f.name) es = cc in
     true_and (is_name t.bytes) (are_names names) (ap is_name first ∙ allowed.0.named) (names_allowed names es rest allowed.1)
+
+-- the names that a store takes up are names for its volumes
+pub taken_named : (names : List TextValue) (es : List EntryValue) (volumes : List ℕ) → map (λ (name : TextValue). name.bytes) names ≡ map (λ (e : EntryValue). e.name) es → volumes ≡ map (λ (e : EntryValue). e.blocks) es
+    → IsCatalog es → ((length names == length volumes) && are_names names) ≡ true
+taken_named names es volumes same blocks allowed =
+    let one = ap length same in
+    let two = ap length blocks in
+    let three = length-map names (λ (name : TextValue). name.bytes) in
+    let four = length-map es (λ (e : EntryValue). e.name) in
+    let five = length-map es (λ (e : EntryValue). e.blocks) in
+    let many : length names ≡ length volumes = omega arith in
+    true_and (length names == length volumes) (are_names names) (ap (λ (n : ℕ). length names == n) (sym many) ∙ number_is (length names)) (names_allowed names es same allowed.each)
+
+-- as many lists of images as volumes
+pub as_many_lists : (es : List EntryValue) (lists : List (List ℕ)) (volumes : List ℕ) → lists ≡ lists_of es → volumes ≡ map (λ (e : EntryValue). e.blocks) es → length lists ≡ length volumes
+as_many_lists es lists volumes same blocks =
+    ap length same ∙ length-map es (λ (e : EntryValue). e.images) ∙ sym (ap length blocks ∙ length-map es (λ (e : EntryValue). e.blocks))

@@ -1,7 +1,7 @@
-ghost use Rattle.std.specs.Prelude.{◌≡◌, ◌++◌, IfOk, OnOk};
+ghost use Rattle.std.specs.Prelude.{◌≡◌, ◌≤◌, ◌++◌, length, IfOk, IfSome, OnOk};
 ghost use Rattle.vss_catalog.specs.Written.{number_bytes};
 ghost use Rattle.vss_catalog.specs.Allowed.{IsCatalog};
-ghost use Rattle.image_store.specs.Head.{bytes_of_head, head_bytes};
+ghost use Rattle.image_store.specs.Head.{head_bytes};
 
 use crate::open_fault::OpenFault;
 use byteorder::{ByteOrder, LittleEndian};
@@ -63,7 +63,9 @@ pub fn bytes_with(alloc: Global, last: u32, catalog: &Catalog) -> Result<Text, O
 
 impl Head {
     /// How many bytes the head has with which bytes begin, by its own numbers; None where they are too few to say it.
-    pub fn length_in(bytes: &[u8]) -> Option<usize> {
+    pub fn length_in(bytes: &[u8]) -> Option<usize>
+        ensures { IfSome result (λ n. (16 ≤ n) × (n ≤ length bytes.now)) }
+    {
         if bytes.len() < FRONT {
             return None;
         }
@@ -75,13 +77,13 @@ impl Head {
     }
 
     /// The head that these bytes are.
-    pub fn read(alloc: Global, bytes: &[u8]) -> Result<Head, OpenFault>
-        ensures { IfOk result (λ head. bytes_of_head head ≡ bytes.now) }
-    {
-        if Head::length_in(bytes) != Some(bytes.len()) {
-            return Err(OpenFault::Length {
-                found: bytes.len() as u64,
-            });
+    pub fn read(alloc: Global, bytes: &[u8]) -> Result<Head, OpenFault> {
+        let found = bytes.len() as u64;
+        let Some(length) = Head::length_in(bytes) else {
+            return Err(OpenFault::Length { found });
+        };
+        if length < bytes.len() {
+            return Err(OpenFault::Length { found });
         }
         if !bytes.starts_with(LETTERS.as_slice()) {
             return Err(OpenFault::Letters);

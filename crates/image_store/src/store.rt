@@ -18,7 +18,7 @@ ghost use Rattle.image_store.specs.Updating.{AreReady, IsAhead, IsOverwriting};
 ghost use Rattle.image_store.specs.Showing.{HasLength, HasShowCause, IsShow, shown_in};
 ghost use Rattle.image_store.specs.Reverting.{IsRevert};
 ghost use Rattle.image_store.specs.Cutting.{IsCutRefused};
-ghost use Rattle.image_store.specs.Head.{head_of, bytes_of_head};
+ghost use Rattle.image_store.specs.Head.{head_of};
 
 use crate::closed::Closed;
 use crate::cut_fault::CutFault;
@@ -120,7 +120,6 @@ impl<D: Device> Store<D> {
         area: D,
         head: &Head,
     ) -> Result<Store<D>, Refused<D>>
-        ensures head { IfOk result (λ store. head_of store ≡ bytes_of_head head.now) }
         ensures untold { IfOk result (λ store. NoneTell D.told devices.items area → (hs : List History) × StandsFor D.told store.group hs) }
     {
         if let Err(fault) = check_devices(head, &devices) {
@@ -437,7 +436,6 @@ fn take_up<D: Device>(
     ensures group { IfOk result (λ store. store.group ≡ record { devices = devices.items; area = area; images = lists_of head.now.entries }) }
     ensures stands { IfOk result (λ store. (hs : List History) → AreKept D.told devices.items area (lists_of head.now.entries) hs → StandsFor D.told store.group hs) }
     ensures untold { IfOk result (λ store. NoneTell D.told devices.items area.device → (hs : List History) × StandsFor D.told store.group hs) }
-    ensures head { IfOk result (λ store. head_of store ≡ bytes_of_head head.now) }
 {
     let catalog = head.catalog();
     check_blocks(catalog, &devices, &area)?;
