@@ -9,8 +9,8 @@ ghost use Rattle.image_store.specs.Plain.{Plain, cut_on, on_each};
 ghost use Rattle.image_store.specs.StoreValue.{HasPlains};
 
 use cow_volume::CowGroup;
+use diff_map::MOST_IMAGES;
 use volume_device::Device;
-use vss_catalog::MOST_IMAGES;
 
 /// The first of these volumes that has as many images as it may have.
 pub fn first_full<D: Device>(group: &CowGroup<D>, volumes: &[u32]) -> Option<u32>
@@ -19,7 +19,7 @@ pub fn first_full<D: Device>(group: &CowGroup<D>, volumes: &[u32]) -> Option<u32
     ensures none { IsNone result → All (λ v. length (sets_at group.now v) < 512) volumes.now }
 {
     for volume in volumes {
-        if group.images(*volume).len() >= MOST_IMAGES as usize {
+        if group.images(*volume).len() >= MOST_IMAGES {
             return Some(*volume);
         }
     }
