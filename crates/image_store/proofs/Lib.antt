@@ -8,3 +8,6 @@ pub mod Shown
 pub mod Given
 pub mod Stores
 pub mod Lasting
+pub mod Keeping
+pub mod Heads
+pub mod Names

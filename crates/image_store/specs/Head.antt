@@ -20,5 +20,9 @@ abbrev pub bytes_of_head : HeadValue → List ℕ
 bytes_of_head head = head_bytes head.last head.entries
 
 -- the head of a store
+abbrev pub said_of : {D : Type 0} → StoreValue D → HeadValue
+said_of s = record { last = s.last; entries = entries_of s.group s.names }
+
+-- and its bytes
 abbrev pub head_of : {D : Type 0} → StoreValue D → List ℕ
 head_of s = head_bytes s.last (entries_of s.group s.names)

@@ -5,6 +5,8 @@ pub mod FileBytes
 pub mod BlockPayload
 pub mod Head
 pub mod StoreValue
+pub mod Keeping
+pub mod Naming
 pub mod Updating
 pub mod Passes
 pub mod Cutting

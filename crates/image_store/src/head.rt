@@ -1,7 +1,8 @@
-ghost use Rattle.std.specs.Prelude.{◌≡◌, ◌≤◌, ◌++◌, length, IfOk, IfSome, OnOk};
+ghost use Rattle.std.specs.Prelude.{◌≡◌, ◌<◌, ◌≤◌, ◌+◌, ◌++◌, drop, length, IfOk, IfSome, IsNone, OnOk};
+ghost use Rattle.byteorder.specs.Endian.{little_number};
 ghost use Rattle.vss_catalog.specs.Written.{number_bytes};
 ghost use Rattle.vss_catalog.specs.Allowed.{IsCatalog};
-ghost use Rattle.image_store.specs.Head.{head_bytes};
+ghost use Rattle.image_store.specs.Head.{bytes_of_head, head_bytes};
 
 use crate::open_fault::OpenFault;
 use byteorder::{ByteOrder, LittleEndian};
@@ -64,7 +65,10 @@ pub fn bytes_with(alloc: Global, last: u32, catalog: &Catalog) -> Result<Text, O
 impl Head {
     /// How many bytes the head has with which bytes begin, by its own numbers; None where they are too few to say it.
     pub fn length_in(bytes: &[u8]) -> Option<usize>
-        ensures { IfSome result (λ n. (16 ≤ n) × (n ≤ length bytes.now)) }
+        ensures front { IfSome result (λ n. 16 ≤ n) }
+        ensures within { IfSome result (λ n. n ≤ length bytes.now) }
+        ensures said { IfSome result (λ n. n ≡ 16 + little_number 4 (drop 12 bytes.now)) }
+        ensures cut_off { IsNone result → length bytes.now < 16 + little_number 4 (drop 12 bytes.now) }
     {
         if bytes.len() < FRONT {
             return None;
@@ -77,7 +81,10 @@ impl Head {
     }
 
     /// The head that these bytes are.
-    pub fn read(alloc: Global, bytes: &[u8]) -> Result<Head, OpenFault> {
+    pub fn read(alloc: Global, bytes: &[u8]) -> Result<Head, OpenFault>
+        ensures ok { IfOk result (λ head. bytes_of_head head ≡ bytes.now) }
+        ensures allowed { IfOk result (λ head. IsCatalog head.entries) }
+    {
         let found = bytes.len() as u64;
         let Some(length) = Head::length_in(bytes) else {
             return Err(OpenFault::Length { found });

@@ -18,7 +18,9 @@ ghost use Rattle.image_store.specs.Updating.{AreReady, IsAhead, IsOverwriting};
 ghost use Rattle.image_store.specs.Showing.{HasLength, HasShowCause, IsShow, shown_in};
 ghost use Rattle.image_store.specs.Reverting.{IsRevert};
 ghost use Rattle.image_store.specs.Cutting.{IsCutRefused};
-ghost use Rattle.image_store.specs.Head.{head_of};
+ghost use Rattle.image_store.specs.Head.{head_of, said_of};
+ghost use Rattle.image_store.specs.Keeping.{IsKeptAs, blocks_of};
+ghost use Rattle.image_store.specs.Naming.{AreOthers, IsNamed};
 
 use crate::closed::Closed;
 use crate::cut_fault::CutFault;
@@ -120,6 +122,7 @@ impl<D: Device> Store<D> {
         area: D,
         head: &Head,
     ) -> Result<Store<D>, Refused<D>>
+        ensures kept { IfOk result (λ store. (p : PlainStore) → IsKeptAs D.told devices.items area head.now p → StandsAs D.told store p) }
         ensures untold { IfOk result (λ store. NoneTell D.told devices.items area → (hs : List History) × StandsFor D.told store.group hs) }
     {
         if let Err(fault) = check_devices(head, &devices) {
@@ -154,7 +157,9 @@ impl<D: Device> Store<D> {
 
     /// The number of the volume of a name.
     pub fn place_of(&self, name: &[u8]) -> Option<u32>
-        ensures { IfSome result (λ v. v < length self.now.group.area.volumes) }
+        ensures named { IfSome result (λ v. IsNamed self.now.names name.now v) }
+        ensures within { IfSome result (λ v. v < length self.now.group.area.volumes) }
+        ensures none { IsNone result → AreOthers self.now.names name.now (length self.now.names) }
     {
         for volume in 0..self.group.volumes() {
             if self.names[volume as usize].bytes() == name {
@@ -384,19 +389,25 @@ impl<D: Device> Store<D> {
     }
 
     /// Takes it apart: everything is brought to where it lasts. The devices are given back, whether or not that failed.
-    pub fn close(self) -> Closed<D> {
+    pub fn close(self) -> Closed<D>
+        ensures kept { OnOk result.outcome ((p : PlainStore) → StandsAs D.told self p → IsKeptAs D.lasting result.devices.items result.area (said_of self) p) }
+    {
         let Store { group, .. } = self;
         let mut group = group;
         let synced = group.sync();
-        let (devices, area) = group.into_parts();
-        let mut devices = devices;
-        let outcome = match synced {
-            Ok(()) => flush_each(&mut devices),
-            Err(cause) => Err(cause),
+        let (mut devices, area) = group.into_parts();
+        let area = area.into_device();
+        let Ok(()) = synced else {
+            return Closed {
+                devices,
+                area,
+                outcome: synced,
+            };
         };
+        let outcome = flush_each(&mut devices);
         Closed {
             devices,
-            area: area.into_device(),
+            area,
             outcome,
         }
     }
@@ -434,6 +445,8 @@ fn take_up<D: Device>(
     requires { length devices.items ≡ length head.now.entries }
     ensures group { IfOk result (λ store. store.group ≡ record { devices = devices.items; area = area; images = lists_of head.now.entries }) }
     ensures stands { IfOk result (λ store. (hs : List History) → AreKept D.told devices.items area (lists_of head.now.entries) hs → StandsFor D.told store.group hs) }
+    ensures volumes { IfOk result (λ store. area.volumes ≡ blocks_of head.now.entries) }
+    ensures last { IfOk result (λ store. store.last ≡ head.now.last) }
     ensures untold { IfOk result (λ store. NoneTell D.told devices.items area.device → (hs : List History) × StandsFor D.told store.group hs) }
 {
     let catalog = head.catalog();
@@ -456,11 +469,14 @@ fn take_up<D: Device>(
 }
 
 /// Brings all accepted writes of each device to where they last.
-fn flush_each<D: Device>(devices: &mut Vec<D>) -> Result<(), Cause> {
+fn flush_each<D: Device>(devices: &mut [D]) -> Result<(), Cause>
+    ensures lasts { OnOk result (map D.lasting devices.new ≡ map D.told devices.old) }
+    ensures told { map D.told devices.new ≡ map D.told devices.old }
+{
     for device in devices.iter_mut() {
-        if device.flush().is_err() {
+        let Ok(()) = device.flush() else {
             return Err(Cause::Volume);
-        }
+        };
     }
     Ok(())
 }
