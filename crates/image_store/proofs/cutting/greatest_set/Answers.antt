@@ -1,4 +1,4 @@
-use Rattle.std.proofs.Common.{◌≤◌, length, arith}
+use Rattle.std.proofs.Common.{arith}
 use Rattle.image_store.proofs.Sets.{sets_more, sets_all, given_more}
 use Rattle.image_store.proofs.cutting.greatest_set.Goals as goal
 

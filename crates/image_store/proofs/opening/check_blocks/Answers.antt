@@ -1,4 +1,4 @@
-use Rattle.std.proofs.Common.{◌≡◌, ◌∙◌, ◌<◌, sym, length, arith}
+use Rattle.std.proofs.Common.{◌∙◌, sym, arith}
 use Rattle.image_store.proofs.Opens.{volumes_same, sizes_same}
 use Rattle.image_store.proofs.opening.check_blocks.Goals as goal
 

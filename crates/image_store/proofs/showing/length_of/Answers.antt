@@ -1,7 +1,4 @@
-use Rattle.std.proofs.Common.{◌≡◌, ◌∙◌, ◌*◌, ◌-◌, ◌+◌, ◌<◌, ◌≤◌, ℕ, List, ap, sym, subst, drop}
-use Rattle.image_store.specs.Plain.{Plain}
-use Rattle.image_store.specs.StoreValue.{HasPlains}
-use Rattle.image_store.specs.Showing.{HasBlock, shown_in}
+use Rattle.image_store.specs.Showing.{shown_in}
 use Rattle.image_store.proofs.Shown.{length_at, no_length_at}
 use Rattle.image_store.proofs.showing.length_of.Goals as goal
 

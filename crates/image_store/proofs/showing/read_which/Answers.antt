@@ -1,9 +1,3 @@
-use Rattle.std.proofs.Common.{List, sym, subst}
-use Rattle.cow_volume.specs.Calls.{blocks_at}
-use Rattle.image_store.specs.Plain.{Plain}
-use Rattle.image_store.specs.Showing.{HasBlock, shown_in}
-use Rattle.image_store.specs.StoreValue.{HasPlains}
-use Rattle.image_store.specs.declared.which.Which.{Which}
 use Rattle.image_store.proofs.Plains.{quiet_kept}
 use Rattle.image_store.proofs.Shown.{now_read, image_read}
 use Rattle.image_store.proofs.showing.read_which.Goals as goal

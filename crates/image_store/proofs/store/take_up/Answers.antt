@@ -1,4 +1,4 @@
-use Rattle.std.proofs.Common.{◌≡◌, ◌∙◌, ℕ, List, length, ap, sym, subst}
+use Rattle.std.proofs.Common.{◌∙◌, ℕ, List, length, ap, sym, subst}
 use Rattle.std.specs.Prelude.{◌==◌, ◌&&◌}
 use Rattle.vss_catalog.specs.Allowed.{IsCatalog}
 use Rattle.vss_catalog.specs.Entries.{EntryValue, lists_of}

@@ -1,7 +1,7 @@
-use Rattle.std.proofs.Common.{◌<◌, ℕ, List, length, not, ap, arith}
+use Rattle.std.proofs.Common.{ℕ, List, length, not, ap, arith}
 use Rattle.std.specs.Prelude.{slice_get}
 use Rattle.cow_volume.specs.Calls.{blocks_in}
-use Rattle.image_store.proofs.Passes.{marked_none, marked_more, marked_all, compared, as_many_wanted}
+use Rattle.image_store.proofs.Passes.{marked_more, marked_all, compared, as_many_wanted}
 use Rattle.image_store.proofs.Plains.{kept_then, quiet_kept}
 use Rattle.image_store.proofs.updating.compare_blocks.Goals as goal
 

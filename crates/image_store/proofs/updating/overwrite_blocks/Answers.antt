@@ -1,4 +1,4 @@
-use Rattle.std.proofs.Common.{◌≡◌, ◌∙◌, ◌<◌, ℕ, List, Some, refl, length, arith}
+use Rattle.std.proofs.Common.{◌∙◌, ◌<◌, refl, length, arith}
 use Rattle.std.proofs.lemmas.Result.{err_from_is_err_and}
 use Rattle.block_data.specs.PayloadBytes.{payload_bytes}
 use Rattle.image_store.proofs.Calls.{room_plains, not_put_kept}

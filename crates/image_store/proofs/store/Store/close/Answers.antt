@@ -1,5 +1,4 @@
 use Rattle.std.proofs.Common.{◌≡◌, ◌∙◌, ap, length}
-use Rattle.cow_volume.specs.GroupValue.{GroupValue}
 use Rattle.diff_area.specs.AreaValue.{AreaValue}
 use Rattle.image_store.proofs.Keeping.{closed_outcome}
 use Rattle.image_store.proofs.store.Store.close.Goals as goal

@@ -1,5 +1,4 @@
-use Rattle.std.proofs.Common.{◌≡◌, ℕ, List, Option, Some, None, sym, subst}
-use Rattle.std.specs.Prelude.{slice_get}
+use Rattle.std.proofs.Common.{◌≡◌, ℕ, List, Option, None, sym, subst}
 use Rattle.cow_volume.specs.StandsFor.{told_in}
 use Rattle.image_store.proofs.Keeping.{opened_stands}
 use Rattle.image_store.proofs.store.Store.open.Goals as goal
