@@ -5,7 +5,7 @@
 //! that what holds of every list of steps (`specs/Course.antt`) holds of every list of calls.
 //!
 //! The contracts promise that an image shows the blocks that its volume had at the set's one cut, until it is deleted, its volume is
-//! reverted past it, or it is reported as evicted (`laws`). They say nothing of what the next opening finds.
+//! reverted past it, or it is reported as evicted (`laws`). What lasts of a store that was closed, `open` takes up.
 #![tactic(auto)]
 
 mod bytes;
