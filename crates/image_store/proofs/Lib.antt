@@ -11,3 +11,4 @@ pub mod Lasting
 pub mod Keeping
 pub mod Heads
 pub mod Names
+pub mod Found

@@ -5,7 +5,7 @@
 //! that what holds of every list of steps (`specs/Course.antt`) holds of every list of calls.
 //!
 //! The contracts promise that an image shows the blocks that its volume had at the set's one cut, until it is deleted, its volume is
-//! reverted past it, or it is reported as evicted (`laws`). What lasts of a store that was closed, `open` takes up.
+//! reverted past it, or it is reported as evicted; and that what lasts of a store that was closed is what the next opening finds (`laws`).
 #![tactic(auto)]
 
 mod bytes;
@@ -30,7 +30,7 @@ mod which;
 pub use closed::Closed;
 pub use cut_fault::CutFault;
 pub use head::Head;
-pub use laws::images_are_of_their_cut;
+pub use laws::{images_are_of_their_cut, what_lasts_is_found};
 pub use new_fault::NewFault;
 pub use open_fault::OpenFault;
 pub use pass::Pass;

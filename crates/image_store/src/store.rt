@@ -1,10 +1,13 @@
-ghost use Rattle.std.specs.Prelude.{◌≡◌, ◌≢◌, ◌<◌, ◌≤◌, ◌*◌, ℕ, List, Some, None, true, false, length, replicate, map, slice_get, vec_capacity, is_some, All, IfOk, IfErr, IfSome, IsNone, OnOk, OnErr, IsTrue};
+ghost use Rattle.std.specs.Prelude.{◌≡◌, ◌≢◌, ◌<◌, ◌≤◌, ◌*◌, ℕ, List, Some, None, Ok, true, false, length, replicate, map, slice_get, vec_capacity, is_some, All, IfOk, IfErr, IfSome, IsNone, OnOk, OnErr, IsTrue};
 ghost use Rattle.std.specs.List.{AllPairs};
 ghost use Rattle.block_data.specs.Runs.{zeros};
 ghost use Rattle.diff_area.specs.Records.{free};
 ghost use Rattle.diff_area.specs.AreaValue.{AreaValue};
 ghost use Rattle.vss_catalog.specs.Names.{bytes_in};
 ghost use Rattle.vss_catalog.specs.Entries.{lists_of};
+ghost use Rattle.vss_catalog.specs.Group.{entries_of};
+ghost use Rattle.vss_catalog.specs.Reading.{catalog_in};
+ghost use Rattle.vss_catalog.specs.Written.{bytes_of};
 ghost use Rattle.write_history.specs.History.{History};
 ghost use Rattle.cow_volume.specs.Calls.{blocks_at, sets_at, is_among};
 ghost use Rattle.cow_volume.specs.Ending.{AllTell};
@@ -44,6 +47,7 @@ use std::alloc::Global;
 use std::marker::Model;
 use volume_device::Device;
 use vss_catalog::Catalog;
+use vss_catalog::laws::the_catalog_of_a_group_is_read_back;
 use vss_names::{OutOfMemory, Text};
 use write_history::Evicted;
 
@@ -146,6 +150,13 @@ impl<D: Device> Store<D> {
     {
         let catalog = Catalog::of_group(alloc, &self.names, &self.group)?;
         bytes_with(alloc, self.last, &catalog)
+    }
+
+    /// The bytes of its head say its catalog (`laws`).
+    pub(crate) fn has_a_head(&self)
+        ensures catalog { catalog_in (bytes_of (entries_of self.now.group self.now.names)) ≡ Ok (entries_of self.now.group self.now.names) }
+    {
+        the_catalog_of_a_group_is_read_back(&self.names, &self.group);
     }
 
     /// How many volumes it has.
