@@ -31,7 +31,7 @@ length-each : (vs : List ℕ) (f : Plain → Plain) (ps : List Plain) → length
 length-each [] f ps = refl
 length-each (v ∷ vs) f ps = length-each vs f (on_volume v f ps) ∙ length-on v f ps
 
-as_many : (s : PlainStore) (x : Step) → length (after s x).volumes ≡ length s.volumes
+pub as_many : (s : PlainStore) (x : Step) → length (after s x).volumes ≡ length s.volumes
 as_many s (Cut set vs) = length-each vs (cut_on set) s.volumes
 as_many s (Gone up_to) = length-map s.volumes (gone_on up_to)
 as_many s (Updated v wanted) = length-on v (with_blocks wanted) s.volumes
@@ -43,14 +43,14 @@ as_many s (Shown set v bytes) = refl
 as_many s (Read v bytes) = refl
 as_many s Opened = refl
 
-as_many_after : (s : PlainStore) (xs : List Step) → length (after_all s xs).volumes ≡ length s.volumes
+pub as_many_after : (s : PlainStore) (xs : List Step) → length (after_all s xs).volumes ≡ length s.volumes
 as_many_after s [] = refl
 as_many_after s (x ∷ xs) = as_many_after (after s x) xs ∙ as_many s x
 
 -- ## an image where one volume changes
 
 -- the image of a set on volume v has these blocks
-abbrev Has : List Plain → ℕ → ℕ → List (List ℕ) → Type 0
+abbrev pub Has : List Plain → ℕ → ℕ → List (List ℕ) → Type 0
 Has ps set v blocks = image_in set (volume_in ps v).images ≡ Some blocks
 
 has-on : (u v set : ℕ) (f : Plain → Plain) (ps : List Plain) (blocks : List (List ℕ)) → (u ≡ v → image_in set (f (volume_in ps v)).images ≡ Some blocks) → Has ps set v blocks → Has (on_volume u f ps) set v blocks
@@ -148,14 +148,14 @@ cut-on zero set (p ∷ ps) l none = pushed set p.images p.blocks none
 cut-on (suc v) set (p ∷ ps) l none = cut-on v set ps (omega arith) none
 
 -- ... of another leaves this one
-other-on : (u v : ℕ) (f : Plain → Plain) (ps : List Plain) → u ≢ v → volume_in (on_volume u f ps) v ≡ volume_in ps v
+pub other-on : (u v : ℕ) (f : Plain → Plain) (ps : List Plain) → u ≢ v → volume_in (on_volume u f ps) v ≡ volume_in ps v
 other-on u v f [] other = refl
 other-on zero zero f (p ∷ ps) other = absurd (other refl)
 other-on zero (suc v) f (p ∷ ps) other = refl
 other-on (suc u) zero f (p ∷ ps) other = refl
 other-on (suc u) (suc v) f (p ∷ ps) other = other-on u v f ps (λ e. other (ap suc e))
 
-cut-each : (vs : List ℕ) (v set : ℕ) (ps : List Plain) → v < length ps → image_in set (volume_in ps v).images ≡ None → is_among v vs ≡ true → Has (on_each vs (cut_on set) ps) set v (volume_in ps v).blocks
+pub cut-each : (vs : List ℕ) (v set : ℕ) (ps : List Plain) → v < length ps → image_in set (volume_in ps v).images ≡ None → is_among v vs ≡ true → Has (on_each vs (cut_on set) ps) set v (volume_in ps v).blocks
 cut-each [] v set ps l none e = cc
 cut-each (u ∷ vs) v set ps l none e = by_test (u == v) refl e (cut-each vs v set (on_volume u (cut_on set) ps)) where
   by_test : (t : Bool) → (u == v) ≡ t → (t || is_among v vs) ≡ true

@@ -12,3 +12,5 @@ pub mod Keeping
 pub mod Heads
 pub mod Names
 pub mod Found
+pub mod Files
+pub mod Origins

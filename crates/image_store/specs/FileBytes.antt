@@ -6,9 +6,9 @@ use Rattle.byteorder.specs.Endian.{little_bytes, little_number}
 use Rattle.block_data.specs.Runs.{run_of}
 use Rattle.block_data.specs.declared.block_buf.TheConstants.{BLOCK}
 
--- the file has room in n blocks
+-- the file has room in n blocks, of which a volume has at most 65,536
 abbrev pub FitsIn : ℕ → List ℕ → Type 0
-FitsIn n file = length file + 8 ≤ BLOCK * n
+FitsIn n file = (length file + 8 ≤ BLOCK * n) × (n ≤ 65536)
 
 unfoldable pub length_bytes : ℕ → List ℕ
 length_bytes n = little_bytes 8 n

@@ -2,7 +2,7 @@
 //! the laws.
 
 ghost use Rattle.std.specs.Prelude.{◌≡◌, List, map};
-ghost use Rattle.image_store.specs.Course.{ImagesAreOfTheirCut};
+ghost use Rattle.image_store.specs.Course.{FilesComeBack, ImagesAreOfTheirCut, ImagesComeOfCuts, SetsAreCutOnce};
 ghost use Rattle.image_store.specs.Head.{bytes_of_head, head_of, said_of};
 ghost use Rattle.image_store.specs.Keeping.{IsKeptAs};
 ghost use Rattle.image_store.specs.Plain.{PlainStore};
@@ -15,6 +15,21 @@ use volume_device::Device;
 /// volume had at that cut.
 pub fn images_are_of_their_cut()
     ensures { ImagesAreOfTheirCut }
+{}
+
+/// An image that stands was there at first, or it has the blocks that its volume had at its set's cut, which is one of the calls.
+pub fn images_come_of_cuts()
+    ensures { ImagesComeOfCuts }
+{}
+
+/// Of each set there is one cut.
+pub fn sets_are_cut_once()
+    ensures { SetsAreCutOnce }
+{}
+
+/// A file that is put in, cut, and shown of that image later comes back byte for byte, whatever is done between.
+pub fn files_come_back()
+    ensures { FilesComeBack }
 {}
 
 /// What lasts of a store that was closed (`Store::close`) is what the next opening takes up (`Store::open`): devices that tell what lasted

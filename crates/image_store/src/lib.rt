@@ -30,7 +30,10 @@ mod which;
 pub use closed::Closed;
 pub use cut_fault::CutFault;
 pub use head::Head;
-pub use laws::{images_are_of_their_cut, what_lasts_is_found};
+pub use laws::{
+    files_come_back, images_are_of_their_cut, images_come_of_cuts, sets_are_cut_once,
+    what_lasts_is_found,
+};
 pub use new_fault::NewFault;
 pub use open_fault::OpenFault;
 pub use pass::Pass;
