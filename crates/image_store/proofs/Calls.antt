@@ -1,15 +1,14 @@
 -- What the calls of a group do to the whole copies that it has.
-use Rattle.std.proofs.Common.{◌≡◌, ◌≢◌, ℕ, zero, suc, ◌+◌, ◌<◌, ◌≤◌, List, [], ◌∷◌, ◌++◌, length, map, take, refl, ap, sym, subst, ◌∙◌, arith, Bool, true, false, Option, Some, None, is_some, option_map}
+use Rattle.std.proofs.Common.{◌≡◌, ◌≢◌, ℕ, ◌+◌, ◌<◌, ◌≤◌, List, [], ◌∷◌, ◌++◌, length, map, take, refl, ap, sym, subst, ◌∙◌, arith, Bool, false, Option, Some, is_some, option_map}
 use Rattle.std.specs.Prelude.{slice_get, slice_set, nat_lt, not, Result, Ok, Err, All}
-use Rattle.std.specs.List.{AllPairs}
 use Rattle.std.proofs.lemmas.Option.{slice_get_within}
-use Rattle.write_history.specs.History.{Write, Image, History, contents, point_in, cut, written, dropped, reverted, reverted_in_part, up_to_set}
+use Rattle.write_history.specs.History.{Write, Image, History, contents, point_in, cut, written, dropped, reverted, reverted_in_part}
 use Rattle.write_history.specs.Slots.{gone_up_to}
 use Rattle.diff_area.specs.AreaValue.{AreaValue}
 use Rattle.cow_volume.specs.GroupValue.{GroupValue, placed}
 use Rattle.cow_volume.specs.StandsFor.{StandsFor}
 use Rattle.cow_volume.specs.Ending.{AllTell}
-use Rattle.cow_volume.specs.Room.{HasRoom, gone_group, lacks_slot}
+use Rattle.cow_volume.specs.Room.{HasRoom, lacks_slot}
 use Rattle.cow_volume.specs.Steps.{IsPut, IsNotPut, IsPutOr}
 use Rattle.cow_volume.specs.Calls.{history_at, changed_at, blocks_at, blocks_in, sets_at, sets_in, is_among, IsChanged, IsReverted, IsRevertedInPart, IsQuiet, IsNow}
 use Rattle.cow_volume.specs.declared.cause.Cause.{Cause}
@@ -20,7 +19,7 @@ use Rattle.image_store.specs.Plain.{Plain, volume_in, plain_of, plains_of, on_vo
 use Rattle.image_store.specs.Steps.{AreMixed}
 use Rattle.image_store.specs.StoreValue.{HasPlains, KeepsPlains}
 use Rattle.image_store.proofs.Copies.{plain-cut, plain-dropped, plain-written, plain-reverted, plain-in_part, mixed-in_part, in_time-filter, image_of_point}
-use Rattle.image_store.proofs.Plains.{At, at_volume, volumes_changed, volumes_gone, has_changed, has_now, on_volume-at, on_volume-same, point_there, image_there, quiet_kept, kept_then, block_now}
+use Rattle.image_store.proofs.Plains.{at_volume, volumes_changed, volumes_gone, has_changed, has_now, on_volume-same, point_there, quiet_kept, block_now}
 
 -- ## cuts
 

@@ -1,15 +1,15 @@
 -- What a change of a volume's history leaves of its whole copies. Over lists alone.
-use Rattle.std.proofs.Common.{◌≡◌, ℕ, zero, suc, ◌+◌, ◌<◌, ◌≤◌, List, [], ◌∷◌, ◌++◌, length, map, take, refl, ap, sym, subst, ◌∙◌, arith, Bool, true, false, Option, Some, None, option_map, inl, inr}
+use Rattle.std.proofs.Common.{◌≡◌, ℕ, zero, suc, ◌+◌, ◌<◌, ◌≤◌, List, [], ◌∷◌, ◌++◌, length, map, take, refl, ap, sym, ◌∙◌, arith, Bool, true, false, Option, Some, option_map, inl, inr}
 use Rattle.std.specs.Prelude.{◌⊎◌, ◌==◌, filter, if◌then◌else◌, nat_lt, not, slice_get, slice_set, replicate}
 use Rattle.std.specs.List.{range_with_len}
 use Rattle.std.proofs.lemmas.List.{map-append, length-map}
 use Rattle.block_data.specs.Runs.{zeros}
-use Rattle.write_history.specs.History.{Write, Image, History, last_bytes, content, contents, point_in, sets_of, fresh, cut, written, dropped, reverted, reverted_in_part, restoring, to_restore, after_set, up_to_set, AreLater, AreInTime}
+use Rattle.write_history.specs.History.{Write, Image, History, last_bytes, content, contents, point_in, sets_of, cut, written, dropped, reverted, reverted_in_part, restoring, to_restore, after_set, up_to_set, AreLater, AreInTime}
 use Rattle.cow_volume.proofs.Group.{same_number}
 use Rattle.cow_volume.proofs.Reading.{last_bytes-append, content_all}
 use Rattle.cow_volume.proofs.Writing.{contents-more, content-before}
 use Rattle.cow_volume.proofs.NewerGone.{last_of, in_time_cut, image_at}
-use Rattle.image_store.specs.Plain.{Kept, Plain, kept_of, plain_of, cut_on, gone_on, with_blocks, dropped_on, older_on, back_to, reverted_on, image_in, sets_on}
+use Rattle.image_store.specs.Plain.{Kept, Plain, kept_of, plain_of, cut_on, gone_on, with_blocks, dropped_on, older_on, back_to, reverted_on, image_in}
 use Rattle.image_store.specs.Steps.{AreMixed}
 
 -- ## the images

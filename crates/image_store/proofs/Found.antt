@@ -1,5 +1,5 @@
 -- What lasts of a store that is closed is what the next opening takes up.
-use Rattle.std.proofs.Common.{◌≡◌, ℕ, ◌+◌, ◌<◌, ◌≤◌, List, ◌++◌, length, map, drop, refl, ap, sym, subst, ◌∙◌, arith, Option, Some, is_some, Result, Ok, Err}
+use Rattle.std.proofs.Common.{◌≡◌, ℕ, ◌<◌, List, ◌++◌, length, map, drop, refl, ap, sym, subst, ◌∙◌, arith, Option, is_some, Result, Ok}
 use Rattle.std.specs.Prelude.{codes, slice_get}
 use Rattle.std.proofs.lemmas.List.{append_assoc, drop_at, length-append, length-map}
 use Rattle.std.proofs.lemmas.Option.{same_Some, slice_get_within}

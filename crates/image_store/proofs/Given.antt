@@ -1,8 +1,8 @@
 -- The sets of the images of a store stay among those that were given.
-use Rattle.std.proofs.Common.{◌≡◌, ℕ, zero, suc, ◌<◌, ◌≤◌, List, [], ◌∷◌, ◌++◌, length, map, refl, ap, ◌∙◌, arith, Bool, true, false, Option, Some, None}
-use Rattle.std.specs.Prelude.{◌==◌, filter, if◌then◌else◌, slice_get, nat_lt}
+use Rattle.std.proofs.Common.{◌≡◌, ℕ, zero, suc, ◌<◌, ◌≤◌, List, [], ◌∷◌, ◌++◌, map, refl, ap, ◌∙◌, arith, Bool, true, false, Some, None}
+use Rattle.std.specs.Prelude.{filter, if◌then◌else◌}
 use Rattle.cow_volume.proofs.Group.{number_is_other}
-use Rattle.image_store.specs.Plain.{Kept, Plain, AreGiven, AllGiven, volume_in, on_volume, on_each, cut_on, gone_on, image_in}
+use Rattle.image_store.specs.Plain.{Kept, Plain, AreGiven, AllGiven, volume_in, on_volume, on_each, cut_on, image_in}
 
 given-if : (t : Bool) (last : ℕ) (k : Kept) (ks xs : List Kept) → AreGiven last (k ∷ ks) → AreGiven last xs → AreGiven last (if t then k ∷ xs else xs)
 given-if true last k ks xs given rest = (given.0, rest)

@@ -1,11 +1,11 @@
 -- Bytes that are read as a head are those of that head.
-use Rattle.std.proofs.Common.{◌≡◌, ℕ, zero, suc, ◌+◌, ◌-◌, ◌<◌, ◌≤◌, List, [], ◌∷◌, ◌++◌, length, take, drop, ap, sym, subst, ◌∙◌, arith, slice_index, Ok, Err}
+use Rattle.std.proofs.Common.{◌≡◌, ℕ, suc, ◌+◌, ◌-◌, ◌<◌, ◌≤◌, List, [], ◌∷◌, ◌++◌, length, take, drop, ap, sym, ◌∙◌, arith, slice_index, Ok, Err}
 use Rattle.std.specs.Prelude.{codes}
 use Rattle.std.proofs.lemmas.List.{append_assoc, drop-drop, length-drop, take_all}
 use Rattle.byteorder.specs.Endian.{little_number}
 use Rattle.vss_catalog.specs.Allowed.{AreBytes}
 use Rattle.vss_catalog.specs.Entries.{EntryValue}
-use Rattle.vss_catalog.specs.Reading.{catalog_in, number_in}
+use Rattle.vss_catalog.specs.Reading.{catalog_in}
 use Rattle.vss_catalog.specs.Written.{bytes_of, number_bytes}
 use Rattle.vss_catalog.specs.declared.catalog_fault.CatalogFault.TheVariants.{Short}
 use Rattle.vss_catalog.proofs.Again.{catalog-again}

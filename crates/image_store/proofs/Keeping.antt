@@ -1,7 +1,6 @@
 -- What lasts of a store that is closed, and what a store is that is opened again.
-use Rattle.std.proofs.Common.{◌≡◌, ℕ, zero, suc, ◌+◌, ◌<◌, ◌≤◌, List, [], ◌∷◌, ◌++◌, length, map, take, drop, refl, ap, sym, subst, ◌∙◌, arith, Bool, true, false, Option, Some, None, is_some}
+use Rattle.std.proofs.Common.{◌≡◌, ℕ, suc, ◌+◌, ◌<◌, ◌≤◌, List, [], ◌∷◌, ◌++◌, length, map, take, drop, refl, ap, sym, subst, ◌∙◌, arith, Bool, true, false, Option, Some, None, is_some}
 use Rattle.std.specs.Prelude.{◌==◌, slice_get, slice_set, IfSome, Result, Ok, Err, OnOk}
-use Rattle.std.specs.List.{range_with_len}
 use Rattle.std.proofs.lemmas.List.{length-map, take_all, take-append-le}
 use Rattle.std.proofs.lemmas.List.FromFn.{length-map-range_with_len}
 use Rattle.std.proofs.lemmas.Option.{same_Some, slice_get_within}
@@ -15,14 +14,14 @@ use Rattle.vss_catalog.specs.Entries.{EntryValue, lists_of}
 use Rattle.vss_catalog.specs.Group.{entry_at, entries_of}
 use Rattle.cow_volume.specs.GroupValue.{GroupValue, placed}
 use Rattle.cow_volume.specs.StandsFor.{StandsFor, told_in}
-use Rattle.cow_volume.specs.Ending.{AllTell, IsSync}
+use Rattle.cow_volume.specs.Ending.{IsSync}
 use Rattle.cow_volume.specs.Resuming.{AreKept}
 use Rattle.cow_volume.specs.Calls.{blocks_in, sets_in}
 use Rattle.cow_volume.specs.declared.cause.Cause.{Cause}
 use Rattle.cow_volume.proofs.Group.{slice_get-set_same, slice_get-set_other, slice_get_inside, slice_get_map, same_number, other_number}
 use Rattle.cow_volume.proofs.Kept.{map_set_told}
 use Rattle.image_store.specs.Head.{HeadValue, said_of}
-use Rattle.image_store.specs.Keeping.{IsVolumeKept, IsKeptAs, blocks_of}
+use Rattle.image_store.specs.Keeping.{IsKeptAs, blocks_of}
 use Rattle.image_store.specs.Plain.{PlainStore, plains_of}
 use Rattle.image_store.specs.StoreValue.{StoreValue, HasPlains, StandsAs}
 use Rattle.image_store.proofs.Plains.{same_lists}

@@ -1,12 +1,12 @@
 -- What holds of every list of steps: an image that stays is that of its cut.
-use Rattle.std.proofs.Common.{◌≡◌, ◌≢◌, ℕ, zero, suc, ◌<◌, ◌≤◌, List, [], ◌∷◌, ◌++◌, length, map, refl, ap, sym, subst, ◌∙◌, arith, Bool, true, false, ◌||◌, Option, Some, None}
+use Rattle.std.proofs.Common.{◌≡◌, ◌≢◌, ℕ, zero, suc, ◌<◌, List, [], ◌∷◌, ◌++◌, length, map, refl, ap, sym, subst, ◌∙◌, arith, Bool, true, false, ◌||◌, Option, Some, None}
 use Rattle.std.specs.Prelude.{◌==◌, ◌&&◌, not, filter, nat_lt, nat_le, if◌then◌else◌}
 use Rattle.std.proofs.lemmas.Bool.Decides.{nat_tests}
 use Rattle.std.proofs.lemmas.List.{length-map}
 use Rattle.cow_volume.specs.Calls.{is_among}
 use Rattle.cow_volume.proofs.Group.{same_number, other_number, number_is}
 use Rattle.image_store.specs.Plain.{Kept, Plain, PlainStore, plain_at, volume_in, image_in, image_of, on_volume, on_each, cut_on, gone_on, with_blocks, dropped_on, older_on, reverted_on}
-use Rattle.image_store.specs.Steps.{Step, IsAllowed, AreAllowed, after, after_all, goes, stays}
+use Rattle.image_store.specs.Steps.{Step, AreAllowed, after, after_all, goes, stays}
 use Rattle.image_store.specs.Steps.Step.{Cut, Gone, Updated, UpdatedInPart, Dropped, Reverted, RevertedInPart, Shown, Read, Opened}
 use Rattle.image_store.specs.Course.{ImagesAreOfTheirCut}
 

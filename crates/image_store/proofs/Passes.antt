@@ -1,5 +1,5 @@
 -- The loops of an update.
-use Rattle.std.proofs.Common.{◌≡◌, ◌≢◌, ℕ, zero, suc, ◌+◌, ◌<◌, ◌≤◌, List, [], ◌∷◌, length, map, refl, ap, sym, subst, ◌∙◌, arith, Bool, true, false, Option, Some, None, inl, inr}
+use Rattle.std.proofs.Common.{◌≡◌, ◌≢◌, ℕ, zero, suc, ◌+◌, ◌<◌, ◌≤◌, List, length, refl, ap, sym, subst, ◌∙◌, arith, Bool, true, false, Option, Some, inl, inr}
 use Rattle.std.specs.Prelude.{◌⊎◌, IfSome, not, slice_get, slice_set}
 use Rattle.volume_device.specs.Blocks.{AreBlocks}
 use Rattle.std.proofs.lemmas.Option.{slice_get_within}
@@ -8,13 +8,13 @@ use Rattle.cow_volume.specs.GroupValue.{GroupValue}
 use Rattle.cow_volume.specs.Room.{HasRoom, images_going}
 use Rattle.cow_volume.specs.Steps.{IsPut}
 use Rattle.cow_volume.specs.Calls.{blocks_at, blocks_in, IsNow}
-use Rattle.cow_volume.proofs.Group.{slice_get-set_same, slice_get-set_other, length-slice_set, slice_get_inside, same_number}
-use Rattle.image_store.specs.Plain.{Plain, volume_in, sets_on, with_blocks, gone_on, on_volume}
+use Rattle.cow_volume.proofs.Group.{slice_get-set_same, slice_get-set_other, length-slice_set, slice_get_inside}
+use Rattle.image_store.specs.Plain.{Plain, volume_in, with_blocks, on_volume}
 use Rattle.image_store.specs.Passes.{IsGone, HasSome, HasSomeGone, HasMixed}
 use Rattle.image_store.specs.Steps.{AreMixed}
 use Rattle.image_store.specs.StoreValue.{HasPlains, KeepsPlains}
 use Rattle.image_store.specs.Updating.{AreReady}
-use Rattle.image_store.proofs.Plains.{same_lists, on_volume-same, on_volume-at, on_volume-twice, volume_on, as_many_plains, as_many_blocks, sets_of_volumes, kept_refl, kept_then, block_now}
+use Rattle.image_store.proofs.Plains.{same_lists, on_volume-same, on_volume-twice, as_many_plains, as_many_blocks, sets_of_volumes, kept_refl, kept_then, block_now}
 use Rattle.image_store.proofs.Calls.{gone_plains, room_plains, put_on, put_plains}
 use Rattle.image_store.proofs.Sets.{at_or_below}
 

@@ -1,17 +1,17 @@
 -- A group and the whole copies that it has: how a call on it changes them.
-use Rattle.std.proofs.Common.{◌≡◌, ◌≢◌, ℕ, zero, suc, ◌+◌, ◌<◌, ◌≤◌, List, [], ◌∷◌, ◌++◌, length, map, refl, ap, sym, subst, ◌∙◌, arith, Bool, true, false, Option, Some, None, is_some, option_map}
-use Rattle.std.specs.Prelude.{slice_get, slice_set, if◌then◌else◌, ◌==◌}
+use Rattle.std.proofs.Common.{◌≡◌, ℕ, zero, suc, ◌<◌, List, [], ◌∷◌, length, map, refl, ap, sym, subst, ◌∙◌, arith, Bool, true, Option, Some, option_map}
+use Rattle.std.specs.Prelude.{slice_get}
 use Rattle.std.proofs.lemmas.Option.{slice_get_within}
-use Rattle.write_history.specs.History.{Write, Image, History, content, contents, point_in, sets_of, cut, written, dropped, reverted, reverted_in_part, up_to_set, AreInTime}
+use Rattle.write_history.specs.History.{Image, History, content, contents, point_in, sets_of, AreInTime}
 use Rattle.write_history.specs.Slots.{gone_up_to}
 use Rattle.cow_volume.specs.GroupValue.{GroupValue, placed}
-use Rattle.cow_volume.specs.StandsFor.{IsVolume, StandsFor, told_in}
+use Rattle.cow_volume.specs.StandsFor.{StandsFor}
 use Rattle.cow_volume.specs.Ending.{AllTell, IsSynced}
 use Rattle.cow_volume.specs.Calls.{history_at, changed_at, blocks_at, blocks_in, sets_at, sets_in, is_among, IsKept, IsQuiet, IsNow, IsShown}
-use Rattle.cow_volume.proofs.Group.{slice_get_inside, slice_get_map, slice_set-same, Place, place_at, quiet_stands}
+use Rattle.cow_volume.proofs.Group.{slice_get_inside, slice_get_map, place_at, quiet_stands}
 use Rattle.cow_volume.proofs.Reading.{contents_at}
-use Rattle.cow_volume.proofs.Named.{OfSet, of_set, point_of}
-use Rattle.image_store.specs.Plain.{Kept, Plain, volume_in, plain_in, plain_of, plains_of, on_volume, with_blocks, sets_on, image_in, gone_on}
+use Rattle.cow_volume.proofs.Named.{of_set, point_of}
+use Rattle.image_store.specs.Plain.{Plain, volume_in, plain_in, plain_of, plains_of, on_volume, sets_on, image_in, gone_on}
 use Rattle.image_store.specs.StoreValue.{HasPlains, KeepsPlains}
 use Rattle.image_store.proofs.Copies.{image_of_point, sets_of_kept, length_contents, plain-gone}
 

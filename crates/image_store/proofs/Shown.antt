@@ -1,6 +1,6 @@
 -- What is shown, block by block.
-use Rattle.std.proofs.Common.{◌≡◌, ℕ, zero, suc, ◌+◌, ◌-◌, ◌*◌, ◌<◌, ◌≤◌, List, [], ◌∷◌, ◌++◌, length, map, take, drop, refl, ap, sym, subst, ◌∙◌, arith, Bool, true, false, Option, Some, None, option_map, append_assoc, inl, inr}
-use Rattle.std.specs.Prelude.{◌⊎◌, slice_get, nat_le, Result, Ok, Err}
+use Rattle.std.proofs.Common.{◌≡◌, ℕ, zero, suc, ◌+◌, ◌-◌, ◌*◌, ◌<◌, ◌≤◌, List, [], ◌∷◌, ◌++◌, length, take, drop, refl, ap, sym, subst, ◌∙◌, arith, true, false, Option, Some, None, option_map, append_assoc, inl, inr}
+use Rattle.std.specs.Prelude.{◌⊎◌, slice_get, nat_le, Err}
 use Rattle.std.proofs.Math.Seq.{take-append-add}
 use Rattle.std.specs.List.{concat}
 use Rattle.std.proofs.lemmas.List.{append-nil, take-append-le, take-append-drop}
@@ -18,7 +18,7 @@ use Rattle.image_store.specs.declared.which.Which.{Which}
 use Rattle.image_store.specs.declared.which.Which.TheVariants.{Now, Of}
 use Rattle.image_store.specs.declared.show_fault.ShowFault.{ShowFault}
 use Rattle.image_store.specs.declared.show_fault.ShowFault.TheVariants.{NoSuchImage, BadLength, Volume, Area, Sink}
-use Rattle.image_store.proofs.Plains.{block_now, block_shown, as_many_blocks, kept_refl, kept_then}
+use Rattle.image_store.proofs.Plains.{block_now, block_shown, as_many_blocks}
 
 -- ## a block
 

@@ -1,17 +1,17 @@
 -- A store and the whole copies that it stands for: its calls as steps.
-use Rattle.std.proofs.Common.{◌≡◌, ℕ, zero, suc, ◌+◌, ◌<◌, ◌≤◌, List, [], ◌∷◌, length, map, refl, ap, sym, subst, ◌∙◌, arith, Bool, true, false, Option, Some, None, is_some}
-use Rattle.std.specs.Prelude.{◌||◌, ◌&&◌, ◌==◌, not, nat_lt, if◌then◌else◌, slice_get, replicate, Result, Ok, Err, OnOk, IsErr}
+use Rattle.std.proofs.Common.{◌≡◌, ℕ, ◌<◌, List, [], ◌∷◌, length, map, refl, ap, sym, subst, ◌∙◌, arith, Bool, true, false, Option, Some, None, is_some}
+use Rattle.std.specs.Prelude.{◌||◌, ◌&&◌, ◌==◌, not, nat_lt, if◌then◌else◌, slice_get, replicate, Result, Ok, Err, OnOk}
 use Rattle.std.specs.List.{range_with_len}
 use Rattle.vss_names.specs.TextValue.{TextValue}
 use Rattle.vss_catalog.specs.Group.{are_names_for}
 use Rattle.vss_catalog.specs.Names.{are_names, bytes_in}
 use Rattle.write_history.specs.declared.evicted.Evicted.{Evicted}
 use Rattle.block_data.specs.Runs.{zeros}
-use Rattle.write_history.specs.History.{History, fresh, dropped}
+use Rattle.write_history.specs.History.{fresh}
 use Rattle.cow_volume.specs.GroupValue.{GroupValue}
 use Rattle.cow_volume.specs.StandsFor.{StandsFor}
 use Rattle.cow_volume.specs.Ending.{AllTell, IsSync, IsSynced}
-use Rattle.cow_volume.specs.Calls.{IsDropped, is_among, blocks_in, sets_at, sets_in}
+use Rattle.cow_volume.specs.Calls.{IsDropped, is_among, blocks_in, sets_in}
 use Rattle.cow_volume.specs.Calls.{IsRevert as IsGroupRevert}
 use Rattle.cow_volume.specs.declared.cause.Cause.{Cause}
 use Rattle.cow_volume.specs.declared.image_fault.ImageFault.{ImageFault}
@@ -19,9 +19,9 @@ use Rattle.cow_volume.specs.declared.revert_fault.RevertFault.{RevertFault}
 use Rattle.cow_volume.specs.declared.revert_fault.RevertFault.TheVariants.{NoSuchImage, Fault}
 use Rattle.image_store.specs.Head.{head_bytes, head_of}
 use Rattle.image_store.specs.Passes.{IsCopying, IsWriting}
-use Rattle.image_store.specs.Plain.{Kept, Plain, PlainStore, plain_at, volume_in, on_each, cut_on, gone_on, with_blocks, dropped_on, older_on, reverted_on, image_in, fresh_store, plains_of, AllGiven}
+use Rattle.image_store.specs.Plain.{Kept, Plain, PlainStore, plain_at, on_each, cut_on, gone_on, with_blocks, dropped_on, older_on, reverted_on, image_in, fresh_store, plains_of, AllGiven}
 use Rattle.image_store.specs.Reverting.{IsRevert}
-use Rattle.image_store.specs.Steps.Step.{Cut, Gone, Updated, UpdatedInPart, Dropped, Reverted}
+use Rattle.image_store.specs.Steps.Step.{Cut, Dropped}
 use Rattle.image_store.specs.StoreValue.{StoreValue, HasPlains, KeepsPlains, StandsAs, IsStep, StandsStill}
 use Rattle.image_store.specs.Updating.{AreReady, IsAhead, IsOverwriting}
 use Rattle.image_store.specs.declared.pass.Pass.{Pass}

@@ -1,6 +1,6 @@
 -- How a file of any length is kept in a volume of whole blocks: its bytes, zeros, and in the last eight bytes its length, the lowest byte
 -- first. So the length is a part of what an image shows, and there is no list of lengths beside. (This project's own format.)
-use Rattle.std.specs.Prelude.{ℕ, ◌+◌, ◌-◌, ◌*◌, ◌≤◌, Bool, List, [], ◌++◌, length, take, drop, map, nat_le, Option, Some, None, slice_get}
+use Rattle.std.specs.Prelude.{ℕ, ◌+◌, ◌-◌, ◌*◌, ◌≤◌, Bool, List, ◌++◌, length, take, drop, map, nat_le, Option, Some, None, slice_get}
 use Rattle.std.specs.List.{concat, range_with_len}
 use Rattle.byteorder.specs.Endian.{little_bytes, little_number}
 use Rattle.block_data.specs.Runs.{run_of}

@@ -1,5 +1,5 @@
 -- Which volume of a store has a name. (This project's own.)
-use Rattle.std.specs.Prelude.{ℕ, ◌≡◌, ◌≢◌, ◌<◌, List, length, Some, slice_get}
+use Rattle.std.specs.Prelude.{ℕ, ◌≡◌, ◌≢◌, ◌<◌, List, Some, slice_get}
 use Rattle.vss_names.specs.TextValue.{TextValue}
 
 -- none of the first names is this one

@@ -4,8 +4,8 @@
 use Rattle.std.specs.Prelude.{ℕ, ◌≡◌, ◌<◌, Bool, false, List, length, map, Option, Some, slice_get, Result, Ok, Err}
 use Rattle.write_history.specs.declared.evicted.Evicted.{Evicted}
 use Rattle.cow_volume.specs.Room.{images_going}
-use Rattle.image_store.specs.Plain.{PlainStore, plain_at, sets_on}
-use Rattle.image_store.specs.Steps.{AreMixed, IsAllowed, after}
+use Rattle.image_store.specs.Plain.{PlainStore, sets_on}
+use Rattle.image_store.specs.Steps.{IsAllowed, after}
 use Rattle.image_store.specs.Steps.Step.{Gone, Updated, UpdatedInPart}
 use Rattle.image_store.specs.StoreValue.{StoreValue, StandsAs}
 use Rattle.image_store.specs.declared.pass.Pass.{Pass}
