@@ -1,17 +1,20 @@
 -- Bytes that are read as a head are those of that head.
-use Rattle.std.proofs.Common.{◌≡◌, ℕ, suc, ◌+◌, ◌-◌, ◌<◌, ◌≤◌, List, [], ◌∷◌, ◌++◌, length, take, drop, ap, sym, ◌∙◌, arith, slice_index, Ok, Err}
+use Rattle.std.proofs.Common.{◌≡◌, ℕ, suc, ◌+◌, ◌-◌, ◌<◌, ◌≤◌, List, [], ◌∷◌, ◌++◌, length, take, drop, ap, sym, subst, ◌∙◌, arith, slice_index, Ok, Err}
 use Rattle.std.specs.Prelude.{codes}
 use Rattle.std.proofs.lemmas.List.{append_assoc, drop-drop, length-drop, take_all}
 use Rattle.byteorder.specs.Endian.{little_number}
 use Rattle.vss_catalog.specs.Allowed.{AreBytes}
 use Rattle.vss_catalog.specs.Entries.{EntryValue}
-use Rattle.vss_catalog.specs.Reading.{catalog_in}
+use Rattle.vss_catalog.specs.Reading.{Tells, catalog_in}
 use Rattle.vss_catalog.specs.Written.{bytes_of, number_bytes}
-use Rattle.vss_catalog.specs.declared.catalog_fault.CatalogFault.TheVariants.{Short}
+use Rattle.vss_catalog.specs.declared.catalog_fault.CatalogFault.TheVariants.{Digest, Magic, Volumes, Short, Name, Blocks, Images, Order, Rest, OutOfMemory}
+use Rattle.vss_catalog.specs.declared.catalog_fault.CatalogFault.{CatalogFault}
 use Rattle.vss_catalog.proofs.Again.{catalog-again}
 use Rattle.vss_catalog.proofs.Numbers.{number-again, bytes-past}
 use Rattle.vss_catalog.proofs.Steps.{fails, not_below}
 use Rattle.image_store.specs.Head.{head_bytes}
+use Rattle.image_store.specs.Opening.{IsHeadFault, of_catalog, said_length}
+use Rattle.image_store.specs.declared.open_fault.OpenFault.{OpenFault}
 
 -- what a slice of bytes has are bytes
 pub are_bytes : (bytes : List ℕ) → ((i : ℕ) → slice_index bytes i < 256) → AreBytes bytes
@@ -44,3 +47,23 @@ head_again bytes last entries are letters last_is long catalog =
 -- what is behind the first n of a slice
 pub rest_of : (n : ℕ) (bytes : List ℕ) → take (length bytes - n) (drop n bytes) ≡ drop n bytes
 rest_of n bytes = let long = length-drop n bytes in take_all (length bytes - n) (drop n bytes) (omega arith)
+
+-- ## why bytes are none
+
+-- a catalog that is refused
+pub catalog_fault : (bytes : List ℕ) (fault : CatalogFault) (it : OpenFault) → it ≡ of_catalog fault → length bytes ≡ said_length bytes → bytes ≡ codes "VSSIMG01" ++ drop 8 bytes
+    → Tells fault (catalog_in (drop 16 bytes)) → IsHeadFault bytes it
+catalog_fault bytes fault it is long letters tells = subst (IsHeadFault bytes) (sym is) (of_fault fault tells) where
+  begins : take 8 bytes ≡ codes "VSSIMG01"
+  begins = ap (take 8) letters
+  of_fault : (fault : CatalogFault) → Tells fault (catalog_in (drop 16 bytes)) → IsHeadFault bytes (of_catalog fault)
+  of_fault Digest tells = (long, begins, tells)
+  of_fault Magic tells = (long, begins, tells)
+  of_fault (Volumes found) tells = (long, begins, tells)
+  of_fault (Short at) tells = (long, begins, tells)
+  of_fault (Name v) tells = (long, begins, tells)
+  of_fault (Blocks v found) tells = (long, begins, tells)
+  of_fault (Images v found) tells = (long, begins, tells)
+  of_fault (Order v at) tells = (long, begins, tells)
+  of_fault (Rest at) tells = (long, begins, tells)
+  of_fault OutOfMemory tells = tt

@@ -7,6 +7,7 @@ pub mod Head
 pub mod StoreValue
 pub mod Keeping
 pub mod Naming
+pub mod Opening
 pub mod Updating
 pub mod Passes
 pub mod Cutting

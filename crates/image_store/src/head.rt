@@ -1,8 +1,9 @@
-ghost use Rattle.std.specs.Prelude.{◌≡◌, ◌<◌, ◌≤◌, ◌+◌, ◌++◌, drop, length, IfOk, IfSome, IsNone, OnOk};
+ghost use Rattle.std.specs.Prelude.{◌≡◌, ◌<◌, ◌≤◌, ◌+◌, ◌++◌, drop, length, IfErr, IfOk, IfSome, IsNone, OnOk};
 ghost use Rattle.byteorder.specs.Endian.{little_number};
 ghost use Rattle.vss_catalog.specs.Written.{number_bytes};
 ghost use Rattle.vss_catalog.specs.Allowed.{IsCatalog};
 ghost use Rattle.image_store.specs.Head.{bytes_of_head, head_bytes};
+ghost use Rattle.image_store.specs.Opening.{IsHeadFault};
 
 use crate::open_fault::OpenFault;
 use byteorder::{ByteOrder, LittleEndian};
@@ -84,6 +85,7 @@ impl Head {
     pub fn read(alloc: Global, bytes: &[u8]) -> Result<Head, OpenFault>
         ensures ok { IfOk result (λ head. bytes_of_head head ≡ bytes.now) }
         ensures allowed { IfOk result (λ head. IsCatalog head.entries) }
+        ensures refused { IfErr result (IsHeadFault bytes.now) }
     {
         let found = bytes.len() as u64;
         let Some(length) = Head::length_in(bytes) else {

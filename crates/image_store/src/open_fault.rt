@@ -55,6 +55,11 @@ impl fmt::Display for OpenFault {
 }
 
 impl From<CatalogFault> for OpenFault {
+    ghost use Rattle.std.specs.Prelude.{◌≡◌};
+    ghost use Rattle.image_store.specs.Opening.{of_catalog};
+
+    ghost from_gives = { λ fault it. it ≡ of_catalog fault };
+
     fn from(fault: CatalogFault) -> OpenFault {
         match fault {
             CatalogFault::OutOfMemory => OpenFault::OutOfMemory,
@@ -64,6 +69,11 @@ impl From<CatalogFault> for OpenFault {
 }
 
 impl From<AreaFault> for OpenFault {
+    ghost use Rattle.std.specs.Prelude.{◌≡◌};
+    ghost use Rattle.image_store.specs.Opening.{of_area};
+
+    ghost from_gives = { λ fault it. it ≡ of_area fault };
+
     fn from(fault: AreaFault) -> OpenFault {
         match fault {
             AreaFault::OutOfMemory => OpenFault::OutOfMemory,
@@ -73,18 +83,33 @@ impl From<AreaFault> for OpenFault {
 }
 
 impl From<OutOfMemory> for OpenFault {
+    ghost use Rattle.std.specs.Prelude.{◌≡◌};
+    ghost use Rattle.image_store.specs.declared.open_fault.OpenFault.TheVariants.{OutOfMemory as memory};
+
+    ghost from_gives = { λ _ fault. fault ≡ memory };
+
     fn from(_refused: OutOfMemory) -> OpenFault {
         OpenFault::OutOfMemory
     }
 }
 
 impl From<AllocError> for OpenFault {
+    ghost use Rattle.std.specs.Prelude.{◌≡◌};
+    ghost use Rattle.image_store.specs.declared.open_fault.OpenFault.TheVariants.{OutOfMemory as memory};
+
+    ghost from_gives = { λ _ fault. fault ≡ memory };
+
     fn from(_refused: AllocError) -> OpenFault {
         OpenFault::OutOfMemory
     }
 }
 
 impl<T: Drop> From<AllocFailed<T>> for OpenFault {
+    ghost use Rattle.std.specs.Prelude.{◌≡◌};
+    ghost use Rattle.image_store.specs.declared.open_fault.OpenFault.TheVariants.{OutOfMemory as memory};
+
+    ghost from_gives = { λ _ fault. fault ≡ memory };
+
     fn from(_refused: AllocFailed<T>) -> OpenFault {
         OpenFault::OutOfMemory
     }
