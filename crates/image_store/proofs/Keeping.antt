@@ -1,7 +1,7 @@
 -- What lasts of a store that is closed, and what a store is that is opened again.
 use Rattle.std.proofs.Common.{◌≡◌, ℕ, suc, ◌+◌, ◌<◌, ◌≤◌, List, [], ◌∷◌, ◌++◌, length, map, take, drop, refl, ap, sym, subst, ◌∙◌, arith, Bool, true, false, Option, Some, None, is_some}
-use Rattle.std.specs.Prelude.{◌==◌, slice_get, slice_set, IfSome, Result, Ok, Err, OnOk}
-use Rattle.std.proofs.lemmas.List.{length-map, take_all, take-append-le}
+use Rattle.std.specs.Prelude.{◌==◌, slice_get, slice_set, IfErr, IfSome, Result, Ok, Err, OnErr, OnOk}
+use Rattle.std.proofs.lemmas.List.{length-map, map-set, take_all, take-append-le}
 use Rattle.std.proofs.lemmas.List.FromFn.{length-map-range_with_len}
 use Rattle.std.proofs.lemmas.Option.{same_Some, slice_get_within}
 use Rattle.vss_names.specs.TextValue.{TextValue}
@@ -18,8 +18,11 @@ use Rattle.cow_volume.specs.Ending.{IsSync}
 use Rattle.cow_volume.specs.Resuming.{AreKept}
 use Rattle.cow_volume.specs.Calls.{blocks_in, sets_in}
 use Rattle.cow_volume.specs.declared.cause.Cause.{Cause}
+use Rattle.cow_volume.specs.declared.cause.Cause.TheVariants.{Volume}
 use Rattle.cow_volume.proofs.Group.{slice_get-set_same, slice_get-set_other, slice_get_inside, slice_get_map, same_number, other_number}
 use Rattle.cow_volume.proofs.Kept.{map_set_told}
+use Rattle.vss_names.specs.Faults.{Rose}
+use Rattle.image_store.specs.Closing.{IsCloseFault, OneRose}
 use Rattle.image_store.specs.Head.{HeadValue, said_of}
 use Rattle.image_store.specs.Keeping.{IsKeptAs, blocks_of}
 use Rattle.image_store.specs.Plain.{PlainStore, plains_of}
@@ -29,21 +32,23 @@ use Rattle.image_store.proofs.Stores.{store_of}
 
 -- ## devices are flushed one after another
 
--- the first k were, and all tell what they told
-pub record HaveLasted {D : Type 0} (told lasting : D → Option (List (List ℕ))) (k : ℕ) (old now : List D) : Type 0 where
+-- the first k were, none of them failed, and all tell what they told
+pub record HaveLasted {D : Type 0} (told lasting : D → Option (List (List ℕ))) (count : D → ℕ) (k : ℕ) (old now : List D) : Type 0 where
   pub told_is : map told now ≡ map told old
+  pub counts : map count now ≡ map count old
   pub last : (j : ℕ) (d : D) → j < k → slice_get now j ≡ Some d → lasting d ≡ told d
 
-pub none_lasted : {D : Type 0} (told lasting : D → Option (List (List ℕ))) (ds : List D) → HaveLasted told lasting 0 ds ds
-none_lasted told lasting ds = record { told_is = refl; last = λ j d low at. absurd (omega arith) }
+pub none_lasted : {D : Type 0} (told lasting : D → Option (List (List ℕ))) (count : D → ℕ) (ds : List D) → HaveLasted told lasting count 0 ds ds
+none_lasted told lasting count ds = record { told_is = refl; counts = refl; last = λ j d low at. absurd (omega arith) }
 
-pub still_told : {D : Type 0} (told : D → Option (List (List ℕ))) (k : ℕ) (old now : List D) (d next : D) → map told now ≡ map told old → slice_get now k ≡ Some d → told next ≡ told d → map told (slice_set now k next) ≡ map told old
+pub still_told : {D X : Type 0} (told : D → X) (k : ℕ) (old now : List D) (d next : D) → map told now ≡ map told old → slice_get now k ≡ Some d → told next ≡ told d → map told (slice_set now k next) ≡ map told old
 still_told told k old now d next have at same = map_set_told told now k d next at same ∙ have
 
-pub one_lasted : {D : Type 0} (told lasting : D → Option (List (List ℕ))) (k : ℕ) (old now : List D) (d next : D) → HaveLasted told lasting k old now → slice_get now k ≡ Some d → told next ≡ told d
-    → lasting next ≡ told next → HaveLasted told lasting (k + 1) old (slice_set now k next)
-one_lasted {D = D} told lasting k old now d next have at same lasts = record {
+pub one_lasted : {D : Type 0} (told lasting : D → Option (List (List ℕ))) (count : D → ℕ) (k : ℕ) (old now : List D) (d next : D) → HaveLasted told lasting count k old now → slice_get now k ≡ Some d
+    → told next ≡ told d → count next ≡ count d → lasting next ≡ told next → HaveLasted told lasting count (k + 1) old (slice_set now k next)
+one_lasted {D = D} told lasting count k old now d next have at same counted lasts = record {
   told_is = still_told told k old now d next have.told_is at same;
+  counts = still_told count k old now d next have.counts at counted;
   last = λ j e low there. by_number j e (j == k) refl low there;
 } where
   by_number : (j : ℕ) (e : D) (t : Bool) → (j == k) ≡ t → j < k + 1 → slice_get (slice_set now k next) j ≡ Some e → lasting e ≡ told e
@@ -54,12 +59,24 @@ one_lasted {D = D} told lasting k old now d next have at same lasts = record {
       let other = other_number j k is in
       have.last j e (omega arith) (sym (slice_get-set_other now k j next (λ same. other (sym same))) ∙ there)
 
+-- the next one failed
+pub one_failed : {D : Type 0} (count : D → ℕ) (k : ℕ) (old now : List D) (d next : D) → map count now ≡ map count old → slice_get now k ≡ Some d → Rose (count d) (count next)
+    → OneRose (map count old) (map count (slice_set now k next))
+one_failed count k old now d next counts at rose = record {
+  place = k;
+  before = count d;
+  now = count next;
+  at = ap (λ (ns : List ℕ). slice_get ns k) (sym counts) ∙ slice_get_map count now k d at;
+  rose = rose;
+  counts = map-set count now k next ∙ ap (λ (ns : List ℕ). slice_set ns k (count next)) counts;
+}
+
 maps_same : {X Y : Type 0} (f g : X → Y) (xs : List X) → ((j : ℕ) (x : X) → slice_get xs j ≡ Some x → f x ≡ g x) → map f xs ≡ map g xs
 maps_same f g [] h = refl
 maps_same f g (x ∷ xs) h = ap (λ y. y ∷ map f xs) (h 0 x refl) ∙ ap (λ ys. g x ∷ ys) (maps_same f g xs (λ j y at. h (suc j) y at))
 
-pub all_lasted : {D : Type 0} (told lasting : D → Option (List (List ℕ))) (k : ℕ) (old now : List D) → HaveLasted told lasting k old now → length now ≤ k → map lasting now ≡ map told old
-all_lasted told lasting k old now have all =
+pub all_lasted : {D : Type 0} (told lasting : D → Option (List (List ℕ))) (count : D → ℕ) (k : ℕ) (old now : List D) → HaveLasted told lasting count k old now → length now ≤ k → map lasting now ≡ map told old
+all_lasted told lasting count k old now have all =
     maps_same lasting told now (λ j d at. have.last j d (let within = slice_get_within now j d at in omega arith) at) ∙ have.told_is
 
 -- ## the entries of a group
@@ -139,6 +156,24 @@ closed_outcome {D = D} told lasting size count lending old new names last items 
     subst (λ (a : D). IsKeptAs lasting (take len (flushed ++ drop (length flushed) items)) a (said_of (store_of old names last)) p) (sym area_is)
     (subst (λ (ds : List D). IsKeptAs lasting ds new.area.device (said_of (store_of old names last)) p) (sym (whole_again len flushed items many as_many))
     (closed_kept told lasting size count lending old new names last flushed done p sync lasts (flushes ∙ ap (map told) (same ∙ devices_are)) stands))
+
+-- the devices that are given back tell what they told
+pub closed_told : {D : Type 0} (told : D → Option (List (List ℕ))) (old new : GroupValue D) (items before flushed : List D) (len : ℕ) → new.devices ≡ old.devices → items ≡ new.devices → length items ≡ len → before ≡ items
+    → map told flushed ≡ map told before → map told (take len (flushed ++ drop (length flushed) items)) ≡ map told old.devices
+closed_told told old new items before flushed len kept devices_are many same tells =
+    let as_many : length flushed ≡ length items = sym (length-map flushed told) ∙ ap length tells ∙ length-map before told ∙ ap length same in
+    ap (map told) (whole_again len flushed items many as_many) ∙ tells ∙ ap (map told) (same ∙ devices_are ∙ kept)
+
+-- one of them failed
+pub closed_failed : {D : Type 0} (told : D → Option (List (List ℕ))) (count : D → ℕ) (old new : GroupValue D) (items before flushed : List D) (len : ℕ) (area : D) (r : Result Unit Cause) → new.devices ≡ old.devices
+    → count new.area.device ≡ count old.area.device → items ≡ new.devices → length items ≡ len → before ≡ items → area ≡ new.area.device → map told flushed ≡ map told before
+    → IfErr r (λ cause. cause ≡ Volume) → OnErr r (OneRose (map count before) (map count flushed)) → IfErr r (IsCloseFault count old (take len (flushed ++ drop (length flushed) items)) area)
+closed_failed told count old new items before flushed len area (Ok done) kept quiet devices_are many same area_is tells is rose = tt
+closed_failed {D = D} told count old new items before flushed len area (Err cause) kept quiet devices_are many same area_is tells is rose =
+    let as_many : length flushed ≡ length items = sym (length-map flushed told) ∙ ap length tells ∙ length-map before told ∙ ap length same in
+    subst (λ (c : Cause). IsCloseFault count old (take len (flushed ++ drop (length flushed) items)) area c) (sym is)
+    (subst (λ (ds : List D). OneRose (map count old.devices) (map count ds)) (sym (whole_again len flushed items many as_many))
+    (subst (λ (ds : List D). OneRose (map count ds) (map count flushed)) (same ∙ devices_are ∙ kept) rose), ap count area_is ∙ quiet)
 
 -- ## a store that is opened
 

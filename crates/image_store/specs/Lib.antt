@@ -8,6 +8,7 @@ pub mod StoreValue
 pub mod Keeping
 pub mod Naming
 pub mod Opening
+pub mod Closing
 pub mod Updating
 pub mod Passes
 pub mod Cutting

@@ -9,7 +9,7 @@ ghost use Rattle.vss_catalog.specs.Group.{entries_of};
 ghost use Rattle.vss_catalog.specs.Reading.{catalog_in};
 ghost use Rattle.vss_catalog.specs.Written.{bytes_of};
 ghost use Rattle.write_history.specs.History.{History};
-ghost use Rattle.cow_volume.specs.Calls.{blocks_at, sets_at, is_among};
+ghost use Rattle.cow_volume.specs.Calls.{AreaRose, VolumeRose, blocks_at, is_among, sets_at};
 ghost use Rattle.cow_volume.specs.Ending.{AllTell};
 ghost use Rattle.cow_volume.specs.Resuming.{AreKept, NoneTell};
 ghost use Rattle.cow_volume.specs.StandsFor.{StandsFor};
@@ -21,6 +21,7 @@ ghost use Rattle.image_store.specs.Updating.{AreReady, IsAhead, IsOverwriting};
 ghost use Rattle.image_store.specs.Showing.{HasLength, HasShowCause, IsShow, shown_in};
 ghost use Rattle.image_store.specs.Reverting.{IsRevert};
 ghost use Rattle.image_store.specs.Cutting.{IsCutRefused};
+ghost use Rattle.image_store.specs.Closing.{IsCloseFault, OneRose};
 ghost use Rattle.image_store.specs.Head.{head_of, said_of};
 ghost use Rattle.image_store.specs.Keeping.{IsKeptAs, blocks_of};
 ghost use Rattle.image_store.specs.Naming.{AreOthers, IsNamed};
@@ -382,6 +383,7 @@ impl<D: Device> Store<D> {
 
     /// Writes the table of its area, and brings all slots and it to where they last.
     pub fn sync(&mut self) -> Result<(), Cause>
+        ensures failed { IfErr result (λ cause. (cause ≡ Cause.Area) × AreaRose D.count self.old.group self.new.group) }
         ensures still { StandsStill D.told self.old self.new }
         ensures head { head_of self.new ≡ head_of self.old }
         ensures volumes { self.new.group.area.volumes ≡ self.old.group.area.volumes }
@@ -392,6 +394,7 @@ impl<D: Device> Store<D> {
     /// Brings all accepted writes of a volume to where they last.
     pub fn flush(&mut self, v: u32) -> Result<(), Cause>
         requires { v < length self.old.group.area.volumes }
+        ensures failed { IfErr result (λ cause. (cause ≡ Cause.Volume) × VolumeRose D.count v self.old.group self.new.group) }
         ensures still { StandsStill D.told self.old self.new }
         ensures head { head_of self.new ≡ head_of self.old }
         ensures volumes { self.new.group.area.volumes ≡ self.old.group.area.volumes }
@@ -402,6 +405,8 @@ impl<D: Device> Store<D> {
     /// Takes it apart: everything is brought to where it lasts. The devices are given back, whether or not that failed.
     pub fn close(self) -> Closed<D>
         ensures kept { OnOk result.outcome ((p : PlainStore) → StandsAs D.told self p → IsKeptAs D.lasting result.devices.items result.area (said_of self) p) }
+        ensures told { map D.told result.devices.items ≡ map D.told self.group.devices }
+        ensures failed { IfErr result.outcome (IsCloseFault D.count self.group result.devices.items result.area) }
     {
         let Store { group, .. } = self;
         let mut group = group;
@@ -483,6 +488,9 @@ fn take_up<D: Device>(
 fn flush_each<D: Device>(devices: &mut [D]) -> Result<(), Cause>
     ensures lasts { OnOk result (map D.lasting devices.new ≡ map D.told devices.old) }
     ensures told { map D.told devices.new ≡ map D.told devices.old }
+    ensures same { OnOk result (map D.count devices.new ≡ map D.count devices.old) }
+    ensures volume { IfErr result (λ cause. cause ≡ Cause.Volume) }
+    ensures rose { OnErr result (OneRose (map D.count devices.old) (map D.count devices.new)) }
 {
     for device in devices.iter_mut() {
         let Ok(()) = device.flush() else {
