@@ -56,6 +56,7 @@ pub catalog_fault : (bytes : List ℕ) (fault : CatalogFault) (it : OpenFault) �
 catalog_fault bytes fault it is long letters tells = subst (IsHeadFault bytes) (sym is) (of_fault fault tells) where
   begins : take 8 bytes ≡ codes "VSSIMG01"
   begins = ap (take 8) letters
+
   of_fault : (fault : CatalogFault) → Tells fault (catalog_in (drop 16 bytes)) → IsHeadFault bytes (of_catalog fault)
   of_fault Digest tells = (long, begins, tells)
   of_fault Magic tells = (long, begins, tells)

@@ -171,9 +171,11 @@ pub closed_failed : {D : Type 0} (told : D → Option (List (List ℕ))) (count 
 closed_failed told count old new items before flushed len area (Ok done) kept quiet devices_are many same area_is tells is rose = tt
 closed_failed {D = D} told count old new items before flushed len area (Err cause) kept quiet devices_are many same area_is tells is rose =
     let as_many : length flushed ≡ length items = sym (length-map flushed told) ∙ ap length tells ∙ length-map before told ∙ ap length same in
-    subst (λ (c : Cause). IsCloseFault count old (take len (flushed ++ drop (length flushed) items)) area c) (sym is)
-    (subst (λ (ds : List D). OneRose (map count old.devices) (map count ds)) (sym (whole_again len flushed items many as_many))
-    (subst (λ (ds : List D). OneRose (map count ds) (map count flushed)) (same ∙ devices_are ∙ kept) rose), ap count area_is ∙ quiet)
+    subst (λ (c : Cause). IsCloseFault count old (take len (flushed ++ drop (length flushed) items)) area c) (sym is) (
+      subst (λ (ds : List D). OneRose (map count old.devices) (map count ds)) (sym (whole_again len flushed items many as_many))
+          (subst (λ (ds : List D). OneRose (map count ds) (map count flushed)) (same ∙ devices_are ∙ kept) rose),
+      ap count area_is ∙ quiet,
+    )
 
 -- ## a store that is opened
 

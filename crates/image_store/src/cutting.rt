@@ -27,7 +27,7 @@ pub fn first_full<D: Device>(group: &CowGroup<D>, volumes: &[u32]) -> Option<u32
 }
 
 /// The newest of the sets of a volume's images, which rise; 0 where there is none.
-fn newest_of(sets: &[u32]) -> u32
+pub fn newest_of(sets: &[u32]) -> u32
     requires { AreImages sets.now }
     ensures all { All (λ s. s ≤ result) sets.now }
     ensures one { 0 < result → is_among result sets.now ≡ true }

@@ -1,3 +1,4 @@
+use cow_volume::ResumeFault;
 use diff_area::AreaFault;
 use std::alloc::{AllocError, AllocFailed};
 use std::fmt;
@@ -78,6 +79,20 @@ impl From<AreaFault> for OpenFault {
         match fault {
             AreaFault::OutOfMemory => OpenFault::OutOfMemory,
             fault => OpenFault::Area(fault),
+        }
+    }
+}
+
+impl From<ResumeFault> for OpenFault {
+    ghost use Rattle.std.specs.Prelude.{◌≡◌};
+    ghost use Rattle.image_store.specs.Opening.{of_resume};
+
+    ghost from_gives = { λ fault it. it ≡ of_resume fault };
+
+    fn from(fault: ResumeFault) -> OpenFault {
+        match fault {
+            ResumeFault::NoImage { slot, set } => OpenFault::Image { slot, set },
+            ResumeFault::OutOfMemory => OpenFault::OutOfMemory,
         }
     }
 }

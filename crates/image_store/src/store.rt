@@ -25,6 +25,8 @@ ghost use Rattle.image_store.specs.Closing.{IsCloseFault, OneRose};
 ghost use Rattle.image_store.specs.Head.{head_of, said_of};
 ghost use Rattle.image_store.specs.Keeping.{IsKeptAs, blocks_of};
 ghost use Rattle.image_store.specs.Naming.{AreOthers, IsNamed};
+ghost use Rattle.image_store.specs.Opening.{AreParts, IsHeadFor, IsNoHeadFor, IsOpened, IsOpenFault, IsPartsFault, names_of};
+ghost use Rattle.vss_names.specs.TextValue.{TextValue};
 
 use crate::closed::Closed;
 use crate::cut_fault::CutFault;
@@ -41,7 +43,7 @@ use crate::show_fault::ShowFault;
 use crate::showing::{length_of, show_blocks};
 use crate::updating::{compare_blocks, copy_blocks, overwrite_blocks};
 use crate::which::Which;
-use cow_volume::{Cause, CowGroup, ImageFault, ResumeFault, RevertFault};
+use cow_volume::{Cause, CowGroup, ImageFault, RevertFault};
 use diff_area::{Area, Unopened};
 use io_edge::Sink;
 use std::alloc::Global;
@@ -129,6 +131,8 @@ impl<D: Device> Store<D> {
     ) -> Result<Store<D>, Refused<D>>
         ensures kept { IfOk result (λ store. (p : PlainStore) → IsKeptAs D.told devices.items area head.now p → StandsAs D.told store p) }
         ensures untold { IfOk result (λ store. NoneTell D.told devices.items area → (hs : List History) × StandsFor D.told store.group hs) }
+        ensures opened { IfOk result (IsOpened D.told D.size D.lending D.count devices.items area head.now) }
+        ensures refused { IfErr result (λ refused. IsOpenFault D.told D.size D.lending D.count devices.items area head.now refused.area refused.fault) }
     {
         if let Err(fault) = check_devices(head, &devices) {
             return Err(Refused { fault, area: None });
@@ -441,7 +445,8 @@ impl<D: Device> Store<D> {
 
 /// What has to hold of a head and the devices before the area is read.
 fn check_devices<D: Device>(head: &Head, devices: &[D]) -> Result<(), OpenFault>
-    ensures { OnOk result (length devices.now ≡ length head.now.entries) }
+    ensures head { OnOk result (IsHeadFor devices.now head.now) }
+    ensures refused { IfErr result (IsNoHeadFor devices.now head.now) }
 {
     if devices.len() != head.catalog().volumes() as usize {
         return Err(OpenFault::Devices {
@@ -461,8 +466,10 @@ fn take_up<D: Device>(
     requires { length devices.items ≡ length head.now.entries }
     ensures group { IfOk result (λ store. store.group ≡ record { devices = devices.items; area = area; images = lists_of head.now.entries }) }
     ensures stands { IfOk result (λ store. (hs : List History) → AreKept D.told devices.items area (lists_of head.now.entries) hs → StandsFor D.told store.group hs) }
-    ensures volumes { IfOk result (λ store. area.volumes ≡ blocks_of head.now.entries) }
+    ensures parts { OnOk result (AreParts D.size devices.items area head.now.entries) }
+    ensures names { IfOk result (λ store. map (λ (name : TextValue). name.bytes) store.names ≡ names_of head.now.entries) }
     ensures last { IfOk result (λ store. store.last ≡ head.now.last) }
+    ensures refused { IfErr result (IsPartsFault D.size devices.items area head.now.entries) }
     ensures untold { IfOk result (λ store. NoneTell D.told devices.items area.device → (hs : List History) × StandsFor D.told store.group hs) }
 {
     let catalog = head.catalog();
@@ -471,17 +478,14 @@ fn take_up<D: Device>(
     let lists = catalog.lists(alloc)?;
     let piece = Piece::new(alloc)?;
     let wanted = Piece::new(alloc)?;
-    match CowGroup::resume(alloc, devices, area, &lists) {
-        Ok(group) => Ok(Store {
-            group,
-            names,
-            last: head.last(),
-            piece,
-            wanted,
-        }),
-        Err(ResumeFault::NoImage { slot, set }) => Err(OpenFault::Image { slot, set }),
-        Err(ResumeFault::OutOfMemory) => Err(OpenFault::OutOfMemory),
-    }
+    let group = CowGroup::resume(alloc, devices, area, &lists)?;
+    Ok(Store {
+        group,
+        names,
+        last: head.last(),
+        piece,
+        wanted,
+    })
 }
 
 /// Brings all accepted writes of each device to where they last.

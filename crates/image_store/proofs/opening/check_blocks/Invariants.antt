@@ -1,10 +1,7 @@
-use Rattle.std.proofs.Common.{◌≡◌, ℕ, ◌<◌, Some}
-use Rattle.std.specs.Prelude.{slice_get}
-use Rattle.vss_catalog.specs.Entries.{EntryValue}
+use Rattle.std.proofs.Common.{map}
+use Rattle.image_store.specs.Keeping.{blocks_of}
+use Rattle.image_store.specs.Opening.{AreSame}
 use Rattle.image_store.proofs.opening.check_blocks.Given as goal
 
 abbrev pub invariant-loop-volume : goal.invariant-loop-volume
-invariant-loop-volume g l = record {
-  volumes : (k n : ℕ) (e : EntryValue) → k < l.volume → slice_get l.area.volumes k ≡ Some n → slice_get l.catalog k ≡ Some e → n ≡ e.blocks;
-  fits : (k : ℕ) (d : g.row.D.Denot) (e : EntryValue) → k < l.volume → slice_get l.devices k ≡ Some d → slice_get l.catalog k ≡ Some e → g.D.Device.size d ≡ e.blocks;
-}
+invariant-loop-volume g l = record { volumes : AreSame l.area.volumes (blocks_of l.catalog) l.volume; fits : AreSame (map g.D.Device.size l.devices) (blocks_of l.catalog) l.volume }
