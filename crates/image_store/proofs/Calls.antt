@@ -24,7 +24,8 @@ use Rattle.image_store.proofs.Plains.{at_volume, volumes_changed, volumes_gone, 
 -- ## cuts
 
 pub cut_plains : {D : Type 0} → (told : D → Option (List (List ℕ))) (old new : GroupValue D) (ps : List Plain) (v set : ℕ) → new.devices ≡ old.devices → new.area ≡ old.area
-    → ((hs : List History) → StandsFor told old hs → StandsFor told new (changed_at v (cut set) hs)) → v < length old.area.volumes → HasPlains told old ps → HasPlains told new (on_volume v (cut_on set) ps)
+    → ((hs : List History) → StandsFor told old hs → StandsFor told new (changed_at v (cut set) hs)) → v < length old.area.volumes → HasPlains told old ps
+    → HasPlains told new (on_volume v (cut_on set) ps)
 cut_plains told old new ps v set devices area stands l has =
     let at = at_volume told old ps v has l in
     record {
@@ -52,7 +53,8 @@ cut_none told old vs set = record { volumes = refl; plains = λ ps has. has; res
 
 pub cut_more : {D : Type 0} → (told : D → Option (List (List ℕ))) (old now new : GroupValue D) (vs : List ℕ) (set k v : ℕ) → IsCutTo told old now vs set k → slice_get vs k ≡ Some v
     → ((j u : ℕ) → k < j → slice_get vs j ≡ Some u → v ≢ u) → v < length old.area.volumes → new.devices ≡ now.devices → new.area ≡ now.area
-    → new.images ≡ slice_set now.images v (sets_at now v ++ set ∷ []) → ((hs : List History) → StandsFor told now hs → StandsFor told new (changed_at v (cut set) hs)) → IsCutTo told old new vs set (k + 1)
+    → new.images ≡ slice_set now.images v (sets_at now v ++ set ∷ []) → ((hs : List History) → StandsFor told now hs → StandsFor told new (changed_at v (cut set) hs))
+    → IsCutTo told old new vs set (k + 1)
 cut_more told old now new vs set k v so at apart l devices area images stands =
     let more : on_each (take k vs ++ v ∷ []) (cut_on set) ≡ on_each (take (k + 1) vs) (cut_on set) = ap (λ us. on_each us (cut_on set)) (sym (take_next vs k v at)) in
     let volumes = so.volumes in
@@ -90,7 +92,8 @@ room_plains told old new v b up_to none room =
     record {
       volumes = volumes;
       plains = λ ps has.
-          let same : gone_up_to up_to (placed old.area.volumes) has.hs ≡ has.hs = ap (λ m. gone_up_to m (placed old.area.volumes) has.hs) none ∙ gone_up_to_none (placed old.area.volumes) has.hs (λ u h at.
+          let same : gone_up_to up_to (placed old.area.volumes) has.hs ≡ has.hs = ap (λ m. gone_up_to m (placed old.area.volumes) has.hs) none
+          ∙ gone_up_to_none (placed old.area.volumes) has.hs (λ u h at.
           let within = slice_get_within has.hs u h at in
           let long = has.stands.histories in
           let place = place_at told old has.hs u has.stands (omega arith) in
@@ -113,13 +116,15 @@ room_volumes told old new v b up_to room = ap (λ (g : GroupValue _). g.area.vol
 abbrev pub put_on : ℕ → List ℕ → Plain → Plain
 put_on b bytes p = with_blocks (slice_set p.blocks b bytes) p
 
-pub put_plains : {D : Type 0} → (told : D → Option (List (List ℕ))) (size count : D → ℕ) (lending : D → Bool) (old new : GroupValue D) (ps : List Plain) (v b : ℕ) (bytes : List ℕ) → v < length old.area.volumes
+pub put_plains : {D : Type 0} → (told : D → Option (List (List ℕ))) (size count : D → ℕ) (lending : D → Bool) (old new : GroupValue D) (ps : List Plain) (v b : ℕ) (bytes : List ℕ)
+    → v < length old.area.volumes
     → b < blocks_at old v → IsPut told size count lending old new v (record { block = b; bytes = bytes }) → HasPlains told old ps → HasPlains told new (on_volume v (put_on b bytes) ps)
 put_plains told size count lending old new ps v b bytes l m is has =
     has_changed told size count lending old new ps v (written (record { block = b; bytes = bytes })) (put_on b bytes) has is.kept l (is.stands has.hs has.stands)
     (λ at. plain-written at.blocks (record { block = b; bytes = bytes }) at.history (let n = at.blocks_at_is in omega arith) at.time)
 
-pub not_put_kept : {D : Type 0} → (told : D → Option (List (List ℕ))) (size count : D → ℕ) (lending : D → Bool) (old new : GroupValue D) (v : ℕ) (cause : Cause) → IsNotPut told size count lending old new v cause
+pub not_put_kept : {D : Type 0} → (told : D → Option (List (List ℕ))) (size count : D → ℕ) (lending : D → Bool) (old new : GroupValue D) (v : ℕ) (cause : Cause)
+    → IsNotPut told size count lending old new v cause
     → KeepsPlains told old new
 not_put_kept told size count lending old new v cause is = record {
   volumes = is.kept.volumes;
@@ -179,7 +184,8 @@ pub record IsMixedTo {D : Type 0} (told : D → Option (List (List ℕ))) (new :
   pub mixed : AreMixed (volume_in ps v).blocks image now
   pub plains : HasPlains told new (on_volume v (λ p. with_blocks now (older_on set p)) ps)
 
-pub in_part_plains : {D : Type 0} → (told : D → Option (List (List ℕ))) (size count : D → ℕ) (lending : D → Bool) (old new : GroupValue D) (ps : List Plain) (v set restored : ℕ) → v < length old.area.volumes
+pub in_part_plains : {D : Type 0} → (told : D → Option (List (List ℕ))) (size count : D → ℕ) (lending : D → Bool) (old new : GroupValue D) (ps : List Plain) (v set restored : ℕ)
+    → v < length old.area.volumes
     → IsRevertedInPart told size count lending old new v set restored → HasPlains told old ps → IsMixedTo told new ps v set
 in_part_plains told size count lending old new ps v set restored l is has =
     let at = at_volume told old ps v has l in
@@ -191,7 +197,8 @@ in_part_plains told size count lending old new ps v set restored l is has =
       image_is = ap (λ (q : Plain). image_in set q.images) at.plain ∙ image_of_point set at.blocks at.history.writes at.history.images ∙ ap (option_map (contents at.blocks at.history.writes)) p.1;
       now = now;
       mixed = subst (λ (q : Plain). AreMixed q.blocks (contents at.blocks at.history.writes p.0) now) (sym at.plain) (mixed-in_part at.blocks set p.0 restored at.history);
-      plains = has_now told size count lending old new ps (on_volume v (λ q. with_blocks now (older_on set q)) ps) (changed_at v (reverted_in_part (blocks_at old v) set p.0 restored) has.hs) has is.kept
+      plains = has_now told size count lending old new ps (on_volume v (λ q. with_blocks now (older_on set q)) ps)
+          (changed_at v (reverted_in_part (blocks_at old v) set p.0 restored) has.hs) has is.kept
           (is.stands has.hs p.0 has.stands point)
           (ap (on_volume v (λ q. with_blocks now (older_on set q))) has.plains
           ∙ sym (ap (λ n. plains_of old.area.volumes (changed_at v (reverted_in_part n set p.0 restored) has.hs)) at.blocks_at_is

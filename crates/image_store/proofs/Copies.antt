@@ -4,7 +4,8 @@ use Rattle.std.specs.Prelude.{◌⊎◌, ◌==◌, filter, if◌then◌else◌, 
 use Rattle.std.specs.List.{range_with_len}
 use Rattle.std.proofs.lemmas.List.{map-append, length-map}
 use Rattle.block_data.specs.Runs.{zeros}
-use Rattle.write_history.specs.History.{Write, Image, History, last_bytes, content, contents, point_in, sets_of, cut, written, dropped, reverted, reverted_in_part, restoring, to_restore, after_set, up_to_set, AreLater, AreInTime}
+use Rattle.write_history.specs.History.{Write, Image, History, last_bytes, content, contents, point_in, sets_of, cut, written, dropped, reverted, reverted_in_part, restoring, to_restore, after_set}
+use Rattle.write_history.specs.History.{up_to_set, AreLater, AreInTime}
 use Rattle.cow_volume.proofs.Group.{same_number}
 use Rattle.cow_volume.proofs.Reading.{last_bytes-append, content_all}
 use Rattle.cow_volume.proofs.Writing.{contents-more, content-before}
@@ -169,7 +170,8 @@ mixed-in_part n set p k h =
     let all = h.writes ++ map (restoring h.writes p) bs in (
       length_contents n all (length all) ∙ sym (length_contents n h.writes (length h.writes)),
       mixed-range (content all (length all)) (content h.writes (length h.writes)) (content h.writes p) 0 n (λ b.
-          moved (content all (length all) b) (content h.writes (length h.writes) b) (content h.writes p b) (last_bytes b (last_bytes b zeros h.writes) (map (restoring h.writes p) bs)) (last_bytes b zeros h.writes)
+          moved (content all (length all) b) (content h.writes (length h.writes) b) (content h.writes p b) (last_bytes b (last_bytes b zeros h.writes) (map (restoring h.writes p) bs))
+          (last_bytes b zeros h.writes)
           (content_all all b ∙ last_bytes-append b zeros h.writes (map (restoring h.writes p) bs)) (content_all h.writes b)
           (restored_bytes h.writes p b bs (last_bytes b zeros h.writes) (last_bytes b zeros h.writes) (inl refl))),
     )

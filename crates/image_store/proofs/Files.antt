@@ -78,5 +78,6 @@ file_back n file fits =
     let many = length_padded n file fits.0 in
     let none : BLOCK * 0 ≡ 0 = omega arith in
     let all : concat (blocks_of_file n file) ≡ bytes = pieces BLOCK 0 n bytes ∙ ap (λ m. take (BLOCK * n) (drop m bytes)) none ∙ take_all (BLOCK * n) bytes (omega arith) in
-    ap (λ m. take m (concat (blocks_of_file n file))) (length_of_file n file fits) ∙ ap (take (length file)) (all ∙ append_assoc file (run_of (BLOCK * n - 8 - length file) 0) (length_bytes (length file)))
+    ap (λ m. take m (concat (blocks_of_file n file))) (length_of_file n file fits)
+    ∙ ap (take (length file)) (all ∙ append_assoc file (run_of (BLOCK * n - 8 - length file) 0) (length_bytes (length file)))
     ∙ take-append_seam file (run_of (BLOCK * n - 8 - length file) 0 ++ length_bytes (length file))

@@ -41,7 +41,8 @@ pub record HaveLasted {D : Type 0} (told lasting : D → Option (List (List ℕ)
 pub none_lasted : {D : Type 0} (told lasting : D → Option (List (List ℕ))) (count : D → ℕ) (ds : List D) → HaveLasted told lasting count 0 ds ds
 none_lasted told lasting count ds = record { told_is = refl; counts = refl; last = λ j d low at. absurd (omega arith) }
 
-pub still_told : {D X : Type 0} (told : D → X) (k : ℕ) (old now : List D) (d next : D) → map told now ≡ map told old → slice_get now k ≡ Some d → told next ≡ told d → map told (slice_set now k next) ≡ map told old
+pub still_told : {D X : Type 0} (told : D → X) (k : ℕ) (old now : List D) (d next : D) → map told now ≡ map told old → slice_get now k ≡ Some d → told next ≡ told d
+    → map told (slice_set now k next) ≡ map told old
 still_told told k old now d next have at same = map_set_told told now k d next at same ∙ have
 
 pub one_lasted : {D : Type 0} (told lasting : D → Option (List (List ℕ))) (count : D → ℕ) (k : ℕ) (old now : List D) (d next : D) → HaveLasted told lasting count k old now → slice_get now k ≡ Some d
@@ -75,7 +76,8 @@ maps_same : {X Y : Type 0} (f g : X → Y) (xs : List X) → ((j : ℕ) (x : X) 
 maps_same f g [] h = refl
 maps_same f g (x ∷ xs) h = ap (λ y. y ∷ map f xs) (h 0 x refl) ∙ ap (λ ys. g x ∷ ys) (maps_same f g xs (λ j y at. h (suc j) y at))
 
-pub all_lasted : {D : Type 0} (told lasting : D → Option (List (List ℕ))) (count : D → ℕ) (k : ℕ) (old now : List D) → HaveLasted told lasting count k old now → length now ≤ k → map lasting now ≡ map told old
+pub all_lasted : {D : Type 0} (told lasting : D → Option (List (List ℕ))) (count : D → ℕ) (k : ℕ) (old now : List D) → HaveLasted told lasting count k old now → length now ≤ k
+    → map lasting now ≡ map told old
 all_lasted told lasting count k old now have all =
     maps_same lasting told now (λ j d at. have.last j d (let within = slice_get_within now j d at in omega arith) at) ∙ have.told_is
 
@@ -90,7 +92,8 @@ as_many_entries g names = length-map-range_with_len (entry_at g names) 0 (length
 pub own_blocks : {D : Type 0} (g : GroupValue D) (names : List TextValue) → blocks_of (entries_of g names) ≡ g.area.volumes
 own_blocks g names = same_lists (blocks_of (entries_of g names)) g.area.volumes (length-map (entries_of g names) (λ (e : EntryValue). e.blocks) ∙ as_many_entries g names)
     (λ v x y at is. (let within = slice_get_within g.area.volumes v y is in
-    sym (same_Some (blocks_in (slice_get g.area.volumes v)) x (sym (slice_get_map (λ (e : EntryValue). e.blocks) (entries_of g names) v (entry_at g names v) (entry_there g names v (omega arith))) ∙ at)) ∙ ap blocks_in is))
+    sym (same_Some (blocks_in (slice_get g.area.volumes v)) x
+    (sym (slice_get_map (λ (e : EntryValue). e.blocks) (entries_of g names) v (entry_at g names v) (entry_there g names v (omega arith))) ∙ at)) ∙ ap blocks_in is))
 
 -- ## a store that is closed
 
@@ -99,7 +102,8 @@ told_blocks None told want a t is = cc
 told_blocks (Some slots) None want a t is = cc
 told_blocks (Some slots) (Some blocks) want a t is = ap Some is
 
-pub closed_kept : {D : Type 0} (told lasting : D → Option (List (List ℕ))) (size count : D → ℕ) (lending : D → Bool) (old new : GroupValue D) (names : List TextValue) (last : ℕ) (devices : List D) (done : Unit {0}) (p : PlainStore)
+pub closed_kept : {D : Type 0} (told lasting : D → Option (List (List ℕ))) (size count : D → ℕ) (lending : D → Bool) (old new : GroupValue D) (names : List TextValue) (last : ℕ) (devices : List D)
+    (done : Unit {0}) (p : PlainStore)
     → IsSync told size count lending old new (Ok done) → lasting new.area.device ≡ told new.area.device → map lasting devices ≡ map told new.devices → StandsAs told (store_of old names last) p
     → IsKeptAs lasting devices new.area.device (said_of (store_of old names last)) p
 closed_kept {D = D} told lasting size count lending old new names last devices done p sync area lasts stands =
@@ -146,8 +150,10 @@ closed_kept {D = D} told lasting size count lending old new names last devices d
 whole_again : {X : Type 0} (n : ℕ) (xs ys : List X) → length ys ≡ n → length xs ≡ length ys → take n (xs ++ drop (length xs) ys) ≡ xs
 whole_again n xs ys all same = take-append-le n xs (drop (length xs) ys) (omega arith) ∙ take_all n xs (omega arith)
 
-pub closed_outcome : {D : Type 0} (told lasting : D → Option (List (List ℕ))) (size count : D → ℕ) (lending : D → Bool) (old new : GroupValue D) (names : List TextValue) (last : ℕ) (items before flushed : List D) (len : ℕ)
-    (area : D) (done : Unit {0}) (r : Result Unit Cause) → IsSync told size count lending old new (Ok done) → lasting new.area.device ≡ told new.area.device → items ≡ new.devices → length items ≡ len → before ≡ items
+pub closed_outcome : {D : Type 0} (told lasting : D → Option (List (List ℕ))) (size count : D → ℕ) (lending : D → Bool) (old new : GroupValue D) (names : List TextValue) (last : ℕ)
+    (items before flushed : List D) (len : ℕ)
+    (area : D) (done : Unit {0}) (r : Result Unit Cause) → IsSync told size count lending old new (Ok done) → lasting new.area.device ≡ told new.area.device → items ≡ new.devices → length items ≡ len
+    → before ≡ items
     → area ≡ new.area.device → OnOk r (map lasting flushed ≡ map told before) → map told flushed ≡ map told before
     → OnOk r ((p : PlainStore) → StandsAs told (store_of old names last) p → IsKeptAs lasting (take len (flushed ++ drop (length flushed) items)) area (said_of (store_of old names last)) p)
 closed_outcome told lasting size count lending old new names last items before flushed len area done (Err cause) sync lasts devices_are many same area_is flushes tells = tt
@@ -158,14 +164,16 @@ closed_outcome {D = D} told lasting size count lending old new names last items 
     (closed_kept told lasting size count lending old new names last flushed done p sync lasts (flushes ∙ ap (map told) (same ∙ devices_are)) stands))
 
 -- the devices that are given back tell what they told
-pub closed_told : {D : Type 0} (told : D → Option (List (List ℕ))) (old new : GroupValue D) (items before flushed : List D) (len : ℕ) → new.devices ≡ old.devices → items ≡ new.devices → length items ≡ len → before ≡ items
+pub closed_told : {D : Type 0} (told : D → Option (List (List ℕ))) (old new : GroupValue D) (items before flushed : List D) (len : ℕ) → new.devices ≡ old.devices → items ≡ new.devices
+    → length items ≡ len → before ≡ items
     → map told flushed ≡ map told before → map told (take len (flushed ++ drop (length flushed) items)) ≡ map told old.devices
 closed_told told old new items before flushed len kept devices_are many same tells =
     let as_many : length flushed ≡ length items = sym (length-map flushed told) ∙ ap length tells ∙ length-map before told ∙ ap length same in
     ap (map told) (whole_again len flushed items many as_many) ∙ tells ∙ ap (map told) (same ∙ devices_are ∙ kept)
 
 -- one of them failed
-pub closed_failed : {D : Type 0} (told : D → Option (List (List ℕ))) (count : D → ℕ) (old new : GroupValue D) (items before flushed : List D) (len : ℕ) (area : D) (r : Result Unit Cause) → new.devices ≡ old.devices
+pub closed_failed : {D : Type 0} (told : D → Option (List (List ℕ))) (count : D → ℕ) (old new : GroupValue D) (items before flushed : List D) (len : ℕ) (area : D) (r : Result Unit Cause)
+    → new.devices ≡ old.devices
     → count new.area.device ≡ count old.area.device → items ≡ new.devices → length items ≡ len → before ≡ items → area ≡ new.area.device → map told flushed ≡ map told before
     → IfErr r (λ cause. cause ≡ Volume) → OnErr r (OneRose (map count before) (map count flushed)) → IfErr r (IsCloseFault count old (take len (flushed ++ drop (length flushed) items)) area)
 closed_failed told count old new items before flushed len area (Ok done) kept quiet devices_are many same area_is tells is rose = tt
@@ -192,7 +200,8 @@ resumed told devices device area head p same loaded volumes kept = record {
       let size_is : e.0.blocks ≡ n = same_Some e.0.blocks n (sym (slice_get_map (λ (f : EntryValue). f.blocks) head.entries v e.0 e.1) ∙ ap (λ (ns : List ℕ). slice_get ns v) (sym volumes) ∙ at) in
       let sets_is : e.0.images ≡ sets = same_Some e.0.images sets (sym (slice_get_map (λ (f : EntryValue). f.images) head.entries v e.0 e.1) ∙ row) in
       record {
-        blocks = subst (λ (t : Option (List (List ℕ))). IfSome t (λ blocks. blocks ≡ contents n h.writes (length h.writes))) (sym volume.blocks) (ap (λ (m : ℕ). contents m h.writes (length h.writes)) size_is);
+        blocks = subst (λ (t : Option (List (List ℕ))). IfSome t (λ blocks. blocks ≡ contents n h.writes (length h.writes))) (sym volume.blocks)
+            (ap (λ (m : ℕ). contents m h.writes (length h.writes)) size_is);
         sets_are = sym sets_is ∙ volume.sets;
         images = volume.images;
       };

@@ -53,21 +53,24 @@ as_many_after s (x ∷ xs) = as_many_after (after s x) xs ∙ as_many s x
 abbrev pub Has : List Plain → ℕ → ℕ → List (List ℕ) → Type 0
 Has ps set v blocks = image_in set (volume_in ps v).images ≡ Some blocks
 
-has-on : (u v set : ℕ) (f : Plain → Plain) (ps : List Plain) (blocks : List (List ℕ)) → (u ≡ v → image_in set (f (volume_in ps v)).images ≡ Some blocks) → Has ps set v blocks → Has (on_volume u f ps) set v blocks
+has-on : (u v set : ℕ) (f : Plain → Plain) (ps : List Plain) (blocks : List (List ℕ)) → (u ≡ v → image_in set (f (volume_in ps v)).images ≡ Some blocks) → Has ps set v blocks
+    → Has (on_volume u f ps) set v blocks
 has-on u v set f [] blocks h has = has
 has-on zero zero set f (p ∷ ps) blocks h has = h refl
 has-on zero (suc v) set f (p ∷ ps) blocks h has = has
 has-on (suc u) zero set f (p ∷ ps) blocks h has = has
 has-on (suc u) (suc v) set f (p ∷ ps) blocks h has = has-on u v set f ps blocks (λ e. h (ap suc e)) has
 
-has-all : (v set : ℕ) (f : Plain → Plain) (ps : List Plain) (blocks : List (List ℕ)) → ((p : Plain) → image_in set p.images ≡ Some blocks → image_in set (f p).images ≡ Some blocks) → Has ps set v blocks
+has-all : (v set : ℕ) (f : Plain → Plain) (ps : List Plain) (blocks : List (List ℕ)) → ((p : Plain) → image_in set p.images ≡ Some blocks → image_in set (f p).images ≡ Some blocks)
+    → Has ps set v blocks
     → Has (map f ps) set v blocks
 has-all v set f [] blocks h has = cc
 has-all zero set f (p ∷ ps) blocks h has = h p has
 has-all (suc v) set f (p ∷ ps) blocks h has = has-all v set f ps blocks h has
 
 -- images that are pushed come behind it
-push-if : (t : Bool) (here blocks : List (List ℕ)) (o q : Option (List (List ℕ))) → (if t then Some here else o) ≡ Some blocks → (o ≡ Some blocks → q ≡ Some blocks) → (if t then Some here else q) ≡ Some blocks
+push-if : (t : Bool) (here blocks : List (List ℕ)) (o q : Option (List (List ℕ))) → (if t then Some here else o) ≡ Some blocks → (o ≡ Some blocks → q ≡ Some blocks)
+    → (if t then Some here else q) ≡ Some blocks
 push-if true here blocks o q e h = e
 push-if false here blocks o q e h = h e
 
@@ -81,7 +84,8 @@ has-each (u ∷ vs) v set other ps blocks has = has-each vs v set other (on_volu
     (has-on u v set (cut_on other) ps blocks (λ e. has-push set (volume_in ps v).images (record { set = other; blocks = (volume_in ps v).blocks }) blocks has) has)
 
 -- images that are taken out are others
-filter-if : (t : Bool) (set : ℕ) (k : Kept) (xs : List Kept) (blocks : List (List ℕ)) (o : Option (List (List ℕ))) → (k.set ≡ set → t ≡ true) → (if k.set == set then Some k.blocks else o) ≡ Some blocks
+filter-if : (t : Bool) (set : ℕ) (k : Kept) (xs : List Kept) (blocks : List (List ℕ)) (o : Option (List (List ℕ))) → (k.set ≡ set → t ≡ true)
+    → (if k.set == set then Some k.blocks else o) ≡ Some blocks
     → (o ≡ Some blocks → image_in set xs ≡ Some blocks) → image_in set (if t then k ∷ xs else xs) ≡ Some blocks
 filter-if true set k xs blocks o stays e h = push-if (k.set == set) k.blocks blocks o (image_in set xs) e h
 filter-if false set k xs blocks o stays e h = h (passed (k.set == set) refl e) where
@@ -91,7 +95,8 @@ filter-if false set k xs blocks o stays e h = h (passed (k.set == set) refl e) w
     not_both e = cc
   passed false is f = subst (λ (t : Bool). (if t then Some k.blocks else o) ≡ Some blocks) is f
 
-has-filter : (test : Kept → Bool) (set : ℕ) (ks : List Kept) (blocks : List (List ℕ)) → ((k : Kept) → k.set ≡ set → test k ≡ true) → image_in set ks ≡ Some blocks → image_in set (filter test ks) ≡ Some blocks
+has-filter : (test : Kept → Bool) (set : ℕ) (ks : List Kept) (blocks : List (List ℕ)) → ((k : Kept) → k.set ≡ set → test k ≡ true) → image_in set ks ≡ Some blocks
+    → image_in set (filter test ks) ≡ Some blocks
 has-filter test set [] blocks stays e = cc
 has-filter test set (k ∷ ks) blocks stays e = filter-if (test k) set k (filter test ks) blocks (image_in set ks) (stays k) e (has-filter test set ks blocks stays)
 
@@ -116,7 +121,8 @@ has-step s (Dropped other u) set v blocks e has =
 has-step s (Reverted other u) set v blocks e has =
     has-on u v set (reverted_on other) s.volumes blocks (λ same. has-filter (λ k. not (nat_lt other k.set)) set (plain_at s v).images blocks (not_newer other set u v e same) has) has
 has-step s (RevertedInPart other u now) set v blocks e has =
-    has-on u v set (λ p. with_blocks now (older_on other p)) s.volumes blocks (λ same. has-filter (λ k. not (nat_lt other k.set)) set (plain_at s v).images blocks (not_newer other set u v e same) has) has
+    has-on u v set (λ p. with_blocks now (older_on other p)) s.volumes blocks
+    (λ same. has-filter (λ k. not (nat_lt other k.set)) set (plain_at s v).images blocks (not_newer other set u v e same) has) has
 has-step s (Shown other u bytes) set v blocks e has = has
 has-step s (Read u bytes) set v blocks e has = has
 has-step s Opened set v blocks e has = has
@@ -155,7 +161,8 @@ other-on zero (suc v) f (p ∷ ps) other = refl
 other-on (suc u) zero f (p ∷ ps) other = refl
 other-on (suc u) (suc v) f (p ∷ ps) other = other-on u v f ps (λ e. other (ap suc e))
 
-pub cut-each : (vs : List ℕ) (v set : ℕ) (ps : List Plain) → v < length ps → image_in set (volume_in ps v).images ≡ None → is_among v vs ≡ true → Has (on_each vs (cut_on set) ps) set v (volume_in ps v).blocks
+pub cut-each : (vs : List ℕ) (v set : ℕ) (ps : List Plain) → v < length ps → image_in set (volume_in ps v).images ≡ None → is_among v vs ≡ true
+    → Has (on_each vs (cut_on set) ps) set v (volume_in ps v).blocks
 cut-each [] v set ps l none e = cc
 cut-each (u ∷ vs) v set ps l none e = by_test (u == v) refl e (cut-each vs v set (on_volume u (cut_on set) ps)) where
   by_test : (t : Bool) → (u == v) ≡ t → (t || is_among v vs) ≡ true

@@ -11,7 +11,8 @@ use Rattle.image_store.specs.Naming.{AreOthers, IsNamed}
 pub named_here : (names : List TextValue) (name : List ℕ) (v : ℕ) (text : TextValue) → slice_get names v ≡ Some text → bytes_eq text.bytes name ≡ true → AreOthers names name v → IsNamed names name v
 named_here names name v text at is first = record { text = text; at = at; is = (bytes_eq-Decides text.bytes name).0 is; first = first }
 
-pub others_more : (names : List TextValue) (name : List ℕ) (v : ℕ) (text : TextValue) → slice_get names v ≡ Some text → bytes_eq text.bytes name ≡ false → AreOthers names name v → AreOthers names name (v + 1)
+pub others_more : (names : List TextValue) (name : List ℕ) (v : ℕ) (text : TextValue) → slice_get names v ≡ Some text → bytes_eq text.bytes name ≡ false → AreOthers names name v
+    → AreOthers names name (v + 1)
 others_more names name v text at is first u n low there = by_number (u == v) refl where
   by_number : (t : Bool) → (u == v) ≡ t → n.bytes ≢ name
   by_number true e = λ same.

@@ -54,7 +54,8 @@ name_there es v name l is =
     slice_get_map (λ (f : EntryValue). f.name) es v e.0 e.1 ∙ ap Some (sym (is e.0 e.1))
 
 -- no name of the first k is that of volume v
-pub others_more : (names : List (List ℕ)) (v k : ℕ) → ((u : ℕ) → u < k → slice_get names u ≢ slice_get names v) → slice_get names k ≢ slice_get names v → (u : ℕ) → u < k + 1 → slice_get names u ≢ slice_get names v
+pub others_more : (names : List (List ℕ)) (v k : ℕ) → ((u : ℕ) → u < k → slice_get names u ≢ slice_get names v) → slice_get names k ≢ slice_get names v → (u : ℕ) → u < k + 1
+    → slice_get names u ≢ slice_get names v
 others_more names v k have here u low = by_number (u == k) refl where
   by_number : (t : Bool) → (u == k) ≡ t → slice_get names u ≢ slice_get names v
   by_number true is = λ same. here (ap (slice_get names) (sym (same_number u k is)) ∙ same)
@@ -76,7 +77,8 @@ list_allowed es v e at is =
     let low = slice_get_within (lists_of es) v e.images there in
     subst AreImages (get_or_from_slice_get (lists_of es) v e.images e.images there) (catalog_lists es is v e.images low)
 
-pub well_more : (last : ℕ) (es : List EntryValue) (v : ℕ) → AreWell last es v → IsNameNew es v → ((e : EntryValue) → slice_get es v ≡ Some e → All (λ set. set ≤ last) e.images) → AreWell last es (v + 1)
+pub well_more : (last : ℕ) (es : List EntryValue) (v : ℕ) → AreWell last es v → IsNameNew es v → ((e : EntryValue) → slice_get es v ≡ Some e → All (λ set. set ≤ last) e.images)
+    → AreWell last es (v + 1)
 well_more last es v well new given = record {
   apart = λ u low. apart_by u low (u == v) refl;
   given = λ u e low at. given_by u e low at (u == v) refl;
@@ -116,7 +118,8 @@ names_allowed (t ∷ names) (e ∷ es) same allowed =
     true_and (is_name t.bytes) (are_names names) (ap is_name first ∙ allowed.0.named) (names_allowed names es rest allowed.1)
 
 -- the names that a store takes up are names for its volumes
-pub taken_named : (names : List TextValue) (es : List EntryValue) (volumes : List ℕ) → map (λ (name : TextValue). name.bytes) names ≡ map (λ (e : EntryValue). e.name) es → volumes ≡ map (λ (e : EntryValue). e.blocks) es
+pub taken_named : (names : List TextValue) (es : List EntryValue) (volumes : List ℕ) → map (λ (name : TextValue). name.bytes) names ≡ map (λ (e : EntryValue). e.name) es
+    → volumes ≡ map (λ (e : EntryValue). e.blocks) es
     → IsCatalog es → ((length names == length volumes) && are_names names) ≡ true
 taken_named names es volumes same blocks allowed =
     let one = ap length same in

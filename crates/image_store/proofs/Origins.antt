@@ -47,7 +47,8 @@ back-filter f set (k ∷ ks) blocks has = filter-if (f k.set) (k.set == set) f s
 
 -- ## what was there before a cut
 
-push-if : (t : Bool) (here blocks : List (List ℕ)) (o q : Option (List (List ℕ))) → (q ≡ Some blocks → o ≡ Some blocks) → (if t then Some here else q) ≡ Some blocks → (if t then Some here else o) ≡ Some blocks
+push-if : (t : Bool) (here blocks : List (List ℕ)) (o q : Option (List (List ℕ))) → (q ≡ Some blocks → o ≡ Some blocks) → (if t then Some here else q) ≡ Some blocks
+    → (if t then Some here else o) ≡ Some blocks
 push-if true here blocks o q h e = e
 push-if false here blocks o q h e = h e
 
@@ -56,7 +57,8 @@ differs a b other = grind (arith, nat_tests)
 
 back-push : (set other : ℕ) (ks : List Kept) (had blocks : List (List ℕ)) → other ≢ set → image_in set (ks ++ record { set = other; blocks = had } ∷ []) ≡ Some blocks → image_in set ks ≡ Some blocks
 back-push set other [] had blocks apart e = let no = differs other set apart in let is = sym (ap (λ t. if t then Some had else None) no) ∙ e in cc
-back-push set other (k ∷ ks) had blocks apart e = push-if (k.set == set) k.blocks blocks (image_in set ks) (image_in set (ks ++ record { set = other; blocks = had } ∷ [])) (back-push set other ks had blocks apart) e
+back-push set other (k ∷ ks) had blocks apart e = push-if (k.set == set) k.blocks blocks (image_in set ks) (image_in set (ks ++ record { set = other; blocks = had } ∷ []))
+    (back-push set other ks had blocks apart) e
 
 back-each : (vs : List ℕ) (v set other : ℕ) (ps : List Plain) (blocks : List (List ℕ)) → other ≢ set → Has (on_each vs (cut_on other) ps) set v blocks → Has ps set v blocks
 back-each [] v set other ps blocks apart has = has
@@ -98,9 +100,11 @@ cut-here s set v vs blocks none has false among =
     let was : image_of s set v ≡ Some blocks = sym (ap (λ (p : Plain). image_in set p.images) (other-each vs v (cut_on set) s.volumes among)) ∙ has in
     cc
 
-back-cut : (s : PlainStore) (other set v : ℕ) (vs : List ℕ) (blocks : List (List ℕ)) → ((u : ℕ) → image_of s other u ≡ None) → image_of (after s (Cut other vs)) set v ≡ Some blocks → (t : Bool) → (other == set) ≡ t
+back-cut : (s : PlainStore) (other set v : ℕ) (vs : List ℕ) (blocks : List (List ℕ)) → ((u : ℕ) → image_of s other u ≡ None) → image_of (after s (Cut other vs)) set v ≡ Some blocks → (t : Bool)
+    → (other == set) ≡ t
     → IsStill s (Cut other vs) set v blocks ⊎ IsCutHere s (Cut other vs) set v blocks
-back-cut s other set v vs blocks none has true is = inr (subst (λ (n : ℕ). ((u : ℕ) → image_of s n u ≡ None) → image_of (after s (Cut n vs)) set v ≡ Some blocks → IsCutHere s (Cut n vs) set v blocks) (sym (same_number other set is))
+back-cut s other set v vs blocks none has true is = inr
+    (subst (λ (n : ℕ). ((u : ℕ) → image_of s n u ≡ None) → image_of (after s (Cut n vs)) set v ≡ Some blocks → IsCutHere s (Cut n vs) set v blocks) (sym (same_number other set is))
     (λ free had. cut-here s set v vs blocks (free v) had (is_among v vs) refl) none has)
 back-cut s other set v vs blocks none has false is = inl (back-each vs v set other s.volumes blocks (other_number other set is) has, refl)
 
@@ -118,7 +122,8 @@ kept_on : (up_to set : ℕ) → nat_lt up_to set ≡ true → nat_le set up_to �
 kept_on up_to set e = grind (arith, nat_tests)
 
 -- the images of a volume that is changed in this way are of those that it had
-still : (s : PlainStore) (x : Step) (u set v : ℕ) (f : Plain → Plain) (test : ℕ → Bool) (gone : Bool) (blocks : List (List ℕ)) → ((p : Plain) → (f p).images ≡ filter (λ k. test k.set) p.images) → test set ≡ not gone
+still : (s : PlainStore) (x : Step) (u set v : ℕ) (f : Plain → Plain) (test : ℕ → Bool) (gone : Bool) (blocks : List (List ℕ)) → ((p : Plain) → (f p).images ≡ filter (λ k. test k.set) p.images)
+    → test set ≡ not gone
     → goes set v x ≡ (gone && (u == v)) → Has (on_volume u f s.volumes) set v blocks → IsStill s x set v blocks
 still s x u set v f test gone blocks are is goes_is has =
     let r = back-on u v set f (test set) s.volumes blocks (λ p e. back-filter test set p.images blocks (sym (ap (image_in set) (are p)) ∙ e)) has in
@@ -192,7 +197,8 @@ updated-here zero wanted (p ∷ ps) l = refl
 updated-here (suc v) wanted (p ∷ ps) l = updated-here v wanted ps (omega arith)
 
 -- an image that was cut before these steps, and is there after them, is that one
-same_cut : (s : PlainStore) (xs : List Step) (set v : ℕ) (blocks found : List (List ℕ)) → set ≤ s.last → AreAllowed s xs → image_of s set v ≡ Some blocks → image_of (after_all s xs) set v ≡ Some found → found ≡ blocks
+same_cut : (s : PlainStore) (xs : List Step) (set v : ℕ) (blocks found : List (List ℕ)) → set ≤ s.last → AreAllowed s xs → image_of s set v ≡ Some blocks
+    → image_of (after_all s xs) set v ≡ Some found → found ≡ blocks
 same_cut s xs set v blocks found given all has at = by_origin (images_come s xs set v found all at) where
   by_origin : ((image_of s set v ≡ Some found) × (stays set v xs ≡ true)) ⊎ IsCutIn s xs set v found → found ≡ blocks
   by_origin (inl h) = let both : Some found ≡ Some blocks = sym h.0 ∙ has in cc

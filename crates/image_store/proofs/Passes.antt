@@ -21,7 +21,8 @@ use Rattle.image_store.proofs.Sets.{at_or_below}
 -- ## the first pass
 
 -- the first k blocks are compared
-pub record IsMarkedTo {D I : Type 0} (told : D → Option (List (List ℕ))) (has : I → Option (List (List ℕ))) (size : I → ℕ) (old now : GroupValue D) (input input_now : I) (v : ℕ) (before differs : List Bool) (k : ℕ) : Type 0 where
+pub record IsMarkedTo {D I : Type 0} (told : D → Option (List (List ℕ))) (has : I → Option (List (List ℕ))) (size : I → ℕ) (old now : GroupValue D) (input input_now : I) (v : ℕ)
+    (before differs : List Bool) (k : ℕ) : Type 0 where
   pub kept : KeepsPlains told old now
   pub told_is : has input_now ≡ has input
   pub size_is : size input_now ≡ size input
@@ -46,7 +47,8 @@ marked_more told has size old now new input input_now input_new v before differs
   len = length-slice_set differs k mark ∙ so.len;
   marked = λ wanted ps is plains b m at. by_place wanted ps is plains b m at (at_or_below b k (omega arith));
 } where
-  by_place : (wanted : List (List ℕ)) (ps : List Plain) → has input ≡ Some wanted → HasPlains told old ps → (b : ℕ) → b < k + 1 → slice_get (slice_set differs k mark) b ≡ Some false → (b ≡ k) ⊎ (b < k)
+  by_place : (wanted : List (List ℕ)) (ps : List Plain) → has input ≡ Some wanted → HasPlains told old ps → (b : ℕ) → b < k + 1 → slice_get (slice_set differs k mark) b ≡ Some false
+      → (b ≡ k) ⊎ (b < k)
       → slice_get (volume_in ps v).blocks b ≡ slice_get wanted b
   by_place wanted ps is plains b m at (inl e) =
       let found = slice_get_inside differs k l in
@@ -58,7 +60,8 @@ marked_more told has size old now new input input_now input_new v before differs
   by_place wanted ps is plains b m at (inr n) =
       so.marked wanted ps is plains b n (sym (slice_get-set_other differs k b mark (λ e. absurd (omega arith))) ∙ at)
 
-pub marked_all : {D I : Type 0} (told : D → Option (List (List ℕ))) (has : I → Option (List (List ℕ))) (size : I → ℕ) (old now : GroupValue D) (input input_now : I) (v : ℕ) (before differs : List Bool) (k : ℕ)
+pub marked_all : {D I : Type 0} (told : D → Option (List (List ℕ))) (has : I → Option (List (List ℕ))) (size : I → ℕ) (old now : GroupValue D) (input input_now : I) (v : ℕ)
+    (before differs : List Bool) (k : ℕ)
     → v < length old.area.volumes → length before ≡ blocks_at old v → blocks_at old v ≤ k → ((wanted : List (List ℕ)) → has input ≡ Some wanted → length wanted ≡ blocks_at old v)
     → IsMarkedTo told has size old now input input_now v before differs k
     → (wanted : List (List ℕ)) (ps : List Plain) → has input ≡ Some wanted → HasPlains told old ps → AreReady differs wanted (volume_in ps v).blocks 0
@@ -75,7 +78,8 @@ marked_all told has size old now input input_now v before differs k l marks all 
     }
 
 -- the block is that of the other device
-pub compared : {D : Type 0} (told : D → Option (List (List ℕ))) (g : GroupValue D) (ps : List Plain) (v k : ℕ) (piece other a b : List ℕ) (same : Bool) (input : Option (List (List ℕ))) (wanted : List (List ℕ))
+pub compared : {D : Type 0} (told : D → Option (List (List ℕ))) (g : GroupValue D) (ps : List Plain) (v k : ℕ) (piece other a b : List ℕ) (same : Bool) (input : Option (List (List ℕ)))
+    (wanted : List (List ℕ))
     → HasPlains told g ps → v < length g.area.volumes → k < blocks_at g v → IsNow told g v k piece → IfSome input (λ blocks. slice_get blocks k ≡ Some other) → input ≡ Some wanted
     → (same ≡ true → a ≡ b) → a ≡ piece → b ≡ other → not same ≡ false → slice_get (volume_in ps v).blocks k ≡ slice_get wanted k
 compared told g ps v k piece other a b true input wanted has l m now read is equal first second e =
@@ -89,7 +93,8 @@ as_many_wanted size n input wanted whole e is = (subst (λ (o : Option (List (Li
 -- ## the second pass
 
 -- one more block is copied
-pub copy_more : {D : Type 0} (told : D → Option (List (List ℕ))) (old now room new : GroupValue D) (v b up_to : ℕ) → KeepsPlains told old now → up_to ≤ 0 → HasRoom told now room v b up_to → KeepsPlains told room new
+pub copy_more : {D : Type 0} (told : D → Option (List (List ℕ))) (old now room new : GroupValue D) (v b up_to : ℕ) → KeepsPlains told old now → up_to ≤ 0 → HasRoom told now room v b up_to
+    → KeepsPlains told room new
     → KeepsPlains told old new
 copy_more told old now room new v b up_to kept none made more =
     kept_then told old now new kept (kept_then told now room new (room_plains told now room v b up_to (omega arith) made) more)
@@ -108,15 +113,18 @@ copying_stopped told old now new ps v b up_to list kept some room list_is has =
 -- ## the third pass
 
 -- what was read of the other device
-pub read_there : (input : Option (List (List ℕ))) (wanted : List (List ℕ)) (k : ℕ) (piece bytes : List ℕ) → IfSome input (λ blocks. slice_get blocks k ≡ Some piece) → input ≡ Some wanted → bytes ≡ piece
+pub read_there : (input : Option (List (List ℕ))) (wanted : List (List ℕ)) (k : ℕ) (piece bytes : List ℕ) → IfSome input (λ blocks. slice_get blocks k ≡ Some piece) → input ≡ Some wanted
+    → bytes ≡ piece
     → slice_get wanted k ≡ Some bytes
 read_there input wanted k piece bytes read is same = subst (λ (o : Option (List (List ℕ))). IfSome o (λ blocks. slice_get blocks k ≡ Some piece)) is read ∙ ap Some (sym same)
 
-pub record IsWrittenTo {D I : Type 0} (told : D → Option (List (List ℕ))) (has : I → Option (List (List ℕ))) (size : I → ℕ) (old now : GroupValue D) (input input_now : I) (v : ℕ) (differs : List Bool) (from k : ℕ) : Type 0 where
+pub record IsWrittenTo {D I : Type 0} (told : D → Option (List (List ℕ))) (has : I → Option (List (List ℕ))) (size : I → ℕ) (old now : GroupValue D) (input input_now : I) (v : ℕ)
+    (differs : List Bool) (from k : ℕ) : Type 0 where
   pub volumes : now.area.volumes ≡ old.area.volumes
   pub told_is : has input_now ≡ has input
   pub size_is : size input_now ≡ size input
-  pub written : (wanted : List (List ℕ)) (ps : List Plain) → has input ≡ Some wanted → HasPlains told old ps → AreReady differs wanted (volume_in ps v).blocks from → HasSome told now ps v differs wanted k
+  pub written : (wanted : List (List ℕ)) (ps : List Plain) → has input ≡ Some wanted → HasPlains told old ps → AreReady differs wanted (volume_in ps v).blocks from
+      → HasSome told now ps v differs wanted k
 
 with_own : (p : Plain) → with_blocks p.blocks p ≡ p
 with_own p = refl
@@ -152,7 +160,8 @@ ready_more differs wanted now k ready here = record {
   by_place b (inr l) = ready.first b l
 
 -- a block that is not marked is passed
-pub written_past : {D I : Type 0} (told : D → Option (List (List ℕ))) (has : I → Option (List (List ℕ))) (size : I → ℕ) (old now : GroupValue D) (input input_now : I) (v : ℕ) (differs : List Bool) (from k : ℕ)
+pub written_past : {D I : Type 0} (told : D → Option (List (List ℕ))) (has : I → Option (List (List ℕ))) (size : I → ℕ) (old now : GroupValue D) (input input_now : I) (v : ℕ) (differs : List Bool)
+    (from k : ℕ)
     → slice_get differs k ≡ Some false → IsWrittenTo told has size old now input input_now v differs from k → IsWrittenTo told has size old now input input_now v differs from (k + 1)
 written_past told has size old now input input_now v differs from k unmarked so = record {
   volumes = so.volumes;
@@ -164,7 +173,8 @@ written_past told has size old now input input_now v differs from k unmarked so 
 }
 
 -- a marked block is put
-set_ready : (differs : List Bool) (wanted now : List (List ℕ)) (k : ℕ) (bytes : List ℕ) → k < length now → slice_get wanted k ≡ Some bytes → AreReady differs wanted now k → AreReady differs wanted (slice_set now k bytes) (k + 1)
+set_ready : (differs : List Bool) (wanted now : List (List ℕ)) (k : ℕ) (bytes : List ℕ) → k < length now → slice_get wanted k ≡ Some bytes → AreReady differs wanted now k
+    → AreReady differs wanted (slice_set now k bytes) (k + 1)
 set_ready differs wanted now k bytes l at ready = record {
   marks = ready.marks ∙ sym (length-slice_set now k bytes);
   as_many = ready.as_many ∙ sym (length-slice_set now k bytes);
@@ -214,8 +224,10 @@ set_mixed old wanted now k bytes l at mixed = (length-slice_set now k bytes ∙ 
     shifted e (inl f) = inl (e ∙ f)
     shifted e (inr f) = inr (e ∙ f)
 
-pub written_more : {D I : Type 0} (told : D → Option (List (List ℕ))) (size count : D → ℕ) (lending : D → Bool) (has : I → Option (List (List ℕ))) (measure : I → ℕ) (old now room new : GroupValue D) (input input_now input_new : I) (v : ℕ)
-    (differs : List Bool) (from k : ℕ) (bytes : List ℕ) → v < length old.area.volumes → k < blocks_at old v → IsWrittenTo told has measure old now input input_now v differs from k → KeepsPlains told now room
+pub written_more : {D I : Type 0} (told : D → Option (List (List ℕ))) (size count : D → ℕ) (lending : D → Bool) (has : I → Option (List (List ℕ))) (measure : I → ℕ) (old now room new : GroupValue D)
+    (input input_now input_new : I) (v : ℕ)
+    (differs : List Bool) (from k : ℕ) (bytes : List ℕ) → v < length old.area.volumes → k < blocks_at old v → IsWrittenTo told has measure old now input input_now v differs from k
+    → KeepsPlains told now room
     → has input_new ≡ has input_now → measure input_new ≡ measure input_now → ((wanted : List (List ℕ)) → has input_now ≡ Some wanted → slice_get wanted k ≡ Some bytes)
     → IsPut told size count lending room new v (record { block = k; bytes = bytes }) → IsWrittenTo told has measure old new input input_new v differs from (k + 1)
 written_more told size count lending has measure old now room new input input_now input_new v differs from k bytes l m so kept told_is size_is read put = record {
@@ -243,7 +255,8 @@ written_more told size count lending has measure old now room new input input_no
   blocks_of ns = blocks_in (slice_get ns v)
 
 -- all marked blocks are put
-pub written_all : {D I : Type 0} (told : D → Option (List (List ℕ))) (has : I → Option (List (List ℕ))) (size : I → ℕ) (old now : GroupValue D) (input input_now : I) (v : ℕ) (differs : List Bool) (from k : ℕ)
+pub written_all : {D I : Type 0} (told : D → Option (List (List ℕ))) (has : I → Option (List (List ℕ))) (size : I → ℕ) (old now : GroupValue D) (input input_now : I) (v : ℕ) (differs : List Bool)
+    (from k : ℕ)
     (wanted : List (List ℕ)) (ps : List Plain) → v < length old.area.volumes → blocks_at old v ≤ k → IsWrittenTo told has size old now input input_now v differs from k → has input ≡ Some wanted
     → HasPlains told old ps → AreReady differs wanted (volume_in ps v).blocks from → HasPlains told now (on_volume v (with_blocks wanted) ps)
 written_all told has size old now input input_now v differs from k wanted ps l all so is plains ready =
@@ -257,9 +270,11 @@ written_all told has size old now input input_now v differs from k wanted ps l a
     cc) in
     subst (λ (blocks : List (List ℕ)). HasPlains told now (on_volume v (with_blocks blocks) ps)) same some.plains
 
-pub written_stopped : {D I : Type 0} (told : D → Option (List (List ℕ))) (has : I → Option (List (List ℕ))) (size : I → ℕ) (old now new : GroupValue D) (input input_now : I) (v : ℕ) (differs : List Bool) (from k up_to : ℕ)
+pub written_stopped : {D I : Type 0} (told : D → Option (List (List ℕ))) (has : I → Option (List (List ℕ))) (size : I → ℕ) (old now new : GroupValue D) (input input_now : I) (v : ℕ)
+    (differs : List Bool) (from k up_to : ℕ)
     (wanted : List (List ℕ)) (ps : List Plain) (list : List Evicted) → 0 < up_to → IsWrittenTo told has size old now input input_now v differs from k → HasRoom told now new v k up_to
-    → list ≡ images_going up_to now.images → has input ≡ Some wanted → HasPlains told old ps → AreReady differs wanted (volume_in ps v).blocks from → HasSomeGone told new ps v differs wanted k up_to list
+    → list ≡ images_going up_to now.images → has input ≡ Some wanted → HasPlains told old ps → AreReady differs wanted (volume_in ps v).blocks from
+    → HasSomeGone told new ps v differs wanted k up_to list
 written_stopped told has size old now new input input_now v differs from k up_to wanted ps list some so room list_is is plains ready =
     let part = so.written wanted ps is plains ready in
     record {
@@ -274,7 +289,8 @@ written_stopped told has size old now new input input_now v differs from k up_to
     }
 
 -- a device failed
-pub written_part : {D I : Type 0} (told : D → Option (List (List ℕ))) (has : I → Option (List (List ℕ))) (size : I → ℕ) (old now new : GroupValue D) (input input_now : I) (v : ℕ) (differs : List Bool) (from k : ℕ)
+pub written_part : {D I : Type 0} (told : D → Option (List (List ℕ))) (has : I → Option (List (List ℕ))) (size : I → ℕ) (old now new : GroupValue D) (input input_now : I) (v : ℕ)
+    (differs : List Bool) (from k : ℕ)
     (wanted : List (List ℕ)) (ps : List Plain) → IsWrittenTo told has size old now input input_now v differs from k → KeepsPlains told now new → has input ≡ Some wanted
     → HasPlains told old ps → AreReady differs wanted (volume_in ps v).blocks from → HasMixed told new ps v wanted
 written_part told has size old now new input input_now v differs from k wanted ps so kept is plains ready =

@@ -109,13 +109,15 @@ at_volume told g ps v has l =
 pub as_many_plains : {D : Type 0} → (told : D → Option (List (List ℕ))) (g : GroupValue D) (ps : List Plain) → HasPlains told g ps → length ps ≡ length g.area.volumes
 as_many_plains told g ps has = ap length has.plains ∙ length-plains g.area.volumes has.hs has.stands.histories
 
-pub as_many_blocks : {D : Type 0} → (told : D → Option (List (List ℕ))) (g : GroupValue D) (ps : List Plain) (v : ℕ) → HasPlains told g ps → v < length g.area.volumes → length (volume_in ps v).blocks ≡ blocks_at g v
+pub as_many_blocks : {D : Type 0} → (told : D → Option (List (List ℕ))) (g : GroupValue D) (ps : List Plain) (v : ℕ) → HasPlains told g ps → v < length g.area.volumes
+    → length (volume_in ps v).blocks ≡ blocks_at g v
 as_many_blocks told g ps v has l =
     let at = at_volume told g ps v has l in
     ap (λ (p : Plain). length p.blocks) at.plain ∙ length_contents at.blocks at.history.writes (length at.history.writes) ∙ sym at.blocks_at_is
 
 -- the sets of its images
-pub sets_of_volume : {D : Type 0} → (told : D → Option (List (List ℕ))) (g : GroupValue D) (ps : List Plain) (v : ℕ) → HasPlains told g ps → v < length g.area.volumes → sets_at g v ≡ sets_on (volume_in ps v)
+pub sets_of_volume : {D : Type 0} → (told : D → Option (List (List ℕ))) (g : GroupValue D) (ps : List Plain) (v : ℕ) → HasPlains told g ps → v < length g.area.volumes
+    → sets_at g v ≡ sets_on (volume_in ps v)
 sets_of_volume told g ps v has l =
     let at = at_volume told g ps v has l in
     at.sets_are ∙ sym (ap sets_on at.plain ∙ sets_of_kept at.blocks at.history.writes at.history.images)
@@ -146,7 +148,8 @@ kept_refl told g = record { volumes = refl; plains = λ ps has. has }
 pub kept_then : {D : Type 0} → (told : D → Option (List (List ℕ))) (a b c : GroupValue D) → KeepsPlains told a b → KeepsPlains told b c → KeepsPlains told a c
 kept_then told a b c first second = record { volumes = second.volumes ∙ first.volumes; plains = λ ps has. second.plains ps (first.plains ps has) }
 
-pub kept_tells : {D : Type 0} → (told : D → Option (List (List ℕ))) (size count : D → ℕ) (lending : D → Bool) (old new : GroupValue D) → IsKept told size count lending old new → AllTell told old.devices
+pub kept_tells : {D : Type 0} → (told : D → Option (List (List ℕ))) (size count : D → ℕ) (lending : D → Bool) (old new : GroupValue D) → IsKept told size count lending old new
+    → AllTell told old.devices
     → AllTell told new.devices
 kept_tells told size count lending old new kept tell = λ v d at.
     let within = slice_get_within new.devices v d at in
@@ -165,20 +168,24 @@ has_now told size count lending old new ps qs hs has kept stands are = record {
   plains = are ∙ ap (λ ns. plains_of ns hs) (sym kept.volumes);
 }
 
-pub quiet_kept : {D : Type 0} → (told : D → Option (List (List ℕ))) (size count : D → ℕ) (lending : D → Bool) (old new : GroupValue D) → IsQuiet told size count lending old new → KeepsPlains told old new
+pub quiet_kept : {D : Type 0} → (told : D → Option (List (List ℕ))) (size count : D → ℕ) (lending : D → Bool) (old new : GroupValue D) → IsQuiet told size count lending old new
+    → KeepsPlains told old new
 quiet_kept told size count lending old new quiet = record {
   volumes = quiet.kept.volumes;
-  plains = λ ps has. has_now told size count lending old new ps ps has.hs has quiet.kept (quiet_stands told old new has.hs has.stands quiet.blocks quiet.images quiet.kept.volumes quiet.records quiet.slots) has.plains;
+  plains = λ ps has. has_now told size count lending old new ps ps has.hs has quiet.kept
+      (quiet_stands told old new has.hs has.stands quiet.blocks quiet.images quiet.kept.volumes quiet.records quiet.slots) has.plains;
 }
 
-pub synced_kept : {D : Type 0} → (told : D → Option (List (List ℕ))) (size count : D → ℕ) (lending : D → Bool) (old new : GroupValue D) → IsSynced told size count lending old new → KeepsPlains told old new
+pub synced_kept : {D : Type 0} → (told : D → Option (List (List ℕ))) (size count : D → ℕ) (lending : D → Bool) (old new : GroupValue D) → IsSynced told size count lending old new
+    → KeepsPlains told old new
 synced_kept told size count lending old new synced = record {
   volumes = synced.kept.volumes;
   plains = λ ps has. has_now told size count lending old new ps ps has.hs has synced.kept (synced.stands has.hs has.stands) has.plains;
 }
 
 -- one volume's history changes
-pub has_changed : {D : Type 0} → (told : D → Option (List (List ℕ))) (size count : D → ℕ) (lending : D → Bool) (old new : GroupValue D) (ps : List Plain) (v : ℕ) (F : History → History) (f : Plain → Plain)
+pub has_changed : {D : Type 0}
+    → (told : D → Option (List (List ℕ))) (size count : D → ℕ) (lending : D → Bool) (old new : GroupValue D) (ps : List Plain) (v : ℕ) (F : History → History) (f : Plain → Plain)
     (has : HasPlains told old ps) → IsKept told size count lending old new → v < length old.area.volumes → StandsFor told new (changed_at v F has.hs)
     → ((at : At told old ps has.hs v) → plain_of at.blocks (F at.history) ≡ f (plain_of at.blocks at.history)) → HasPlains told new (on_volume v f ps)
 has_changed told size count lending old new ps v F f has kept l stands e =
@@ -203,7 +210,8 @@ point_there k set images time is =
     let of = of_set set images is in
     (of.image.point, ap (λ s. point_in s images) (sym of.set_is) ∙ point_of k images of.image of.newer time of.stands)
 
-pub image_there : {D : Type 0} → (told : D → Option (List (List ℕ))) (g : GroupValue D) (ps : List Plain) (v set : ℕ) → HasPlains told g ps → v < length g.area.volumes → is_among set (sets_at g v) ≡ true
+pub image_there : {D : Type 0} → (told : D → Option (List (List ℕ))) (g : GroupValue D) (ps : List Plain) (v set : ℕ) → HasPlains told g ps → v < length g.area.volumes
+    → is_among set (sets_at g v) ≡ true
     → (blocks : List (List ℕ)) × (image_in set (volume_in ps v).images ≡ Some blocks)
 image_there told g ps v set has l is =
     let at = at_volume told g ps v has l in
@@ -212,7 +220,8 @@ image_there told g ps v set has l is =
       ap (λ (q : Plain). image_in set q.images) at.plain ∙ image_of_point set at.blocks at.history.writes at.history.images ∙ ap (option_map (contents at.blocks at.history.writes)) p.1,
     )
 
-pub block_shown : {D : Type 0} → (told : D → Option (List (List ℕ))) (g : GroupValue D) (ps : List Plain) (v set b : ℕ) (bytes : List ℕ) → HasPlains told g ps → v < length g.area.volumes → b < blocks_at g v
+pub block_shown : {D : Type 0} → (told : D → Option (List (List ℕ))) (g : GroupValue D) (ps : List Plain) (v set b : ℕ) (bytes : List ℕ) → HasPlains told g ps → v < length g.area.volumes
+    → b < blocks_at g v
     → is_among set (sets_at g v) ≡ true → IsShown told g v set b bytes
     → (blocks : List (List ℕ)) × (image_in set (volume_in ps v).images ≡ Some blocks) × (slice_get blocks b ≡ Some bytes) × (length blocks ≡ blocks_at g v)
 block_shown told g ps v set b bytes has l m among is =

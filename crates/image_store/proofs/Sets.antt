@@ -45,7 +45,8 @@ get_past (x ∷ xs) zero l = absurd (omega arith)
 get_past (x ∷ xs) (suc v) l = get_past xs v (omega arith)
 
 -- one more volume
-pub sets_more : {D : Type 0} (g : GroupValue D) (n greatest newest result : ℕ) (sets : List ℕ) → ((v : ℕ) → v < n → All (λ s. s ≤ greatest) (sets_at g v)) → All (λ s. s ≤ newest) sets → sets ≡ sets_at g n
+pub sets_more : {D : Type 0} (g : GroupValue D) (n greatest newest result : ℕ) (sets : List ℕ) → ((v : ℕ) → v < n → All (λ s. s ≤ greatest) (sets_at g v)) → All (λ s. s ≤ newest) sets
+    → sets ≡ sets_at g n
     → greatest ≤ result → newest ≤ result → (v : ℕ) → v < n + 1 → All (λ s. s ≤ result) (sets_at g v)
 sets_more g n greatest newest result sets before here are first second v l = by_place (at_or_below v n l) where
   raised : (bound : ℕ) (xs : List ℕ) → bound ≤ result → All (λ s. s ≤ bound) xs → All (λ s. s ≤ result) xs

@@ -1,5 +1,6 @@
 -- What is shown, block by block.
-use Rattle.std.proofs.Common.{◌≡◌, ℕ, zero, suc, ◌+◌, ◌-◌, ◌*◌, ◌<◌, ◌≤◌, List, [], ◌∷◌, ◌++◌, length, take, drop, refl, ap, sym, subst, ◌∙◌, arith, true, false, Option, Some, None, option_map, append_assoc, inl, inr}
+use Rattle.std.proofs.Common.{◌≡◌, ℕ, zero, suc, ◌+◌, ◌-◌, ◌*◌, ◌<◌, ◌≤◌, List, [], ◌∷◌, ◌++◌, length, take, drop, refl, ap, sym, subst, ◌∙◌, arith, true, false, Option, Some, None, option_map}
+use Rattle.std.proofs.Common.{append_assoc, inl, inr}
 use Rattle.std.specs.Prelude.{◌⊎◌, slice_get, nat_le, Err}
 use Rattle.std.proofs.Math.Seq.{take-append-add}
 use Rattle.std.specs.List.{concat}
@@ -38,7 +39,8 @@ said_is : (blocks : List (List ℕ)) (n : ℕ) (bytes : List ℕ) → length blo
 unfolding length_in
 said_is blocks n bytes many at = ap number_in (ap (λ k. slice_get blocks (k - 1)) many ∙ at)
 
-pub length_read : (shown : Option (List (List ℕ))) (n said : ℕ) (bytes : List ℕ) → HasBlock shown n (n - 1) bytes → said ≡ little_number 8 (drop (BLOCK - 8) bytes) → said + 8 ≤ BLOCK * n → HasLength shown n said
+pub length_read : (shown : Option (List (List ℕ))) (n said : ℕ) (bytes : List ℕ) → HasBlock shown n (n - 1) bytes → said ≡ little_number 8 (drop (BLOCK - 8) bytes) → said + 8 ≤ BLOCK * n
+    → HasLength shown n said
 length_read shown n said bytes has is room = record {
   blocks = has.blocks;
   are = has.are;
@@ -50,7 +52,8 @@ length_read shown n said bytes has is room = record {
 no_room : (a b : ℕ) → b < a → nat_le a b ≡ false
 no_room a b l = grind (arith, nat_tests)
 
-pub no_length_read : (shown : Option (List (List ℕ))) (n said : ℕ) (bytes : List ℕ) → HasBlock shown n (n - 1) bytes → said ≡ little_number 8 (drop (BLOCK - 8) bytes) → BLOCK * n < said + 8 → HasNoLength shown said
+pub no_length_read : (shown : Option (List (List ℕ))) (n said : ℕ) (bytes : List ℕ) → HasBlock shown n (n - 1) bytes → said ≡ little_number 8 (drop (BLOCK - 8) bytes) → BLOCK * n < said + 8
+    → HasNoLength shown said
 no_length_read shown n said bytes has is room = λ blocks are.
     let same : Some has.blocks ≡ Some blocks = sym has.are ∙ are in
     let equal : has.blocks ≡ blocks = cc in
@@ -62,7 +65,8 @@ no_length_read shown n said bytes has is room = λ blocks are.
 pub length_at : (shown : Option (List (List ℕ))) (n blocks said : ℕ) (piece bytes : List ℕ) → blocks ≡ n → HasBlock shown n (blocks - 1) piece → bytes ≡ piece
     → (said ≡ little_number 8 (drop (BLOCK - 8) bytes)) × (said + 8 ≤ BLOCK * blocks) → HasLength shown n said
 length_at shown n blocks said piece bytes same has are is =
-    length_read shown n said bytes (subst (λ k. HasBlock shown n (k - 1) bytes) same (subst (λ (x : List ℕ). HasBlock shown n (blocks - 1) x) (sym are) has)) is.0 (subst (λ k. said + 8 ≤ BLOCK * k) same is.1)
+    length_read shown n said bytes (subst (λ k. HasBlock shown n (k - 1) bytes) same (subst (λ (x : List ℕ). HasBlock shown n (blocks - 1) x) (sym are) has)) is.0
+    (subst (λ k. said + 8 ≤ BLOCK * k) same is.1)
 
 pub no_length_at : (shown : Option (List (List ℕ))) (n blocks said : ℕ) (piece bytes : List ℕ) → blocks ≡ n → HasBlock shown n (blocks - 1) piece → bytes ≡ piece
     → (said ≡ little_number 8 (drop (BLOCK - 8) bytes)) × (BLOCK * blocks < said + 8) → HasNoLength shown said
@@ -141,7 +145,8 @@ take_none (suc left) [] e = refl
 take_none (suc left) (x ∷ xs) e = cc
 
 -- one more block
-pub shown_more : (shown : Option (List (List ℕ))) (n left more rest k : ℕ) (before now next : Option (List ℕ)) (bytes : List ℕ) → HasTaken shown n before now left k → HasBlock shown n k bytes → Took now (take more bytes) next
+pub shown_more : (shown : Option (List (List ℕ))) (n left more rest k : ℕ) (before now next : Option (List ℕ)) (bytes : List ℕ) → HasTaken shown n before now left k → HasBlock shown n k bytes
+    → Took now (take more bytes) next
     → rest + more ≡ left → (more ≡ length bytes) ⊎ ((rest ≡ 0) × (left ≤ length bytes)) → HasTaken shown n before next rest (k + 1)
 shown_more shown n left more rest k before now next bytes so has took sum part =
     let both : Some so.blocks ≡ Some has.blocks = sym so.are ∙ has.are in
@@ -154,7 +159,8 @@ shown_more shown n left more rest k before now next bytes so has took sum part =
       bytes = so.bytes ++ take more bytes;
       took = took_then before now next so.bytes (take more bytes) so.took took;
       rest = append_assoc so.bytes (take more bytes) (take rest (concat (drop (k + 1) so.blocks)))
-          ∙ ap (λ xs. so.bytes ++ xs) (sym (ap (λ (bs : List (List ℕ)). take left (concat bs)) (drop_at so.blocks k bytes at) ∙ take_two left more rest bytes (concat (drop (k + 1) so.blocks)) sum part)) ∙ so.rest;
+          ∙ ap (λ xs. so.bytes ++ xs)
+          (sym (ap (λ (bs : List (List ℕ)). take left (concat bs)) (drop_at so.blocks k bytes at) ∙ take_two left more rest bytes (concat (drop (k + 1) so.blocks)) sum part)) ∙ so.rest;
     }
 
 -- the end
@@ -229,7 +235,8 @@ unseen_in : {D : Type 0} (old now : GroupValue D) (v : ℕ) (which : Which) → 
 unseen_in old now v Now same none = none
 unseen_in old now v (Of set) same none = ap (λ (images : List (List ℕ)). is_among set (sets_in (slice_get images v))) (sym same) ∙ none
 
-pub read_cause : {D : Type 0} (old now : GroupValue D) (v : ℕ) (which : Which) (rose : Type 0) (fault : ShowFault) → now.images ≡ old.images → HasReadCause now v which fault → HasShowCause old v which rose fault
+pub read_cause : {D : Type 0} (old now : GroupValue D) (v : ℕ) (which : Which) (rose : Type 0) (fault : ShowFault) → now.images ≡ old.images → HasReadCause now v which fault
+    → HasShowCause old v which rose fault
 read_cause old now v which rose NoSuchImage same cause = unseen_in old now v which same cause
 read_cause old now v which rose (BadLength found) same cause = absurd cause
 read_cause old now v which rose Volume same cause = tt

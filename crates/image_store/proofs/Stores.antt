@@ -39,9 +39,11 @@ pub named_still : {D : Type 0} (old new : GroupValue D) (names : List TextValue)
 named_still old new names same named = ap (λ (ns : List ℕ). (length names == length ns) && are_names names) same ∙ named
 
 -- the head is that of the volumes and the images
-pub head_still : {D : Type 0} (old new : GroupValue D) (names : List TextValue) (last : ℕ) → new.area.volumes ≡ old.area.volumes → new.images ≡ old.images → head_of (store_of new names last) ≡ head_of (store_of old names last)
+pub head_still : {D : Type 0} (old new : GroupValue D) (names : List TextValue) (last : ℕ) → new.area.volumes ≡ old.area.volumes → new.images ≡ old.images
+    → head_of (store_of new names last) ≡ head_of (store_of old names last)
 head_still old new names last volumes images =
-    ap (λ (ns : List ℕ). head_bytes last (map (λ v. record { name = bytes_in (slice_get names v); blocks = blocks_in (slice_get ns v); images = sets_in (slice_get new.images v) }) (range_with_len 0 (length ns)))) volumes
+    ap (λ (ns : List ℕ). head_bytes last
+    (map (λ v. record { name = bytes_in (slice_get names v); blocks = blocks_in (slice_get ns v); images = sets_in (slice_get new.images v) }) (range_with_len 0 (length ns)))) volumes
     ∙ ap (λ (is : List (List ℕ)). head_bytes last (map (λ v. record { name = bytes_in (slice_get names v); blocks = blocks_in (slice_get old.area.volumes v); images = sets_in (slice_get is v) })
     (range_with_len 0 (length old.area.volumes)))) images
 
@@ -137,7 +139,8 @@ ahead told old new list (Ok (Stopped at up_to)) last is p stands =
     }
 ahead told old new list (Err failed) last is p stands = record { group = is p.volumes stands.group; last = stands.last ∙ sym last; given = stands.given }
 
-pub overwriting : {D E : Type 0} (told : D → Option (List (List ℕ))) (old new : StoreValue D) (v : ℕ) (differs : List Bool) (wanted : List (List ℕ)) (from : ℕ) (list : List Evicted) (r : Result Pass E)
+pub overwriting : {D E : Type 0} (told : D → Option (List (List ℕ))) (old new : StoreValue D) (v : ℕ) (differs : List Bool) (wanted : List (List ℕ)) (from : ℕ) (list : List Evicted)
+    (r : Result Pass E)
     → new.last ≡ old.last → (p : PlainStore) → StandsAs told old p → AreReady differs wanted (plain_at p v).blocks from → IsWriting told new.group p.volumes v differs wanted list r
     → IsOverwriting told new p v differs wanted list r
 overwriting told old new v differs wanted from list (Ok Done) last p stands ready is = (
@@ -171,13 +174,15 @@ overwriting told old new v differs wanted from list (Err failed) last p stands r
 
 fresh_plains : (ns : List ℕ) → plains_of ns (map (λ n. fresh) ns) ≡ (fresh_store ns).volumes
 fresh_plains [] = refl
-fresh_plains (n ∷ ns) = ap (λ blocks. record { blocks = blocks; images = [] } ∷ plains_of ns (map (λ m. fresh) ns)) (plain-fresh 0 n) ∙ ap (λ ps. record { blocks = replicate n zeros; images = [] } ∷ ps) (fresh_plains ns)
+fresh_plains (n ∷ ns) = ap (λ blocks. record { blocks = blocks; images = [] } ∷ plains_of ns (map (λ m. fresh) ns)) (plain-fresh 0 n)
+    ∙ ap (λ ps. record { blocks = replicate n zeros; images = [] } ∷ ps) (fresh_plains ns)
 
 fresh_given : (ns : List ℕ) → AllGiven 0 (fresh_store ns).volumes
 fresh_given [] = tt
 fresh_given (n ∷ ns) = (tt, fresh_given ns)
 
-pub fresh_stands : {D : Type 0} (told : D → Option (List (List ℕ))) (s : StoreValue D) (volumes : List ℕ) → s.group.area.volumes ≡ volumes → s.last ≡ 0 → AllTell told s.group.devices → is_some (told s.group.area.device) ≡ true
+pub fresh_stands : {D : Type 0} (told : D → Option (List (List ℕ))) (s : StoreValue D) (volumes : List ℕ) → s.group.area.volumes ≡ volumes → s.last ≡ 0 → AllTell told s.group.devices
+    → is_some (told s.group.area.device) ≡ true
     → StandsFor told s.group (map (λ n. fresh) volumes) → StandsAs told s (fresh_store volumes)
 fresh_stands told s volumes volumes_are last devices area stands = record {
   group = record {

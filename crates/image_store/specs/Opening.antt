@@ -118,7 +118,8 @@ pub record IsNoArea {D : Type 0} (told : D → Option (List (List ℕ))) (size :
   pub refused : AreRefused (told device) (count device) (count given_back) why
 
 -- it has one, which does not go with the devices and the entries
-pub record IsOtherArea {D : Type 0} (told : D → Option (List (List ℕ))) (size : D → ℕ) (lending : D → Bool) (count : D → ℕ) (devices : List D) (device : D) (es : List EntryValue) (fault : OpenFault) : Type 0 where
+pub record IsOtherArea {D : Type 0} (told : D → Option (List (List ℕ))) (size : D → ℕ) (lending : D → Bool) (count : D → ℕ) (devices : List D) (device : D) (es : List EntryValue)
+    (fault : OpenFault) : Type 0 where
   pub area : AreaValue D
   pub loaded : IsLoaded told size lending count device area
   pub parts : IsPartsFault size devices area es fault
@@ -129,7 +130,8 @@ IsOpenFault told size lending count devices device head back fault =
     IsNoHeadFor devices head fault ⊎ (IsHeadFor devices head × (IsNoArea told size lending count device back fault ⊎ IsOtherArea told size lending count devices device head.entries fault))
 
 -- the store of them
-pub record IsOpened {D : Type 0} (told : D → Option (List (List ℕ))) (size : D → ℕ) (lending : D → Bool) (count : D → ℕ) (devices : List D) (device : D) (head : HeadValue) (s : StoreValue D) : Type 0 where
+pub record IsOpened {D : Type 0} (told : D → Option (List (List ℕ))) (size : D → ℕ) (lending : D → Bool) (count : D → ℕ) (devices : List D) (device : D) (head : HeadValue)
+    (s : StoreValue D) : Type 0 where
   pub head_for : IsHeadFor devices head
   pub loaded : IsLoaded told size lending count device s.group.area
   pub parts : AreParts size devices s.group.area head.entries

@@ -30,7 +30,8 @@ pub record HasSome {D : Type 0} (told : D → Option (List (List ℕ))) (new : G
   pub plains : HasPlains told new (on_volume v (with_blocks now) ps)
 
 -- it stopped at a block for which images went
-pub record HasSomeGone {D : Type 0} (told : D → Option (List (List ℕ))) (new : GroupValue D) (ps : List Plain) (v : ℕ) (differs : List Bool) (wanted : List (List ℕ)) (at up_to : ℕ) (list : List Evicted) : Type 0 where
+pub record HasSomeGone {D : Type 0} (told : D → Option (List (List ℕ))) (new : GroupValue D) (ps : List Plain) (v : ℕ) (differs : List Bool) (wanted : List (List ℕ)) (at up_to : ℕ)
+    (list : List Evicted) : Type 0 where
   pub now : List (List ℕ)
   pub mixed : AreMixed (volume_in ps v).blocks wanted now
   pub ready : AreReady differs wanted now at

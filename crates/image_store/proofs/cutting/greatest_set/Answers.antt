@@ -8,7 +8,8 @@ loop-v-preserved g c =
     let more = c.greater_of-greatest.ensures.first in
     record {
       last = omega arith;
-      all = sets_more c.args.group.now c.loop-v.v c.loop-v.greatest c.newest_of.result c.greater_of-greatest.result c.images.result.now c.loop-v.invariant.all c.newest_of.ensures.all c.images.ensures.images
+      all = sets_more c.args.group.now c.loop-v.v c.loop-v.greatest c.newest_of.result c.greater_of-greatest.result c.images.result.now c.loop-v.invariant.all c.newest_of.ensures.all
+          c.images.ensures.images
           c.greater_of-greatest.ensures.first c.greater_of-greatest.ensures.second;
       given = given_more c.args.group.now c.args.last c.loop-v.v c.loop-v.greatest c.newest_of.result c.greater_of-greatest.result c.images.result.now c.loop-v.invariant.given
           c.greater_of-greatest.ensures.one c.newest_of.ensures.one c.images.ensures.images;

@@ -18,7 +18,8 @@ returns-then-found-wanted-clause-refused g c =
       as_many = omega arith;
       areas = c.loop-volume.invariant.volumes;
       sizes = c.loop-volume.invariant.fits;
-      other = not_found _ c.blocks-wanted.result c.blocks-found.result (blocks_there c.args.catalog.now c.loop-volume.volume c.blocks-wanted.result (omega arith) c.blocks-wanted.ensures) c.if-found-wanted.true;
+      other = not_found _ c.blocks-wanted.result c.blocks-found.result
+          (blocks_there c.args.catalog.now c.loop-volume.volume c.blocks-wanted.result (omega arith) c.blocks-wanted.ensures) c.if-found-wanted.true;
       is = inl (place_is c.args.area.now.volumes c.loop-volume.volume (omega arith) ∙ ap Some (sym c.blocks-found.ensures));
     }
 
@@ -38,7 +39,11 @@ returns-then-found-wanted-2-clause-refused g c =
       areas = c.loop-volume.invariant.volumes;
       sizes = c.loop-volume.invariant.fits;
       other = not_found _ c.blocks-wanted.result c.blocks-found-in-loop-volume.result entry c.if-found-wanted-2.true;
-      is = inr (area ∙ ap Some c.if-found-wanted.false ∙ sym entry, slice_get_map g.D.Device.size c.args.devices.now c.loop-volume.volume _ device ∙ ap Some (sym c.blocks-found-in-loop-volume.ensures.size));
+      is = inr (
+        area ∙ ap Some c.if-found-wanted.false ∙ sym entry,
+        slice_get_map g.D.Device.size c.args.devices.now c.loop-volume.volume _ device
+            ∙ ap Some (sym c.blocks-found-in-loop-volume.ensures.size),
+      );
     }
 
 pub loop-volume-preserved : goal.loop-volume-preserved
@@ -75,4 +80,5 @@ returns-clause-fits g c =
     let devices = c.requires in
     let many = length-map c.args.catalog.now (λ (e : EntryValue). e.blocks) in
     let sizes = length-map c.args.devices.now g.D.Device.size in
-    all_same _ _ (omega arith) (λ k low. c.loop-volume.invariant.fits k (omega arith)) ∙ sym (all_same c.args.area.now.volumes _ (omega arith) (λ k low. c.loop-volume.invariant.volumes k (omega arith)))
+    all_same _ _ (omega arith) (λ k low. c.loop-volume.invariant.fits k (omega arith))
+    ∙ sym (all_same c.args.area.now.volumes _ (omega arith) (λ k low. c.loop-volume.invariant.volumes k (omega arith)))

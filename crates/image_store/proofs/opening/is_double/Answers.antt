@@ -20,4 +20,5 @@ loop-earlier-preserved c =
     let name = name_there c.args.catalog.now c.args.v c.name.result.now.bytes within c.name.ensures in
     let earlier = name_there c.args.catalog.now c.loop-earlier.earlier c.name-in-loop-earlier.result.now.bytes (omega arith) c.name-in-loop-earlier.ensures in
     others_more _ c.args.v c.loop-earlier.earlier c.loop-earlier.invariant
-    (not_same _ _ c.name-in-loop-earlier.result.now.bytes c.name.result.now.bytes c.bytes.result.now c.bytes-name.result.now earlier name c.bytes.ensures c.bytes-name.ensures (sym c.eq.ensures ∙ c.if-eq.false))
+    (not_same _ _ c.name-in-loop-earlier.result.now.bytes c.name.result.now.bytes c.bytes.result.now c.bytes-name.result.now earlier name c.bytes.ensures c.bytes-name.ensures
+    (sym c.eq.ensures ∙ c.if-eq.false))

@@ -10,7 +10,13 @@ returns-in-Ok-read_image-clause-read g c = rw c.in-Of.is (image_read g.D.Device.
     c.in-Ok-read_image.ensures.image c.in-Ok-read_image.ensures.shown)
 
 pub returns-in-Err : goal.returns-in-Err
-returns-in-Err g c = record { read = tt; kept = quiet_kept g.D.Device.told g.D.Device.size g.D.Device.count g.D.Device.lending c.args.group.now c.read_volume.new.group c.read_volume.ensures.quiet; images = c.read_volume.ensures.quiet.images; cause = tt }
+returns-in-Err g c = record {
+  read = tt;
+  kept = quiet_kept g.D.Device.told g.D.Device.size g.D.Device.count g.D.Device.lending c.args.group.now c.read_volume.new.group
+      c.read_volume.ensures.quiet;
+  images = c.read_volume.ensures.quiet.images;
+  cause = tt;
+}
 
 pub returns-in-Ok-clause-kept : goal.returns-in-Ok-clause-kept
 returns-in-Ok-clause-kept g c = quiet_kept g.D.Device.told g.D.Device.size g.D.Device.count g.D.Device.lending c.args.group.now c.read_volume.new.group c.read_volume.ensures.quiet

@@ -29,7 +29,8 @@ returns-in_default-clause-show g c = λ ps has.
     let within = c.part_of-more.ensures.within in
     let shown = shown_in ps c.args.v c.args.which in
     let blocks = ap (λ (ns : List ℕ). blocks_in (slice_get ns c.args.v)) inv.kept.volumes in
-    let here = block_of shown _ (blocks_at c.args.group.now c.args.v) c.loop-b.b c.read_which.new.piece bytes blocks c.bytes.ensures.bytes (c.in_ok-read_which.ensures.read ps (inv.kept.plains ps has)) in
+    let here = block_of shown _ (blocks_at c.args.group.now c.args.v) c.loop-b.b c.read_which.new.piece bytes blocks c.bytes.ensures.bytes
+    (c.in_ok-read_which.ensures.read ps (inv.kept.plains ps has)) in
     let part = part_is c.loop-b.left more (length bytes) BLOCK c.part_of-more.ensures.part c.bytes.ensures.whole c.part_of-more.ensures.most in
     shown_failed shown _ c.loop-b.left more (c.loop-b.left - more) c.loop-b.b (g.K.Sink.taken c.args.sink.now) (g.K.Sink.taken c.loop-b.sink) (g.K.Sink.taken c.write_all.new.sink) bytes
     (inv.taken ps has) here c.in_default.ensures.err (omega arith) part
@@ -46,7 +47,8 @@ loop-b-preserved g c = record {
       let within = c.part_of-more.ensures.within in
       let shown = shown_in ps c.args.v c.args.which in
       let blocks = ap (λ (ns : List ℕ). blocks_in (slice_get ns c.args.v)) inv.kept.volumes in
-      let here = block_of shown _ (blocks_at c.args.group.now c.args.v) c.loop-b.b c.read_which.new.piece bytes blocks c.bytes.ensures.bytes (c.in_ok-read_which.ensures.read ps (inv.kept.plains ps has)) in
+      let here = block_of shown _ (blocks_at c.args.group.now c.args.v) c.loop-b.b c.read_which.new.piece bytes blocks c.bytes.ensures.bytes
+      (c.in_ok-read_which.ensures.read ps (inv.kept.plains ps has)) in
       let part = part_is c.loop-b.left more (length bytes) BLOCK c.part_of-more.ensures.part c.bytes.ensures.whole c.part_of-more.ensures.most in
       shown_more shown _ c.loop-b.left more (c.loop-b.left - more) c.loop-b.b (g.K.Sink.taken c.args.sink.now) (g.K.Sink.taken c.loop-b.sink) (g.K.Sink.taken c.write_all.new.sink) bytes
       (inv.taken ps has) here c.in-Ok.ensures.ok (omega arith) part;

@@ -20,15 +20,20 @@ loop-b-preserved g c =
     let marks = c.requires.marks in
     let len = inv.len in
     let within = c.requires.volume in
-    marked_more g.D.Device.told g.I.Device.told g.I.Device.size c.args.group.now c.loop-b.group c.read_volume.new.group c.args.input.now c.loop-b.input c.read_device.new.device c.args.v c.args.differs.now
-    c.loop-b.differs c.loop-b.b (not c.are_same.result) inv (quiet_kept g.D.Device.told g.D.Device.size g.D.Device.count g.D.Device.lending c.loop-b.group c.read_volume.new.group c.read_volume.ensures.quiet)
+    marked_more g.D.Device.told g.I.Device.told g.I.Device.size c.args.group.now c.loop-b.group c.read_volume.new.group c.args.input.now c.loop-b.input c.read_device.new.device c.args.v
+    c.args.differs.now
+    c.loop-b.differs c.loop-b.b (not c.are_same.result) inv
+    (quiet_kept g.D.Device.told g.D.Device.size g.D.Device.count g.D.Device.lending c.loop-b.group c.read_volume.new.group c.read_volume.ensures.quiet)
     c.read_device.ensures.told c.read_device.ensures.size (omega arith)
-    (λ wanted ps is has none. compared g.D.Device.told c.loop-b.group ps c.args.v c.loop-b.b c.read_volume.new.self c.read_device.new.self c.bytes.result.now c.bytes-in-loop-b.result.now c.are_same.result
-    (g.I.Device.told c.loop-b.input) wanted has (omega arith) (omega arith) c.in_ok-read_volume.ensures.now c.in-Ok.ensures.block is c.are_same.ensures c.bytes.ensures.bytes c.bytes-in-loop-b.ensures.bytes none)
+    (λ wanted ps is has none. compared g.D.Device.told c.loop-b.group ps c.args.v c.loop-b.b c.read_volume.new.self c.read_device.new.self c.bytes.result.now c.bytes-in-loop-b.result.now
+    c.are_same.result
+    (g.I.Device.told c.loop-b.input) wanted has (omega arith)
+    (omega arith) c.in_ok-read_volume.ensures.now c.in-Ok.ensures.block is c.are_same.ensures c.bytes.ensures.bytes c.bytes-in-loop-b.ensures.bytes none)
 
 pub returns-clause-marked : goal.returns-clause-marked
 returns-clause-marked g c =
     let test = c.loop-b-test.false in
     let end = c.blocks-b-end.ensures in
-    marked_all g.D.Device.told g.I.Device.told g.I.Device.size c.args.group.now c.loop-b.group c.args.input.now c.loop-b.input c.args.v c.args.differs.now c.loop-b.differs c.loop-b.b c.requires.volume c.requires.marks
+    marked_all g.D.Device.told g.I.Device.told g.I.Device.size c.args.group.now c.loop-b.group c.args.input.now c.loop-b.input c.args.v c.args.differs.now c.loop-b.differs c.loop-b.b
+    c.requires.volume c.requires.marks
     (omega arith) (λ wanted is. as_many_wanted _ _ (g.I.Device.told c.args.input.now) wanted c.blocks-facts.ensures.whole c.requires.sizes is) c.loop-b.invariant

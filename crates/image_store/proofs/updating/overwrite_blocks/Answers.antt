@@ -13,19 +13,22 @@ loop-b-init g c = record { written = written_none g.D.Device.told g.I.Device.tol
 
 pub returns-then-up_to-gt0-clause-writing : goal.returns-then-up_to-gt0-clause-writing
 returns-then-up_to-gt0-clause-writing g c = λ wanted ps is has ready.
-    written_stopped g.D.Device.told g.I.Device.told g.I.Device.size c.args.group.now c.loop-b.group c.make_room-up_to.new.self c.args.input.now c.loop-b.input c.args.v c.args.differs.now c.args.from c.loop-b.b
+    written_stopped g.D.Device.told g.I.Device.told g.I.Device.size c.args.group.now c.loop-b.group c.make_room-up_to.new.self c.args.input.now c.loop-b.input c.args.v c.args.differs.now c.args.from
+    c.loop-b.b
     c.make_room-up_to.result wanted ps c.make_room-up_to.new.gone.items c.if-up_to-gt0.true c.loop-b.invariant.written c.make_room-up_to.ensures.room c.make_room-up_to.ensures.told is has ready
 
 pub returns-clause-writing : goal.returns-clause-writing
 returns-clause-writing g c = λ wanted ps is has ready.
     let test = c.loop-b-test.false in
     let end = c.blocks-b-end.ensures in
-    written_all g.D.Device.told g.I.Device.told g.I.Device.size c.args.group.now c.loop-b.group c.args.input.now c.loop-b.input c.args.v c.args.differs.now c.args.from c.loop-b.b wanted ps c.requires.volume
+    written_all g.D.Device.told g.I.Device.told g.I.Device.size c.args.group.now c.loop-b.group c.args.input.now c.loop-b.input c.args.v c.args.differs.now c.args.from c.loop-b.b wanted ps
+    c.requires.volume
     (omega arith) c.loop-b.invariant.written is has ready
 
 pub returns-in_default-clause-writing : goal.returns-in_default-clause-writing
 returns-in_default-clause-writing g c = λ wanted ps is has ready.
-    written_part g.D.Device.told g.I.Device.told g.I.Device.size c.args.group.now c.loop-b.group c.make_room-up_to.new.self c.args.input.now c.loop-b.input c.args.v c.args.differs.now c.args.from c.loop-b.b wanted ps
+    written_part g.D.Device.told g.I.Device.told g.I.Device.size c.args.group.now c.loop-b.group c.make_room-up_to.new.self c.args.input.now c.loop-b.input c.args.v c.args.differs.now c.args.from
+    c.loop-b.b wanted ps
     c.loop-b.invariant.written
     (room_plains g.D.Device.told c.loop-b.group c.make_room-up_to.new.self c.args.v c.loop-b.b c.make_room-up_to.result (let none = c.if-up_to-gt0.false in omega arith) c.make_room-up_to.ensures.room)
     is has ready
@@ -33,10 +36,13 @@ returns-in_default-clause-writing g c = λ wanted ps is has ready.
 pub returns-in_err-put-clause-writing : goal.returns-in_err-put-clause-writing
 returns-in_err-put-clause-writing g c =
     let p = err_from_is_err_and c.from_residual.result c.from_residual.ensures.1 in
-    let made = room_plains g.D.Device.told c.loop-b.group c.make_room-up_to.new.self c.args.v c.loop-b.b c.make_room-up_to.result (let none = c.if-up_to-gt0.false in omega arith) c.make_room-up_to.ensures.room in
-    rw p.1 (λ wanted ps is has ready. written_part g.D.Device.told g.I.Device.told g.I.Device.size c.args.group.now c.loop-b.group c.put.new.self c.args.input.now c.loop-b.input c.args.v c.args.differs.now c.args.from
+    let made = room_plains g.D.Device.told c.loop-b.group c.make_room-up_to.new.self c.args.v c.loop-b.b c.make_room-up_to.result
+    (let none = c.if-up_to-gt0.false in omega arith) c.make_room-up_to.ensures.room in
+    rw p.1 (λ wanted ps is has ready. written_part g.D.Device.told g.I.Device.told g.I.Device.size c.args.group.now c.loop-b.group c.put.new.self c.args.input.now c.loop-b.input c.args.v
+    c.args.differs.now c.args.from
     c.loop-b.b wanted ps c.loop-b.invariant.written
-    (kept_then g.D.Device.told c.loop-b.group c.make_room-up_to.new.self c.put.new.self made (not_put_kept g.D.Device.told g.D.Device.size g.D.Device.count g.D.Device.lending c.make_room-up_to.new.self c.put.new.self c.args.v _ c.in_err-put.ensures.put))
+    (kept_then g.D.Device.told c.loop-b.group c.make_room-up_to.new.self c.put.new.self made
+    (not_put_kept g.D.Device.told g.D.Device.size g.D.Device.count g.D.Device.lending c.make_room-up_to.new.self c.put.new.self c.args.v _ c.in_err-put.ensures.put))
     is has ready)
 
 pub loop-b-preserved : goal.loop-b-preserved
@@ -48,9 +54,11 @@ loop-b-preserved g c =
     let within : c.loop-b.b < length c.args.differs.now = omega arith in
     elim c.if-differs-b.branch [
       | then-differs-b+else-up_to-gt0+in-Ok+in_ok-put w ↦ rw (w.group-is, w.input-is, w.gone-is) (record {
-        written = written_more g.D.Device.told g.D.Device.size g.D.Device.count g.D.Device.lending g.I.Device.told g.I.Device.size c.args.group.now c.loop-b.group w.make_room-up_to.new.self w.put.new.self c.args.input.now c.loop-b.input w.read_device.new.device c.args.v
+        written = written_more g.D.Device.told g.D.Device.size g.D.Device.count g.D.Device.lending g.I.Device.told g.I.Device.size c.args.group.now c.loop-b.group w.make_room-up_to.new.self
+            w.put.new.self c.args.input.now c.loop-b.input w.read_device.new.device c.args.v
             c.args.differs.now c.args.from c.loop-b.b (payload_bytes w.payload.result.now) c.requires.volume (omega arith) inv.written
-            (room_plains g.D.Device.told c.loop-b.group w.make_room-up_to.new.self c.args.v c.loop-b.b w.make_room-up_to.result (let none = w.if-up_to-gt0.false in omega arith) w.make_room-up_to.ensures.room)
+            (room_plains g.D.Device.told c.loop-b.group w.make_room-up_to.new.self c.args.v c.loop-b.b w.make_room-up_to.result
+            (let none = w.if-up_to-gt0.false in omega arith) w.make_room-up_to.ensures.room)
             w.read_device.ensures.told w.read_device.ensures.size
             (λ wanted is. read_there (g.I.Device.told c.loop-b.input) wanted c.loop-b.b w.read_device.new.self (payload_bytes w.payload.result.now) w.in-Ok.ensures.block is w.payload.ensures)
             w.in_ok-put.ensures.put;

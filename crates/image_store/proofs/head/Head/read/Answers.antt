@@ -26,4 +26,5 @@ returns-in_err-decode-clause-refused c =
     let long : length c.args.bytes.now ≡ 16 + little_number 4 (drop 12 c.args.bytes.now) = omega arith in
     let letters = rw c.as_slice.ensures at ((starts_is Decides-eqb c.args.bytes.now c.as_slice.result.now _ refl).0 (sym c.starts_with.ensures.value ∙ c.if-not-starts_with.false)) in
     let p = err_from_is_err_and c.from_residual.result c.from_residual.ensures.1 in
-    rw p.1 (catalog_fault c.args.bytes.now c.in_err-decode.field-0.0 p.0 p.2 long letters (subst (λ (xs : List ℕ). Tells c.in_err-decode.field-0.0 (catalog_in xs)) (rest_of 16 c.args.bytes.now) c.in_err-decode.ensures.refused))
+    rw p.1 (catalog_fault c.args.bytes.now c.in_err-decode.field-0.0 p.0 p.2 long letters
+    (subst (λ (xs : List ℕ). Tells c.in_err-decode.field-0.0 (catalog_in xs)) (rest_of 16 c.args.bytes.now) c.in_err-decode.ensures.refused))

@@ -13,5 +13,6 @@ returns-clause-ready g c =
 
 pub returns-clause-still : goal.returns-clause-still
 returns-clause-still g c =
-    let is = still g.D.Device.told (store_of c.self.inside.group c.self.inside.names.items c.self.inside.last) (store_of c.compare_blocks.new.group c.self.inside.names.items c.self.inside.last) c.compare_blocks.ensures.kept refl in
+    let is = still g.D.Device.told (store_of c.self.inside.group c.self.inside.names.items c.self.inside.last)
+    (store_of c.compare_blocks.new.group c.self.inside.names.items c.self.inside.last) c.compare_blocks.ensures.kept refl in
     rw (← c.self.view_is) is

@@ -7,5 +7,6 @@ invariant_of-self g c = named_still c.self.inside.group c.copy_blocks.new.group 
 
 pub returns-clause-ahead : goal.returns-clause-ahead
 returns-clause-ahead g c =
-    let is = ahead g.D.Device.told (store_of c.self.inside.group c.self.inside.names.items c.self.inside.last) (store_of c.copy_blocks.new.group c.self.inside.names.items c.self.inside.last) c.copy_blocks.new.gone.items c.copy_blocks.result refl c.copy_blocks.ensures.copying in
+    let is = ahead g.D.Device.told (store_of c.self.inside.group c.self.inside.names.items c.self.inside.last)
+    (store_of c.copy_blocks.new.group c.self.inside.names.items c.self.inside.last) c.copy_blocks.new.gone.items c.copy_blocks.result refl c.copy_blocks.ensures.copying in
     rw (← c.self.view_is) is

@@ -8,7 +8,8 @@ invariant_of-self g c = named_still c.self.inside.group c.length_of.new.group c.
 
 pub returns-clause-still : goal.returns-clause-still
 returns-clause-still g c =
-    let is = still g.D.Device.told (store_of c.self.inside.group c.self.inside.names.items c.self.inside.last) (store_of c.length_of.new.group c.self.inside.names.items c.self.inside.last) c.length_of.ensures.kept refl in
+    let is = still g.D.Device.told (store_of c.self.inside.group c.self.inside.names.items c.self.inside.last)
+    (store_of c.length_of.new.group c.self.inside.names.items c.self.inside.last) c.length_of.ensures.kept refl in
     rw (← c.self.view_is) is
 
 pub returns-clause-length : goal.returns-clause-length

@@ -15,4 +15,8 @@ returns-in-Ok-take_up-clause-untold g c = λ none.
 
 pub returns-in-Err-take_up-clause-refused : goal.returns-in-Err-take_up-clause-refused
 returns-in-Err-take_up-clause-refused g c =
-    inr (subst (λ (ds : List g.row.D.Denot). IsHeadFor ds c.args.head.now) c.deref.ensures.value c.in_default.ensures.head, inr (record { area = c.in-Ok.area; loaded = c.in-Ok.ensures.loaded; parts = c.in-Err-take_up.ensures.refused }))
+    inr (
+      subst (λ (ds : List g.row.D.Denot). IsHeadFor ds c.args.head.now) c.deref.ensures.value c.in_default.ensures.head,
+      inr
+          (record { area = c.in-Ok.area; loaded = c.in-Ok.ensures.loaded; parts = c.in-Err-take_up.ensures.refused }),
+    )
