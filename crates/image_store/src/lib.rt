@@ -12,6 +12,7 @@ mod bytes;
 mod closed;
 mod cut_fault;
 mod cutting;
+mod flushing;
 mod head;
 mod laws;
 mod new_fault;

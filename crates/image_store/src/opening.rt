@@ -4,9 +4,10 @@ ghost use Rattle.std.specs.Prelude.{◌≡◌, ◌<◌, ℕ, false, length, map,
 ghost use Rattle.vss_catalog.specs.Allowed.{IsCatalog};
 ghost use Rattle.vss_catalog.specs.Entries.{EntryValue};
 ghost use Rattle.vss_names.specs.TextValue.{TextValue};
-ghost use Rattle.image_store.specs.Opening.{AreWell, IsEntryFault, IsNameNew, IsPartsFault, names_of};
+ghost use Rattle.image_store.specs.Opening.{AreWell, IsEntryFault, IsHeadFor, IsNameNew, IsNoHeadFor, IsPartsFault, names_of};
 
 use crate::cutting::newest_of;
+use crate::head::Head;
 use crate::open_fault::OpenFault;
 use diff_area::Area;
 use std::alloc::Global;
@@ -30,7 +31,7 @@ fn is_double(catalog: &Catalog, v: u32) -> bool
 }
 
 /// The first volume whose name or newest image is not as it has to be.
-pub fn check_catalog(catalog: &Catalog, last: u32) -> Result<(), OpenFault>
+fn check_catalog(catalog: &Catalog, last: u32) -> Result<(), OpenFault>
     requires { IsCatalog catalog.now }
     ensures well { OnOk result (AreWell last catalog.now (length catalog.now)) }
     ensures refused { IfErr result (IsEntryFault last catalog.now) }
@@ -45,6 +46,19 @@ pub fn check_catalog(catalog: &Catalog, last: u32) -> Result<(), OpenFault>
         }
     }
     Ok(())
+}
+
+/// What has to hold of a head and the devices before the area is read.
+pub fn check_devices<D: Device>(head: &Head, devices: &[D]) -> Result<(), OpenFault>
+    ensures head { OnOk result (IsHeadFor devices.now head.now) }
+    ensures refused { IfErr result (IsNoHeadFor devices.now head.now) }
+{
+    if devices.len() != head.catalog().volumes() as usize {
+        return Err(OpenFault::Devices {
+            found: devices.len() as u64,
+        });
+    }
+    check_catalog(head.catalog(), head.last())
 }
 
 /// Whether the area and the devices have the blocks of the catalog.

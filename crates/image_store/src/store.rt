@@ -31,10 +31,11 @@ ghost use Rattle.vss_names.specs.TextValue.{TextValue};
 use crate::closed::Closed;
 use crate::cut_fault::CutFault;
 use crate::cutting::{cut_all, first_full, greatest_set};
+use crate::flushing::flush_each;
 use crate::head::{Head, bytes_with};
 use crate::new_fault::NewFault;
 use crate::open_fault::OpenFault;
-use crate::opening::{check_blocks, check_catalog, names_of};
+use crate::opening::{check_blocks, check_devices, names_of};
 use crate::pass::Pass;
 use crate::pass_fault::PassFault;
 use crate::piece::Piece;
@@ -443,19 +444,6 @@ impl<D: Device> Store<D> {
     }
 }
 
-/// What has to hold of a head and the devices before the area is read.
-fn check_devices<D: Device>(head: &Head, devices: &[D]) -> Result<(), OpenFault>
-    ensures head { OnOk result (IsHeadFor devices.now head.now) }
-    ensures refused { IfErr result (IsNoHeadFor devices.now head.now) }
-{
-    if devices.len() != head.catalog().volumes() as usize {
-        return Err(OpenFault::Devices {
-            found: devices.len() as u64,
-        });
-    }
-    check_catalog(head.catalog(), head.last())
-}
-
 /// Takes devices and a loaded area up as a store.
 fn take_up<D: Device>(
     alloc: Global,
@@ -486,20 +474,4 @@ fn take_up<D: Device>(
         piece,
         wanted,
     })
-}
-
-/// Brings all accepted writes of each device to where they last.
-fn flush_each<D: Device>(devices: &mut [D]) -> Result<(), Cause>
-    ensures lasts { OnOk result (map D.lasting devices.new ≡ map D.told devices.old) }
-    ensures told { map D.told devices.new ≡ map D.told devices.old }
-    ensures same { OnOk result (map D.count devices.new ≡ map D.count devices.old) }
-    ensures volume { IfErr result (λ cause. cause ≡ Cause.Volume) }
-    ensures rose { OnErr result (OneRose (map D.count devices.old) (map D.count devices.new)) }
-{
-    for device in devices.iter_mut() {
-        let Ok(()) = device.flush() else {
-            return Err(Cause::Volume);
-        };
-    }
-    Ok(())
 }

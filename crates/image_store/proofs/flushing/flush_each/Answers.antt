@@ -1,7 +1,7 @@
 use Rattle.std.proofs.Common.{◌<◌, arith, length, refl}
 use Rattle.std.proofs.lemmas.Option.{slice_get-get_or}
 use Rattle.image_store.proofs.Keeping.{still_told, one_failed, one_lasted, all_lasted}
-use Rattle.image_store.proofs.store.flush_each.Goals as goal
+use Rattle.image_store.proofs.flushing.flush_each.Goals as goal
 
 pub returns-in_default-clause-told : goal.returns-in_default-clause-told
 returns-in_default-clause-told g c =

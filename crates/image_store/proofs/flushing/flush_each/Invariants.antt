@@ -1,5 +1,5 @@
 use Rattle.image_store.proofs.Keeping.{HaveLasted}
-use Rattle.image_store.proofs.store.flush_each.Given as goal
+use Rattle.image_store.proofs.flushing.flush_each.Given as goal
 
 -- the first devices were flushed
 abbrev pub invariant-loop-device : goal.invariant-loop-device
