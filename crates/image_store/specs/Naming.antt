@@ -1,5 +1,6 @@
--- Which volume of a store has a name. (This project's own.)
-use Rattle.std.specs.Prelude.{ℕ, ◌≡◌, ◌≢◌, ◌<◌, List, Some, slice_get}
+-- The names of a store's volumes, and which volume has a name. (This project's own.)
+use Rattle.std.specs.Prelude.{ℕ, ◌≡◌, ◌≢◌, ◌<◌, ◌==◌, ◌&&◌, ◌⊎◌, false, List, length, Some, slice_get}
+use Rattle.vss_catalog.specs.Names.{are_names}
 use Rattle.vss_names.specs.TextValue.{TextValue}
 
 -- none of the first names is this one
@@ -12,3 +13,11 @@ pub record IsNamed (names : List TextValue) (name : List ℕ) (v : ℕ) : Type 0
   pub at : slice_get names v ≡ Some text
   pub is : text.bytes ≡ name
   pub first : AreOthers names name v
+
+-- no two are the same
+abbrev pub AreApart : List TextValue → Type 0
+AreApart names = (v : ℕ) (n : TextValue) → slice_get names v ≡ Some n → AreOthers names n.bytes v
+
+-- why they are no names for these volumes: there is not one for each, one is none, or two are the same
+abbrev pub AreNoNames : List ℕ → List TextValue → Type 0
+AreNoNames volumes names = (((length names == length volumes) && are_names names) ≡ false) ⊎ (AreApart names → ⊥)

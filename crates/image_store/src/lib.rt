@@ -15,6 +15,7 @@ mod cutting;
 mod flushing;
 mod head;
 mod laws;
+mod naming;
 mod new_fault;
 mod open_fault;
 mod opening;

@@ -9,6 +9,11 @@ pub enum NewFault {
 }
 
 impl From<OutOfMemory> for NewFault {
+    ghost use Rattle.std.specs.Prelude.{◌≡◌};
+    ghost use Rattle.image_store.specs.declared.new_fault.NewFault.TheVariants.{OutOfMemory as memory};
+
+    ghost from_gives = { λ _ fault. fault ≡ memory };
+
     fn from(_refused: OutOfMemory) -> NewFault {
         NewFault::OutOfMemory
     }

@@ -1,4 +1,4 @@
-ghost use Rattle.std.specs.Prelude.{◌≡◌, ◌≢◌, ◌<◌, ◌≤◌, ◌*◌, ℕ, List, Some, None, Ok, true, false, length, replicate, map, slice_get, vec_capacity, is_some, All, IfOk, IfErr, IfSome, IsNone, OnOk, OnErr, IsTrue};
+ghost use Rattle.std.specs.Prelude.{◌≡◌, ◌≢◌, ◌<◌, ◌≤◌, ◌*◌, ℕ, List, Some, None, Ok, true, false, length, replicate, map, slice_get, vec_capacity, is_some, All, IfOk, IfErr, IfSome, IsErrOf, IsNone, OnOk, OnErr, IsTrue};
 ghost use Rattle.std.specs.List.{AllPairs};
 ghost use Rattle.block_data.specs.Runs.{zeros};
 ghost use Rattle.diff_area.specs.Records.{free};
@@ -24,7 +24,7 @@ ghost use Rattle.image_store.specs.Cutting.{IsCutRefused};
 ghost use Rattle.image_store.specs.Closing.{IsCloseFault, OneRose};
 ghost use Rattle.image_store.specs.Head.{head_of, said_of};
 ghost use Rattle.image_store.specs.Keeping.{IsKeptAs, blocks_of};
-ghost use Rattle.image_store.specs.Naming.{AreOthers, IsNamed};
+ghost use Rattle.image_store.specs.Naming.{AreApart, AreNoNames, AreOthers, IsNamed};
 ghost use Rattle.image_store.specs.Opening.{AreParts, IsHeadFor, IsNoHeadFor, IsOpened, IsOpenFault, IsPartsFault, names_of};
 ghost use Rattle.vss_names.specs.TextValue.{TextValue};
 
@@ -33,6 +33,7 @@ use crate::cut_fault::CutFault;
 use crate::cutting::{cut_all, first_full, greatest_set};
 use crate::flushing::flush_each;
 use crate::head::{Head, bytes_with};
+use crate::naming::{first_of, has_double};
 use crate::new_fault::NewFault;
 use crate::open_fault::OpenFault;
 use crate::opening::{check_blocks, check_devices, names_of};
@@ -80,18 +81,6 @@ impl<D: Device> Model for Store<D> {
     ghost invariant = { λ s. are_names_for s.group s.names.items ≡ true };
 }
 
-/// Whether two of these names are the same.
-fn has_double(names: &[Text]) -> bool {
-    for place in 0..names.len() {
-        for earlier in 0..place {
-            if names[earlier].bytes() == names[place].bytes() {
-                return true;
-            }
-        }
-    }
-    false
-}
-
 impl<D: Device> Store<D> {
     /// A store of volumes of zeros with these names, without images. It takes all memory of the later calls but that of `head`.
     pub fn new(
@@ -105,10 +94,15 @@ impl<D: Device> Store<D> {
         requires zeros { All (λ d. IfSome (D.told d) (λ blocks. blocks ≡ replicate (D.size d) zeros)) devices.items }
         ensures stands { IfOk result (λ store. AllTell D.told devices.items → IsTrue (is_some (D.told area.device)) → StandsAs D.told store (fresh_store area.volumes)) }
         ensures names { IfOk result (λ store. store.names ≡ names.items) }
+        ensures apart { OnOk result (AreApart names.items) }
+        ensures refused { IsErrOf result NewFault.Names → AreNoNames area.volumes names.items }
         ensures last { IfOk result (λ store. store.last ≡ 0) }
     {
         let group = CowGroup::new(alloc, devices, area)?;
-        if !Catalog::are_names_for(&names, &group) || has_double(&names) {
+        if !Catalog::are_names_for(&names, &group) {
+            return Err(NewFault::Names);
+        }
+        if has_double(&names) {
             return Err(NewFault::Names);
         }
         let piece = Piece::new(alloc)?;
@@ -178,12 +172,11 @@ impl<D: Device> Store<D> {
         ensures within { IfSome result (λ v. v < length self.now.group.area.volumes) }
         ensures none { IsNone result → AreOthers self.now.names name.now (length self.now.names) }
     {
-        for volume in 0..self.group.volumes() {
-            if self.names[volume as usize].bytes() == name {
-                return Some(volume);
-            }
+        let _facts = self.group.volumes();
+        match first_of(&self.names, name) {
+            Some(volume) => Some(volume as u32),
+            None => None,
         }
-        None
     }
 
     /// The name of a volume.
