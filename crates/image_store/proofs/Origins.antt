@@ -8,9 +8,10 @@ use Rattle.image_store.specs.FileBytes.{blocks_of_file, file_in}
 use Rattle.image_store.specs.Plain.{Kept, Plain, PlainStore, plain_at, volume_in, image_in, image_of, on_volume, on_each, cut_on, gone_on, with_blocks, dropped_on, older_on, reverted_on}
 use Rattle.image_store.specs.Steps.{Step, IsAllowed, AreAllowed, after, after_all, goes, stays}
 use Rattle.image_store.specs.Steps.Step.{Cut, Gone, Updated, UpdatedInPart, Dropped, Reverted, RevertedInPart, Shown, Read, Opened}
-use Rattle.image_store.specs.Course.{ImagesComeOfCuts, IsCutIn, SetsAreCutOnce, FilesComeBack}
+use Rattle.image_store.specs.Course.{AreTaken, CallsFollowOneAnother, ShownIsOfItsCut, ImagesComeOfCuts, IsCutIn, SetsAreCutOnce, FilesComeBack}
+use Rattle.image_store.specs.StoreValue.{StoreValue, StandsAs}
 use Rattle.image_store.proofs.Files.{file_back}
-use Rattle.image_store.proofs.Lasting.{Has, allowed-append, as_many, as_many_after, cut-each, other-on}
+use Rattle.image_store.proofs.Lasting.{after-append, Has, allowed-append, as_many, as_many_after, cut-each, other-on}
 
 -- ## what was there before one volume changed
 
@@ -147,6 +148,10 @@ back-step s Opened set v blocks allowed has = inl (has, refl)
 
 -- ## all steps
 
+allowed-front : (s : PlainStore) (xs ys : List Step) → AreAllowed s (xs ++ ys) → AreAllowed s xs
+allowed-front s [] ys all = tt
+allowed-front s (x ∷ xs) ys all = (all.0, allowed-front (after s x) xs ys all.1)
+
 stays_more : (a b : Bool) → a ≡ false → b ≡ true → (not a && b) ≡ true
 stays_more a b e f = grind (arith, nat_tests)
 
@@ -161,6 +166,14 @@ images_come s (x ∷ xs) set v blocks all has = of_rest (images_come (after s x)
       → ((image_of s set v ≡ Some blocks) × (stays set v (x ∷ xs) ≡ true)) ⊎ IsCutIn s (x ∷ xs) set v blocks
   of_rest (inl h) = of_first h.1 (back-step s x set v blocks all.0 h.0)
   of_rest (inr c) = inr (record { earlier = x ∷ c.earlier; later = c.later; vs = c.vs; steps_are = ap (λ ys. x ∷ ys) c.steps_are; over = c.over; had = c.had; stayed = c.stayed })
+
+pub shown_of_cut : ShownIsOfItsCut
+shown_of_cut s steps later set v shown none all =
+    let last = (allowed-append s steps (Shown set v shown ∷ later) all).0 in
+    (last.0, not_first (images_come s steps set v last.0 (allowed-front s steps (Shown set v shown ∷ later) all) last.1), last.2) where
+      not_first : {blocks : List (List ℕ)} → ((image_of s set v ≡ Some blocks) × (stays set v steps ≡ true)) ⊎ IsCutIn s steps set v blocks → IsCutIn s steps set v blocks
+      not_first (inl h) = let free = none set v in let both = sym h.0 ∙ free in cc
+      not_first (inr c) = c
 
 -- ## no set is cut twice
 
@@ -186,10 +199,6 @@ cut_once s earlier between later set vs ws all =
     not_again (after (after_all s earlier) (Cut set vs)) between later set ws (omega arith) rest.1
 
 -- ## a file comes back
-
-allowed-front : (s : PlainStore) (xs ys : List Step) → AreAllowed s (xs ++ ys) → AreAllowed s xs
-allowed-front s [] ys all = tt
-allowed-front s (x ∷ xs) ys all = (all.0, allowed-front (after s x) xs ys all.1)
 
 updated-here : (v : ℕ) (wanted : List (List ℕ)) (ps : List Plain) → v < length ps → (volume_in (on_volume v (with_blocks wanted) ps) v).blocks ≡ wanted
 updated-here v wanted [] l = absurd (omega arith)
@@ -219,3 +228,13 @@ files_back s earlier between later file shown n set v vs fits all l among =
     let here : image_of cut set v ≡ Some wanted = cut-each vs v set updated.volumes inside (rest.1.0.1 v) among ∙ ap Some (updated-here v wanted before.volumes (omega arith)) in
     let same = same_cut cut between set v wanted last.0.0 (omega arith) (allowed-front cut between (Shown set v shown ∷ later) rest.1.1) here last.0.1 in
     last.0.2 ∙ ap file_in same ∙ file_back n file fits
+
+-- ## calls
+
+allowed-both : (s : PlainStore) (xs ys : List Step) → AreAllowed s xs → AreAllowed (after_all s xs) ys → AreAllowed s (xs ++ ys)
+allowed-both s [] ys first others = others
+allowed-both s (x ∷ xs) ys first others = (first.0, allowed-both (after s x) xs ys first.1 others)
+
+pub calls_follow : {D : Type 0} (told : D → Option (List (List ℕ))) → CallsFollowOneAnother told
+calls_follow told p xs ys middle new first others =
+    record { allowed = allowed-both p xs ys first.allowed others.allowed; stands = subst (λ (q : PlainStore). StandsAs told new q) (sym (after-append p xs ys)) others.stands }

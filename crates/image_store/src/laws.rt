@@ -2,7 +2,7 @@
 //! the laws.
 
 ghost use Rattle.std.specs.Prelude.{◌≡◌, List, map};
-ghost use Rattle.image_store.specs.Course.{FilesComeBack, ImagesAreOfTheirCut, ImagesComeOfCuts, SetsAreCutOnce};
+ghost use Rattle.image_store.specs.Course.{CallsFollowOneAnother, FilesComeBack, ImagesAreOfTheirCut, ImagesComeOfCuts, SetsAreCutOnce, ShownIsOfItsCut};
 ghost use Rattle.image_store.specs.Head.{bytes_of_head, head_of, said_of};
 ghost use Rattle.image_store.specs.Keeping.{IsKeptAs};
 ghost use Rattle.image_store.specs.Plain.{PlainStore};
@@ -22,6 +22,11 @@ pub fn images_come_of_cuts()
     ensures { ImagesComeOfCuts }
 {}
 
+/// What is shown of an image is the file that its volume had at its set's cut, which is one of the calls before.
+pub fn shown_is_of_its_cut()
+    ensures { ShownIsOfItsCut }
+{}
+
 /// Of each set there is one cut.
 pub fn sets_are_cut_once()
     ensures { SetsAreCutOnce }
@@ -30,6 +35,11 @@ pub fn sets_are_cut_once()
 /// A file that is put in, cut, and shown of that image later comes back byte for byte, whatever is done between.
 pub fn files_come_back()
     ensures { FilesComeBack }
+{}
+
+/// Calls that follow one another take one list of steps, to which the laws above apply.
+pub fn calls_follow_one_another<D: Device>()
+    ensures { CallsFollowOneAnother D.told }
 {}
 
 /// What lasts of a store that was closed (`Store::close`) is what the next opening takes up (`Store::open`): devices that tell what lasted

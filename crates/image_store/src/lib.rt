@@ -33,8 +33,8 @@ pub use closed::Closed;
 pub use cut_fault::CutFault;
 pub use head::Head;
 pub use laws::{
-    files_come_back, images_are_of_their_cut, images_come_of_cuts, sets_are_cut_once,
-    what_lasts_is_found,
+    calls_follow_one_another, files_come_back, images_are_of_their_cut, images_come_of_cuts,
+    sets_are_cut_once, shown_is_of_its_cut, what_lasts_is_found,
 };
 pub use new_fault::NewFault;
 pub use open_fault::OpenFault;
