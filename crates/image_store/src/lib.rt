@@ -4,7 +4,7 @@
 //! which whole copies of all volumes and images it stands, and each call's contract is a step of these copies (`specs/Steps.antt`), so
 //! that what holds of every list of steps (`specs/Course.antt`) holds of every list of calls.
 //!
-//! The contracts promise that an image shows the blocks that its volume had at the set's one cut, until it is deleted, its volume is
+//! The contracts promise that an image shows the file that its volume had at the set's one cut, until it is deleted, its volume is
 //! reverted past it, or it is reported as evicted; and that what lasts of a store that was closed is what the next opening finds (`laws`).
 #![tactic(auto)]
 
