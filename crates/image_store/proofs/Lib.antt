@@ -14,3 +14,4 @@ pub mod Names
 pub mod Found
 pub mod Files
 pub mod Origins
+pub mod Failing

@@ -9,6 +9,7 @@ pub mod Keeping
 pub mod Naming
 pub mod Opening
 pub mod Closing
+pub mod Failing
 pub mod Updating
 pub mod Passes
 pub mod Cutting

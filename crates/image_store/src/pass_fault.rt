@@ -12,6 +12,11 @@ pub enum PassFault {
 }
 
 impl From<Cause> for PassFault {
+    ghost use Rattle.std.specs.Prelude.{◌≡◌};
+    ghost use Rattle.image_store.specs.Failing.{of_cause};
+
+    ghost from_gives = { λ cause fault. fault ≡ of_cause cause };
+
     fn from(cause: Cause) -> PassFault {
         match cause {
             Cause::Area => PassFault::Area,

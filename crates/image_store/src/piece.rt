@@ -1,7 +1,7 @@
-ghost use Rattle.std.specs.Prelude.{◌≡◌, ◌<◌, List, ℕ, Some, true, false, length, slice_get, IfOk, IfSome, IsErrOf, OnOk};
+ghost use Rattle.std.specs.Prelude.{◌≡◌, ◌<◌, List, ℕ, Some, true, false, length, slice_get, IfErr, IfOk, IfSome, IsErrOf, OnOk};
 ghost use Rattle.block_data.specs.PayloadBytes.{payload_bytes};
 ghost use Rattle.block_data.specs.Runs.{zeros};
-ghost use Rattle.cow_volume.specs.Calls.{IsNow, IsShown, IsQuiet, is_among, sets_at};
+ghost use Rattle.cow_volume.specs.Calls.{HasCauseAt, HasImageCause, IsNow, IsQuiet, IsShown, IsUnfailed, is_among, sets_at};
 ghost use Rattle.vss_names.specs.Faults.{HasCause};
 
 use block_data::{BLOCK, BlockBuf, Payload};
@@ -62,6 +62,8 @@ impl Piece {
     ) -> Result<(), Cause>
         requires volume { v < length group.old.area.volumes }
         ensures now { OnOk result (IsNow D.told group.old v b self.new) }
+        ensures same { OnOk result (IsUnfailed D.count group.old group.new) }
+        ensures cause { IfErr result (HasCauseAt D.count v b group.old group.new) }
         ensures quiet { IsQuiet D.told D.size D.count D.lending group.old group.new }
     {
         match &mut self.payload {
@@ -81,6 +83,8 @@ impl Piece {
         requires volume { v < length group.old.area.volumes }
         ensures shown { OnOk result (IsShown D.told group.old v set b self.new) }
         ensures image { OnOk result (is_among set (sets_at group.old v) ≡ true) }
+        ensures same { OnOk result (IsUnfailed D.count group.old group.new) }
+        ensures cause { IfErr result (HasImageCause D.count v set b group.old group.new) }
         ensures unseen { IsErrOf result ImageFault.NoSuchImage → is_among set (sets_at group.old v) ≡ false }
         ensures quiet { IsQuiet D.told D.size D.count D.lending group.old group.new }
     {

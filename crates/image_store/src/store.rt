@@ -9,7 +9,7 @@ ghost use Rattle.vss_catalog.specs.Group.{entries_of};
 ghost use Rattle.vss_catalog.specs.Reading.{catalog_in};
 ghost use Rattle.vss_catalog.specs.Written.{bytes_of};
 ghost use Rattle.write_history.specs.History.{History};
-ghost use Rattle.cow_volume.specs.Calls.{AreaRose, VolumeRose, blocks_at, is_among, sets_at};
+ghost use Rattle.cow_volume.specs.Calls.{AreaRose, DeviceRose, VolumeRose, blocks_at, is_among, sets_at};
 ghost use Rattle.cow_volume.specs.Ending.{AllTell};
 ghost use Rattle.cow_volume.specs.Resuming.{AreKept, NoneTell};
 ghost use Rattle.cow_volume.specs.StandsFor.{StandsFor};
@@ -22,6 +22,7 @@ ghost use Rattle.image_store.specs.Showing.{HasLength, HasShowCause, IsShow, sho
 ghost use Rattle.image_store.specs.Reverting.{IsRevert};
 ghost use Rattle.image_store.specs.Cutting.{IsCutRefused};
 ghost use Rattle.image_store.specs.Closing.{IsCloseFault, OneRose};
+ghost use Rattle.image_store.specs.Failing.{IsPassFault, IsRevertFault};
 ghost use Rattle.image_store.specs.Head.{head_of, said_of};
 ghost use Rattle.image_store.specs.Keeping.{IsKeptAs, blocks_of};
 ghost use Rattle.image_store.specs.Naming.{AreApart, AreNoNames, AreOthers, IsNamed};
@@ -268,6 +269,7 @@ impl<D: Device> Store<D> {
     pub fn revert(&mut self, set: u32, v: u32) -> Result<(), RevertFault>
         requires { v < length self.old.group.area.volumes }
         ensures revert { (p : PlainStore) → StandsAs D.told self.old p → IsRevert D.told self.new p set v result }
+        ensures failed { IfErr result (IsRevertFault D.count v self.old.group self.new.group) }
         ensures volumes { self.new.group.area.volumes ≡ self.old.group.area.volumes }
     {
         self.group.revert(v, set)
@@ -285,6 +287,7 @@ impl<D: Device> Store<D> {
         requires marks { length differs.old ≡ blocks_at self.old.group v }
         ensures ready { OnOk result ((wanted : List (List ℕ)) (p : PlainStore) → I.told input.old ≡ Some wanted → StandsAs D.told self.old p
             → AreReady differs.new wanted (plain_at p v).blocks 0) }
+        ensures failed { IfErr result (IsPassFault D.count v self.old.group self.new.group (I.count input.old) (I.count input.new)) }
         ensures still { StandsStill D.told self.old self.new }
         ensures told { I.told input.new ≡ I.told input.old }
         ensures len { length differs.new ≡ length differs.old }
@@ -313,6 +316,7 @@ impl<D: Device> Store<D> {
         requires volume { v < length self.old.group.area.volumes }
         requires marks { length differs.now ≡ blocks_at self.old.group v }
         requires space { 512 * length self.old.group.area.volumes ≤ vec_capacity gone.old }
+        ensures failed { IfErr result (DeviceRose D.count v self.old.group self.new.group) }
         ensures ahead { (p : PlainStore) → StandsAs D.told self.old p → IsAhead D.told self.new p gone.new.items result }
         ensures space { vec_capacity gone.new ≡ vec_capacity gone.old }
         ensures volumes { self.new.group.area.volumes ≡ self.old.group.area.volumes }
@@ -341,6 +345,7 @@ impl<D: Device> Store<D> {
         requires sizes { I.size input.old ≡ blocks_at self.old.group v }
         requires marks { length differs.now ≡ blocks_at self.old.group v }
         requires space { 512 * length self.old.group.area.volumes ≤ vec_capacity gone.old }
+        ensures failed { IfErr result (IsPassFault D.count v self.old.group self.new.group (I.count input.old) (I.count input.new)) }
         ensures overwriting { (wanted : List (List ℕ)) (p : PlainStore) → I.told input.old ≡ Some wanted → StandsAs D.told self.old p
             → AreReady differs.now wanted (plain_at p v).blocks from → IsOverwriting D.told self.new p v differs.now wanted gone.new.items result }
         ensures told { I.told input.new ≡ I.told input.old }

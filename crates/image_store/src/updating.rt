@@ -1,8 +1,9 @@
 //! The three passes of an update, over a group.
 
-ghost use Rattle.std.specs.Prelude.{◌≡◌, ◌<◌, ◌≤◌, ◌*◌, ℕ, List, Some, false, length, vec_capacity, IsTrue, OnOk};
-ghost use Rattle.cow_volume.specs.Calls.{blocks_at, sets_at};
+ghost use Rattle.std.specs.Prelude.{◌≡◌, ◌<◌, ◌≤◌, ◌*◌, ℕ, List, Some, false, length, vec_capacity, IfErr, IsTrue, OnOk};
+ghost use Rattle.cow_volume.specs.Calls.{DeviceRose, IsUnfailed, blocks_at, sets_at};
 ghost use Rattle.cow_volume.specs.Room.{lacks_slot};
+ghost use Rattle.image_store.specs.Failing.{IsPassFault};
 ghost use Rattle.image_store.specs.Passes.{IsCopying, IsWriting};
 ghost use Rattle.image_store.specs.Plain.{Plain, volume_in};
 ghost use Rattle.image_store.specs.StoreValue.{HasPlains, KeepsPlains};
@@ -44,6 +45,7 @@ pub fn compare_blocks<D: Device, I: Device>(
     requires marks { length differs.old ≡ blocks_at group.old v }
     ensures marked { OnOk result ((wanted : List (List ℕ)) (ps : List Plain) → I.told input.old ≡ Some wanted → HasPlains D.told group.old ps
         → AreReady differs.new wanted (volume_in ps v).blocks 0) }
+    ensures failed { IfErr result (IsPassFault D.count v group.old group.new (I.count input.old) (I.count input.new)) }
     ensures kept { KeepsPlains D.told group.old group.new }
     ensures told { I.told input.new ≡ I.told input.old }
     ensures size { I.size input.new ≡ I.size input.old }
@@ -71,6 +73,8 @@ fn copy_one<D: Device>(
     requires in_range { b < blocks_at group.old v }
     requires room { lacks_slot group.old.area.records v (sets_at group.old v) b ≡ false }
     ensures kept { KeepsPlains D.told group.old group.new }
+    ensures same { OnOk result (IsUnfailed D.count group.old group.new) }
+    ensures failed { IfErr result (DeviceRose D.count v group.old group.new) }
 {
     let before = group.used_all();
     piece.read_volume(group, v, b)?;
@@ -92,6 +96,7 @@ pub fn copy_blocks<D: Device>(
     requires marks { length differs.now ≡ blocks_at group.old v }
     requires space { 512 * length group.old.area.volumes ≤ vec_capacity gone.old }
     ensures volumes { group.new.area.volumes ≡ group.old.area.volumes }
+    ensures failed { IfErr result (DeviceRose D.count v group.old group.new) }
     ensures copying { (ps : List Plain) → HasPlains D.told group.old ps → IsCopying D.told group.new ps gone.new.items result }
     ensures space { vec_capacity gone.new ≡ vec_capacity gone.old }
 {
@@ -127,6 +132,7 @@ pub fn overwrite_blocks<D: Device, I: Device>(
     requires marks { length differs.now ≡ blocks_at group.old v }
     requires space { 512 * length group.old.area.volumes ≤ vec_capacity gone.old }
     ensures volumes { group.new.area.volumes ≡ group.old.area.volumes }
+    ensures failed { IfErr result (IsPassFault D.count v group.old group.new (I.count input.old) (I.count input.new)) }
     ensures writing { (wanted : List (List ℕ)) (ps : List Plain) → I.told input.old ≡ Some wanted → HasPlains D.told group.old ps
         → AreReady differs.now wanted (volume_in ps v).blocks from → IsWriting D.told group.new ps v differs.now wanted gone.new.items result }
     ensures told { I.told input.new ≡ I.told input.old }
