@@ -11,7 +11,9 @@ use Rattle.cow_volume.specs.Steps.{IsPutOr}
 use Rattle.write_history.specs.History.{Write}
 use Rattle.cow_volume.specs.declared.cause.Cause.{Cause}
 use Rattle.cow_volume.specs.declared.cause.Cause.TheVariants.{NoSuchBlock, Volume, Area}
-use Rattle.image_store.specs.Failing.{IsPassFault, of_cause}
+use Rattle.image_store.specs.Failing.{IsPassFault, IsShowFault, of_cause}
+use Rattle.image_store.specs.declared.show_fault.ShowFault.{ShowFault}
+use Rattle.image_store.specs.declared.show_fault.ShowFault.TheVariants.{NoSuchImage, BadLength, Volume as VolumeFailed, Area as AreaFailed, Sink}
 use Rattle.cow_volume.proofs.Group.{slice_get_inside, slice_get_map}
 
 pub unfailed_itself : {D : Type 0} (count : D → ℕ) (g : GroupValue D) → IsUnfailed count g g
@@ -45,6 +47,13 @@ device_after count v a b c NoSuchBlock same rose = rose
 device_after count v a b c Volume same rose = volume_after count v a b c same rose
 device_after count v a b c Area same rose = area_after count a b c same rose
 
+pub show_after : {D : Type 0} (count : D → ℕ) (v : ℕ) (a b c : GroupValue D) (fault : ShowFault) → IsUnfailed count a b → IsShowFault count v b c fault → IsShowFault count v a c fault
+show_after count v a b c VolumeFailed same rose = volume_after count v a b c same rose
+show_after count v a b c AreaFailed same rose = area_after count a b c same rose
+show_after count v a b c NoSuchImage same still = unfailed_then count a b c same still
+show_after count v a b c (BadLength found) same still = unfailed_then count a b c same still
+show_after count v a b c Sink same still = unfailed_then count a b c same still
+
 -- where room was made nothing was called
 pub room_unfailed : {D : Type 0} (told : D → Option (List (List ℕ))) (count : D → ℕ) (old new : GroupValue D) (v b up_to : ℕ) → HasRoom told old new v b up_to → IsUnfailed count old new
 room_unfailed told count old new v b up_to room =
@@ -63,7 +72,8 @@ device_of count v b old new Volume low is = is.1
 device_of count v b old new Area low is = is.1
 
 -- the volume's device, or the area's, failed in a pass
-pub pass_failed : {D : Type 0} (count : D → ℕ) (v : ℕ) (old new : GroupValue D) (before now : ℕ) (cause : Cause) → now ≡ before → DeviceRose count v old new cause → IsPassFault count v old new before now (of_cause cause)
+pub pass_failed : {D : Type 0} (count : D → ℕ) (v : ℕ) (old new : GroupValue D) (before now : ℕ) (cause : Cause) → now ≡ before → DeviceRose count v old new cause
+    → IsPassFault count v old new before now (of_cause cause)
 pass_failed count v old new before now NoSuchBlock same rose = absurd rose
 pass_failed count v old new before now Volume same rose = (rose, same)
 pass_failed count v old new before now Area same rose = (rose, same)

@@ -2,7 +2,8 @@
 
 ghost use Rattle.std.specs.Prelude.{◌≡◌, ◌≤◌, ◌⊎◌, ◌<◌, List, length, IfOk, IfErr, OnOk};
 ghost use Rattle.vss_names.specs.Faults.{Rose};
-ghost use Rattle.cow_volume.specs.Calls.{blocks_at};
+ghost use Rattle.cow_volume.specs.Calls.{IsUnfailed, blocks_at};
+ghost use Rattle.image_store.specs.Failing.{IsShowFault};
 ghost use Rattle.image_store.specs.Plain.{Plain};
 ghost use Rattle.image_store.specs.Showing.{HasBlock, HasLength, HasReadCause, HasShowCause, IfBad, IsShow, shown_in};
 ghost use Rattle.image_store.specs.StoreValue.{HasPlains, KeepsPlains};
@@ -30,6 +31,8 @@ fn read_which<D: Device>(
     ensures kept { KeepsPlains D.told group.old group.new }
     ensures images { group.new.images ≡ group.old.images }
     ensures cause { IfErr result (HasReadCause group.old v which) }
+    ensures same { OnOk result (IsUnfailed D.count group.old group.new) }
+    ensures failed { IfErr result (IsShowFault D.count v group.old group.new) }
 {
     match which {
         Which::Now => match piece.read_volume(group, v, b) {
@@ -57,6 +60,8 @@ pub fn length_of<D: Device>(
     ensures length { IfOk result (λ n. (ps : List Plain) → HasPlains D.told group.old ps → HasLength (shown_in ps v which) (blocks_at group.old v) n) }
     ensures bad { IfErr result (λ fault. (ps : List Plain) → HasPlains D.told group.old ps → IfBad (shown_in ps v which) fault) }
     ensures cause { IfErr result (HasShowCause group.old v which ⊥) }
+    ensures same { OnOk result (IsUnfailed D.count group.old group.new) }
+    ensures failed { IfErr result (IsShowFault D.count v group.old group.new) }
     ensures kept { KeepsPlains D.told group.old group.new }
     ensures images { group.new.images ≡ group.old.images }
 {
@@ -92,6 +97,7 @@ pub fn show_blocks<D: Device, K: Sink>(
     requires { v < length group.old.area.volumes }
     ensures show { (ps : List Plain) → HasPlains D.told group.old ps → IsShow (shown_in ps v which) (K.taken sink.old) (K.taken sink.new) result }
     ensures cause { IfErr result (HasShowCause group.old v which (Rose (K.count sink.old) (K.count sink.new))) }
+    ensures failed { IfErr result (IsShowFault D.count v group.old group.new) }
     ensures kept { KeepsPlains D.told group.old group.new }
 {
     let mut left = length_of(group, piece, v, which)?;

@@ -22,7 +22,7 @@ ghost use Rattle.image_store.specs.Showing.{HasLength, HasShowCause, IsShow, sho
 ghost use Rattle.image_store.specs.Reverting.{IsRevert};
 ghost use Rattle.image_store.specs.Cutting.{IsCutRefused};
 ghost use Rattle.image_store.specs.Closing.{IsCloseFault, OneRose};
-ghost use Rattle.image_store.specs.Failing.{IsPassFault, IsRevertFault};
+ghost use Rattle.image_store.specs.Failing.{IsPassFault, IsRevertFault, IsShowFault};
 ghost use Rattle.image_store.specs.Head.{head_of, said_of};
 ghost use Rattle.image_store.specs.Keeping.{IsKeptAs, blocks_of};
 ghost use Rattle.image_store.specs.Naming.{AreApart, AreNoNames, AreOthers, IsNamed};
@@ -367,6 +367,8 @@ impl<D: Device> Store<D> {
     pub fn length(&mut self, v: u32, which: Which) -> Result<u64, ShowFault>
         requires { v < length self.old.group.area.volumes }
         ensures length { IfOk result (λ n. (p : PlainStore) → StandsAs D.told self.old p → HasLength (shown_in p.volumes v which) (blocks_at self.old.group v) n) }
+        ensures cause { IfErr result (HasShowCause self.old.group v which ⊥) }
+        ensures failed { IfErr result (IsShowFault D.count v self.old.group self.new.group) }
         ensures still { StandsStill D.told self.old self.new }
         ensures volumes { self.new.group.area.volumes ≡ self.old.group.area.volumes }
     {
@@ -378,6 +380,7 @@ impl<D: Device> Store<D> {
         requires { v < length self.old.group.area.volumes }
         ensures show { (p : PlainStore) → StandsAs D.told self.old p → IsShow (shown_in p.volumes v which) (K.taken sink.old) (K.taken sink.new) result }
         ensures cause { IfErr result (HasShowCause self.old.group v which (Rose (K.count sink.old) (K.count sink.new))) }
+        ensures failed { IfErr result (IsShowFault D.count v self.old.group self.new.group) }
         ensures still { StandsStill D.told self.old self.new }
         ensures volumes { self.new.group.area.volumes ≡ self.old.group.area.volumes }
     {

@@ -9,14 +9,8 @@ pub returns-in-Ok-read_image-clause-read : goal.returns-in-Ok-read_image-clause-
 returns-in-Ok-read_image-clause-read g c = rw c.in-Of.is (image_read g.D.Device.told c.args.group.now c.args.v c.in-Of.set c.args.b c.read_image.new.self c.requires.volume c.requires.in_range
     c.in-Ok-read_image.ensures.image c.in-Ok-read_image.ensures.shown)
 
-pub returns-in-Err : goal.returns-in-Err
-returns-in-Err g c = record {
-  read = tt;
-  kept = quiet_kept g.D.Device.told g.D.Device.size g.D.Device.count g.D.Device.lending c.args.group.now c.read_volume.new.group
-      c.read_volume.ensures.quiet;
-  images = c.read_volume.ensures.quiet.images;
-  cause = tt;
-}
+pub returns-in-Err-clause-kept : goal.returns-in-Err-clause-kept
+returns-in-Err-clause-kept g c = quiet_kept g.D.Device.told g.D.Device.size g.D.Device.count g.D.Device.lending c.args.group.now c.read_volume.new.group c.read_volume.ensures.quiet
 
 pub returns-in-Ok-clause-kept : goal.returns-in-Ok-clause-kept
 returns-in-Ok-clause-kept g c = quiet_kept g.D.Device.told g.D.Device.size g.D.Device.count g.D.Device.lending c.args.group.now c.read_volume.new.group c.read_volume.ensures.quiet

@@ -23,7 +23,7 @@ loop-b-preserved g c =
     let len = inv.len in
     let within = c.requires.volume in
     record {
-            marked = marked_more g.D.Device.told g.I.Device.told g.I.Device.size c.args.group.now c.loop-b.group c.read_volume.new.group c.args.input.now c.loop-b.input c.read_device.new.device c.args.v
+      marked = marked_more g.D.Device.told g.I.Device.told g.I.Device.size c.args.group.now c.loop-b.group c.read_volume.new.group c.args.input.now c.loop-b.input c.read_device.new.device c.args.v
           c.args.differs.now
           c.loop-b.differs c.loop-b.b (not c.are_same.result) inv
           (quiet_kept g.D.Device.told g.D.Device.size g.D.Device.count g.D.Device.lending c.loop-b.group c.read_volume.new.group c.read_volume.ensures.quiet)
@@ -44,10 +44,11 @@ returns-in_err-read_volume-clause-failed g c =
     let end = c.blocks-b-end.ensures in
     let blocks = ap (λ (ns : List ℕ). blocks_in (slice_get ns c.args.v)) c.loop-b.invariant.marked.kept.volumes in
     let p = err_from_is_err_and c.from_residual.result c.from_residual.ensures.1 in
-    rw (p.1, p.2) (pass_failed g.D.Device.count c.args.v c.args.group.now c.read_volume.new.group (g.I.Device.count c.args.input.now) (g.I.Device.count c.read_device.new.device) c.in_err-read_volume.field-0.0
-        (c.in-Ok.ensures.cause.same ∙ c.loop-b.invariant.unfailed.input)
-        (device_after g.D.Device.count c.args.v c.args.group.now c.loop-b.group c.read_volume.new.group c.in_err-read_volume.field-0.0 c.loop-b.invariant.unfailed.group
-        (device_of g.D.Device.count c.args.v c.loop-b.b c.loop-b.group c.read_volume.new.group c.in_err-read_volume.field-0.0 (omega arith) c.in_err-read_volume.ensures.cause)))
+    rw (p.1, p.2) (pass_failed g.D.Device.count c.args.v c.args.group.now c.read_volume.new.group (g.I.Device.count c.args.input.now)
+    (g.I.Device.count c.read_device.new.device) c.in_err-read_volume.field-0.0
+    (c.in-Ok.ensures.cause.same ∙ c.loop-b.invariant.unfailed.input)
+    (device_after g.D.Device.count c.args.v c.args.group.now c.loop-b.group c.read_volume.new.group c.in_err-read_volume.field-0.0 c.loop-b.invariant.unfailed.group
+    (device_of g.D.Device.count c.args.v c.loop-b.b c.loop-b.group c.read_volume.new.group c.in_err-read_volume.field-0.0 (omega arith) c.in_err-read_volume.ensures.cause)))
 
 pub returns-clause-marked : goal.returns-clause-marked
 returns-clause-marked g c =

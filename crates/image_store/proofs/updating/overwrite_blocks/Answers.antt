@@ -10,7 +10,12 @@ use Rattle.image_store.proofs.updating.overwrite_blocks.Goals as goal
 use Rattle.image_store.proofs.updating.overwrite_blocks.Goals.{then-differs-b+else-up_to-gt0+in-Ok+in_ok-put, else-differs-b}
 
 pub loop-b-init : goal.loop-b-init
-loop-b-init g c = record { written = written_none g.D.Device.told g.I.Device.told g.I.Device.size c.args.group.now c.args.input.now c.args.v c.args.differs.now c.args.from; room = refl; unfailed = record { group = unfailed_itself g.D.Device.count c.args.group.now; input = refl } }
+loop-b-init g c = record {
+  written = written_none g.D.Device.told g.I.Device.told g.I.Device.size c.args.group.now c.args.input.now c.args.v c.args.differs.now
+      c.args.from;
+  room = refl;
+  unfailed = record { group = unfailed_itself g.D.Device.count c.args.group.now; input = refl };
+}
 
 pub returns-then-up_to-gt0-clause-writing : goal.returns-then-up_to-gt0-clause-writing
 returns-then-up_to-gt0-clause-writing g c = λ wanted ps is has ready.
@@ -50,11 +55,11 @@ pub returns-in_err-put-clause-failed : goal.returns-in_err-put-clause-failed
 returns-in_err-put-clause-failed g c =
     let p = err_from_is_err_and c.from_residual.result c.from_residual.ensures.1 in
     rw (p.1, p.2) (pass_failed g.D.Device.count c.args.v c.args.group.now c.put.new.self (g.I.Device.count c.args.input.now) (g.I.Device.count c.read_device.new.device) c.in_err-put.field-0.0
-        (c.in-Ok.ensures.cause.same ∙ c.loop-b.invariant.unfailed.input)
-        (device_after g.D.Device.count c.args.v c.args.group.now c.make_room-up_to.new.self c.put.new.self c.in_err-put.field-0.0
-        (unfailed_then g.D.Device.count c.args.group.now c.loop-b.group c.make_room-up_to.new.self c.loop-b.invariant.unfailed.group
-        (room_unfailed g.D.Device.told g.D.Device.count c.loop-b.group c.make_room-up_to.new.self c.args.v c.loop-b.b c.make_room-up_to.result c.make_room-up_to.ensures.room))
-        c.in_err-put.ensures.put.rose))
+    (c.in-Ok.ensures.cause.same ∙ c.loop-b.invariant.unfailed.input)
+    (device_after g.D.Device.count c.args.v c.args.group.now c.make_room-up_to.new.self c.put.new.self c.in_err-put.field-0.0
+    (unfailed_then g.D.Device.count c.args.group.now c.loop-b.group c.make_room-up_to.new.self c.loop-b.invariant.unfailed.group
+    (room_unfailed g.D.Device.told g.D.Device.count c.loop-b.group c.make_room-up_to.new.self c.args.v c.loop-b.b c.make_room-up_to.result c.make_room-up_to.ensures.room))
+    c.in_err-put.ensures.put.rose))
 
 pub loop-b-preserved : goal.loop-b-preserved
 loop-b-preserved g c =
