@@ -8,8 +8,10 @@ ghost use Rattle.vss_catalog.specs.Entries.{lists_of};
 ghost use Rattle.vss_catalog.specs.Group.{entries_of};
 ghost use Rattle.vss_catalog.specs.Reading.{catalog_in};
 ghost use Rattle.vss_catalog.specs.Written.{bytes_of};
+ghost use Rattle.cow_volume.specs.GroupValue.{placed};
 ghost use Rattle.write_history.specs.History.{History};
-ghost use Rattle.cow_volume.specs.Calls.{AreaRose, DeviceRose, VolumeRose, blocks_at, is_among, sets_at};
+ghost use Rattle.write_history.specs.Slots.{group_used, used_by};
+ghost use Rattle.cow_volume.specs.Calls.{AreaRose, DeviceRose, VolumeRose, blocks_at, history_at, is_among, sets_at};
 ghost use Rattle.cow_volume.specs.Ending.{AllTell};
 ghost use Rattle.cow_volume.specs.Resuming.{AreKept, NoneTell};
 ghost use Rattle.cow_volume.specs.StandsFor.{StandsFor};
@@ -207,12 +209,15 @@ impl<D: Device> Store<D> {
     /// How many slots the image of a set uses; None where no such image stands on the volume.
     pub fn used_by(&self, v: u32, set: u32) -> Option<u32>
         requires { v < length self.now.group.area.volumes }
+        ensures { (hs : List History) → StandsFor D.told self.now.group hs → result ≡ used_by (blocks_at self.now.group v) (history_at hs v).writes (history_at hs v).images set }
     {
         self.group.used_by(v, set)
     }
 
     /// How many slots all images use.
-    pub fn used_all(&self) -> u32 {
+    pub fn used_all(&self) -> u32
+        ensures { (hs : List History) → StandsFor D.told self.now.group hs → result ≡ group_used (placed self.now.group.area.volumes) hs }
+    {
         self.group.used_all()
     }
 
