@@ -1,6 +1,6 @@
 -- What is compared before a store is taken up.
 use Rattle.std.proofs.Common.{◌≢◌, ◌≤◌, subst, Option, ◌≡◌, ℕ, suc, ◌+◌, ◌<◌, List, [], ◌∷◌, ◌++◌, length, map, take, refl, ap, sym, ◌∙◌, arith, Bool, true, false, Some}
-use Rattle.std.specs.Prelude.{All, ◌&&◌, ◌==◌, slice_get}
+use Rattle.std.specs.Prelude.{slice_index, All, ◌&&◌, ◌==◌, slice_get}
 use Rattle.std.specs.Str.{bytes_eq}
 use Rattle.std.proofs.lemmas.List.{map-append, length-map}
 use Rattle.std.proofs.lemmas.Option.{get_or_from_slice_get, slice_get_within}
@@ -14,6 +14,7 @@ use Rattle.vss_catalog.specs.Names.{are_names, is_name}
 use Rattle.cow_volume.proofs.Group.{number_is, other_number, same_number, slice_get_inside, slice_get_map}
 use Rattle.cow_volume.proofs.Reverting.{take_next}
 use Rattle.image_store.specs.Keeping.{blocks_of}
+use Rattle.image_store.proofs.Sets.{place_is}
 use Rattle.diff_area.specs.AreaValue.{AreaValue}
 use Rattle.cow_volume.specs.Resuming.{IsResumeFault}
 use Rattle.cow_volume.specs.declared.resume_fault.ResumeFault.{ResumeFault}
@@ -36,6 +37,16 @@ all_same (x ∷ xs) (y ∷ ys) many have =
     let first : Some x ≡ Some y = have 0 (omega arith) in
     let same : x ≡ y = cc in
     ap (λ z. z ∷ xs) same ∙ ap (λ zs. y ∷ zs) (all_same xs ys (omega arith) (λ k low. have (suc k) (omega arith)))
+
+-- what the area, and what the device, has of volume v
+pub area_there : (ns : List ℕ) (v found : ℕ) → v < length ns → found ≡ slice_index ns v → slice_get ns v ≡ Some found
+area_there ns v found l is = place_is ns v l ∙ ap Some (sym is)
+
+pub device_there : {D : Type 0} (size : D → ℕ) (ds : List D) (v : ℕ) (d : D) (found : ℕ) → slice_get ds v ≡ Some d → found ≡ size d → slice_get (map size ds) v ≡ Some found
+device_there size ds v d found at is = slice_get_map size ds v d at ∙ ap Some (sym is)
+
+pub same_there : (xs ys : List ℕ) (v a b : ℕ) → slice_get xs v ≡ Some a → slice_get ys v ≡ Some b → a ≡ b → slice_get xs v ≡ slice_get ys v
+same_there xs ys v a b first second same = first ∙ ap Some same ∙ sym second
 
 -- the number of blocks of an entry
 pub blocks_there : (es : List EntryValue) (v blocks : ℕ) → v < length es → ((e : EntryValue) → slice_get es v ≡ Some e → blocks ≡ e.blocks) → slice_get (blocks_of es) v ≡ Some blocks
