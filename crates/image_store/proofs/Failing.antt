@@ -59,12 +59,6 @@ pub room_unfailed : {D : Type 0} (told : D → Option (List (List ℕ))) (count 
 room_unfailed told count old new v b up_to room =
     record { devices = ap (λ (g : GroupValue _). map count g.devices) room.left; area = ap (λ (g : GroupValue _). count g.area.device) room.left }
 
--- a block was put, or not
-pub put_unfailed : {D : Type 0} (told : D → Option (List (List ℕ))) (size count : D → ℕ) (lending : D → Bool) (old new : GroupValue D) (v : ℕ) (w : Write) (r : Result Unit Cause)
-    → IsPutOr told size count lending old new v w r → OnOk r (IsUnfailed count old new) × IfErr r (DeviceRose count v old new)
-put_unfailed told size count lending old new v w (Ok done) is = (is.unfailed, tt)
-put_unfailed told size count lending old new v w (Err cause) is = (tt, is.rose)
-
 -- a block that is there was not read
 pub device_of : {D : Type 0} (count : D → ℕ) (v b : ℕ) (old new : GroupValue D) (cause : Cause) → b < blocks_at old v → HasCauseAt count v b old new cause → DeviceRose count v old new cause
 device_of count v b old new NoSuchBlock low is = let high = is.0 in absurd (omega arith)

@@ -1,7 +1,7 @@
 use Rattle.std.proofs.lemmas.Result.{err_from_is_err_and}
 use Rattle.block_data.specs.PayloadBytes.{payload_bytes}
 use Rattle.image_store.proofs.Calls.{copy_kept}
-use Rattle.image_store.proofs.Failing.{device_after, device_of, put_unfailed, unfailed_then}
+use Rattle.image_store.proofs.Failing.{device_after, device_of, unfailed_then}
 use Rattle.image_store.proofs.Plains.{quiet_kept}
 use Rattle.image_store.proofs.updating.copy_one.Goals as goal
 
