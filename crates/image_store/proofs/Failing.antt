@@ -1,5 +1,5 @@
 -- Which device failed, where calls that did not fail came before.
-use Rattle.std.proofs.Common.{◌≡◌, ℕ, ◌<◌, ◌≤◌, List, length, map, refl, ap, sym, subst, ◌∙◌, arith, Bool, Option, Some, Result, Ok, Err}
+use Rattle.std.proofs.Common.{◌≡◌, ℕ, ◌<◌, List, length, map, refl, ap, sym, subst, ◌∙◌, arith, Bool, Option, Result, Ok, Err}
 use Rattle.std.specs.Prelude.{IfErr, OnOk, slice_get, slice_set}
 use Rattle.std.proofs.lemmas.List.{length-map}
 use Rattle.std.proofs.lemmas.Option.{same_Some, slice_get_within}

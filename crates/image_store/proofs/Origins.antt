@@ -8,8 +8,8 @@ use Rattle.image_store.specs.FileBytes.{blocks_of_file, file_in}
 use Rattle.image_store.specs.Plain.{Kept, Plain, PlainStore, plain_at, volume_in, image_in, image_of, on_volume, on_each, cut_on, gone_on, with_blocks, dropped_on, older_on, reverted_on}
 use Rattle.image_store.specs.Steps.{Step, IsAllowed, AreAllowed, after, after_all, goes, stays}
 use Rattle.image_store.specs.Steps.Step.{Cut, Gone, Updated, UpdatedInPart, Dropped, Reverted, RevertedInPart, Shown, Read, Opened}
-use Rattle.image_store.specs.Course.{AreTaken, CallsFollowOneAnother, ShownIsOfItsCut, ImagesComeOfCuts, IsCutIn, SetsAreCutOnce, FilesComeBack}
-use Rattle.image_store.specs.StoreValue.{StoreValue, StandsAs}
+use Rattle.image_store.specs.Course.{CallsFollowOneAnother, ShownIsOfItsCut, ImagesComeOfCuts, IsCutIn, SetsAreCutOnce, FilesComeBack}
+use Rattle.image_store.specs.StoreValue.{StandsAs}
 use Rattle.image_store.proofs.Files.{file_back}
 use Rattle.image_store.proofs.Lasting.{after-append, Has, allowed-append, as_many, as_many_after, cut-each, other-on}
 

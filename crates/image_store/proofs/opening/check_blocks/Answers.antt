@@ -1,4 +1,4 @@
-use Rattle.std.proofs.Common.{◌≡◌, ◌<◌, ◌∙◌, Some, length, map, sym, ap, arith, inl, inr}
+use Rattle.std.proofs.Common.{◌∙◌, Some, map, sym, ap, arith, inl, inr}
 use Rattle.std.proofs.lemmas.List.{length-map}
 use Rattle.std.proofs.lemmas.Option.{slice_get-get_or}
 use Rattle.vss_catalog.specs.Entries.{EntryValue}

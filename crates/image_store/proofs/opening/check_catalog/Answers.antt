@@ -1,4 +1,4 @@
-use Rattle.std.proofs.Common.{◌≡◌, ◌<◌, ◌≤◌, ◌∙◌, ap, subst, sym, arith, length, ℕ, List}
+use Rattle.std.proofs.Common.{◌≤◌, ◌∙◌, ap, subst, sym, arith}
 use Rattle.std.specs.Prelude.{All}
 use Rattle.diff_map.specs.MapValue.{AreImages}
 use Rattle.cow_volume.specs.Calls.{is_among}
