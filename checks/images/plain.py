@@ -147,9 +147,8 @@ class Plain:
     def store(self, folder):
         if folder in self.stores:
             return self.stores[folder]
-        if folder in self.files:
-            raise Ends(3, f"{folder}: no folder of images (images.state: {'No such file or directory (os error 2)' if self.files[folder] is None else 'Not a directory (os error 20)'})")
-        raise Ends(3, f"{folder}: no folder of images (No such file or directory (os error 2))")
+        missing = "No such file or directory (os error 2)" if self.files.get(folder) is None else "Not a directory (os error 20)"
+        raise Ends(3, f"{folder}: no folder of images (images.state: {missing})")
 
     def create(self, words, _out):
         if len(words) < 3 or number(words[1], 0) is None:

@@ -2,6 +2,7 @@
 
 use crate::ended::Ended;
 use crate::folder::{AREA, Folder};
+use crate::job::file_at;
 use crate::state::State;
 use crate::status::Status;
 use crate::store_device::StoreDevice;
@@ -17,17 +18,13 @@ fn open_blocks(
     way: Way,
     wanted: Option<u32>,
 ) -> Result<(File, u32), Ended> {
-    let file = match File::options()
-        .read(true)
-        .write(way == Way::Writing)
-        .open(rt, path)
-    {
-        Ok(file) => file,
+    let (file, size) = match file_at(rt, path, way == Way::Writing) {
+        Ok(Some((file, found))) => (file, found.len()),
+        Ok(None) => return Err(Ended::said(
+            Status::Damaged,
+            format!(in rt.alloc(); "{path}: is no file"),
+        )),
         Err(error) => return Err(Ended::by_file(rt.alloc(), path, "could not be opened", &error)),
-    };
-    let size = match file.metadata() {
-        Ok(found) => found.len(),
-        Err(error) => return Err(Ended::by_file(rt.alloc(), path, "could not be read", &error)),
     };
     let blocks = match wanted {
         Some(blocks) => blocks,

@@ -136,11 +136,11 @@ fn put_in(
     let mut job = Job::new(rt, path, volume, file, &found, blocks)?;
     let mut gone = Vec::with_capacity(rt.alloc(), 512 * store.volumes() as usize)?;
     if let Err(fault) = store.compare(volume, &mut job.input, &mut job.differs) {
-        return Err(job.fault(rt, fault));
+        return Err(job.fault(rt, fault, ""));
     }
     let passed = store.overwrite(volume, &mut job.input, &job.differs, 0, &mut gone);
     if let Err(fault) = passed {
-        return Err(job.fault(rt, fault));
+        return Err(job.fault(rt, fault, ""));
     }
     job.is_same(rt, "")
 }

@@ -1,5 +1,5 @@
 use crate::ended::Ended;
-use crate::marker::Marker;
+use crate::marker::{MOST_MARKER, Marker};
 use crate::status::Status;
 use crate::way::Way;
 use block_data::{BLOCK, BlockBuf, Hasher};
@@ -62,21 +62,14 @@ fn write_whole(rt: &HostRuntime, path: &str, bytes: &[u8]) -> io::Result<()> {
 impl Folder {
     /// Opens a folder of images that is there, and locks it.
     pub fn open(rt: &HostRuntime, path: &str, way: Way) -> Result<Folder, Ended> {
-        let held = match File::open(rt, path) {
-            Ok(held) => held,
-            Err(error) => return Err(no_folder(rt, path, &error)),
-        };
-        let folder = Folder {
-            path: String::from_str(rt.alloc(), path)?,
-            held,
-        };
-        let state = folder.path_of(rt, STATE)?;
+        let state = format!(in rt.alloc(); "{path}/{STATE}")?;
         if let Err(error) = fs::symlink_metadata(rt, state.as_str()) {
             return Err(Ended::said(
                 Status::Refused,
                 format!(in rt.alloc(); "{path}: no folder of images ({STATE}: {error})"),
             ));
         }
+        let folder = Folder::hold(rt, path)?;
         folder.lock(rt, way)?;
         Ok(folder)
     }
@@ -102,7 +95,7 @@ impl Folder {
         }
     }
 
-    /// Holds a folder that was just made.
+    /// Holds a folder.
     pub fn hold(rt: &HostRuntime, path: &str) -> Result<Folder, Ended> {
         match File::open(rt, path) {
             Ok(held) => Ok(Folder {
@@ -127,6 +120,11 @@ impl Folder {
     /// What its marker says, where there is one.
     pub fn marker(&self, rt: &HostRuntime) -> Result<Option<Marker>, Ended> {
         let path = self.path_of(rt, MARKER)?;
+        if let Ok(found) = fs::metadata(rt, path.as_str()) {
+            if !found.is_file() || found.len() > MOST_MARKER as u64 {
+                return Ok(Some(Marker::of(rt.alloc(), b"")?));
+            }
+        }
         match fs::read(rt, path.as_str()) {
             Ok(bytes) => Ok(Some(Marker::of(rt.alloc(), &bytes)?)),
             Err(error) if error.kind() == ErrorKind::NotFound => Ok(None),
@@ -199,12 +197,4 @@ impl Folder {
             )),
         }
     }
-}
-
-/// A path is no folder of images.
-fn no_folder(rt: &HostRuntime, path: &str, error: &io::Error) -> Ended {
-    Ended::said(
-        Status::Refused,
-        format!(in rt.alloc(); "{path}: no folder of images ({error})"),
-    )
 }

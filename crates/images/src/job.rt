@@ -4,6 +4,7 @@ use crate::status::Status;
 use block_data::BLOCK;
 use image_store::PassFault;
 use std::fs::{File, Metadata};
+use std::{fs, io};
 
 /// A volume that is brought to a file: which of its blocks differ, how many were written, and how many copied for images.
 #[derive(Drop)]
@@ -17,23 +18,29 @@ pub struct Job<'a> {
 }
 
 /// A file that was named and is not read.
-fn unread(rt: &HostRuntime, path: &str, error: &std::io::Error) -> Ended {
+fn unread(rt: &HostRuntime, path: &str, error: &io::Error, more: &str) -> Ended {
     Ended::said(
         Status::Unread,
-        format!(in rt.alloc(); "{path}: could not be read: {error}"),
+        format!(in rt.alloc(); "{path}: could not be read: {error}{more}"),
     )
+}
+
+/// Opens a file, if it is one: nobody waits for the other end of a pipe.
+pub fn file_at(rt: &HostRuntime, path: &str, writes: bool) -> io::Result<Option<(File, Metadata)>> {
+    if !fs::metadata(rt, path)?.is_file() {
+        return Ok(None);
+    }
+    let file = File::options().read(true).write(writes).open(rt, path)?;
+    let found = file.metadata()?;
+    Ok(Some((file, found)))
 }
 
 /// Opens a file that was named.
 pub fn open_file(rt: &HostRuntime, path: &str) -> Result<(File, Metadata), Ended> {
-    let file = match File::open(rt, path) {
-        Ok(file) => file,
-        Err(error) => return Err(unread(rt, path, &error)),
-    };
-    match file.metadata() {
-        Ok(found) if found.is_file() => Ok((file, found)),
-        Ok(_) => Err(Ended::said(Status::Unread, format!(in rt.alloc(); "{path}: is no file"))),
-        Err(error) => Err(unread(rt, path, &error)),
+    match file_at(rt, path, false) {
+        Ok(Some(opened)) => Ok(opened),
+        Ok(None) => Err(Ended::said(Status::Unread, format!(in rt.alloc(); "{path}: is no file"))),
+        Err(error) => Err(unread(rt, path, &error, "")),
     }
 }
 
@@ -86,12 +93,13 @@ impl<'a> Job<'a> {
         count
     }
 
-    /// What is said of a pass that failed: a read of the file, or a device of the folder.
-    pub fn fault(&self, rt: &HostRuntime, fault: PassFault) -> Ended {
+    /// What is said of a pass that failed, of a read of the file with this behind it, or of a device of the folder.
+    pub fn fault(&self, rt: &HostRuntime, fault: PassFault, more: &str) -> Ended {
         match (fault, self.input.last_fault()) {
-            (PassFault::Input, Some(error)) if error.kind() != std::io::ErrorKind::UnexpectedEof =>
-                { unread(rt, self.path, error) }
-            (PassFault::Input, _) => self.changed(rt, ""),
+            (PassFault::Input, Some(error)) if error.kind() != io::ErrorKind::UnexpectedEof => {
+                unread(rt, self.path, error, more)
+            }
+            (PassFault::Input, _) => self.changed(rt, more),
             _ => Ended::by_device(),
         }
     }
@@ -117,7 +125,7 @@ impl<'a> Job<'a> {
         match self.input.changed() {
             Ok(None) => Ok(()),
             Ok(Some(_)) => Err(self.changed(rt, more)),
-            Err(error) => Err(unread(rt, self.path, &error)),
+            Err(error) => Err(unread(rt, self.path, &error, more)),
         }
     }
 }

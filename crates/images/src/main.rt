@@ -99,7 +99,8 @@ fn run(rt: &HostRuntime, request: Request<'_>) -> Result<(), Ended> {
 fn main(rt: HostRuntime) -> ExitCode {
     let words = match words_given(&rt) {
         Ok(words) => words,
-        Err(_) => Vec::new(rt.alloc()),
+        Err(error) if error.kind() == io::ErrorKind::InvalidData => Vec::new(rt.alloc()),
+        Err(_) => return ExitCode::from(Status::OutOfMemory.code()),
     };
     let done = match Request::of(&words) {
         Ok(request) => run(&rt, request),

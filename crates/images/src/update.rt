@@ -5,7 +5,7 @@
 use crate::committing::{commit, give_up, mark};
 use crate::ended::Ended;
 use crate::finish::{Finish, say};
-use crate::folder::Folder;
+use crate::folder::{AREA, Folder, STATE};
 use crate::job::{Job, has_room, open_file};
 use crate::opened::Opened;
 use crate::pair::Pair;
@@ -20,6 +20,14 @@ use write_history::Evicted;
 
 type Files = Store<StoreDevice>;
 
+/// Whether this is the file of a path.
+fn is_at(rt: &HostRuntime, path: &str, found: &Metadata) -> bool {
+    match fs::metadata(rt, path) {
+        Ok(own) => own.dev() == found.dev() && own.ino() == found.ino(),
+        Err(_) => false,
+    }
+}
+
 /// Whether this is a file of the folder.
 fn is_own(
     rt: &HostRuntime,
@@ -29,13 +37,12 @@ fn is_own(
 ) -> Result<bool, Ended> {
     for volume in 0..store.volumes() {
         let path = folder.path_of_volume(rt, store.name(volume).bytes())?;
-        if let Ok(own) = fs::metadata(rt, path.as_str()) {
-            if own.dev() == found.dev() && own.ino() == found.ino() {
-                return Ok(true);
-            }
+        if is_at(rt, path.as_str(), found) {
+            return Ok(true);
         }
     }
-    Ok(false)
+    let (area, state) = (folder.path_of(rt, AREA)?, folder.path_of(rt, STATE)?);
+    Ok(is_at(rt, area.as_str(), found) || is_at(rt, state.as_str(), found))
 }
 
 /// The jobs of pairs of names and files.
@@ -74,7 +81,7 @@ fn jobs_of<'a>(
 fn compare_all(rt: &HostRuntime, store: &mut Files, jobs: &mut [Job<'_>]) -> Result<(), Ended> {
     for job in jobs.iter_mut() {
         if let Err(fault) = store.compare(job.volume, &mut job.input, &mut job.differs) {
-            return Err(job.fault(rt, fault));
+            return Err(job.fault(rt, fault, ""));
         }
         job.is_same(rt, "")?;
         job.written = job.marked();
@@ -141,11 +148,11 @@ fn overwrite_all(
 ) -> Result<(), Ended> {
     for job in jobs.iter_mut() {
         let passed = store.overwrite(job.volume, &mut job.input, &job.differs, 0, gone);
-        if let Err(fault) = passed {
-            return Err(job.fault(rt, fault));
-        }
         let name = std::str::from_utf8(store.name(job.volume).bytes()).unwrap_or("");
         let more = format!(in rt.alloc(); "; {name} has a part of each: update it again")?;
+        if let Err(fault) = passed {
+            return Err(job.fault(rt, fault, more.as_str()));
+        }
         job.is_same(rt, more.as_str())?;
     }
     Ok(())
