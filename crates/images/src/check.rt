@@ -7,6 +7,7 @@ use crate::folder::Folder;
 use crate::list::length_of;
 use crate::marker::Marker;
 use crate::opened::{Opened, take_up};
+use crate::progress::Progress;
 use crate::state::State;
 use crate::status::Status;
 use crate::store_device::StoreDevice;
@@ -30,7 +31,9 @@ fn tell(rt: &HostRuntime, ended: Ended) -> Result<(), Ended> {
 fn reads_whole(rt: &HostRuntime, device: StoreDevice) -> Result<StoreDevice, Ended> {
     let mut device = device;
     let mut block = BlockBuf::zeroed(rt.alloc())?;
+    let mut progress = Progress::new(rt, "read", device.blocks());
     for index in 0..device.blocks() {
+        progress.step();
         if device.read_into(index, block.bytes_mut()).is_err() {
             return Err(fault_line(rt, device.into_fault()));
         }

@@ -6,6 +6,7 @@ use crate::folder::{AREA, Folder};
 use crate::job::Job;
 use crate::pair::Pair;
 use crate::part::Part;
+use crate::progress::Progress;
 use crate::refusals::{may_name, twice};
 use crate::status::Status;
 use crate::store_device::StoreDevice;
@@ -138,6 +139,7 @@ fn put_in(
     if let Err(fault) = store.compare(volume, &mut job.input, &mut job.differs) {
         return Err(job.fault(rt, fault, ""));
     }
+    job.input.progress = Progress::new(rt, "written", job.marked());
     let passed = store.overwrite(volume, &mut job.input, &job.differs, 0, &mut gone);
     if let Err(fault) = passed {
         return Err(job.fault(rt, fault, ""));

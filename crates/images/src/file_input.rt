@@ -1,3 +1,4 @@
+use crate::progress::Progress;
 use block_data::BLOCK;
 use byteorder::{ByteOrder, LittleEndian};
 use std::fs::{File, Metadata};
@@ -16,6 +17,7 @@ pub struct FileInput {
     changed: (i64, i64),
     count: u64,
     last: Option<io::Error>,
+    pub progress: Progress,
 }
 
 /// How many bytes the length of a file has.
@@ -41,7 +43,7 @@ pub fn blocks_for(length: u64) -> u64 {
 
 impl FileInput {
     /// The file as so many blocks, in which it has room with its length.
-    pub fn new(file: File, found: &Metadata, blocks: u32) -> FileInput {
+    pub fn new(rt: &HostRuntime, file: File, found: &Metadata, blocks: u32) -> FileInput {
         FileInput {
             file,
             blocks,
@@ -49,6 +51,7 @@ impl FileInput {
             changed: time_of(found),
             count: 0,
             last: None,
+            progress: Progress::new(rt, "compared", blocks),
         }
     }
 
@@ -106,6 +109,7 @@ impl Device for FileInput {
     }
 
     fn read_into(&mut self, index: u32, out: &mut [u8]) -> Result<(), Failed> {
+        self.progress.step();
         match self.read_part(index, out) {
             Ok(()) => Ok(()),
             Err(error) => Err(self.fail(Some(error))),

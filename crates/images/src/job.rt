@@ -75,7 +75,7 @@ impl<'a> Job<'a> {
         Ok(Job {
             path,
             volume,
-            input: FileInput::new(file, found, blocks),
+            input: FileInput::new(rt, file, found, blocks),
             differs: vec![in rt.alloc(); false; blocks as usize]?,
             written: 0,
             copied: 0,

@@ -3,7 +3,9 @@ use crate::ended::Ended;
 use crate::finish::{Finish, say};
 use crate::folder::{AREA, Folder};
 use crate::opened::Opened;
+use crate::progress::Progress;
 use crate::refusals::{has_image, place_of};
+use crate::shown_sink::ShownSink;
 use crate::status::Status;
 use image_store::{ShowFault, Which};
 use io_edge::OutSink;
@@ -87,7 +89,10 @@ pub fn show(
     name: &str,
 ) -> Result<Finish, Ended> {
     let (volume, which) = shown(rt, folder, opened, set, name)?;
-    let mut sink = OutSink::new(rt.stdout());
+    let mut sink = ShownSink {
+        sink: OutSink::new(rt.stdout()),
+        progress: Progress::new(rt, "shown", opened.store.blocks(volume)),
+    };
     match opened.store.show(volume, which, &mut sink) {
         Ok(()) => Ok(Finish::quiet(rt.alloc())),
         Err(fault) => Err(refusal(rt, folder, opened, volume, which, fault)),
@@ -103,10 +108,13 @@ pub fn digest(
     name: &str,
 ) -> Result<Finish, Ended> {
     let (volume, which) = shown(rt, folder, opened, set, name)?;
-    let mut sink = DigestSink::new();
+    let mut sink = ShownSink {
+        sink: DigestSink::new(),
+        progress: Progress::new(rt, "digested", opened.store.blocks(volume)),
+    };
     match opened.store.show(volume, which, &mut sink) {
         Ok(()) => {
-            let digits = hex::encode(rt.alloc(), sink.finish().as_slice())?;
+            let digits = hex::encode(rt.alloc(), sink.sink.finish().as_slice())?;
             let line = format!(in rt.alloc(); "{digits}\n")?;
             say(rt, line.as_str())?;
             Ok(Finish::quiet(rt.alloc()))

@@ -9,6 +9,7 @@ use crate::folder::{AREA, Folder, STATE};
 use crate::job::{Job, has_room, open_file};
 use crate::opened::Opened;
 use crate::pair::Pair;
+use crate::progress::Progress;
 use crate::refusals::add_place;
 use crate::status::Status;
 use crate::store_device::StoreDevice;
@@ -147,6 +148,7 @@ fn overwrite_all(
     gone: &mut Vec<Evicted>,
 ) -> Result<(), Ended> {
     for job in jobs.iter_mut() {
+        job.input.progress = Progress::new(rt, "written", job.written);
         let passed = store.overwrite(job.volume, &mut job.input, &job.differs, 0, gone);
         let name = std::str::from_utf8(store.name(job.volume).bytes()).unwrap_or("");
         let more = format!(in rt.alloc(); "; {name} has a part of each: update it again")?;
