@@ -1,6 +1,6 @@
 /* Kills the program at a call of the system, for checks/images/kill.py: the call of number KILL_AT, counted from 1 over all those below that change
-   something. With KILL_HALF a write is made by half first; with KILL_AFTER the call is made before. Without KILL_AT it says at the end on the standard
-   error how many calls there were. */
+   something. With KILL_HALF a write is made by half first; with KILL_AFTER the call is made before. And changes a file before a `pread`, for
+   checks/images/faults.py: before the one of number CHANGE_AT the file CHANGE_FILE gets the size CHANGE_SIZE, or another first byte where that is -1. */
 #define _GNU_SOURCE
 #include <fcntl.h>
 #include <signal.h>
@@ -46,6 +46,16 @@ int fdatasync(int f) { STOPPING(syscall(SYS_fdatasync, f), (void)0); }
 int ftruncate(int f, off_t n) { STOPPING(syscall(SYS_ftruncate, f, n), (void)0); }
 int rename(const char *a, const char *b) { STOPPING(syscall(SYS_renameat, AT_FDCWD, a, AT_FDCWD, b), (void)0); }
 int unlink(const char *a) { STOPPING(syscall(SYS_unlinkat, AT_FDCWD, a, 0), (void)0); }
+ssize_t pread(int f, void *p, size_t n, off_t o) {
+    static atomic_long reads;
+    if (getenv("CHANGE_AT") && atomic_fetch_add(&reads, 1) + 1 == atol(getenv("CHANGE_AT"))) {
+        int file = (int)syscall(SYS_openat, AT_FDCWD, getenv("CHANGE_FILE"), O_WRONLY, 0);
+        long size = atol(getenv("CHANGE_SIZE"));
+        if (size < 0 ? syscall(SYS_pwrite64, file, "?", 1, 0) != 1 : syscall(SYS_ftruncate, file, size) != 0) abort();
+        syscall(SYS_close, file);
+    }
+    return syscall(SYS_pread64, f, p, n, o);
+}
 int mkdir(const char *a, mode_t m) { STOPPING(syscall(SYS_mkdirat, AT_FDCWD, a, m), (void)0); }
 
 int open(const char *name, int flags, ...) {

@@ -1,9 +1,9 @@
 #!/usr/bin/env python3
 """Kills `images` at each call of the system that changes something, and sees that wrong bytes are never given as right ones.
 
-    kill.py PROGRAM LIBRARY FOLDER
+    kill.py PROGRAM LIBRARY FOLDER [STEP]
 
-LIBRARY is kill.c as a shared library. Each scene is a folder that was made by some calls, and a call that is killed: before its Nth change, in the middle of it, or
+LIBRARY is kill.c as a shared library; with STEP, each so manyth place is tried. Each scene is a folder that was made by some calls, and a call that is killed: before its Nth change, in the middle of it, or
 behind it, until it ends by itself. Then each image that `show` gives has the bytes of its cut; one that is not there was deleted, reverted past, or printed as evicted;
 a volume that `show` gives is as before or as after; every other call refuses an unclean folder. Once the marker is removed and all volumes are updated, all agree.
 """
@@ -196,6 +196,7 @@ class Scene:
 
 def main():
     program, library, folder = (os.path.abspath(word) for word in sys.argv[1:4])
+    step = int(sys.argv[4]) if len(sys.argv) > 4 else 1
     places = 0
     for name in SCENES:
         room = os.path.join(folder, name.replace(" ", "_"))
@@ -205,8 +206,8 @@ def main():
         for how in ("", "KILL_HALF", "KILL_AFTER"):
             number = 1
             while scene.kill_at(room, library, number, how):
-                number += 1
-            count += number - 1
+                number += step
+                count += 1
         print(f"{name}: killed at {count} places")
         places += count
         shutil.rmtree(room)
