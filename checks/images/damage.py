@@ -3,10 +3,11 @@
 
     damage.py PROGRAM FOLDER
 
-Each byte of the state is another, and it is cut off or longer; the files of volumes and the area have other sizes; the length in a volume's last block has no room; a
+Each byte of the state is another, and it is cut off or longer; each of its fields is another below a digest that is made anew; the files of volumes and the area have other sizes; the length in a volume's last block has no room; a
 file is missing. And a second process is refused while a first has the folder.
 """
 import fcntl
+import hashlib
 import os
 import shutil
 import subprocess
@@ -72,6 +73,45 @@ class Damage:
         for data, told in ((state[:-1], b"digest"), (state + b"x", b"digest"), (b"", b"size"), (state[:31], b"size"), (state + bytes(2_000_000), b"size")):
             self.refuses("images.state", data, 9, ["list", "F"], b"images: F/images.state: " + told)
 
+    def field(self, place, data, told, reseals=False):
+        """The state with these bytes at a place, below a digest of its own, for which also the catalog's may be made anew."""
+        state, end = bytearray(self.whole["images.state"][:-32]), 16 + self.number(12)
+        state[place:place + len(data)] = data
+        if reseals:
+            state[end - 32:end] = hashlib.sha256(state[16:end - 32]).digest()
+        for words in (["list", "F"], ["check", "F"], ["show", "F", "1", "db"], ["update", "F", "db=db"]):
+            self.refuses("images.state", bytes(state) + hashlib.sha256(state).digest(), 9, words, b"images: F/images.state: " + told.encode())
+
+    def number(self, place):
+        return int.from_bytes(self.whole["images.state"][place:place + 4], "little")
+
+    def fields(self):
+        """The head, the catalog of `db` of 3 blocks and `wal` of 1, the header for 3 slots, and its records: slots 0 and 1 have blocks 0 and 1 of `db` for set 1."""
+        header, catalog = 16 + self.number(12), "catalog: "
+        record, of_header = header + B, "the header has "
+        front = "front: not that of an area"
+        for place, number, told in (
+            (8, 0, catalog + "volume 0 has an image of set 1, which was not given"), (12, 0, front), (12, self.number(12) + 1, front), (12, 2**32 - 1, catalog + "cut off"),
+            (header + 8, 3, of_header + "3 in field Layout"), (header + 12, 70000, front), (header + 12, 2000, front), (header + 16, 9, of_header + "9 in field Used"),
+            (header + 20, 0, of_header + "0 in field Volumes"), (header + 20, 1, of_header + "1 in field Rest"), (header + 24, 0, of_header + "0 in field Blocks"),
+            (header + 24, 9, "volume 0: 9 blocks"), (header + 100, 120, of_header + "120 in field Rest"), (record, 9, "slot 0: set 9 has no image"), (record, 0, of_header + "2 in field Used"),
+            (record + 4, 9, "slot 0 has set 1, block 9, volume 0"), (record + 4, 1, "slot 1 has set 1, block 1, volume 0"), (record + 8, 7, "slot 0 has set 1, block 0, volume 7"),
+            (record + 12, 1, "slot 0 has set 1, block 0, volume 0"), (record + 16, 0, "slot 1 has set 0, block 1, volume 0"), (record + 36, 1, "slot 2 has set 0, block 1, volume 0"),
+            (record + 48, 1, "slot 3 has set 1, block 0, volume 0"), (record + 16 * 1023, 1, "slot 1023 has set 1, block 0, volume 0"),
+        ):
+            self.field(place, number.to_bytes(4, "little"), told)
+        self.field(0, b"X", "letters: others")
+        self.field(header, b"X", of_header + "1095979864 in field Magic")
+        self.field(16, b"X", catalog + "the digest is another")
+        self.field(16, b"X", catalog + "no catalog", True)
+        self.field(32, b"9", catalog + "volume 0 has no name", True)
+        for place, number, told in (
+            (24, 0, "0 volumes"), (24, 200, "200 volumes"), (24, 3, "cut off at byte 49"), (24, 1, "more bytes at byte 30"), (28, 0, "volume 0 has no name"), (28, 33, "volume 0 has no name"),
+            (34, 0, "volume 0 has 0 blocks"), (34, 70000, "volume 0 has 70000 blocks"), (38, 600, "volume 0 has 600 images"), (42, 0, "volume 0 at 26 falls"),
+            (42, 7, "volume 0 has an image of set 7, which was not given"),
+        ):
+            self.field(place, number.to_bytes(4, "little"), catalog + told, True)
+
     def sizes(self):
         for name in ("db.vol", "wal.vol"):
             data = self.whole[name]
@@ -80,7 +120,7 @@ class Damage:
                     self.refuses(name, other, 9, words, f"images: F/{name}: size: {len(other)}, and {len(data)} are wanted".encode())
         area = self.whole["images.area"]
         for other in (area[:-1], area + b"x", b"", area + bytes(B), area[:-B]):
-            self.refuses("images.area", other, 9, ["list", "F"], b"images: F/images.area: ")
+            self.refuses("images.area", other, 9, ["list", "F"], f"images: F/images.area: size: {len(other)}, and {len(area)} are wanted".encode())
 
     def lengths(self):
         for name in ("db.vol", "wal.vol"):
@@ -114,12 +154,29 @@ class Damage:
                 self.tried += 1
             fcntl.flock(held, fcntl.LOCK_UN)
         os.close(held)
+        self.shown_slowly()
+
+    def shown_slowly(self):
+        """While `show` waits for a reader, nothing is written."""
+        out, into = os.pipe()
+        fcntl.fcntl(into, getattr(fcntl, "F_SETPIPE_SZ", 1031), 4096)
+        with subprocess.Popen([self.program, "show", "F", "db"], cwd=self.room, stdout=into) as shown:
+            os.close(into)
+            data = os.read(out, 1)
+            got = run(self.program, self.room, "cut", "F", "db")
+            while part := os.read(out, 65536):
+                data += part
+        os.close(out)
+        if got.returncode != 10 or shown.returncode or data != b"b" * B * 2:
+            sys.exit(f"damage.py: beside `show`: {got.returncode} {got.stderr}; it ended with {shown.returncode}")
+        self.tried += 1
 
 
 def main():
     program, room = os.path.abspath(sys.argv[1]), sys.argv[2]
     damage = Damage(program, room)
     damage.state()
+    damage.fields()
     damage.sizes()
     damage.lengths()
     damage.missing()

@@ -11,13 +11,13 @@ use block_data::BLOCK;
 use std::fs::File;
 use volume_device::FileDevice;
 
-/// Opens a file of the folder, and compares its size where one is wanted. Its blocks are answered.
+/// Opens a file of the folder, which has to be of so many blocks.
 fn open_blocks(
     rt: &HostRuntime,
     path: &str,
     way: Way,
-    wanted: Option<u32>,
-) -> Result<(File, u32), Ended> {
+    blocks: u32,
+) -> Result<File, Ended> {
     let (file, size) = match file_at(rt, path, way == Way::Writing) {
         Ok(Some((file, found))) => (file, found.len()),
         Ok(None) => return Err(Ended::said(
@@ -26,12 +26,8 @@ fn open_blocks(
         )),
         Err(error) => return Err(Ended::by_file(rt.alloc(), path, "could not be opened", &error)),
     };
-    let blocks = match wanted {
-        Some(blocks) => blocks,
-        None => (size / BLOCK as u64).min(u64::from(u32::MAX)) as u32,
-    };
     if size == u64::from(blocks) * BLOCK as u64 {
-        return Ok((file, blocks));
+        return Ok(file);
     }
     Err(Ended::said(
         Status::Damaged,
@@ -52,7 +48,8 @@ pub fn volume_device(
 ) -> Result<StoreDevice, Ended> {
     let catalog = state.head.catalog();
     let path = folder.path_of_volume(rt, catalog.name(volume).bytes())?;
-    let (file, blocks) = open_blocks(rt, path.as_str(), way, Some(catalog.blocks(volume)))?;
+    let blocks = catalog.blocks(volume);
+    let file = open_blocks(rt, path.as_str(), way, blocks)?;
     Ok(StoreDevice::new(FileDevice::new(file, path, blocks), Vec::new(rt.alloc())))
 }
 
@@ -61,9 +58,10 @@ pub fn area_device(
     rt: &HostRuntime,
     folder: &Folder,
     front: Vec<u8>,
+    blocks: u32,
     way: Way,
 ) -> Result<StoreDevice, Ended> {
     let path = folder.path_of(rt, AREA)?;
-    let (file, blocks) = open_blocks(rt, path.as_str(), way, None)?;
+    let file = open_blocks(rt, path.as_str(), way, blocks)?;
     Ok(StoreDevice::new(FileDevice::new(file, path, blocks), front))
 }

@@ -58,8 +58,13 @@ fn devices_of(rt: &HostRuntime, folder: &Folder, state: &State) -> Result<Vec<St
 }
 
 /// The device of the area.
-fn area_of(rt: &HostRuntime, folder: &Folder, front: Vec<u8>) -> Result<StoreDevice, Ended> {
-    let device = area_device(rt, folder, front, Way::Showing)?;
+fn area_of(
+    rt: &HostRuntime,
+    folder: &Folder,
+    front: Vec<u8>,
+    blocks: u32,
+) -> Result<StoreDevice, Ended> {
+    let device = area_device(rt, folder, front, blocks, Way::Showing)?;
     reads_whole(rt, device)
 }
 
@@ -68,8 +73,12 @@ fn read_all(rt: &HostRuntime, folder: &Folder) -> Result<Opened, Ended> {
     let marker = folder.marker(rt)?;
     let state = State::read(rt, folder)?;
     let devices = devices_of(rt, folder, &state)?;
-    let State { head, front } = state;
-    let area = area_of(rt, folder, front)?;
+    let State {
+        head,
+        front,
+        area_blocks,
+    } = state;
+    let area = area_of(rt, folder, front, area_blocks)?;
     if devices.len() < head.catalog().volumes() as usize {
         return Err(Ended {
             status: Status::Damaged,

@@ -165,7 +165,7 @@ fn put_all(
 fn fill(rt: &HostRuntime, folder: &Folder, slots: u32, parts: Vec<Part<'_>>) -> Result<(), Ended> {
     let mut store = new_store(rt, folder, slots, &parts)?;
     match put_all(rt, &mut store, parts) {
-        Err(ended) if ended.line.is_none() => {
+        Err(ended) if ended.line.is_none() && ended.status == Status::FolderFault => {
             let (devices, area) = store.into_devices();
             Err(first_fault(rt, devices, area))
         }

@@ -1,7 +1,7 @@
 use crate::area_file::{area_device, volume_device};
 use crate::ended::Ended;
 use crate::finish::fault_line;
-use crate::folder::{AREA, Folder, STATE};
+use crate::folder::{Folder, STATE};
 use crate::marker::Marker;
 use crate::state::State;
 use crate::status::Status;
@@ -31,17 +31,6 @@ fn devices_of(
     Ok(devices)
 }
 
-/// In which file a fault was found.
-fn file_of(fault: OpenFault) -> &'static str {
-    match fault {
-        OpenFault::Area(_)
-        | OpenFault::Volumes { .. }
-        | OpenFault::Blocks { .. }
-        | OpenFault::Image { .. } => AREA,
-        _ => STATE,
-    }
-}
-
 /// What is said of devices that are no store.
 pub fn refusal(rt: &HostRuntime, folder: &Folder, refused: Refused<StoreDevice>) -> Ended {
     match (refused.fault, refused.area) {
@@ -49,7 +38,7 @@ pub fn refusal(rt: &HostRuntime, folder: &Folder, refused: Refused<StoreDevice>)
         (OpenFault::Area(AreaFault::Device), Some(area)) => fault_line(rt, area.into_fault()),
         (fault, _) => Ended::said(
             Status::Damaged,
-            format!(in rt.alloc(); "{}/{}: {fault}", folder.path, file_of(fault)),
+            format!(in rt.alloc(); "{}/{STATE}: {fault}", folder.path),
         ),
     }
 }
@@ -84,8 +73,12 @@ pub fn open(rt: &HostRuntime, folder: &Folder, way: Way) -> Result<Opened, Ended
     }
     let state = State::read(rt, folder)?;
     let devices = devices_of(rt, folder, &state, way)?;
-    let State { head, front } = state;
-    let area = area_device(rt, folder, front, way)?;
+    let State {
+        head,
+        front,
+        area_blocks,
+    } = state;
+    let area = area_device(rt, folder, front, area_blocks, way)?;
     Ok(Opened {
         store: take_up(rt, folder, devices, area, &head)?,
         marker,

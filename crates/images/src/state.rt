@@ -12,11 +12,12 @@ const MOST_STATE: u64 = 267_820 + 1_064_960 + 48;
 /// How many bytes its digest has.
 const DIGEST: usize = 32;
 
-/// What is committed: the head, and the first blocks of the area.
+/// What is committed: the head, and the first blocks of the area, which has so many in all.
 #[derive(Drop)]
 pub struct State {
     pub head: Head,
     pub front: Vec<u8>,
+    pub area_blocks: u32,
 }
 
 /// A state of which this is wrong.
@@ -37,13 +38,16 @@ fn bytes_in(rt: &HostRuntime, path: &str) -> Result<Vec<u8>, Ended> {
     }
 }
 
-/// Whether the front has the blocks of the header and the table of its own number of slots.
-fn is_front(front: &[u8]) -> bool {
+/// How many blocks an area has, where the front has its header and the table of the header's number of slots.
+fn blocks_of_area(front: &[u8]) -> Option<u32> {
     if front.len() < BLOCK {
-        return false;
+        return None;
     }
     let slots = u32::from_le_bytes([front[12], front[13], front[14], front[15]]);
-    slots <= MOST_SLOTS && front.len() == BLOCK * (1 + pages_for(slots) as usize)
+    if slots > MOST_SLOTS || front.len() != BLOCK * (1 + pages_for(slots) as usize) {
+        return None;
+    }
+    Some(1 + pages_for(slots) + slots)
 }
 
 /// What is said of a head that is none.
@@ -71,13 +75,14 @@ impl State {
             return Err(damaged(rt, path, "catalog: cut off"));
         };
         let (head, front) = sealed.split_at(length);
-        if !is_front(front) {
+        let Some(area_blocks) = blocks_of_area(front) else {
             return Err(damaged(rt, path, "front: not that of an area"));
-        }
+        };
         match Head::read(rt.alloc(), head) {
             Ok(head) => Ok(State {
                 head,
                 front: front.to_vec(rt.alloc())?,
+                area_blocks,
             }),
             Err(fault) => Err(head_fault(rt, path, fault)),
         }
