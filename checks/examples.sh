@@ -18,6 +18,7 @@ done
 
 images="$(program images)" || exit 1
 ln -s "$images" "$room/images"
+python3 -c 'import sqlite3' 2> /dev/null || { echo "examples: this python3 has no sqlite3, so README.md's example of ./images was left out" >&2; ends "the scenarios alone"; }
 python3 - README.md "$room" > "$room/said" 2>&1 << 'PYTHON' || wrong "README.md, ./images: $(cat "$room/said")"
 import re, sqlite3, subprocess, sys
 

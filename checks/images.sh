@@ -1,8 +1,8 @@
 #!/usr/bin/env bash
 # `images` answers drawn lists of calls as a second reading over plain copies of files does; killed at calls of the system that change something, it
-# never gives wrong bytes as right ones; a second process is refused while one has the folder; a state of which a byte is another is refused; and
-# versions of a SQLite database under a process that writes, cut while that is stopped, are whole. It tries each third place of
-# kill.py, and 100 lists; tools/image-trials tries more, and calls that fail. Rooms lie in memory where there is a folder for that.
+# never gives wrong bytes as right ones; a second process is refused while one has the folder; a state of which a byte is another is refused;
+# a line on a terminal shows how far it is; and versions of a SQLite database under a process that writes, cut while that is stopped, are whole. It
+# tries each third place of kill.py, and 100 lists; tools/image-trials tries more, and calls that fail. Rooms lie in memory where there is a folder for that.
 . "$(dirname "${BASH_SOURCE[0]}")/prelude.sh" || exit 70
 images="$(program images)" || exit 1
 if [ -w /dev/shm ]; then
@@ -10,7 +10,7 @@ if [ -w /dev/shm ]; then
   room="$(mktemp -d -p /dev/shm)" || exit 70
 fi
 
-mkdir "$room/lists" "$room/kills" "$room/damage" "$room/sqlite"
+mkdir "$room/lists" "$room/kills" "$room/damage" "$room/terminal" "$room/sqlite"
 python3 checks/images/lists.py "$images" "$room/lists" 0 100 > "$room/said" 2>&1 || wrong "$(cat "$room/said")"
 
 if command -v cc > /dev/null; then
@@ -23,6 +23,7 @@ else
 fi
 
 python3 checks/images/damage.py "$images" "$room/damage" > "$room/said" 2>&1 || wrong "$(cat "$room/said")"
+python3 checks/images/terminal.py "$images" "$room/terminal" > "$room/said" 2>&1 || wrong "$(cat "$room/said")"
 
 if command -v sqlite3 > /dev/null; then
   bash checks/images/sqlite.sh "$images" "$room/sqlite" > "$room/said" 2>&1 || wrong "$(cat "$room/said")"
