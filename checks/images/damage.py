@@ -3,8 +3,8 @@
 
     damage.py PROGRAM FOLDER
 
-Each byte of the state is another, and it is cut off or longer; each of its fields is another below a digest that is made anew; the files of volumes and the area have other sizes; the length in a volume's last block has no room; a
-file is missing. And a second process is refused while a first has the folder.
+Each byte of the state is another, and it is cut off or longer; each of its fields is another below a digest that is made anew; the files of volumes and the
+area have other sizes; the length in a volume's last block has no room; a file is missing. And a second process is refused while a first has the folder.
 """
 import fcntl
 import hashlib
@@ -91,12 +91,16 @@ class Damage:
         record, of_header = header + B, "the header has "
         front = "front: not that of an area"
         for place, number, told in (
-            (8, 0, catalog + "volume 0 has an image of set 1, which was not given"), (12, 0, front), (12, self.number(12) + 1, front), (12, 2**32 - 1, catalog + "cut off"),
-            (header + 8, 3, of_header + "3 in field Layout"), (header + 12, 70000, front), (header + 12, 2000, front), (header + 16, 9, of_header + "9 in field Used"),
-            (header + 20, 0, of_header + "0 in field Volumes"), (header + 20, 1, of_header + "1 in field Rest"), (header + 24, 0, of_header + "0 in field Blocks"),
-            (header + 24, 9, "volume 0: 9 blocks"), (header + 100, 120, of_header + "120 in field Rest"), (record, 9, "slot 0: set 9 has no image"), (record, 0, of_header + "2 in field Used"),
-            (record + 4, 9, "slot 0 has set 1, block 9, volume 0"), (record + 4, 1, "slot 1 has set 1, block 1, volume 0"), (record + 8, 7, "slot 0 has set 1, block 0, volume 7"),
-            (record + 12, 1, "slot 0 has set 1, block 0, volume 0"), (record + 16, 0, "slot 1 has set 0, block 1, volume 0"), (record + 36, 1, "slot 2 has set 0, block 1, volume 0"),
+            (8, 0, catalog + "volume 0 has an image of set 1, which was not given"),
+            (12, 0, front), (12, self.number(12) + 1, front), (12, 2**32 - 1, catalog + "cut off"),
+            (header + 8, 3, of_header + "3 in field Layout"), (header + 12, 70000, front), (header + 12, 2000, front),
+            (header + 16, 9, of_header + "9 in field Used"), (header + 20, 0, of_header + "0 in field Volumes"),
+            (header + 20, 1, of_header + "1 in field Rest"), (header + 24, 0, of_header + "0 in field Blocks"),
+            (header + 24, 9, "volume 0: 9 blocks"), (header + 100, 120, of_header + "120 in field Rest"),
+            (record, 9, "slot 0: set 9 has no image"), (record, 0, of_header + "2 in field Used"),
+            (record + 4, 9, "slot 0 has set 1, block 9, volume 0"), (record + 4, 1, "slot 1 has set 1, block 1, volume 0"),
+            (record + 8, 7, "slot 0 has set 1, block 0, volume 7"), (record + 12, 1, "slot 0 has set 1, block 0, volume 0"),
+            (record + 16, 0, "slot 1 has set 0, block 1, volume 0"), (record + 36, 1, "slot 2 has set 0, block 1, volume 0"),
             (record + 48, 1, "slot 3 has set 1, block 0, volume 0"), (record + 16 * 1023, 1, "slot 1023 has set 1, block 0, volume 0"),
         ):
             self.field(place, number.to_bytes(4, "little"), told)
@@ -106,8 +110,9 @@ class Damage:
         self.field(16, b"X", catalog + "no catalog", True)
         self.field(32, b"9", catalog + "volume 0 has no name", True)
         for place, number, told in (
-            (24, 0, "0 volumes"), (24, 200, "200 volumes"), (24, 3, "cut off at byte 49"), (24, 1, "more bytes at byte 30"), (28, 0, "volume 0 has no name"), (28, 33, "volume 0 has no name"),
-            (34, 0, "volume 0 has 0 blocks"), (34, 70000, "volume 0 has 70000 blocks"), (38, 600, "volume 0 has 600 images"), (42, 0, "volume 0 at 26 falls"),
+            (24, 0, "0 volumes"), (24, 200, "200 volumes"), (24, 3, "cut off at byte 49"), (24, 1, "more bytes at byte 30"),
+            (28, 0, "volume 0 has no name"), (28, 33, "volume 0 has no name"), (34, 0, "volume 0 has 0 blocks"),
+            (34, 70000, "volume 0 has 70000 blocks"), (38, 600, "volume 0 has 600 images"), (42, 0, "volume 0 at 26 falls"),
             (42, 7, "volume 0 has an image of set 7, which was not given"),
         ):
             self.field(place, number.to_bytes(4, "little"), catalog + told, True)

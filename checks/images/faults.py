@@ -144,7 +144,8 @@ class Faults:
 
     def calls(self):
         """Calls that write, and such as read."""
-        return [["update", "F", "db=db"], ["cut", "F", "db"], ["delete", "F", "1"], ["revert", "F", "1", "db"]], [["list", "F"], ["show", "F", "db"], ["show", "F", "1", "db"], ["check", "F"]]
+        writing = [["update", "F", "db=db"], ["cut", "F", "db"], ["delete", "F", "1"], ["revert", "F", "1", "db"]]
+        return writing, [["list", "F"], ["show", "F", "db"], ["show", "F", "1", "db"], ["check", "F"]]
 
     def rights(self):
         """As nobody: a folder that may be read alone, one that may not, and a file."""
@@ -185,7 +186,8 @@ class Faults:
         os.mkfifo(os.path.join(base, "pipe"))
         os.symlink("F", os.path.join(base, "link"))
         os.symlink("none", os.path.join(base, "broken"))
-        for name, told in (("pipe", b"is no file"), ("/dev/zero", b"is no file"), ("F", b"is no file"), ("broken", b"could not be read: No such file"), ("db/x", b"could not be read: Not a directory")):
+        none, missing, not_folder = b"is no file", b"could not be read: No such file", b"could not be read: Not a directory"
+        for name, told in (("pipe", none), ("/dev/zero", none), ("F", none), ("broken", missing), ("db/x", not_folder)):
             self.refused(base, "something else as the file", ["update", "F", f"db={name}"], 4, told)
             self.refused(base, "something else as the file", ["create", "G", "4", f"db={name}"], 4, told)
         for name in ("F/db.vol", "F/images.area", "F/images.state"):
@@ -239,9 +241,10 @@ class Faults:
         base = self.scene("revert").base
         writing, reading = self.calls()
         for files in range(4, 7):
+            few = {"preexec_fn": lambda n=files: resource.setrlimit(resource.RLIMIT_NOFILE, (n, n))}
             for words in writing + reading:
                 before = sums(base)
-                got = subprocess.run([self.program, *words], cwd=base, capture_output=True, timeout=60, check=False, preexec_fn=lambda n=files: resource.setrlimit(resource.RLIMIT_NOFILE, (n, n)))
+                got = subprocess.run([self.program, *words], cwd=base, capture_output=True, timeout=60, check=False, **few)
                 if got.returncode not in (3, 4, 6) or b"Too many open files" not in got.stderr or got.stdout or sums(base) != before:
                     sys.exit(f"faults.py: {files} files: {words}: {got.returncode} {got.stdout[:100]} {got.stderr}")
                 self.count("few open files", got.returncode)

@@ -3,9 +3,10 @@
 
     kill.py PROGRAM LIBRARY FOLDER [STEP]
 
-LIBRARY is kill.c as a shared library; with STEP, each so manyth place is tried. Each scene is a folder that was made by some calls, and a call that is killed: before its Nth change, in the middle of it, or
-behind it, until it ends by itself. Then each image that `show` gives has the bytes of its cut; one that is not there was deleted, reverted past, or printed as evicted;
-a volume that `show` gives is as before or as after; every other call refuses an unclean folder. Once the marker is removed and all volumes are updated, all agree.
+LIBRARY is kill.c as a shared library; with STEP only each so manyth place is tried. Each scene is a folder that was made by some calls, and a call that is
+killed: before its Nth change, in the middle of it, or behind it, until it ends by itself. Then each image that `show` gives has the bytes of its cut; one that
+is not there was deleted, reverted past, or printed as evicted; a volume that `show` gives is as before or as after; every other call refuses an unclean folder.
+Once the marker is removed and all volumes are updated, all agree.
 """
 import copy
 import os

@@ -3,9 +3,10 @@
 
     power.py PROGRAM LIBRARY FOLDER [SCENE..]
 
-LIBRARY is record.c as a shared library. Each scene of kill.py is run once, and what it changes is recorded. For each place in it folders are made of what a disk may have
-then: what was synced, and of the rest nothing; or the names alone; or the contents alone; or drawn parts of both, twice. A file's contents are synced by a sync of the file, and names by
-one of their folder. Of contents each 4,096 bytes may be there or not, of the names of a folder the first so many changes. Such a folder is then as after a kill.
+LIBRARY is record.c as a shared library. Each scene of kill.py is run once, and what it changes is recorded. For each place in it folders are made of what a
+disk may have then: what was synced, and of the rest nothing; or the names alone; or the contents alone; or drawn parts of both, twice. A file's contents are
+synced by a sync of the file, and names by one of their folder. Of contents each 4,096 bytes may be there or not, of the names of a folder the first so many
+changes. Such a folder is then as after a kill.
 """
 import os
 import random
