@@ -12,13 +12,18 @@ mod counts;
 mod diff_map;
 mod entry;
 mod going;
+mod group_map;
+mod handed_down;
 mod image_count;
 mod index;
 mod links;
+mod of_volume;
 mod row;
 
 pub use copied::Copied;
 pub use diff_map::{DiffMap, MOST_IMAGES};
 pub use entry::Entry;
 pub use going::Going;
+pub use group_map::GroupMap;
+pub use handed_down::HandedDown;
 pub use index::next_older;
