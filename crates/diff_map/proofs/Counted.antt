@@ -1,7 +1,7 @@
 -- What a map keeps beside its copies: where an image is cut, a slot is noted or loses its copy, and images go.
-use Rattle.std.proofs.Common.{ℕ, ◌≡◌, ◌≢◌, ◌+◌, ◌-◌, ◌<◌, ◌≤◌, ◌^◌, ◌++◌, inl, inr, Bool, true, false, cond, ltb, drop, List, [], ◌∷◌, length, get_or, set, map, Option, Some, None, refl, ap, sym, ◌∙◌, subst}
+use Rattle.std.proofs.Common.{ℕ, ◌≡◌, ◌≢◌, ◌+◌, ◌-◌, ◌<◌, ◌≤◌, ◌^◌, ◌++◌, inl, inr, Bool, true, false, cond, ltb, leb, eqb, not, drop, take, List, [], ◌∷◌, length, get_or, set, map, Option, Some, None, refl, ap, sym, ◌∙◌, subst}
 use Rattle.std.proofs.Common.{arith, All, Contains, Vec, vec_capacity}
-use Rattle.std.specs.List.{slice_get, filter, AllPairs, AllWithin}
+use Rattle.std.specs.List.{slice_get, filter, remove, AllPairs, AllWithin}
 use Rattle.std.specs.declared.alloc.Global.{Global}
 use Rattle.std.specs.Prelude.{IfSome}
 use Rattle.std.proofs.Math.Seq.{map-set_same}
@@ -19,7 +19,7 @@ use Rattle.diff_map.specs.Counts.{is_for, used_for, IsFor, IsChain, IsCounted, K
 use Rattle.diff_map.specs.MapValue.{AreImages, KeepsImages}
 use Rattle.diff_map.proofs.Chained.{not_for, IsChain-other, IsChain-other_out, IsChain-noted, IsChain-popped, IsFor-first}
 use Rattle.diff_map.proofs.Counting.{used_noted, used_noted_other, used_none, used_some, used_at, used_out, used_out_other}
-use Rattle.diff_map.proofs.Images.{AreImages-filter, Contains-filter, filter_from}
+use Rattle.diff_map.proofs.Images.{AreImages-filter, Contains-filter, filter_from, filter_one, filter_until}
 use Rattle.diff_map.proofs.Renewal.{row_within}
 
 abbrev none_of : ImageCount
@@ -44,7 +44,7 @@ count_at images counts next copies image n d same each inside is =
     (set_at images counts n d same (omega arith) ∙ is 0, each n d (omega arith))
 
 -- the counts at other places are of other images
-other_image_at : (images : List ℕ) (image n k : ℕ) → AllPairs (λ older newer. older < newer) images → n < length images → ((d : ℕ) → get_or images n d ≡ image) → k < length images → k ≢ n
+pub other_image_at : (images : List ℕ) (image n k : ℕ) → AllPairs (λ older newer. older < newer) images → n < length images → ((d : ℕ) → get_or images n d ≡ image) → k < length images → k ≢ n
     → get_or images k 0 ≢ image
 other_image_at images image n k rise inside is within other e = elim (cases_lt k n) [
   | inl low ↦ let up = rise k n 0 low inside in let here = is 0 in omega arith
@@ -277,6 +277,22 @@ counts_dropped set n images counts same within go stay =
     filter_from (λ c. ltb set c.set) n counts
     (λ k d low high. let e = set_at images counts k d same (omega arith) in let le = go k 0 low high in grind (arith, nat_tests))
     (λ k d low high. let e = set_at images counts k d same high in let lt = stay k 0 low (omega arith) in grind (arith, nat_tests))
+
+pub counts_without : (set n : ℕ) (images : List ℕ) (counts : List ImageCount) → sets_of counts ≡ images → AllPairs (λ older newer. older < newer) images → n < length images
+    → ((d : ℕ) → get_or images n d ≡ set) → remove counts n ≡ filter (λ c. not (eqb c.set set)) counts
+counts_without set n images counts same rise inside is =
+    let many = as_many images counts same in
+    filter_one (λ c. not (eqb c.set set)) n counts (omega arith)
+    (λ k d within apart. let e = set_at images counts k d same within in let differs = other_image_at images set n k rise inside is (omega arith) apart in grind (arith, nat_tests))
+    (λ d. let e = set_at images counts n d same (omega arith) in let here = is 0 in grind (arith, nat_tests))
+
+pub counts_until : (set n : ℕ) (images : List ℕ) (counts : List ImageCount) → sets_of counts ≡ images → n ≤ length images → AllWithin (λ image. image ≤ set) images 0 n
+    → AllWithin (λ image. set < image) images n (length images) → take n counts ≡ filter (λ c. leb c.set set) counts
+counts_until set n images counts same within stay go =
+    let many = as_many images counts same in
+    filter_until (λ c. leb c.set set) n counts
+    (λ k d low high. let e = set_at images counts k d same (omega arith) in let le = stay k 0 low high in grind (arith, nat_tests))
+    (λ k d low high. let e = set_at images counts k d same high in let lt = go k 0 low (omega arith) in grind (arith, nat_tests))
 
 pub KeepsImages-left : (p : ℕ → Bool) (images later : Vec ℕ Global) (copies : List (Option Copied)) → KeepsImages images copies
     → ((slot : ℕ) (c : Copied) → copied_at copies slot ≡ Some c → p c.set ≡ true) → later.items ≡ filter p images.items → vec_capacity later ≡ vec_capacity images → KeepsImages later copies

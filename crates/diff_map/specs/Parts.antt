@@ -1,6 +1,6 @@
 -- How the maps of a group stand in one arena: the blocks of all volumes are counted through, each volume has a part of them, and its
 -- copies are those of its part. (This project's own.)
-use Rattle.std.specs.Prelude.{ℕ, [], vec_capacity, ◌≡◌, ◌<◌, ◌≤◌, ◌+◌, ◌-◌, ◌^◌, ◌&&◌, List, Option, Some, None, nat_le, nat_lt, if◌then◌else◌, length, map, All, AllPairs}
+use Rattle.std.specs.Prelude.{ℕ, [], vec_capacity, ◌≡◌, ◌<◌, ◌≤◌, ◌+◌, ◌-◌, ◌^◌, ◌&&◌, List, Option, Some, None, nat_le, nat_lt, if◌then◌else◌, length, slice_index_or, map, All, AllPairs}
 use Rattle.diff_map.specs.declared.copied.Copied.{Copied}
 use Rattle.diff_map.specs.declared.of_volume.OfVolume.{OfVolume}
 use Rattle.diff_map.specs.Copies.{copy_of, noted_in}
@@ -26,10 +26,11 @@ own_copies volume copies = map (own (part_of volume)) copies
 abbrev pub map_of : List (Option Copied) → OfVolume → MapValue
 map_of copies volume = record { blocks = volume.blocks; images = volume.images.items; copies = own_copies volume copies }
 
--- each part ends before the next begins, and all are within so many blocks
+-- each part ends before the next begins, and together they are so many blocks
 pub record AreParts (blocks : ℕ) (parts : List Part) : Type 0 where
   pub apart : AllPairs (λ p q. p.base + p.blocks ≤ q.base) parts
   pub within : All (λ p. p.base + p.blocks ≤ blocks) parts
+  pub all : (block : ℕ) → block < blocks → (k : ℕ) × (k < length parts) × ((p : Part) → (slice_index_or parts k p).base ≤ block) × ((p : Part) → block < (slice_index_or parts k p).base + (slice_index_or parts k p).blocks)
   pub narrow : blocks < 2 ^ 32
 
 -- the images of a volume and their counts are those of its copies

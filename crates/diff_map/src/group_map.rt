@@ -1,6 +1,6 @@
 //! The maps of the volumes of a group, in one arena: one row for each slot, whichever volume it is noted for.
 
-ghost use Rattle.std.specs.Prelude.{◌≡◌, ◌<◌, ◌++◌, ◌∷◌, [], Some, None, length, slice_set, slice_index, filter, not, ◌==◌, nat_le, nat_lt, map, All, Contains, IsTrue, IfOk, IfSome, IsNone, ◌↔◌, ℕ, ◌≢◌, ◌-◌};
+ghost use Rattle.std.specs.Prelude.{◌≡◌, ◌<◌, ◌≤◌, ◌++◌, ◌∷◌, [], Some, None, length, slice_set, slice_index, filter, not, ◌==◌, nat_le, nat_lt, map, All, Contains, IsTrue, IfOk, IfSome, IsNone, ◌↔◌, ℕ, ◌≢◌, ◌-◌};
 ghost use Rattle.diff_map.specs.Chains.{IsFound, IsAbsent};
 ghost use Rattle.diff_map.specs.Copies.{HasCopy, copied_at, copy_of, noted_in};
 ghost use Rattle.diff_map.specs.Counts.{IsOldestUsed, IsPopped, used_for};
@@ -64,20 +64,6 @@ impl GroupMap {
         })
     }
 
-    /// How many volumes there are.
-    pub fn volumes(&self) -> u32
-        ensures { result ≡ length self.now }
-    {
-        self.volumes.len() as u32
-    }
-
-    /// How many slots the diff area has.
-    pub fn slots(&self) -> u32
-        ensures { (v : ℕ) → v < length self.now → result ≡ length (map_at self.now v).copies }
-    {
-        self.links.slots()
-    }
-
     /// How many blocks the volume has.
     pub fn blocks(&self, v: u32) -> u32
         requires { v < length self.now }
@@ -92,6 +78,7 @@ impl GroupMap {
         ensures images { result.now ≡ (map_at self.now v).images }
         ensures valid { IsMap (map_at self.now v) }
     {
+        let _facts = self.links.slots();
         &self.volumes[v as usize].images
     }
 
@@ -101,8 +88,9 @@ impl GroupMap {
         requires slot { slot < length (map_at self.now v).copies }
         ensures { result ≡ copied_at (map_at self.now v).copies slot }
     {
+        let volume = &self.volumes[v as usize];
         match self.links.held_by(slot) {
-            Some(copied) => self.volumes[v as usize].own(copied),
+            Some(copied) => volume.own(copied),
             None => None,
         }
     }
@@ -126,10 +114,11 @@ impl GroupMap {
         requires { v < length self.now }
         ensures { IsTrue result ↔ HasCopy (map_at self.now v).copies set block }
     {
-        let Some(slot) = self.find(v, set, block) else {
+        let volume = &self.volumes[v as usize];
+        if block >= volume.blocks {
             return false;
-        };
-        self.links.set_of(slot) == set
+        }
+        self.links.has(set, volume.base + block)
     }
 
     /// How many slots are noted for the volume.
@@ -186,18 +175,6 @@ impl GroupMap {
             used: 0,
             first: 0,
         });
-    }
-
-    /// Adds the images of these sets, the oldest first, to a volume that has none.
-    pub fn add_images(&mut self, v: u32, sets: &[u32])
-        requires volume { v < length self.old }
-        requires none { (map_at self.old v).images ≡ [] }
-        requires rise { AreImages sets.now }
-        ensures { self.new ≡ slice_set self.old v (with_images sets.now (map_at self.old v)) }
-    {
-        for set in sets {
-            self.add_image(v, *set);
-        }
     }
 
     /// Notes the slot for this block of the newest image of the volume.
@@ -287,7 +264,8 @@ impl GroupMap {
         ensures some { IfSome result (IsHandedDown (map_at self.old v) (map_at self.new v) (slice_index (map_at self.old v).images (at - 1)) (slice_index (map_at self.old v).images at)) }
         ensures none { IsNone result → (self.new ≡ self.old) × (used_for (map_at self.old v).copies (slice_index (map_at self.old v).images at) ≡ 0) }
     {
-        let older = self.images(v)[at - 1];
+        let volume = &self.volumes[v as usize];
+        let older = volume.images[at - 1];
         let Some(entry) = self.pop_at(v, at) else {
             return None;
         };
@@ -301,12 +279,14 @@ impl GroupMap {
     /// Takes the volume's image of `set` out, which has no copy.
     pub fn forget(&mut self, v: u32, set: u32)
         requires volume { v < length self.old }
+        requires image { Contains (map_at self.old v).images set }
         requires none { (slot : ℕ) (copied : Copied) → copied_at (map_at self.old v).copies slot ≡ Some copied → copied.set ≢ set }
         ensures { self.new ≡ slice_set self.old v (with_images (filter (λ image. not (image == set)) (map_at self.old v).images) (map_at self.old v)) }
     {
         let volume = &mut self.volumes[v as usize];
-        volume.images.retain(|&image| image != set);
-        volume.counts.retain(|count| count.set != set);
+        let at = place_from(&volume.images, set);
+        let _image = volume.images.remove(at);
+        let _count = volume.counts.remove(at);
     }
 
     /// Takes each image of the volume up to `set` out. None of them has a copy.
@@ -328,7 +308,8 @@ impl GroupMap {
         ensures { self.new ≡ slice_set self.old v (with_images (filter (λ image. nat_le image set) (map_at self.old v).images) (map_at self.old v)) }
     {
         let volume = &mut self.volumes[v as usize];
-        volume.images.retain(|&image| image <= set);
-        volume.counts.retain(|count| count.set <= set);
+        let left = place_after(&volume.images, set);
+        volume.images.truncate(left);
+        volume.counts.truncate(left);
     }
 }

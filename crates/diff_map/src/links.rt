@@ -1,6 +1,6 @@
 //! Which slot holds which block for which set, in chains: one for each block, its copies from the newest on.
 
-ghost use Rattle.std.specs.Prelude.{◌≡◌, ◌<◌, ◌≤◌, ◌^◌, ◌↔◌, Some, None, length, replicate, slice_get, slice_set, IfOk, IfSome, IsNone};
+ghost use Rattle.std.specs.Prelude.{◌≡◌, ◌<◌, ◌≤◌, ◌^◌, ◌↔◌, Some, None, length, replicate, slice_get, slice_set, IfOk, IfSome, IsNone, IsTrue};
 ghost use Rattle.diff_map.specs.Copies.{HasCopy, copied_at, copy_of};
 ghost use Rattle.diff_map.specs.Chains.{IsFound, IsAbsent};
 ghost use Rattle.diff_map.specs.Links.{AreLinked, row_at, HasBlock, NoneBetween, IsBetween, IsBelow, IsFrom, IsNextAbove, KeepsLinks, link_from, newest_after, older_after};
@@ -166,6 +166,16 @@ impl Links {
             return None;
         }
         next_above(&self.newest, &self.rows, block, set.saturating_sub(1))
+    }
+
+    /// Whether a set has a copy of a block.
+    pub fn has(&self, set: u32, block: u32) -> bool
+        ensures { IsTrue result ↔ HasCopy self.now.copies set block }
+    {
+        let Some(slot) = self.find(set, block) else {
+            return false;
+        };
+        self.set_of(slot) == set
     }
 
     /// Notes the slot for a block and a set, which has no copy of it.
