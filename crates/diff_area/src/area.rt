@@ -132,6 +132,13 @@ impl<D: Device> Area<D> {
         self.volumes.len() as u32
     }
 
+    /// How many blocks each volume of the group has.
+    pub fn sizes(&self) -> &[u32]
+        ensures { result.now ≡ self.now.volumes }
+    {
+        &self.volumes
+    }
+
     /// How many blocks a volume of the group has.
     pub fn blocks(&self, volume: u32) -> u32
         requires { volume < length self.now.volumes }
