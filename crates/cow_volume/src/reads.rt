@@ -12,6 +12,7 @@ use crate::cause::Cause;
 use crate::copies::Copies;
 use crate::image_fault::ImageFault;
 use block_data::BLOCK;
+use diff_map::place_from;
 use volume_device::Device;
 
 /// Whether an image of a set stands on a volume.
@@ -20,7 +21,12 @@ pub(crate) fn has_image<D: Device>(copies: &Copies<D>, v: u32, set: u32) -> bool
     ensures among { result ≡ is_among set (images_on copies.now v) }
     ensures above { result ≡ true → 0 < set }
 {
-    copies.images(v).iter().any(|image| *image == set)
+    let sets = copies.images(v);
+    let at = place_from(sets, set);
+    if at == sets.len() {
+        return false;
+    }
+    sets[at] == set
 }
 
 /// Reads a block of a volume as it is into `out`, which after a failed read holds any bytes.
