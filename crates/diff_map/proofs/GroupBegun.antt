@@ -2,7 +2,7 @@
 use Rattle.std.proofs.Common.{ℕ, zero, suc, ◌≡◌, ◌+◌, ◌<◌, ◌≤◌, ◌^◌, ◌++◌, inl, inr, List, [], ◌∷◌, length, get_or, map, replicate, take, Option, Some, None, refl, ap, sym, ◌∙◌, subst}
 use Rattle.std.proofs.Common.{arith, All}
 use Rattle.std.proofs.lemmas.Bool.{cases_lt}
-use Rattle.std.proofs.lemmas.List.{map-append, length-append, length-map, length-replicate, take_more}
+use Rattle.std.proofs.lemmas.List.{map-append, length-append, length-replicate, take_more}
 use Rattle.std.proofs.lemmas.List.Elements.{All-append, All-cons, All-nil}
 use Rattle.std.proofs.lemmas.List.Quantifiers.{all_pairs_push}
 use Rattle.std.proofs.lemmas.Option.{none-some}
@@ -13,7 +13,7 @@ use Rattle.diff_map.specs.Copies.{copied_at, noted_in}
 use Rattle.diff_map.specs.Counts.{IsCounted, KeepsCounts}
 use Rattle.diff_map.specs.Groups.{new_map}
 use Rattle.diff_map.specs.MapValue.{MapValue, AreImages, KeepsImages}
-use Rattle.diff_map.specs.Parts.{Part, part_of, own_copies, map_of, AreParts, KeepsVolume, KeepsGroup, IsEmpty}
+use Rattle.diff_map.specs.Parts.{Part, part_of, map_of, AreParts, KeepsVolume, KeepsGroup, IsEmpty}
 use Rattle.diff_map.proofs.Parts.{own_none}
 
 abbrev none_of : ℕ → List (Option Copied)

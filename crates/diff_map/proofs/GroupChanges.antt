@@ -51,7 +51,7 @@ pub only_still : (old new : List MapValue) (v : ℕ) → new ≡ old → IsOnlyA
 only_still old new v is = is ∙ sym (set-get_or old v _) ∙ ap (λ (ms : List MapValue). set old v (map_at ms v)) (sym is)
 
 module _ {blocks : ℕ} {volumes : List OfVolume} {next : List ℕ} {copies : List (Option Copied)} {maps : List MapValue} {v : ℕ} {volume : OfVolume} (at : IsAt blocks volumes next copies maps v volume) where
-  within : v < length volumes
+  pub within : v < length volumes
   within = volume_within copies volumes maps v at.view at.inside
 
   pub here : map_at maps v ≡ map_of copies volume

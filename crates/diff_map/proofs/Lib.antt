@@ -11,7 +11,6 @@ pub mod Kept
 pub mod Leaving
 pub mod Linked
 pub mod LinkedCopies
-pub mod Lowered
 pub mod Relinked
 pub mod Noting
 pub mod OneVolume

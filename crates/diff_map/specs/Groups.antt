@@ -1,8 +1,7 @@
 -- What a contract sees of a `GroupMap`: the map of each volume, all over the same slots. A slot is noted for one volume at most.
 -- (This project's own.)
-use Rattle.std.specs.Prelude.{ℕ, ◌≡◌, Bool, true, false, List, [], Option, Some, None, replicate, slice_get, slice_index_or, slice_set}
+use Rattle.std.specs.Prelude.{ℕ, ◌≡◌, true, false, List, [], Option, Some, None, replicate, slice_get, slice_index_or, slice_set}
 use Rattle.diff_map.specs.declared.copied.Copied.{Copied}
-use Rattle.diff_map.specs.declared.entry.Entry.{Entry}
 use Rattle.diff_map.specs.declared.handed_down.HandedDown.{HandedDown}
 use Rattle.diff_map.specs.Copies.{HasCopy, copy_of}
 use Rattle.diff_map.specs.Counts.{IsPopped}

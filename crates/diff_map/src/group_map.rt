@@ -177,6 +177,18 @@ impl GroupMap {
         });
     }
 
+    /// Adds the images of these sets, the oldest first, to a volume that has none.
+    pub fn add_images(&mut self, v: u32, sets: &[u32])
+        requires volume { v < length self.old }
+        requires none { (map_at self.old v).images ≡ [] }
+        requires rise { AreImages sets.now }
+        ensures { self.new ≡ slice_set self.old v (with_images sets.now (map_at self.old v)) }
+    {
+        for set in sets {
+            self.add_image(v, *set);
+        }
+    }
+
     /// Notes the slot for this block of the newest image of the volume.
     pub fn note(&mut self, v: u32, block: u32, slot: u32)
         requires volume { v < length self.old }

@@ -22,7 +22,7 @@ mod of_volume;
 mod row;
 
 pub use copied::Copied;
-pub use counts::place_from;
+pub use counts::{place_after, place_from};
 pub use diff_map::{DiffMap, MOST_IMAGES};
 pub use entry::Entry;
 pub use going::Going;

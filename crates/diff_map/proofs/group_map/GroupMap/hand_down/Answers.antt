@@ -1,5 +1,5 @@
-use Rattle.std.proofs.Common.{◌∙◌, ◌≡◌, ◌<◌, List, None, set, sym, ap, subst}
-use Rattle.diff_map.specs.Groups.{IsUnnoted, map_at, with_row}
+use Rattle.std.proofs.Common.{◌∙◌, ◌<◌, List, set, sym, ap, subst}
+use Rattle.diff_map.specs.Groups.{IsUnnoted}
 use Rattle.diff_map.specs.MapValue.{MapValue}
 use Rattle.diff_map.proofs.GroupChanges.{IsAt, copy_low, unnoted_popped, only_twice}
 use Rattle.diff_map.proofs.group_map.GroupMap.hand_down.Goals as goal
