@@ -41,7 +41,7 @@ map_at_set old new v m is inside = ap (λ (ms : List MapValue). map_at ms v) is 
 pub only_at : (old new : List MapValue) (v : ℕ) (m : MapValue) → new ≡ set old v m → v < length old → IsOnlyAt v old new
 only_at old new v m is inside = is ∙ ap (λ (x : MapValue). set old v x) (sym (map_at_set old new v m is inside))
 
-no_row : (copies : List (Option Copied)) (slot : ℕ) → slot < length copies → copied_at copies slot ≡ None → slice_get copies slot ≡ Some None
+pub no_row : (copies : List (Option Copied)) (slot : ℕ) → slot < length copies → copied_at copies slot ≡ None → slice_get copies slot ≡ Some None
 no_row copies slot inside is = slice_get_read copies (length copies) slot None refl inside (sym is)
 
 pub only_twice : (old mid new : List MapValue) (v : ℕ) (m : MapValue) → IsOnlyAt v old mid → new ≡ set mid v m → v < length old → IsOnlyAt v old new

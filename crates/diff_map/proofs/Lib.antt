@@ -2,6 +2,7 @@ pub mod Chained
 pub mod Counted
 pub mod Counting
 pub mod Finds
+pub mod GivenDown
 pub mod GroupBegun
 pub mod GroupChanges
 pub mod Grouped
@@ -11,6 +12,7 @@ pub mod Kept
 pub mod Leaving
 pub mod Linked
 pub mod LinkedCopies
+pub mod Lowered
 pub mod Relinked
 pub mod Noting
 pub mod OneVolume

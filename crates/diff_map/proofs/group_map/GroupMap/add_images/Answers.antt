@@ -1,4 +1,4 @@
-use Rattle.std.proofs.Common.{ℕ, ◌≡◌, ◌<◌, ◌≤◌, ◌+◌, ◌++◌, ◌∷◌, [], ◌∙◌, List, length, get_or, set, take, ap, sym, subst, arith, All}
+use Rattle.std.proofs.Common.{ℕ, ◌<◌, ◌++◌, ◌∷◌, [], ◌∙◌, List, length, get_or, set, take, ap, sym, subst, arith, All}
 use Rattle.std.proofs.lemmas.List.{get_or_default, get_or-take, length-set, length-take-le, set-get_or, set-set, take_all, take_more}
 use Rattle.diff_map.specs.Groups.{map_at, with_images}
 use Rattle.diff_map.specs.MapValue.{MapValue}
