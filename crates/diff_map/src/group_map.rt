@@ -312,10 +312,11 @@ impl GroupMap {
         let Some(block) = self.links.lower(slot, set) else {
             return None;
         };
+        let rest = self.next[slot as usize];
         volume.counts[at] = ImageCount {
             set: count.set,
             used: count.used - 1,
-            first: self.next[slot as usize],
+            first: rest,
         };
         let older = volume.counts[at - 1];
         self.next[slot as usize] = older.first;

@@ -28,8 +28,8 @@ lower-requires-clause-below c =
     c.index-count.ensures set in
     (copy_of count.set (volume.base + it.0), it_own.is, omega arith)
 
-pub index-requires : goal.index-requires
-index-requires c =
+pub index-rest-requires : goal.index-rest-requires
+index-rest-requires c =
     let volume = c.index_mut-volume.result.now in
     let at : IsAt c.self.inside.links.blocks c.self.inside.volumes.items c.self.inside.next.items c.self.inside.links.copies c.args.self.now c.args.v volume
     = record { keeps = c.self.invariant; view = c.self.view_is; inside = c.requires.volume; is = c.index_mut-volume.ensures.value } in
@@ -71,11 +71,11 @@ overflow_add-older c =
     let inside_k : k < length volume.images.items = omega arith in
     let contains : Contains volume.images.items set = (k, inside_k, sym c.index-set.ensures) in
     let is_k : (d : ℕ) → get_or volume.images.items k d ≡ set = λ d. get_or_default volume.images.items k d set inside_k ∙ sym c.index-set.ensures in
-    let value = c.index.result.now in
+    let value = c.index-rest.result.now in
     let newer = with_item volume.counts c.args.at (record { set = count.set; used = count.used - 1; first = value }) in
     let within_next = it.2 in
     let long = (kept at).counts.long in
-    let value_is = get_or_read c.self.inside.next.items count.first value (omega arith) c.index.ensures 0 in
+    let value_is = get_or_read c.self.inside.next.items count.first value (omega arith) c.index-rest.ensures 0 in
     let fits = older_fits at c.args.at count newer value inside c.index-count.ensures some value_is refl (omega arith) set k c.index-older.result.now contains inside_k is_k c.index-older.ensures
     c.slots-facts.ensures.valid.narrow in
     omega arith
@@ -112,11 +112,11 @@ invariant_of-self-2 c =
     let inside_k : k < length volume.images.items = omega arith in
     let contains : Contains volume.images.items set = (k, inside_k, sym c.index-set.ensures) in
     let is_k : (d : ℕ) → get_or volume.images.items k d ≡ set = λ d. get_or_default volume.images.items k d set inside_k ∙ sym c.index-set.ensures in
-    let value = c.index.result.now in
+    let value = c.index-rest.result.now in
     let newer = with_item volume.counts c.args.at (record { set = count.set; used = count.used - 1; first = value }) in
     let within_next = it.2 in
     let long = (kept at).counts.long in
-    let value_is = get_or_read c.self.inside.next.items count.first value (omega arith) c.index.ensures 0 in
+    let value_is = get_or_read c.self.inside.next.items count.first value (omega arith) c.index-rest.ensures 0 in
     rw lowered.lowered
     (KeepsGroup-given at c.args.at count newer value inside c.index-count.ensures some value_is refl (omega arith) set k c.index-older.result.now contains inside_k is_k c.index-older.ensures
     _ c.in-Some.block block_is refl (omega arith))
@@ -139,11 +139,11 @@ returns-clause-others c =
     let inside_k : k < length volume.images.items = omega arith in
     let contains : Contains volume.images.items set = (k, inside_k, sym c.index-set.ensures) in
     let is_k : (d : ℕ) → get_or volume.images.items k d ≡ set = λ d. get_or_default volume.images.items k d set inside_k ∙ sym c.index-set.ensures in
-    let value = c.index.result.now in
+    let value = c.index-rest.result.now in
     let newer = with_item volume.counts c.args.at (record { set = count.set; used = count.used - 1; first = value }) in
     let within_next = it.2 in
     let long = (kept at).counts.long in
-    let value_is = get_or_read c.self.inside.next.items count.first value (omega arith) c.index.ensures 0 in
+    let value_is = get_or_read c.self.inside.next.items count.first value (omega arith) c.index-rest.ensures 0 in
     only_at c.args.self.now _ c.args.v (with_row count.first (Some (copy_of set it.0)) (with_row count.first None (map_at c.args.self.now c.args.v)))
     (rw lowered.lowered
     (maps_given at c.args.at count newer value inside c.index-count.ensures some value_is refl (omega arith) set k c.index-older.result.now contains inside_k is_k c.index-older.ensures
@@ -167,11 +167,11 @@ returns-clause-some c =
     let inside_k : k < length volume.images.items = omega arith in
     let contains : Contains volume.images.items set = (k, inside_k, sym c.index-set.ensures) in
     let is_k : (d : ℕ) → get_or volume.images.items k d ≡ set = λ d. get_or_default volume.images.items k d set inside_k ∙ sym c.index-set.ensures in
-    let value = c.index.result.now in
+    let value = c.index-rest.result.now in
     let newer = with_item volume.counts c.args.at (record { set = count.set; used = count.used - 1; first = value }) in
     let within_next = it.2 in
     let long = (kept at).counts.long in
-    let value_is = get_or_read c.self.inside.next.items count.first value (omega arith) c.index.ensures 0 in
+    let value_is = get_or_read c.self.inside.next.items count.first value (omega arith) c.index-rest.ensures 0 in
     let image_is : set ≡ get_or (map_at c.args.self.now c.args.v).images k 0 = sym (is_k 0) ∙ ap (λ (m : MapValue). get_or m.images k 0) (sym (here at)) in
     let block = c.in-Some.block - volume.base in
     let whole : c.in-Some.block ≡ volume.base + block = omega arith in
