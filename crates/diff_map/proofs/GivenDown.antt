@@ -126,6 +126,7 @@ module _ {blocks : ℕ} {volumes : List OfVolume} {next : List ℕ} {copies : Li
           before : (s older_image b : ℕ) → copied_at (set (map_at maps v).copies count.first None) s ≡ Some (copy_of older_image b) → copied_at (map_at maps v).copies s ≡ Some (copy_of older_image b)
           before s older_image b got = elim (cases_eq s count.first) [
             | inl same ↦ absurd (none-some (copy_of older_image b) (sym (ap (copied_at (set (map_at maps v).copies count.first None)) same
-                ∙ get_or-set_same (map_at maps v).copies count.first None None (let l = ap (λ (x : MapValue). length x.copies) (here at) in let w = (first at n count inside read some).2 in omega arith)) ∙ got))
+                ∙ get_or-set_same (map_at maps v).copies count.first None None
+                (let l = ap (λ (x : MapValue). length x.copies) (here at) in let w = (first at n count inside read some).2 in omega arith)) ∙ got))
             | inr apart ↦ sym (get_or-set_other (map_at maps v).copies count.first s None None apart) ∙ got
           ]

@@ -102,7 +102,8 @@ AreBegun-none slots = record {
 pub AreBegun-one : (base count slots k : ℕ) (blocks : List ℕ) (volumes later : List OfVolume) (volume : OfVolume) → AreBegun base slots (take k blocks) volumes → IsEmpty base count volume
     → base + count < 2 ^ 32 → k < length blocks → get_or blocks k 0 ≡ count → later ≡ volumes ++ volume ∷ [] → AreBegun (base + count) slots (take (k + 1) blocks) later
 AreBegun-one base count slots k blocks volumes later volume begun empty narrow inside is more = subst (AreBegun (base + count) slots (take (k + 1) blocks)) (sym more) (record {
-  parts = subst (AreParts (base + count)) (sym (map-append part_of volumes (volume ∷ []) ∙ ap (λ (p : Part). map part_of volumes ++ p ∷ []) empty.part)) (AreParts-push base count (map part_of volumes) begun.parts narrow);
+  parts = subst (AreParts (base + count)) (sym (map-append part_of volumes (volume ∷ []) ∙ ap (λ (p : Part). map part_of volumes ++ p ∷ []) empty.part))
+      (AreParts-push base count (map part_of volumes) begun.parts narrow);
   each = All-append (KeepsVolume (replicate slots 0) (none_of slots)) volumes (volume ∷ []) begun.each
       (All-cons (KeepsVolume (replicate slots 0) (none_of slots)) volume [] (KeepsVolume-empty slots base count volume empty) (All-nil (KeepsVolume (replicate slots 0) (none_of slots))));
   view =

@@ -8,6 +8,7 @@ pub mod GroupChanges
 pub mod Grouped
 pub mod ImagePlaces
 pub mod Images
+pub mod ImagesLeft
 pub mod Kept
 pub mod Leaving
 pub mod Linked

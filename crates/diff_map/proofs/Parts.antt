@@ -115,7 +115,8 @@ pub none_if : (o : Option ℕ) (p : Part) (copies : List (Option Copied)) (asked
     → IsNone o ↔ IsAbsent (map (own p) copies) asked block
 none_if o p copies asked block low none = (λ is. absent_own p copies asked block (none.0 is), λ absent. none.1 (own_absent p copies asked block low absent))
 
-pub has_if : (b : Bool) (p : Part) (copies : List (Option Copied)) (image block : ℕ) → block < p.blocks → IsTrue b ↔ HasCopy copies image (p.base + block) → IsTrue b ↔ HasCopy (map (own p) copies) image block
+pub has_if : (b : Bool) (p : Part) (copies : List (Option Copied)) (image block : ℕ) → block < p.blocks → IsTrue b ↔ HasCopy copies image (p.base + block)
+    → IsTrue b ↔ HasCopy (map (own p) copies) image block
 has_if b p copies image block low has = (λ is. let at = has.0 is in (at.0, copy_own p copies at.0 image block low at.1), λ had. has.1 (has_own p copies image block had))
 
 pub has_outside : (p : Part) (copies : List (Option Copied)) (image block : ℕ) → p.blocks ≤ block → HasCopy (map (own p) copies) image block → ⊥
