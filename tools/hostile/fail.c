@@ -1,6 +1,7 @@
-/* Fails calls of the system, for tools/failing-calls: those of FAIL_CALL whose numbers lie between FAIL_FIRST and FAIL_LAST, counted from 1, fail
-   with EIO; with FAIL_SHORT, reads and writes among them do half of what they are asked for. At the end it says on the standard error how many
-   calls there were and how many of them it failed. Only calls of `read` and `write` on the standard input and output are counted. */
+/* Fails calls of the system, for tools/failing-calls and checks/images/failing.py: those of FAIL_CALL whose numbers lie between FAIL_FIRST and
+   FAIL_LAST, counted from 1, fail with EIO; with FAIL_SHORT, reads and writes among them do half of what they are asked for. At the end it says
+   on the standard error how many calls there were and how many of them it failed. `read` and `write` are those on the standard input and output;
+   on other files, but for the standard error, they are `read_file` and `write_file`. */
 #define _GNU_SOURCE
 #include <dlfcn.h>
 #include <errno.h>
@@ -11,6 +12,8 @@
 #include <stdio.h>
 #include <stdlib.h>
 #include <string.h>
+#include <sys/file.h>
+#include <sys/stat.h>
 #include <sys/syscall.h>
 #include <unistd.h>
 
@@ -29,9 +32,13 @@ __attribute__((constructor)) static void begin(void) {
     is_short = getenv("FAIL_SHORT") != NULL;
 }
 
-/* The programs end by _exit. */
+static void tell(void) { dprintf(2, "calls %ld failed %ld\n", atomic_load(&calls), atomic_load(&failed)); }
+
+/* Programs end by _exit, or return from main. */
+__attribute__((destructor)) static void end(void) { tell(); }
+
 void _exit(int status) {
-    dprintf(2, "calls %ld failed %ld\n", atomic_load(&calls), atomic_load(&failed));
+    tell();
     syscall(SYS_exit_group, status);
     __builtin_unreachable();
 }
@@ -48,7 +55,7 @@ static int fails(const char *name) {
 static size_t half(size_t size) { return size > 1 ? size / 2 : size; }
 
 ssize_t read(int file, void *out, size_t size) {
-    if (file == 0 && fails("read")) {
+    if (fails(file == 0 ? "read" : "read_file")) {
         if (!is_short) return -1;
         size = half(size);
     }
@@ -56,7 +63,7 @@ ssize_t read(int file, void *out, size_t size) {
 }
 
 ssize_t write(int file, const void *from, size_t size) {
-    if (file == 1 && fails("write")) {
+    if (file != 2 && fails(file == 1 ? "write" : "write_file")) {
         if (!is_short) return -1;
         size = half(size);
     }
@@ -84,6 +91,18 @@ int fdatasync(int file) { return fails("fdatasync") ? -1 : (int)syscall(SYS_fdat
 int fsync(int file) { return fails("fsync") ? -1 : (int)syscall(SYS_fsync, file); }
 
 int ftruncate(int file, off_t size) { return fails("ftruncate") ? -1 : (int)syscall(SYS_ftruncate, file, size); }
+
+int flock(int file, int how) { return fails("flock") ? -1 : (int)syscall(SYS_flock, file, how); }
+
+int rename(const char *from, const char *to) { return fails("rename") ? -1 : (int)syscall(SYS_renameat, AT_FDCWD, from, AT_FDCWD, to); }
+
+int unlink(const char *name) { return fails("unlink") ? -1 : (int)syscall(SYS_unlinkat, AT_FDCWD, name, 0); }
+
+int mkdir(const char *name, mode_t mode) { return fails("mkdir") ? -1 : (int)syscall(SYS_mkdirat, AT_FDCWD, name, mode); }
+
+int statx(int folder, const char *restrict name, int flags, unsigned mask, struct statx *restrict out) {
+    return fails("statx") ? -1 : (int)syscall(SYS_statx, folder, name, flags, mask, out);
+}
 
 int close(int file) {
     int is_failing = fails("close");

@@ -23,9 +23,15 @@ __attribute__((constructor)) static void begin(void) {
     atomic_store(&calls, 0);
 }
 
-/* The programs end by _exit. */
-void _exit(int status) {
+static void tell(void) {
     if (getenv("COUNT_ALLOCATIONS")) dprintf(2, "allocations %ld\n", atomic_load(&calls));
+}
+
+/* Programs end by _exit, or return from main. */
+__attribute__((destructor)) static void end(void) { tell(); }
+
+void _exit(int status) {
+    tell();
     syscall(SYS_exit_group, status);
     __builtin_unreachable();
 }

@@ -21,7 +21,7 @@ use crate::writer_rows::WriterRows;
 use set_agenda::{Kind, Limit, Place, WriterSet};
 use std::alloc::Global;
 use tick_limits::DEFAULT_FREEZE;
-use vss_names::{Order, OutOfMemory, SetOutcome, VssResult, WriterError};
+use vss_names::{MOST_WRITERS, Order, OutOfMemory, SetOutcome, VssResult, WriterError};
 use writer_calls::{Answer, Mailboxes, StaleAnswer};
 use writer_state::Said;
 
@@ -214,7 +214,7 @@ impl KeptCourse {
         ensures rests { IfOk result (λ k. k.running ≡ None) }
         ensures sent { IfOk result (λ k. SentAtMost 0 k.mailboxes) }
     {
-        let mailboxes = Mailboxes::new(alloc, 64)?;
+        let mailboxes = Mailboxes::new(alloc, MOST_WRITERS)?;
         Ok(KeptCourse {
             rows: WriterRows::new(alloc),
             mailboxes,

@@ -8,7 +8,7 @@ ghost use Rattle.coordinator.specs.OpenOrders.{AreFit, AreReady, HasRoom, SentAt
 use crate::codes::is_same_place;
 use crate::running_agenda::RunningAgenda;
 use set_agenda::{Group, Place};
-use vss_names::Order;
+use vss_names::{MOST_WRITERS, Order};
 use writer_calls::Mailboxes;
 
 /// Where the agenda stands; the place of PreCommit where none runs.
@@ -72,7 +72,7 @@ pub fn post(mailboxes: &mut Mailboxes, before: Place, running: &Option<RunningAg
 {
     let elsewhere = !is_same_place(before, place_now(running));
     let mut writer = 0;
-    while writer < 64 {
+    while writer < MOST_WRITERS {
         post_to(mailboxes, writer, elsewhere, order_for(running, writer));
         writer += 1;
     }
@@ -86,7 +86,7 @@ pub fn close_all(mailboxes: &mut Mailboxes)
     ensures len { length mailboxes.new ≡ 64 }
 {
     let mut writer = 0;
-    while writer < 64 {
+    while writer < MOST_WRITERS {
         close_one(mailboxes, writer);
         writer += 1;
     }

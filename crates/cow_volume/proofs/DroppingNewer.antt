@@ -1,10 +1,12 @@
 -- The images of a volume that are newer than that of a set go, one after another.
 use Rattle.std.proofs.Common.{◌≡◌, ◌<◌, ◌≤◌, ◌-◌, ℕ, zero, suc, Bool, true, false, not, List, [], ◌∷◌, length, refl, ap, sym, subst, ◌∙◌, arith, Option, Some, None, inl, inr, get_or, eq-or-lt_of_le}
 use Rattle.std.specs.Prelude.{filter, slice_get, if◌then◌else◌, ◌==◌, ◌||◌, All, AllPairs, Contains}
+use Rattle.std.specs.List.{AllWithin}
 use Rattle.std.proofs.lemmas.List.{get_or_default, length-map}
 use Rattle.std.proofs.lemmas.List.Elements.{All-head, All-tail}
 use Rattle.write_history.specs.History.{History, dropped}
 use Rattle.diff_area.specs.Records.{AreRecords}
+use Rattle.diff_map.proofs.ImagePlaces.{place_is}
 use Rattle.cow_volume.specs.StandsFor.{StandsFor}
 use Rattle.cow_volume.specs.Tied.{CopiesValue}
 use Rattle.cow_volume.specs.Calls.{changed_at, sets_in, is_among, IsChanged}
@@ -37,6 +39,22 @@ contains_of set (x ∷ xs) e = by_test (x == set) refl e (contains_of set xs) wh
   by_test : (t : Bool) → (x == set) ≡ t → (t || is_among set xs) ≡ true → (is_among set xs ≡ true → Contains xs set) → Contains (x ∷ xs) set
   by_test true f g rest = (0, omega arith, same_number x set f)
   by_test false f g rest = let at = rest g in (suc at.0, omega arith, at.2)
+
+-- whether a set is among sets that rise, by the first of them from it on
+pub among_none : (set n : ℕ) (sets : List ℕ) → AllPairs (λ older newer. older < newer) sets → AllWithin (λ s. s < set) sets 0 n → AllWithin (λ s. set ≤ s) sets n (length sets) → n ≡ length sets
+    → false ≡ is_among set sets
+among_none set n sets rise before onward last = by_test (is_among set sets) refl where
+  by_test : (t : Bool) → is_among set sets ≡ t → false ≡ is_among set sets
+  by_test true e = let place = place_is sets set n rise (contains_of set sets e) before onward in let inside = place.0 in absurd (omega arith)
+  by_test false e = sym e
+
+pub among_here : (set n : ℕ) (sets : List ℕ) → AllPairs (λ older newer. older < newer) sets → AllWithin (λ s. s < set) sets 0 n → AllWithin (λ s. set ≤ s) sets n (length sets) → n < length sets
+    → (get_or sets n 0 == set) ≡ is_among set sets
+among_here set n sets rise before onward inside = by_test (is_among set sets) refl (get_or sets n 0 == set) refl where
+  by_test : (t : Bool) → is_among set sets ≡ t → (f : Bool) → (get_or sets n 0 == set) ≡ f → (get_or sets n 0 == set) ≡ is_among set sets
+  by_test true e f g = let is = (place_is sets set n rise (contains_of set sets e) before onward).1 0 in ap (λ (s : ℕ). s == set) is ∙ number_is set ∙ sym e
+  by_test false e false g = g ∙ sym e
+  by_test false e true g = g ∙ sym (among_of set sets (n, inside, get_or_default sets n set 0 inside ∙ same_number (get_or sets n 0) set g))
 
 pub has_of : (set : ℕ) (xs : List ℕ) → is_among set xs ≡ true → Has set xs
 has_of set [] e = absurd cc

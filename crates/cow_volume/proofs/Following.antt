@@ -1,22 +1,28 @@
 -- The records of a volume follow its map copy by copy.
-use Rattle.std.proofs.Common.{ℕ, zero, suc, ◌≡◌, ◌<◌, Bool, true, false, ◌&&◌, List, [], ◌∷◌, length, map, Option, Some, None, slice_get, slice_set, refl, sym, ap, ◌∙◌, arith}
+use Rattle.std.proofs.Common.{ℕ, zero, suc, ◌≡◌, ◌<◌, ◌-◌, Bool, true, false, ◌&&◌, List, get_or, [], ◌∷◌, length, map, Option, Some, None, slice_get, slice_set, refl, sym, ap, ◌∙◌, subst, arith}
 use Rattle.std.specs.Prelude.{◌==◌, nat_lt}
 use Rattle.std.proofs.lemmas.Bool.{false≢true}
-use Rattle.std.proofs.lemmas.List.{length-map}
+use Rattle.std.proofs.lemmas.List.{length-map, set-set}
 use Rattle.std.proofs.lemmas.Option.{none-some, same_Some, slice_get_within}
 use Rattle.diff_area.specs.AreaValue.{AreaValue}
+use Rattle.diff_area.specs.Records.{free}
 use Rattle.diff_area.specs.declared.table_record.Record.{Record}
-use Rattle.diff_map.specs.Copies.{copied_at, copy_of, HasCopy}
-use Rattle.diff_map.specs.MapValue.{MapValue}
+use Rattle.diff_map.specs.Copies.{AllTaken, copied_at, copy_of, HasCopy}
+use Rattle.diff_map.specs.Counts.{used_for}
+use Rattle.diff_map.specs.Groups.{IsHandedDown, IsOnlyAt, map_at, with_row}
+use Rattle.diff_map.specs.MapValue.{MapValue, IsMap}
 use Rattle.diff_map.specs.declared.copied.Copied.{Copied}
 use Rattle.diff_map.specs.declared.entry.Entry.{Entry}
 use Rattle.diff_map.specs.declared.going.Going.{Going}
 use Rattle.diff_map.specs.Rules.{merged}
-use Rattle.diff_map.proofs.Renewing.{FreesMapUpTo, IsRenewingMap}
+use Rattle.diff_map.specs.declared.handed_down.HandedDown.{HandedDown}
+use Rattle.diff_map.proofs.Counting.{used_out}
+use Rattle.diff_map.proofs.Renewing.{FreesMapUpTo, IsRenewingMap, handing_was, handing_frees, handing_moves, handing_smaller, has_now}
 use Rattle.cow_volume.specs.CopiesAfter.{with_records}
 use Rattle.cow_volume.specs.StandsFor.{record_of}
 use Rattle.cow_volume.specs.Tied.{copied_for}
 use Rattle.cow_volume.specs.Followed.{record_for, followed_row, followed}
+use Rattle.cow_volume.proofs.GroupMaps.{only-more}
 use Rattle.cow_volume.proofs.Rows.{same_record, copied_for-is, record_of_row, both_from, of_volume, get_inside}
 use Rattle.cow_volume.proofs.FollowedRows.{follows-of, follows-other, length-followed, followed_at}
 
@@ -25,14 +31,16 @@ abbrev pub Follows : {D : Type 0} → ℕ → AreaValue D → AreaValue D → Ma
 Follows v first area m = area ≡ with_records (followed v m.copies first.records) first
 
 -- the copies of the first images that go are free
-pub record FreesCopies {D : Type 0} (v : ℕ) (going : Going) (n : ℕ) (first area : AreaValue D) (before m : MapValue) (old new : List Bool) : Type 0 where
-  pub frees : FreesMapUpTo going n before m old new
-  pub follows : Follows v first area m
+pub record FreesCopies {D : Type 0} (v : ℕ) (going : Going) (n : ℕ) (first area : AreaValue D) (before maps : List MapValue) (old new : List Bool) : Type 0 where
+  pub only : IsOnlyAt v before maps
+  pub frees : FreesMapUpTo going n (map_at before v) (map_at maps v) old new
+  pub follows : Follows v first area (map_at maps v)
 
 -- some copies are handed down
-pub record HandsDown {D : Type 0} (v older set : ℕ) (first area : AreaValue D) (before m : MapValue) (old new : List Bool) : Type 0 where
-  pub renews : IsRenewingMap (merged before.copies (Some older) set) before m old new
-  pub follows : Follows v first area m
+pub record HandsDown {D : Type 0} (v older set : ℕ) (first area : AreaValue D) (before maps : List MapValue) (old new : List Bool) : Type 0 where
+  pub only : IsOnlyAt v before maps
+  pub renews : IsRenewingMap (merged (map_at before v).copies (Some older) set) (map_at before v) (map_at maps v) old new
+  pub follows : Follows v first area (map_at maps v)
 
 self_row : (v : ℕ) (r : Record) → followed_row v (copied_for v r) r ≡ r
 self_row v r = by_test (nat_lt 0 r.set && (r.volume == v)) refl where
@@ -112,6 +120,74 @@ module _ {D : Type 0} (v : ℕ) (first area : AreaValue D) (before mid : MapValu
         let set_is : r.set ≡ older = ap (λ (x : Record). x.set) same in
         false≢true (sym e2 ∙ of_volume v r (omega arith) (ap (λ (x : Record). x.volume) same))
 
--- where only images go after that, the records follow still
-pub follows_on : {D : Type 0} (v : ℕ) (area new : AreaValue D) (mid n : MapValue) → n.copies ≡ mid.copies → Follows v area new mid → Follows v area new n
-follows_on v area new mid n same is = is ∙ ap (λ cs. with_records (followed v cs area.records) area) (sym same)
+-- ## a copy is handed down
+
+module _ {D : Type 0} (v at : ℕ) (first area : AreaValue D) (before maps new : List MapValue) (old pool : List Bool) (h : HandedDown)
+    (tied : (map_at before v).copies ≡ map (copied_for v) first.records)
+    (valid : IsMap (map_at before v)) (inside : at < length (map_at before v).images) (past : 0 < at)
+    (inv : HandsDown v (get_or (map_at before v).images (at - 1) 0) (get_or (map_at before v).images at 0) first area before maps old pool) (others : IsOnlyAt v maps new)
+    (is : IsHandedDown (map_at maps v) (map_at new v) (get_or (map_at maps v).images (at - 1) 0) (get_or (map_at maps v).images at 0) h) where
+  abbrev m : MapValue
+  m = map_at before v
+
+  abbrev mid : MapValue
+  mid = map_at maps v
+
+  abbrev gone : MapValue
+  gone = with_row h.entry.slot None mid
+
+  abbrev older : ℕ
+  older = get_or m.images (at - 1) 0
+
+  abbrev image : ℕ
+  image = get_or m.images at 0
+
+  below : older < image
+  below = valid.images.ascend (at - 1) at 0 (omega arith) inside
+
+  handed : IsHandedDown mid (map_at new v) older image h
+  handed = subst (λ (xs : List ℕ). IsHandedDown mid (map_at new v) (get_or xs (at - 1) 0) (get_or xs at 0) h) inv.renews.images is
+
+  was : copied_at m.copies h.entry.slot ≡ Some (copy_of image h.entry.block)
+  was = handing_was m mid gone old pool older image h.entry below valid inv.renews handed.popped
+
+  pub older_above : 0 < older
+  older_above = (valid.images.above_zero (at - 1) 0 (omega arith)).0
+
+  pub handed_inside : h.entry.slot < length area.records
+  handed_inside = slot_inside v first area m mid image h.entry tied inv.renews.renews.long inv.follows was
+
+  pub handed_block : h.entry.block < m.blocks
+  handed_block = valid.of_blocks h.entry.slot (copy_of image h.entry.block) was
+
+  pub handed_once : h.kept ≡ true → (other : ℕ) → slice_get area.records other ≡ Some (record_of v older h.entry.block) → other ≡ h.entry.slot
+  handed_once kept = no_other v first area m mid image h.entry tied inv.renews.renews.long inv.follows was older older_above
+      (λ has. handed.kept kept (has_now m mid gone old pool older image h.entry below valid inv.renews handed.popped has))
+
+  pub handed_frees : h.kept ≡ false → AllTaken m.copies old → (after : AreaValue D) → after ≡ with_records (slice_set area.records h.entry.slot free) area
+      → HandsDown v older image first after before new old (slice_set pool h.entry.slot true)
+  handed_frees freed taken after after_is = record {
+    only = only-more v before maps new inv.only others;
+    renews = subst (λ (n : MapValue). IsRenewingMap (merged m.copies (Some older) image) m n old (slice_set pool h.entry.slot true)) (sym (handed.freed_is freed))
+        (handing_frees m mid gone old pool older image h.entry below valid inv.renews handed.popped taken (handed.freed freed));
+    follows = Follows-set v first area m mid image h.entry tied inv.renews.renews.long inv.follows was after (map_at new v) None after_is
+        (ap (λ (n : MapValue). n.copies) (handed.freed_is freed));
+  }
+
+  pub handed_moves : h.kept ≡ true → (after : AreaValue D) → after ≡ with_records (slice_set area.records h.entry.slot (record_of v older h.entry.block)) area
+      → HandsDown v older image first after before new old pool
+  handed_moves kept after after_is = record {
+    only = only-more v before maps new inv.only others;
+    renews = subst (λ (n : MapValue). IsRenewingMap (merged m.copies (Some older) image) m n old pool) (sym (handed.kept_is kept))
+        (handing_moves m mid gone old pool older image h.entry below valid inv.renews handed.popped (handed.kept kept));
+    follows = Follows-set v first area m mid image h.entry tied inv.renews.renews.long inv.follows was after (map_at new v) (Some (copy_of older h.entry.block)) after_is
+        (ap (λ (n : MapValue). n.copies) (handed.kept_is kept) ∙ set-set mid.copies h.entry.slot None (Some (copy_of older h.entry.block)));
+  }
+
+  pub handed_fewer : used_for (map_at new v).copies image < used_for mid.copies image
+  handed_fewer = by_kept h.kept refl where
+    by_kept : (b : Bool) → h.kept ≡ b → used_for (map_at new v).copies image < used_for mid.copies image
+    by_kept true kept = subst (λ (n : MapValue). used_for n.copies image < used_for mid.copies image) (sym (handed.kept_is kept))
+        (handing_smaller m mid gone old pool older image h.entry below valid inv.renews handed.popped)
+    by_kept false freed = subst (λ (n : MapValue). used_for n.copies image < used_for mid.copies image) (sym (handed.freed_is freed))
+        (let less = used_out mid.copies h.entry.slot image h.entry.block handed.popped.noted in omega arith)

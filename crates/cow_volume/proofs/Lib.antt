@@ -15,6 +15,7 @@ pub mod Reverting
 pub mod GroupReverts
 pub mod Rows
 pub mod FollowedRows
+pub mod GroupMaps
 pub mod Ties
 pub mod Renewed
 pub mod Following

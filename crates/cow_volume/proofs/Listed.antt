@@ -2,7 +2,7 @@
 use Rattle.std.proofs.Common.{ℕ, zero, suc, ◌≡◌, ◌<◌, ◌≤◌, ◌+◌, ◌-◌, ◌*◌, Bool, true, false, ◌||◌, get_or, List, [], ◌∷◌, ◌++◌, length, drop, Option, Some, None, slice_get, refl, sym, ap, ◌∙◌, subst}
 use Rattle.std.proofs.Common.{arith, append_assoc, inl, inr}
 use Rattle.std.specs.Prelude.{◌==◌, nat_lt, if◌then◌else◌, IfSome}
-use Rattle.std.specs.List.{flat_map, range_with_len}
+use Rattle.std.specs.List.{flat_map, range_with_len, AllWithin}
 use Rattle.std.proofs.lemmas.Bool.{cases_lt}
 use Rattle.std.proofs.lemmas.Bool.Decides.{nat_tests}
 use Rattle.std.proofs.lemmas.List.{length-append, length-map, drop_more, drop_all}
@@ -144,6 +144,24 @@ first_is above [] = tt
 first_is above (s ∷ sets) = by_test (nat_lt above s) refl (first_is above sets) where
   by_test : (t : Bool) → nat_lt above s ≡ t → IfSome (first_above above sets) (λ k. above < k) → IfSome (if t then Some s else first_above above sets) (λ k. above < k)
   by_test true e rest = grind (arith, nat_tests)
+  by_test false e rest = rest
+
+pub first_none : (above : ℕ) (sets : List ℕ) → AllWithin (λ s. s ≤ above) sets 0 (length sets) → None ≡ first_above above sets
+first_none above [] before = refl
+first_none above (s ∷ sets) before = by_test (nat_lt above s) refl (first_none above sets (λ k d low inside. before (suc k) d (omega arith) (omega arith))) where
+  by_test : (t : Bool) → nat_lt above s ≡ t → None ≡ first_above above sets → None ≡ (if t then Some s else first_above above sets)
+  by_test true e rest = let low = before 0 0 (omega arith) (omega arith) in absurd (grind (arith, nat_tests))
+  by_test false e rest = rest
+
+pub first_at : (above n : ℕ) (sets : List ℕ) → n < length sets → AllWithin (λ s. s ≤ above) sets 0 n → above < get_or sets n 0 → Some (get_or sets n 0) ≡ first_above above sets
+first_at above n [] inside before past = absurd (omega arith)
+first_at above zero (s ∷ sets) inside before past = by_test (nat_lt above s) refl where
+  by_test : (t : Bool) → nat_lt above s ≡ t → Some s ≡ (if t then Some s else first_above above sets)
+  by_test true e = refl
+  by_test false e = absurd (grind (arith, nat_tests))
+first_at above (suc n) (s ∷ sets) inside before past = by_test (nat_lt above s) refl (first_at above n sets (omega arith) (λ k d low within. before (suc k) d (omega arith) (omega arith)) past) where
+  by_test : (t : Bool) → nat_lt above s ≡ t → Some (get_or sets n 0) ≡ first_above above sets → Some (get_or sets n 0) ≡ (if t then Some s else first_above above sets)
+  by_test true e rest = let low = before 0 0 (omega arith) (omega arith) in absurd (grind (arith, nat_tests))
   by_test false e rest = rest
 
 pub next_more : (images : List (List ℕ)) (above up_to next v : ℕ) (sets : List ℕ) → slice_get images v ≡ Some sets → AreImages sets → IsNextBelow images above up_to next v

@@ -13,9 +13,10 @@ use Rattle.cow_volume.proofs.DeviceCalls.{size_row}
 use Rattle.diff_area.specs.Records.{free, is_free}
 use Rattle.diff_area.specs.declared.table_record.Record.{Record}
 use Rattle.diff_map.specs.Copies.{copied_at}
+use Rattle.diff_map.specs.Groups.{new_map}
 use Rattle.diff_map.specs.MapValue.{MapValue, IsMap}
 use Rattle.diff_map.specs.declared.copied.Copied.{Copied}
-use Rattle.cow_volume.specs.Tied.{copied_for, IsMapOf, AreTied, images_of, new_map}
+use Rattle.cow_volume.specs.Tied.{copied_for, IsMapOf, AreTied, images_of}
 use Rattle.cow_volume.proofs.Rows.{map-from}
 
 pub none_at : (k slot : ℕ) (c : Copied) → copied_at (replicate k None) slot ≡ Some c → ⊥
@@ -23,7 +24,7 @@ none_at zero slot c h = none-some c h
 none_at (suc k) zero c h = none-some c h
 none_at (suc k) (suc slot) c h = none_at k slot c h
 
-new_is_map : (k n : ℕ) → IsMap (new_map k n)
+pub new_is_map : (k n : ℕ) → IsMap (new_map k n)
 new_is_map k n = record {
   images = record { ascend = λ i j d low inside. absurd (omega arith); above_zero = λ i d inside. absurd (omega arith); few = omega arith };
   of_images = λ slot c h. absurd (none_at k slot c h);

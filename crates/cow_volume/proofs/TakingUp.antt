@@ -1,23 +1,26 @@
 -- The maps and the pool of a group that is taken up again, slot after slot.
-use Rattle.std.proofs.Common.{ℕ, zero, suc, ◌≡◌, ◌<◌, ◌≤◌, ◌⊎◌, ◌+◌, Bool, true, false, List, [], ◌∷◌, ◌++◌, length, map, replicate, Option, Some, None, slice_get, slice_set, refl, sym, ap, ◌∙◌}
+use Rattle.std.proofs.Common.{ℕ, zero, suc, ◌≡◌, ◌<◌, ◌≤◌, ◌+◌, Bool, true, false, List, [], ◌∷◌, length, map, replicate, Option, Some, None, slice_get, slice_set, refl, sym, ap, ◌∙◌}
 use Rattle.std.proofs.Common.{subst, arith, inl, inr, Contains}
 use Rattle.std.specs.Prelude.{IfSome, IsNone, ◌↔◌}
 use Rattle.std.proofs.lemmas.Bool.{cases_eq}
-use Rattle.std.proofs.lemmas.List.{length-set, length-append, length-map}
+use Rattle.std.proofs.lemmas.List.{length-set, length-map}
 use Rattle.std.proofs.lemmas.Option.{none-some, same_Some, slice_get_within}
 use Rattle.slot_pool.specs.Slots.{IsLowestFree, free_count}
-use Rattle.diff_area.proofs.Gets.{get-set}
+use Rattle.diff_area.proofs.Gets.{get-set, get-set_other}
 use Rattle.diff_area.specs.Records.{free, is_free, AreRecords}
 use Rattle.diff_area.specs.declared.table_record.Record.{Record}
 use Rattle.diff_map.specs.Copies.{copied_at, copy_of, HasCopy}
+use Rattle.diff_map.specs.Groups.{IsUnnoted, map_at, new_map, with_images, with_row}
 use Rattle.diff_map.specs.MapValue.{MapValue, IsMap}
 use Rattle.diff_map.specs.declared.copied.Copied.{Copied}
 use Rattle.cow_volume.specs.Calls.{sets_in, is_among}
 use Rattle.cow_volume.specs.Tied.{copied_for, AreTied, AreOfImages, images_of}
 use Rattle.cow_volume.specs.Resuming.{HasImage, AllHaveImages}
-use Rattle.cow_volume.specs.TakingUp.{mixed, unnoted, unused, used, IsTakenUp, AreTakenUp}
+use Rattle.cow_volume.specs.TakingUp.{mixed, so_far, unnoted, unused, used, IsTakenUp, AreTakenUp}
 use Rattle.cow_volume.proofs.Counting.{used_record, within}
 use Rattle.cow_volume.proofs.DroppingNewer.{among_of, contains_of}
+use Rattle.cow_volume.proofs.GroupMaps.{get_map, valid_now}
+use Rattle.cow_volume.proofs.NewCopies.{new_is_map}
 use Rattle.cow_volume.proofs.MixedRows.{mixed-all, mixed-set, mixed-same, mixed-before, mixed-from}
 use Rattle.cow_volume.proofs.Rows.{get_inside, map-from, copied_for-is, copied_for-other, copied_for-free, record-from}
 use Rattle.cow_volume.proofs.Ties.{free_is, taken_lowest}
@@ -38,30 +41,66 @@ map_begun volumes records images v n slots sets m is long blocks row valid = rec
   valid = valid;
 }
 
-pushed_at : {X : Type 0} (xs : List X) (x : X) (v : ℕ) (y : X) → slice_get (xs ++ x ∷ []) v ≡ Some y → ((v ≡ length xs) × (x ≡ y)) ⊎ (slice_get xs v ≡ Some y)
-pushed_at [] x zero y h = inl (refl, same_Some x y h)
-pushed_at [] x (suc v) y h = absurd (none-some y h)
-pushed_at (z ∷ zs) x zero y h = inr h
-pushed_at (z ∷ zs) x (suc v) y h = elim (pushed_at zs x v y h) [
-  | inl here ↦ inl (ap suc here.0, here.1)
-  | inr old ↦ inr old
-]
+pub maps_begun : (volumes : List ℕ) (records : List Record) (images : List (List ℕ)) (slots : ℕ) (maps : List MapValue) → maps ≡ map (new_map slots) volumes → slots ≡ length records
+    → length images ≡ length volumes → AreTakenUp volumes records (so_far 0 images) 0 (length volumes) maps
+maps_begun volumes records images slots maps is long many = record {
+  number = ap length is ∙ length-map volumes (new_map slots);
+  each = λ v m h.
+      let from = map-from (new_map slots) volumes v m (ap (λ (ms : List MapValue). slice_get ms v) (sym is) ∙ h) in
+      let inside = slice_get_within volumes v from.0 from.1 in
+      let sets = get_inside images v (omega arith) in
+      map_begun volumes records (so_far 0 images) v from.0 slots [] m (sym from.2) long from.1 (mixed-from (λ s. s) (λ s. []) 0 images v sets.0 (omega arith) sets.1)
+      (subst IsMap from.2 (new_is_map slots from.0));
+}
 
-pub maps_more : (volumes : List ℕ) (records : List Record) (images : List (List ℕ)) (v : ℕ) (maps new : List MapValue) (m : MapValue) → AreTakenUp volumes records images 0 v maps
-    → IsTakenUp volumes records images 0 v m → new ≡ maps ++ m ∷ [] → AreTakenUp volumes records images 0 (v + 1) new
-maps_more volumes records images v maps new m up one is = record {
-  number = (let long = ap length is in let more = length-append maps (m ∷ []) in let had = up.number in omega arith);
-  each = λ u w h. elim (pushed_at maps m u w (ap (λ (ms : List MapValue). slice_get ms u) (sym is) ∙ h)) [
-    | inl here ↦ (
-        let number = up.number in
-        let same : v ≡ u = sym number ∙ sym here.0 in
-        subst (λ (k : ℕ). IsTakenUp volumes records images 0 k w) same (subst (λ (x : MapValue). IsTakenUp volumes records images 0 v x) here.1 one))
-    | inr old ↦ up.each u w old
+pub none_yet : (volumes : List ℕ) (records : List Record) (images : List (List ℕ)) (k : ℕ) (maps : List MapValue) → AreTakenUp volumes records (so_far k images) 0 (length volumes) maps
+    → length images ≡ length volumes → k < length maps → (map_at maps k).images ≡ []
+none_yet volumes records images k maps up many inside =
+    let number = up.number in
+    let row = get_inside images k (omega arith) in
+    same_Some (map_at maps k).images [] (sym (up.each k (map_at maps k) (get_map maps k inside)).sets ∙ mixed-from (λ s. s) (λ s. []) k images k row.0 (omega arith) row.1)
+
+-- the images of the next volume are added
+pub maps_added : (volumes : List ℕ) (records : List Record) (images : List (List ℕ)) (k : ℕ) (maps new : List MapValue) (sets : List ℕ)
+    → AreTakenUp volumes records (so_far k images) 0 (length volumes) maps → slice_get images k ≡ Some sets → k < length maps → new ≡ slice_set maps k (with_images sets (map_at maps k))
+    → IsMap (map_at new k) → AreTakenUp volumes records (so_far (k + 1) images) 0 (length volumes) new
+maps_added volumes records images k maps new sets up row inside is valid = record {
+  number = ap length is ∙ length-set maps k (with_images sets (map_at maps k)) ∙ up.number;
+  each = λ u w h. elim (get-set maps k u (with_images sets (map_at maps k)) w (ap (λ (ms : List MapValue). slice_get ms u) (sym is) ∙ h)) [
+    | inl own ↦ (
+        let its = up.each k (map_at maps k) (get_map maps k inside) in
+        let P : ℕ → MapValue → Type 0 = λ x y. IsTakenUp volumes records (so_far (k + 1) images) 0 x y in
+        let one : P k (with_images sets (map_at maps k)) = record {
+          blocks = its.blocks;
+          sets = mixed-before (λ s. s) (λ s. []) (k + 1) images k sets (omega arith) row;
+          copies = its.copies;
+          valid = valid_now maps new k (with_images sets (map_at maps k)) inside is valid;
+        } in
+        subst (λ (x : ℕ). P x w) (sym own.0) (subst (P k) (sym own.1) one))
+    | inr other ↦ (
+        let its = up.each u w other.1 in
+        record {
+          blocks = its.blocks;
+          sets = ap (λ (ss : List (List ℕ)). slice_get ss u) (mixed-set (λ s. s) (λ s. []) k images sets row) ∙ get-set_other (so_far k images) k u sets other.0 ∙ its.sets;
+          copies = its.copies;
+          valid = its.valid;
+        })
   ];
 }
 
-pub maps_none : (volumes : List ℕ) (records : List Record) (images : List (List ℕ)) → AreTakenUp volumes records images 0 0 []
-maps_none volumes records images = record { number = refl; each = λ v m h. absurd (none-some m h) }
+pub maps_all : (volumes : List ℕ) (records : List Record) (images : List (List ℕ)) (k : ℕ) (maps : List MapValue) → length images ≤ k
+    → AreTakenUp volumes records (so_far k images) 0 (length volumes) maps → AreTakenUp volumes records images 0 (length volumes) maps
+maps_all volumes records images k maps all up = subst (λ (ss : List (List ℕ)). AreTakenUp volumes records ss 0 (length volumes) maps)
+    (mixed-all (λ s. s) (λ s. []) k images all ∙ as_they_are images) up where
+      as_they_are : (ss : List (List ℕ)) → map (λ s. s) ss ≡ ss
+      as_they_are [] = refl
+      as_they_are (s ∷ ss) = ap (λ xs. s ∷ xs) (as_they_are ss)
+
+-- the map of no volume notes the slot of the next record
+pub all_unnoted : (volumes : List ℕ) (records : List Record) (images : List (List ℕ)) (k count : ℕ) (maps : List MapValue) (r : Record) → slice_get records k ≡ Some r
+    → AreTakenUp volumes records images k count maps → IsUnnoted maps k
+all_unnoted volumes records images k count maps r at up = λ u m h.
+    ap (λ (cs : List (Option Copied)). slice_get cs k) (up.each u m h).copies ∙ mixed-from (copied_for u) unnoted k records k r (omega arith) at
 
 -- ## one record more
 
@@ -85,10 +124,6 @@ maps_same volumes records images k count maps r at free up = record {
 -- what the map of a record's volume needs so that it notes the slot
 pub some_set : (volumes : List ℕ) (records : List Record) (k : ℕ) (r : Record) → AreRecords volumes records → slice_get records k ≡ Some r → is_free r ≡ false → 0 < r.set
 some_set volumes records k r are at is_used = (are.each k r at (used_record r is_used)).set
-
-pub map_unnoted : (volumes : List ℕ) (records : List Record) (images : List (List ℕ)) (k v : ℕ) (m : MapValue) (r : Record) → slice_get records k ≡ Some r → IsTakenUp volumes records images k v m
-    → slice_get m.copies k ≡ Some None
-map_unnoted volumes records images k v m r at up = ap (λ (cs : List (Option Copied)). slice_get cs k) up.copies ∙ mixed-from (copied_for v) unnoted k records k r (omega arith) at
 
 -- an entry of the rows so far is of a record before
 pub noted_before : (v : ℕ) (records : List Record) (k slot : ℕ) (c : Copied) → copied_at (mixed (copied_for v) unnoted k records) slot ≡ Some c
@@ -120,28 +155,29 @@ pub map_in_range : (volumes : List ℕ) (records : List Record) (images : List (
 map_in_range volumes records images k m r are at is_used up = within volumes records k m.blocks r.volume r are up.blocks at refl (some_set volumes records k r are at is_used)
 
 -- the slot was noted there
-pub maps_noted : (volumes : List ℕ) (records : List Record) (images : List (List ℕ)) (k count : ℕ) (maps new : List MapValue) (m n : MapValue) (r : Record) → AreRecords volumes records
-    → slice_get records k ≡ Some r → is_free r ≡ false → AreTakenUp volumes records images k count maps
-    → slice_get maps r.volume ≡ Some m → n ≡ record m { copies = slice_set m.copies k (Some (copy_of r.set r.block)) } → IsMap n → new ≡ slice_set maps r.volume n
-    → AreTakenUp volumes records images (k + 1) count new
-maps_noted volumes records images k count maps new m n r are at is_used up here is valid set = record {
+pub maps_noted : (volumes : List ℕ) (records : List Record) (images : List (List ℕ)) (k count : ℕ) (maps new : List MapValue) (r : Record) → AreRecords volumes records
+    → slice_get records k ≡ Some r → is_free r ≡ false → AreTakenUp volumes records images k count maps → r.volume < length maps
+    → new ≡ slice_set maps r.volume (with_row k (Some (copy_of r.set r.block)) (map_at maps r.volume)) → IsMap (map_at new r.volume) → AreTakenUp volumes records images (k + 1) count new
+maps_noted volumes records images k count maps new r are at is_used up inside set valid = record {
   number = ap length set ∙ length-set maps r.volume n ∙ up.number;
   each = λ u w h. elim (get-set maps r.volume u n w (ap (λ (ms : List MapValue). slice_get ms u) (sym set) ∙ h)) [
     | inl own ↦ (
-        let its = up.each r.volume m here in
+        let its = up.each r.volume (map_at maps r.volume) (get_map maps r.volume inside) in
         let P : ℕ → MapValue → Type 0 = λ x y. IsTakenUp volumes records images (k + 1) x y in
         let one : P r.volume n = record {
-          blocks = its.blocks ∙ ap (λ (x : MapValue). Some x.blocks) (sym is);
-          sets = its.sets ∙ ap (λ (x : MapValue). Some x.images) (sym is);
-          copies = ap (λ (x : MapValue). x.copies) is ∙ ap (λ (cs : List (Option Copied)). slice_set cs k (Some (copy_of r.set r.block))) its.copies
+          blocks = its.blocks;
+          sets = its.sets;
+          copies = ap (λ (cs : List (Option Copied)). slice_set cs k (Some (copy_of r.set r.block))) its.copies
               ∙ ap (λ (o : Option Copied). slice_set (mixed (copied_for r.volume) unnoted k records) k o) (sym (copied_for-is r.volume r (some_set volumes records k r are at is_used) refl))
               ∙ sym (mixed-set (copied_for r.volume) unnoted k records r at);
-          valid = valid;
+          valid = valid_now maps new r.volume n inside set valid;
         } in
         subst (λ (x : ℕ). P x w) (sym own.0) (subst (P r.volume) (sym own.1) one))
     | inr other ↦ map_same volumes records images k u w r at (copied_for-other u r (λ same. other.0 (sym same))) (up.each u w other.1)
   ];
-}
+} where
+  n : MapValue
+  n = with_row k (Some (copy_of r.set r.block)) (map_at maps r.volume)
 
 -- ## which records have their image
 

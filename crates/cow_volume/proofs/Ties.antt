@@ -1,18 +1,19 @@
 -- What the parts that find copies keep in step.
 use Rattle.std.proofs.Common.{ℕ, zero, suc, ◌≡◌, ◌≢◌, ◌<◌, ◌+◌, ◌-◌, Bool, true, false, not, ◌&&◌, List, [], ◌∷◌, length, map, Option, Some, None, slice_get, slice_set, refl, sym, ap, ◌∙◌, subst}
-use Rattle.std.proofs.Common.{arith, inl, inr, get_or, Contains}
+use Rattle.std.proofs.Common.{arith, inl, inr, Contains}
 use Rattle.std.specs.Prelude.{◌==◌, if◌then◌else◌, IfSome, IsNone, IsTrue, ◌↔◌}
 use Rattle.std.proofs.lemmas.Bool.{false≢true, cases_lt}
 use Rattle.std.proofs.lemmas.Bool.Decides.{nat_tests}
 use Rattle.std.proofs.lemmas.List.{length-set, map-set}
 use Rattle.std.proofs.lemmas.List.Sums.{sum_by-cons}
-use Rattle.std.proofs.lemmas.Option.{none-some, same_Some, slice_get_read, slice_get-map, slice_get_within}
+use Rattle.std.proofs.lemmas.Option.{none-some, same_Some, slice_get-map, slice_get_within}
 use Rattle.slot_pool.specs.Slots.{IsLowestFree, free_count}
 use Rattle.diff_area.proofs.Gets.{get-set}
 use Rattle.diff_area.specs.Records.{free, is_free, used_in}
 use Rattle.diff_area.specs.declared.table_record.Record.{Record}
 use Rattle.diff_map.specs.Copies.{copied_at, copy_of, HasCopy}
 use Rattle.diff_map.specs.Chains.{IsFound, IsAbsent}
+use Rattle.diff_map.specs.Groups.{IsUnnoted, map_at}
 use Rattle.diff_map.specs.MapValue.{MapValue, IsMap, AreImages, newest}
 use Rattle.diff_map.specs.declared.copied.Copied.{Copied}
 use Rattle.cow_volume.specs.StandsFor.{record_of}
@@ -20,14 +21,18 @@ use Rattle.cow_volume.specs.Changes.{IsFirstCopy, HasNoCopy}
 use Rattle.cow_volume.specs.Calls.{sets_in}
 use Rattle.cow_volume.specs.Room.{lacks_copy, is_full}
 use Rattle.cow_volume.specs.Tied.{copied_for, AreTied, AreOfImages, images_of}
+use Rattle.cow_volume.proofs.GroupMaps.{get_map}
 use Rattle.cow_volume.proofs.Rows.{same_record, used_is, copied_for-other, copied_for-is, record_of_row, row_of_record, map-from, has_from_slot, found_copy, absent_copy, copy_absent}
 use Rattle.cow_volume.proofs.Rows.{newest_has_record, lacks_newest}
 
 -- ## a volume's map
 
-pub map_at : (volumes : List ℕ) (records : List Record) (maps : List MapValue) (pool : List Bool) (v : ℕ) (m : MapValue) → AreTied volumes records maps pool → v < length volumes → m ≡ get_or maps v m
-    → slice_get maps v ≡ Some m
-map_at volumes records maps pool v m tied within is = let same = tied.number in slice_get_read maps (length maps) v m refl (omega arith) is
+pub has_map : (volumes : List ℕ) (records : List Record) (maps : List MapValue) (pool : List Bool) (v : ℕ) → AreTied volumes records maps pool → v < length volumes → v < length maps
+has_map volumes records maps pool v tied within = let same = tied.number in omega arith
+
+pub tied_at : (volumes : List ℕ) (records : List Record) (maps : List MapValue) (pool : List Bool) (v : ℕ) → AreTied volumes records maps pool → v < length volumes
+    → slice_get maps v ≡ Some (map_at maps v)
+tied_at volumes records maps pool v tied within = get_map maps v (has_map volumes records maps pool v tied within)
 
 pub images_at : (maps : List MapValue) (v : ℕ) (m : MapValue) → slice_get maps v ≡ Some m → slice_get (images_of maps) v ≡ Some m.images
 images_at maps v m at = slice_get-map (λ (x : MapValue). x.images) maps v ∙ ap (λ (o : Option MapValue). option_images o) at where
@@ -157,6 +162,10 @@ unnoted records copies v slot e h = ap (λ (cs : List (Option Copied)). slice_ge
   mapped [] k h = absurd (none-some free h)
   mapped (q ∷ rs) zero h = ap (λ (x : Record). Some (copied_for v x)) (same_Some q free h)
   mapped (q ∷ rs) (suc k) h = mapped rs k h
+
+pub unnoted_all : (volumes : List ℕ) (records : List Record) (maps : List MapValue) (pool : List Bool) (slot : ℕ)
+    → AreTied volumes records maps pool → slice_get records slot ≡ Some free → IsUnnoted maps slot
+unnoted_all volumes records maps pool slot tied h = λ u m at. unnoted records m.copies u slot (tied.each u m at).copies h
 
 -- the newest image lacks the copy: no record is that of it, and the map has none
 pub lacks_some : (records : List Record) (v : ℕ) (images : List ℕ) (b : ℕ) → lacks_copy records v images b ≡ true → 0 < length images

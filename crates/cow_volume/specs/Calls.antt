@@ -132,6 +132,11 @@ abbrev pub IsShown : {D : Type 0} → (D → Option (List (List ℕ))) → Group
 IsShown {D = D} told g v set b bytes = (hs : List History) (d : D) (p : ℕ) → StandsFor told g hs → slice_get g.devices v ≡ Some d → is_some (told d) ≡ true → is_some (told g.area.device) ≡ true
     → point_in set (history_at hs v).images ≡ Some p → bytes ≡ content (history_at hs v).writes p b
 
+-- the bytes are those of block b of volume v now, or those that the image of a set on it shows
+abbrev pub IsSeen : {D : Type 0} → (D → Option (List (List ℕ))) → GroupValue D → ℕ → Option ℕ → ℕ → List ℕ → Type 0
+IsSeen told g v None b bytes = IsNow told g v b bytes
+IsSeen told g v (Some set) b bytes = IsShown told g v set b bytes
+
 -- the sets of the images of volume v
 abbrev pub sets_in : Option (List ℕ) → List ℕ
 sets_in None = []

@@ -11,6 +11,10 @@ mixed f g zero xs = map g xs
 mixed f g (suc k) [] = []
 mixed f g (suc k) (x ∷ xs) = f x ∷ mixed f g k xs
 
+-- the images of the first so many volumes, and none of the others
+abbrev pub so_far : ℕ → List (List ℕ) → List (List ℕ)
+so_far k images = mixed (λ sets. sets) (λ sets. []) k images
+
 abbrev pub unnoted : Record → Option Copied
 unnoted r = None
 

@@ -1,6 +1,6 @@
 -- The parts of a group that find its copies: a map for each volume, which notes a slot for each record of that volume, and a pool
 -- in which the slots of the free records are free. So both say what the records say. (This project's own.)
-use Rattle.std.specs.Prelude.{ℕ, ◌≡◌, ◌<◌, Contains, Bool, ◌==◌, ◌&&◌, List, [], length, replicate, map, Option, Some, None, slice_get, nat_lt, if◌then◌else◌}
+use Rattle.std.specs.Prelude.{ℕ, ◌≡◌, ◌<◌, Contains, Bool, ◌==◌, ◌&&◌, List, length, map, Option, Some, None, slice_get, nat_lt, if◌then◌else◌}
 use Rattle.diff_area.specs.AreaValue.{AreaValue}
 use Rattle.diff_area.specs.Records.{is_free}
 use Rattle.diff_area.specs.declared.table_record.Record.{Record}
@@ -35,7 +35,3 @@ pub record AreTied (volumes : List ℕ) (records : List Record) (maps : List Map
 pub record AreOfImages (records : List Record) (images : List (List ℕ)) : Type 0 where
   pub sets : (v : ℕ) (sets : List ℕ) → slice_get images v ≡ Some sets → AreImages sets
   pub each : (slot : ℕ) (r : Record) → slice_get records slot ≡ Some r → 0 < r.set → (sets : List ℕ) → slice_get images r.volume ≡ Some sets → Contains sets r.set
-
--- the map of a volume of so many blocks over so many slots, without images
-abbrev pub new_map : ℕ → ℕ → MapValue
-new_map slots blocks = record { blocks = blocks; images = []; copies = replicate slots None }

@@ -1,6 +1,6 @@
 //! Calls on the device of one volume of a group.
 
-ghost use Rattle.std.specs.Prelude.{◌≡◌, ◌<◌, Some, slice_get, length, is_some, is_err, IfSome};
+ghost use Rattle.std.specs.Prelude.{◌≡◌, ◌<◌, true, Some, slice_get, length, is_some, is_err, IfSome};
 ghost use Rattle.cow_volume.specs.Parts.{size_at, IsRead, IsPut, IsFlushed};
 
 use block_data::BLOCK;
@@ -51,4 +51,18 @@ pub(crate) fn lend_device<D: Device>(devices: &Vec<D>, v: u32, block: u32) -> Op
     ensures whole { IfSome result (λ lent. length lent.now ≡ BLOCK) }
 {
     devices[v as usize].lend(block)
+}
+
+/// Fills `out` with a block of a volume's device, while other threads may read too. False if that cannot be, or failed.
+pub(crate) fn read_device_shared<D: Device>(
+    devices: &Vec<D>,
+    v: u32,
+    block: u32,
+    out: &mut [u8],
+) -> bool
+    requires in_range { block < size_at D.size devices.now.items v }
+    requires whole { length out.old ≡ BLOCK }
+    ensures { result ≡ true → (d : D) → slice_get devices.now.items v ≡ Some d → IfSome (D.told d) (λ blocks. slice_get blocks block ≡ Some out.new) }
+{
+    devices[v as usize].read_shared(block, out)
 }

@@ -13,7 +13,7 @@ ghost use Rattle.cow_volume.specs.Changes.{IsFirstCopy, HasNoCopy};
 ghost use Rattle.cow_volume.specs.Counts.{count_on, count_of};
 ghost use Rattle.cow_volume.specs.Room.{lacks_copy, lacks_slot, is_full, lesser, IsFirstToFree, IsOldestOn, IsRoomMade};
 ghost use Rattle.cow_volume.specs.Resuming.{AllHaveImages, IsResumeFault};
-ghost use Rattle.cow_volume.specs.Tied.{AreOfImages, new_map};
+ghost use Rattle.cow_volume.specs.Tied.{AreOfImages};
 ghost use Rattle.cow_volume.specs.CopiesAfter.{images_on, after_cut, after_note, after_merge, after_clear, after_gone, after_gone_on};
 
 use crate::renewing::{free_copies, merge_copies};
@@ -21,19 +21,19 @@ use crate::resume_fault::ResumeFault;
 use crate::resuming::{maps_of, note_copies, pool_of};
 use block_data::{BLOCK, BlockView};
 use diff_area::{Area, AreaFault, Record};
-use diff_map::{DiffMap, Going};
+use diff_map::{Going, GroupMap};
 use slot_pool::SlotPool;
 use std::alloc::Global;
 use std::marker::Model;
 use volume_device::Device;
 use vss_names::{Numbers, OutOfMemory};
 
-/// The copies of a group: the area that holds them, a map for each volume that finds them, and the pool of free slots.
+/// The copies of a group: the area that holds them, the maps of its volumes that find them, and the pool of free slots.
 /// Contracts see the area and the images of each volume: what the maps and the pool hold follows from the records.
 #[derive(Drop)]
 pub(crate) struct Copies<D: Device> {
     area: Area<D>,
-    maps: Vec<DiffMap>,
+    maps: GroupMap,
     pool: SlotPool,
 }
 
@@ -42,9 +42,9 @@ impl<D: Device> Model for Copies<D> {
 
     ghost Value = { CopiesValue D };
 
-    ghost view = { λ c. record { area = c.area; images = images_of c.maps.items } };
+    ghost view = { λ c. record { area = c.area; images = images_of c.maps } };
 
-    ghost invariant = { λ c. AreTied c.area.volumes c.area.records c.maps.items c.pool };
+    ghost invariant = { λ c. AreTied c.area.volumes c.area.records c.maps c.pool };
 }
 
 impl<D: Device> Copies<D> {
@@ -53,7 +53,7 @@ impl<D: Device> Copies<D> {
         requires { area.records ≡ replicate (length area.records) free }
         ensures { IfOk result (λ copies. copies ≡ record { area = area; images = map (λ n. []) area.volumes }) }
     {
-        let maps = new_maps(alloc, &area)?;
+        let maps = GroupMap::new(alloc, area.sizes(), area.slots())?;
         let pool = SlotPool::new(alloc, area.slots())?;
         Ok(Copies { area, maps, pool })
     }
@@ -106,7 +106,7 @@ impl<D: Device> Copies<D> {
         requires { v < length self.now.area.volumes }
         ensures { slice_get self.now.area.volumes v ≡ Some result }
     {
-        self.maps[v as usize].blocks()
+        self.maps.blocks(v)
     }
 
     /// The sets of the images of a volume, the oldest first.
@@ -115,7 +115,7 @@ impl<D: Device> Copies<D> {
         ensures images { slice_get self.now.images v ≡ Some result.now }
         ensures valid { AreImages result.now }
     {
-        self.maps[v as usize].images()
+        self.maps.images(v)
     }
 
     /// How many slots hold copies.
@@ -130,7 +130,7 @@ impl<D: Device> Copies<D> {
         requires { v < length self.now.area.volumes }
         ensures { result ≡ count_on v self.now.area.records }
     {
-        self.maps[v as usize].used()
+        self.maps.used(v)
     }
 
     /// How many slots hold copies for the image of a set on the volume.
@@ -139,9 +139,8 @@ impl<D: Device> Copies<D> {
         requires image { Contains (images_on self.now v) set }
         ensures { result ≡ count_of v set self.now.area.records }
     {
-        let map = &self.maps[v as usize];
-        let _facts = map.images();
-        map.used_by(set)
+        let _facts = self.maps.images(v);
+        self.maps.used_by(v, set)
     }
 
     /// The oldest image of the volume that has a copy.
@@ -149,7 +148,7 @@ impl<D: Device> Copies<D> {
         requires { v < length self.now.area.volumes }
         ensures { IsOldestOn self.now.area.records v result }
     {
-        self.maps[v as usize].oldest_used()
+        self.maps.oldest_used(v)
     }
 
     /// Whether an image of the volume stands, and the newest has no copy of the block.
@@ -157,11 +156,10 @@ impl<D: Device> Copies<D> {
         requires { v < length self.now.area.volumes }
         ensures { result ≡ lacks_copy self.now.area.records v (images_on self.now v) block }
     {
-        let map = &self.maps[v as usize];
-        if map.images().is_empty() {
+        if self.maps.images(v).is_empty() {
             return false;
         }
-        !map.newest_has(block)
+        !self.maps.newest_has(v, block)
     }
 
     /// Whether a write of the block needs a slot for a copy, and none is free.
@@ -180,7 +178,7 @@ impl<D: Device> Copies<D> {
         ensures within { IfSome result (λ slot. slot < length self.now.area.records) }
         ensures none { IsNone result ↔ HasNoCopy self.now.area.records v set block }
     {
-        self.maps[v as usize].find(set, block)
+        self.maps.find(v, set, block)
     }
 
     /// The lowest free slot.
@@ -199,9 +197,8 @@ impl<D: Device> Copies<D> {
         requires newest { All (λ image. image < set) (images_on self.old v) }
         ensures { self.new ≡ after_cut self.old v set }
     {
-        let map = &mut self.maps[v as usize];
-        map.add_image(set);
-        let _facts = map.images();
+        self.maps.add_image(v, set);
+        let _facts = self.maps.images(v);
     }
 
     /// Notes the lowest free slot for a block of the newest image of the volume, which lacks a copy of it.
@@ -213,10 +210,9 @@ impl<D: Device> Copies<D> {
         ensures { self.new ≡ after_note self.old v block slot }
     {
         let _taken = self.pool.take();
-        let map = &mut self.maps[v as usize];
-        let set = newest(map.images());
-        map.note(block, slot);
-        let _facts = map.images();
+        let set = newest(self.maps.images(v));
+        self.maps.note(v, block, slot);
+        let _facts = self.maps.images(v);
         let row = Record {
             set,
             block,
@@ -258,6 +254,15 @@ impl<D: Device> Copies<D> {
         ensures whole { IfSome result (λ block. length block.now ≡ BLOCK) }
     {
         self.area.lend_slot(slot)
+    }
+
+    /// Fills `out` with the block of a slot, while other threads may read too. False if that cannot be, or failed.
+    pub(crate) fn read_slot_shared(&self, slot: u32, out: &mut [u8]) -> bool
+        requires slot { slot < length self.now.area.records }
+        requires whole { length out.old ≡ BLOCK }
+        ensures { result ≡ true → IfSome (D.told self.now.area.device) (λ blocks. slice_get blocks (place_of_slot (length self.now.area.records) slot) ≡ Some out.new) }
+    {
+        self.area.read_slot_shared(slot, out)
     }
 
     /// Writes the records of the copies to the area's device. Where that fails, those already written stand there.
@@ -338,10 +343,10 @@ impl<D: Device> Copies<D> {
         requires { v < length self.old.area.volumes }
         ensures { self.new ≡ after_gone_on self.old v set }
     {
-        let map = &mut self.maps[v as usize];
-        free_copies(&mut self.area, map, &mut self.pool, v, Going::UpTo(set));
-        map.forget_up_to(set);
-        let _facts = map.images();
+        let going = Going::UpTo(set);
+        free_copies(&mut self.area, &mut self.maps, &mut self.pool, v, going);
+        self.maps.forget_up_to(v, set);
+        let _facts = self.maps.images(v);
     }
 
     /// The image of a set goes from the volume. Its copies go to the next older image, where that lacks them.
@@ -350,11 +355,10 @@ impl<D: Device> Copies<D> {
         requires image { Contains (images_on self.old v) set }
         ensures { self.new ≡ after_merge self.old v set }
     {
-        let map = &mut self.maps[v as usize];
-        let _facts = map.images();
-        merge_copies(&mut self.area, map, &mut self.pool, v, set);
-        map.forget(set);
-        let _facts = map.images();
+        let _facts = self.maps.images(v);
+        merge_copies(&mut self.area, &mut self.maps, &mut self.pool, v, set);
+        self.maps.forget(v, set);
+        let _facts = self.maps.images(v);
     }
 
     /// The images of the volume that are newer than that of a set go, and all copies from that set on.
@@ -363,23 +367,12 @@ impl<D: Device> Copies<D> {
         requires image { Contains (images_on self.old v) set }
         ensures { self.new ≡ after_clear self.old v set }
     {
-        let map = &mut self.maps[v as usize];
-        let _facts = map.images();
-        free_copies(&mut self.area, map, &mut self.pool, v, Going::From(set));
-        map.forget_newer(set);
-        let _facts = map.images();
+        let _facts = self.maps.images(v);
+        let going = Going::From(set);
+        free_copies(&mut self.area, &mut self.maps, &mut self.pool, v, going);
+        self.maps.forget_newer(v, set);
+        let _facts = self.maps.images(v);
     }
-}
-
-/// A map without images for each volume of an area.
-fn new_maps<D: Device>(alloc: Global, area: &Area<D>) -> Result<Vec<DiffMap>, OutOfMemory>
-    ensures { IfOk result (λ maps. maps.items ≡ map (new_map (length area.now.records)) area.now.volumes) }
-{
-    let mut maps = Vec::with_capacity(alloc, area.volumes() as usize)?;
-    for v in 0..area.volumes() {
-        maps.push(DiffMap::new(alloc, area.blocks(v), area.slots())?)?;
-    }
-    Ok(maps)
 }
 
 /// The newest of these images.

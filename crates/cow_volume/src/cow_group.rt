@@ -7,7 +7,7 @@ ghost use Rattle.diff_area.specs.Records.{free, AreVolumes};
 ghost use Rattle.diff_map.specs.MapValue.{AreImages};
 ghost use Rattle.cow_volume.specs.GroupValue.{placed};
 ghost use Rattle.cow_volume.specs.StandsFor.{StandsFor};
-ghost use Rattle.cow_volume.specs.Calls.{HasCauseAt, HasImageCause, IsNow, IsShown, IsQuiet, IsUnfailed, IsWrite, IsDropped, IsRevert, StopsAfter, NeverFails, counted_by, IsEvicted, VolumeRose, history_at, changed_at, is_among, sets_at, blocks_at};
+ghost use Rattle.cow_volume.specs.Calls.{HasCauseAt, HasImageCause, IsNow, IsSeen, IsShown, IsQuiet, IsUnfailed, IsWrite, IsDropped, IsRevert, StopsAfter, NeverFails, counted_by, IsEvicted, VolumeRose, history_at, changed_at, is_among, sets_at, blocks_at};
 ghost use Rattle.cow_volume.specs.Parts.{IsLentBy, IsUnseen};
 ghost use Rattle.cow_volume.specs.Ending.{IsSync};
 ghost use Rattle.cow_volume.specs.Resuming.{AllHaveImages, IsResumeFault, AreKept, NoneTell};
@@ -21,7 +21,7 @@ use crate::copying::{copy_block, put_block};
 use crate::ending::{flush_one, sync_all};
 use crate::image_fault::ImageFault;
 use crate::listing::list_going;
-use crate::reads::{has_image, lend_now, lend_shown, read_now, read_shown};
+use crate::reads::{has_image, lend_now, lend_shown, read_now, read_shared, read_shown};
 use crate::resume_fault::ResumeFault;
 use crate::revert_fault::RevertFault;
 use crate::reverts::{merge_image, revert};
@@ -251,6 +251,17 @@ impl<D: Device> CowGroup<D> {
         ensures unseen { IfErr result (IsUnseen (sets_at self.now v) (blocks_at self.now v) set block) }
     {
         lend_shown(&self.devices, &self.copies, v, set, block)
+    }
+
+    /// Fills `out` with a block as it is, or as the image of a set shows it, while other threads may read too. False if the
+    /// device that has it cannot be read so, the read failed, or there is no such image; then `out` holds any bytes.
+    pub fn read_shared(&self, v: u32, set: Option<u32>, block: u32, out: &mut [u8]) -> bool
+        requires volume { v < length self.now.area.volumes }
+        requires in_range { block < blocks_at self.now v }
+        requires whole { length out.old ≡ BLOCK }
+        ensures { result ≡ true → IsSeen D.told self.now v set block out.new }
+    {
+        read_shared(&self.devices, &self.copies, v, set, block, out)
     }
 
     /// Writes a block. Where its old bytes need a slot for a copy and none is free, images go first, those of the group's least set

@@ -1,11 +1,12 @@
 //! The images that go for a write, listed before they go.
 
-ghost use Rattle.std.specs.Prelude.{◌≡◌, ◌<◌, ◌≤◌, ◌+◌, ◌*◌, ◌++◌, length, vec_capacity};
+ghost use Rattle.std.specs.Prelude.{◌≡◌, ◌<◌, ◌≤◌, ◌+◌, ◌*◌, ◌++◌, length, vec_capacity, AllPairs};
 ghost use Rattle.write_history.specs.Slots.{evicted_of};
 ghost use Rattle.cow_volume.specs.Room.{IsNextSet, first_above, holders, images_going};
 
 use crate::copies::{Copies, lesser};
 use crate::reads::has_image;
+use diff_map::place_after;
 use volume_device::Device;
 use write_history::Evicted;
 
@@ -38,9 +39,14 @@ fn next_set<D: Device>(copies: &Copies<D>, above: u32, up_to: u32) -> u32
 
 /// The first of some sets, which rise, that is above one.
 fn first_above(sets: &[u32], above: u32) -> Option<u32>
+    requires { AllPairs (λ older newer. older < newer) sets.now }
     ensures { result ≡ first_above above sets.now }
 {
-    sets.iter().copied().find(|set| *set > above)
+    let at = place_after(sets, above);
+    if at == sets.len() {
+        return None;
+    }
+    Some(sets[at])
 }
 
 /// Adds the images of a set to a list that has room for them, in order of volumes.

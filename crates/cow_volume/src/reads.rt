@@ -2,16 +2,17 @@
 
 ghost use Rattle.std.specs.Prelude.{◌≡◌, ◌<◌, ◌≤◌, ◌↔◌, true, Some, slice_get, length, map, is_some, is_err, IfOk, IfErr, IfSome, OnOk, IsNone};
 ghost use Rattle.cow_volume.specs.Changes.{IsFirstCopy, HasNoCopy};
-ghost use Rattle.cow_volume.specs.Calls.{HasCauseAt, HasImageCause, IsNow, IsShown, IsQuiet, IsUnfailed, is_among};
+ghost use Rattle.cow_volume.specs.Calls.{HasCauseAt, HasImageCause, IsNow, IsSeen, IsShown, IsQuiet, IsUnfailed, is_among};
 ghost use Rattle.cow_volume.specs.CopiesAfter.{images_on};
 ghost use Rattle.cow_volume.specs.Parts.{group_of, blocks_on, IsUnseen, IsLentBy};
 ghost use Rattle.cow_volume.specs.declared.cause.Cause.TheVariants.{NoSuchBlock};
 
-use crate::calling::{lend_device, read_device};
+use crate::calling::{lend_device, read_device, read_device_shared};
 use crate::cause::Cause;
 use crate::copies::Copies;
 use crate::image_fault::ImageFault;
 use block_data::BLOCK;
+use diff_map::place_from;
 use volume_device::Device;
 
 /// Whether an image of a set stands on a volume.
@@ -20,7 +21,12 @@ pub(crate) fn has_image<D: Device>(copies: &Copies<D>, v: u32, set: u32) -> bool
     ensures among { result ≡ is_among set (images_on copies.now v) }
     ensures above { result ≡ true → 0 < set }
 {
-    copies.images(v).iter().any(|image| *image == set)
+    let sets = copies.images(v);
+    let at = place_from(sets, set);
+    if at == sets.len() {
+        return false;
+    }
+    sets[at] == set
 }
 
 /// Reads a block of a volume as it is into `out`, which after a failed read holds any bytes.
@@ -141,5 +147,31 @@ pub(crate) fn lend_shown<'a, D: Device>(
     match find_shown(copies, v, set, block)? {
         Some(slot) => Ok(copies.lend_slot(slot)),
         None => Ok(lend_device(devices, v, block)),
+    }
+}
+
+/// Fills `out` with a block as it is, or as the image of a set shows it, while other threads may read too. False if that
+/// cannot be, or failed, or there is no such image.
+pub(crate) fn read_shared<D: Device>(
+    devices: &Vec<D>,
+    copies: &Copies<D>,
+    v: u32,
+    set: Option<u32>,
+    block: u32,
+    out: &mut [u8],
+) -> bool
+    requires volume { v < length copies.now.area.volumes }
+    requires devices { map D.size devices.now.items ≡ copies.now.area.volumes }
+    requires in_range { block < blocks_on copies.now v }
+    requires whole { length out.old ≡ BLOCK }
+    ensures { result ≡ true → IsSeen D.told (group_of devices.now.items copies.now) v set block out.new }
+{
+    let Some(set) = set else {
+        return read_device_shared(devices, v, block, out);
+    };
+    match find_shown(copies, v, set, block) {
+        Ok(Some(slot)) => copies.read_slot_shared(slot, out),
+        Ok(None) => read_device_shared(devices, v, block, out),
+        Err(_) => false,
     }
 }

@@ -1,7 +1,8 @@
 //! The maps and the pool of a group, taken up from the records of its area.
 
-ghost use Rattle.std.specs.Prelude.{◌≡◌, ◌<◌, false, true, length, map, slice_get, All, IfOk, IfErr, OnOk};
+ghost use Rattle.std.specs.Prelude.{◌≡◌, ◌<◌, [], false, true, length, map, slice_get, slice_set, All, IfOk, IfErr, OnOk};
 ghost use Rattle.diff_area.specs.Records.{is_free};
+ghost use Rattle.diff_map.specs.Groups.{map_at, with_images};
 ghost use Rattle.diff_map.specs.MapValue.{AreImages};
 ghost use Rattle.cow_volume.specs.Calls.{is_among, sets_in};
 ghost use Rattle.cow_volume.specs.Resuming.{HasImage, AllHaveImages, IsResumeFault};
@@ -9,30 +10,41 @@ ghost use Rattle.cow_volume.specs.TakingUp.{AreTakenUp, unused, used};
 
 use crate::resume_fault::ResumeFault;
 use diff_area::{Area, Record};
-use diff_map::DiffMap;
+use diff_map::GroupMap;
 use slot_pool::SlotPool;
 use std::alloc::Global;
 use volume_device::Device;
 use vss_names::{Numbers, OutOfMemory};
 
-/// A map for each volume with its images, and without copies.
+/// The maps of the volumes with their images, and without copies.
 pub(crate) fn maps_of<D: Device>(
     alloc: Global,
     area: &Area<D>,
     images: &[Numbers],
-) -> Result<Vec<DiffMap>, OutOfMemory>
+) -> Result<GroupMap, OutOfMemory>
     requires lists { length images.now ≡ length area.now.volumes }
     requires rise { All AreImages images.now }
-    ensures { IfOk result (λ maps. AreTakenUp area.now.volumes area.now.records images.now 0 (length area.now.volumes) maps.items) }
+    ensures { IfOk result (λ maps. AreTakenUp area.now.volumes area.now.records images.now 0 (length area.now.volumes) maps) }
 {
-    let mut maps = Vec::with_capacity(alloc, area.volumes() as usize)?;
+    let mut maps = GroupMap::new(alloc, area.sizes(), area.slots())?;
     for v in 0..area.volumes() {
         let sets = images[v as usize].items();
-        let map = DiffMap::with_images(alloc, area.blocks(v), area.slots(), sets)?;
-        let _facts = map.images();
-        maps.push(map)?;
+        add_images(&mut maps, v, sets);
+        let _facts = maps.images(v);
     }
     Ok(maps)
+}
+
+/// Adds the images of these sets, the oldest first, to a volume that has none.
+fn add_images(maps: &mut GroupMap, v: u32, sets: &[u32])
+    requires volume { v < length maps.old }
+    requires none { (map_at maps.old v).images ≡ [] }
+    requires rise { AreImages sets.now }
+    ensures { maps.new ≡ slice_set maps.old v (with_images sets.now (map_at maps.old v)) }
+{
+    for set in sets {
+        maps.add_image(v, *set);
+    }
 }
 
 /// Whether a set is among these.
@@ -56,13 +68,13 @@ fn lacks_image(images: &[Numbers], row: Record) -> bool
 
 /// Notes the slots of the records in the maps of their volumes, up to the first record that lacks its image.
 pub(crate) fn note_copies<D: Device>(
-    maps: &mut Vec<DiffMap>,
+    maps: &mut GroupMap,
     area: &Area<D>,
     images: &[Numbers],
 ) -> Result<(), ResumeFault>
     requires lists { length images.now ≡ length area.now.volumes }
-    requires begun { AreTakenUp area.now.volumes area.now.records images.now 0 (length area.now.volumes) maps.old.items }
-    ensures noted { OnOk result (AreTakenUp area.now.volumes area.now.records images.now (length area.now.records) (length area.now.volumes) maps.new.items) }
+    requires begun { AreTakenUp area.now.volumes area.now.records images.now 0 (length area.now.volumes) maps.old }
+    ensures noted { OnOk result (AreTakenUp area.now.volumes area.now.records images.now (length area.now.records) (length area.now.volumes) maps.new) }
     ensures all { OnOk result (AllHaveImages area.now.records images.now) }
     ensures fault { IfErr result (IsResumeFault area.now.records images.now) }
 {
@@ -73,9 +85,8 @@ pub(crate) fn note_copies<D: Device>(
             return Err(ResumeFault::NoImage { slot, set });
         }
         if !row.is_free() {
-            let map = &mut maps[row.volume as usize];
-            map.note_for(row.set, row.block, slot);
-            let _facts = map.images();
+            maps.note_for(row.volume, row.set, row.block, slot);
+            let _facts = maps.images(row.volume);
         }
     }
     Ok(())

@@ -1,4 +1,4 @@
-ghost use Rattle.std.specs.Prelude.{◌≡◌, ◌<◌, ◌≤◌, ℕ, List, Some, length, replicate, slice_get, slice_index, slice_set, option_map, is_some, IfOk, IfErr, IfSome, OnOk, OnErr};
+ghost use Rattle.std.specs.Prelude.{◌≡◌, true, ◌<◌, ◌≤◌, ℕ, List, Some, length, replicate, slice_get, slice_index, slice_set, option_map, is_some, IfOk, IfErr, IfSome, OnOk, OnErr};
 ghost use Rattle.vss_names.specs.Faults.{HasCause};
 ghost use Rattle.volume_device.specs.Blocks.{AreBlocks};
 ghost use Rattle.write_history.specs.Slots.{Copy};
@@ -11,7 +11,7 @@ ghost use Rattle.diff_area.specs.Records.{free, AreVolumes, AreRecords, IsUsed};
 ghost use Rattle.diff_area.specs.Written.{table_blocks};
 
 use crate::area_fault::AreaFault;
-use crate::layout::{MOST_SLOTS, PAGE_RECORDS, place_of_slot};
+use crate::layout::{PAGE_RECORDS, place_of_slot};
 use crate::loading::read_tables;
 use crate::table_record::Record;
 use crate::tables::Tables;
@@ -21,7 +21,7 @@ use block_data::{BLOCK, BlockView};
 use std::alloc::Global;
 use std::marker::Model;
 use volume_device::Device;
-use vss_names::{Failed, OutOfMemory};
+use vss_names::{Failed, MOST_SLOTS, OutOfMemory};
 
 /// The diff area of a group of volumes: slots of one block each, and a record for each slot that says of which copy
 /// it is.
@@ -132,6 +132,13 @@ impl<D: Device> Area<D> {
         self.volumes.len() as u32
     }
 
+    /// How many blocks each volume of the group has.
+    pub fn sizes(&self) -> &[u32]
+        ensures { result.now ≡ self.now.volumes }
+    {
+        &self.volumes
+    }
+
     /// How many blocks a volume of the group has.
     pub fn blocks(&self, volume: u32) -> u32
         requires { volume < length self.now.volumes }
@@ -190,6 +197,16 @@ impl<D: Device> Area<D> {
     {
         let place = place_of_slot(self.records.len() as u32, slot);
         self.device.lend(place)
+    }
+
+    /// Fills `out` with the block of a slot, while other threads may read too. False if that cannot be, or failed.
+    pub fn read_slot_shared(&self, slot: u32, out: &mut [u8]) -> bool
+        requires slot { slot < length self.now.records }
+        requires whole { length out.old ≡ BLOCK }
+        ensures { result ≡ true → IfSome (D.told self.now.device) (λ blocks. slice_get blocks (place_of_slot (length self.now.records) slot) ≡ Some out.new) }
+    {
+        let place = place_of_slot(self.records.len() as u32, slot);
+        self.device.read_shared(place, out)
     }
 
     /// Notes a slot for a copy, in memory alone.

@@ -6,11 +6,12 @@ ghost use Rattle.diff_area.specs.Refusals.{IsRefused};
 
 use crate::area_fault::AreaFault;
 use crate::header::{Header, check_header, part};
-use crate::layout::{MOST_SLOTS, pages_for, place_of_slot};
+use crate::layout::{pages_for, place_of_slot};
 use crate::rows::{check_table, row_at};
 use block_data::BLOCK;
 use std::alloc::Global;
 use std::marker::Model;
+use vss_names::MOST_SLOTS;
 
 /// An area whose bytes stand in memory, and which lends its records and slots in place. Contracts see it as its bytes.
 #[derive(Debug, Drop)]

@@ -6,10 +6,11 @@ ghost use Rattle.block_data.specs.Runs.{run_of};
 ghost use Rattle.diff_area.specs.Records.{used_in};
 ghost use Rattle.diff_area.specs.Written.{number_bytes, record_bytes, records_of_page, page_bytes, header_bytes};
 
-use crate::layout::{LAYOUT, MAGIC, MOST_SLOTS, MOST_VOLUMES, PAGE_RECORDS};
+use crate::layout::{LAYOUT, MAGIC, PAGE_RECORDS};
 use crate::table_record::Record;
 use block_data::BLOCK;
 use byteorder::{ByteOrder, LittleEndian};
+use vss_names::{MOST_SLOTS, MOST_VOLUMES};
 
 /// Appends a number's four bytes, for which there is room.
 #[tactic(auto, unfolding(crate::specs::Written::number_bytes))]

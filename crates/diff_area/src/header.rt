@@ -9,10 +9,11 @@ ghost use Rattle.diff_area.specs.Places.{blocks_for};
 
 use crate::area_fault::AreaFault;
 use crate::header_field::HeaderField;
-use crate::layout::{LAYOUT, MAGIC, MOST_BLOCKS, MOST_SLOTS, MOST_VOLUMES, pages_for};
+use crate::layout::{LAYOUT, MAGIC, pages_for};
 use block_data::BLOCK;
 use byteorder::{ByteOrder, LittleEndian};
 use std::alloc::{AllocError, Global};
+use vss_names::{MOST_BLOCKS, MOST_SLOTS, MOST_VOLUMES};
 
 /// The layout of areas of one volume, which is read and no longer written.
 pub const FIRST_LAYOUT: u32 = 1;

@@ -3,20 +3,13 @@
 ghost use Rattle.std.specs.Prelude.{◌≡◌, ◌<◌, ◌≤◌};
 ghost use Rattle.diff_area.specs.Places.{pages_for, place_of_slot};
 
+use vss_names::MOST_SLOTS;
+
 /// The letters with which an area begins.
 pub const MAGIC: &[u8; 8] = b"VSSAREA1";
 
 /// The layout that is written.
 pub const LAYOUT: u32 = 2;
-
-/// The most slots of an area.
-pub const MOST_SLOTS: u32 = 65536;
-
-/// The most volumes of a group.
-pub const MOST_VOLUMES: u32 = 128;
-
-/// The most blocks of a volume.
-pub const MOST_BLOCKS: u32 = 65536;
 
 /// The number of records of a table page.
 pub const PAGE_RECORDS: u32 = 1024;

@@ -33,6 +33,6 @@ pub use area::Area;
 pub use area_fault::AreaFault;
 pub use area_view::AreaView;
 pub use header_field::HeaderField;
-pub use layout::{MOST_BLOCKS, MOST_SLOTS, MOST_VOLUMES, pages_for};
+pub use layout::pages_for;
 pub use table_record::Record;
 pub use unopened::Unopened;

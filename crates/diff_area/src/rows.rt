@@ -11,12 +11,12 @@ use crate::area_fault::AreaFault;
 use crate::encode::used_in;
 use crate::header::{FIRST_LAYOUT, Header, number_at, part};
 use crate::header_field::HeaderField;
-use crate::layout::{LAYOUT, MOST_SLOTS, PAGE_RECORDS, pages_for};
+use crate::layout::{LAYOUT, PAGE_RECORDS, pages_for};
 use crate::table_record::Record;
 use block_data::BLOCK;
 use std::alloc::Global;
 use std::collections::BTreeSet;
-use vss_names::OutOfMemory;
+use vss_names::{MOST_SLOTS, OutOfMemory};
 
 /// What a record says, in its layout.
 fn row_of(layout: u32, bytes: &[u8]) -> Record

@@ -1,8 +1,8 @@
-use crate::layout::{MOST_SLOTS, pages_for};
+use crate::layout::pages_for;
 use crate::table_record::Record;
 use block_data::BLOCK;
 use std::alloc::Global;
-use vss_names::OutOfMemory;
+use vss_names::{MOST_SLOTS, OutOfMemory};
 
 /// What an area keeps in memory.
 #[derive(Drop)]

@@ -8,11 +8,10 @@ ghost use Rattle.diff_area.specs.Places.{blocks_for, pages_for};
 ghost use Rattle.diff_area.specs.Written.{page_bytes, header_bytes, table_blocks};
 
 use crate::encode::{fill_header, fill_page};
-use crate::layout::{MOST_SLOTS, MOST_VOLUMES};
 use crate::table_record::Record;
 use block_data::BLOCK;
 use volume_device::Device;
-use vss_names::Failed;
+use vss_names::{Failed, MOST_SLOTS, MOST_VOLUMES};
 
 /// Writes the header.
 fn write_header<D: Device>(

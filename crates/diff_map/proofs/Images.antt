@@ -1,7 +1,7 @@
 -- The images of a volume in order of their sets: the next older one, and what is left where some go.
-use Rattle.std.proofs.Common.{ℕ, zero, suc, ◌≡◌, ◌<◌, ◌≤◌, ◌^◌, ◌⊎◌, inl, inr, Bool, true, false, cond, eqb, ltb, not, List, [], ◌∷◌, length, get_or, take, drop, ◌-◌, zero-add, Option, Some, None, refl, ap, sym, ◌∙◌}
+use Rattle.std.proofs.Common.{ℕ, zero, suc, ◌≡◌, ◌≢◌, ◌<◌, ◌≤◌, ◌^◌, ◌⊎◌, inl, inr, Bool, true, false, cond, eqb, leb, ltb, not, List, [], ◌∷◌, length, get_or, take, drop, ◌-◌, zero-add, Option, Some, None, refl, ap, sym, ◌∙◌}
 use Rattle.std.proofs.Common.{subst, arith, All, Contains}
-use Rattle.std.specs.List.{AllPairs, AllWithin, filter, fold, copy_within}
+use Rattle.std.specs.List.{AllPairs, AllWithin, filter, fold, copy_within, remove}
 use Rattle.std.proofs.lemmas.Bool.{cases_eq, cases_lt, lt-ltb, le-ltb}
 use Rattle.std.proofs.lemmas.Bool.Decides.{nat_tests}
 use Rattle.std.proofs.lemmas.List.{get_or_default, length-drop, take_all}
@@ -127,10 +127,35 @@ filter_from p (suc n) (x ∷ xs) go stay =
     filter_from p n xs (λ k d low high. go (suc k) d (omega arith) (omega arith)) (λ k d low high. stay (suc k) d (omega arith) (omega arith))
     ∙ sym (ap (λ b. cond b (x ∷ filter p xs) (filter p xs)) (go 0 x (omega arith) (omega arith)))
 
+-- without one of them, or without those from a place on
+pub filter_one : {X : Type 0} (p : X → Bool) (n : ℕ) (xs : List X) → n < length xs → ((k : ℕ) (d : X) → k < length xs → k ≢ n → p (get_or xs k d) ≡ true) → ((d : X) → p (get_or xs n d) ≡ false)
+    → remove xs n ≡ filter p xs
+filter_one p n [] inside stay go = absurd (omega arith)
+filter_one p zero (x ∷ xs) inside stay go =
+    sym (ap (λ b. cond b (x ∷ filter p xs) (filter p xs)) (go x) ∙ filter_all p xs (λ k d within. stay (suc k) d (omega arith) (omega arith)))
+filter_one p (suc n) (x ∷ xs) inside stay go =
+    ap (λ ys. x ∷ ys) (filter_one p n xs (omega arith) (λ k d within apart. stay (suc k) d (omega arith) (λ e. apart (omega arith))) go)
+    ∙ sym (ap (λ b. cond b (x ∷ filter p xs) (filter p xs)) (stay 0 x (omega arith) (omega arith)))
+
+pub filter_until : {X : Type 0} (p : X → Bool) (n : ℕ) (xs : List X) → AllWithin (λ x. p x ≡ true) xs 0 n → AllWithin (λ x. p x ≡ false) xs n (length xs) → take n xs ≡ filter p xs
+filter_until p zero [] stay go = refl
+filter_until p (suc n) [] stay go = refl
+filter_until p zero (x ∷ xs) stay go =
+    filter_until p zero xs (λ k d low high. absurd (omega arith)) (λ k d low high. go (suc k) d (omega arith) (omega arith))
+    ∙ sym (ap (λ b. cond b (x ∷ filter p xs) (filter p xs)) (go 0 x (omega arith) (omega arith)))
+filter_until p (suc n) (x ∷ xs) stay go =
+    ap (λ ys. x ∷ ys) (filter_until p n xs (λ k d low high. stay (suc k) d (omega arith) (omega arith)) (λ k d low high. go (suc k) d (omega arith) (omega arith)))
+    ∙ sym (ap (λ b. cond b (x ∷ filter p xs) (filter p xs)) (stay 0 x (omega arith) (omega arith)))
+
 pub images_dropped : (set n : ℕ) (images : List ℕ) → AllWithin (λ image. image ≤ set) images 0 n → AllWithin (λ image. set < image) images n (length images)
     → drop n images ≡ filter (λ image. ltb set image) images
 images_dropped set n images go stay = filter_from (ltb set) n images (λ k d low high. let le = go k d low high in grind (arith, nat_tests))
     (λ k d low high. let lt = stay k d low high in grind (arith, nat_tests))
+
+pub images_until : (set n : ℕ) (images : List ℕ) → AllWithin (λ image. image ≤ set) images 0 n → AllWithin (λ image. set < image) images n (length images)
+    → take n images ≡ filter (λ image. leb image set) images
+images_until set n images stay go = filter_until (λ image. leb image set) n images (λ k d low high. let le = stay k d low high in grind (arith, nat_tests))
+    (λ k d low high. let lt = go k d low high in grind (arith, nat_tests))
 
 -- the items that are left where the first ones were written over
 pub left_in_front : {X : Type 0} (xs : List X) (n m len : ℕ) → len ≡ length xs → n ≤ length xs → m ≡ len - n → take m (copy_within xs n len 0) ≡ drop n xs

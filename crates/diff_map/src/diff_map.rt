@@ -7,44 +7,32 @@ ghost use Rattle.diff_map.specs.Leaving.{rule_of};
 ghost use Rattle.diff_map.specs.Rules.{renewed, dropped, cleared, gone, merged, next_older, GivesBack};
 
 use crate::copied::Copied;
-use crate::counts::{drop_first, first_used, place_after, place_from};
 use crate::entry::Entry;
 use crate::going::Going;
-use crate::image_count::ImageCount;
+use crate::group_map::GroupMap;
 use crate::index::next_older;
-use crate::links::Links;
 use slot_pool::SlotPool;
 use std::alloc::Global;
 use std::marker::Model;
-use vss_names::OutOfMemory;
+use vss_names::{MOST_IMAGES, OutOfMemory};
 
-/// The most images that a volume has at a time.
-pub const MOST_IMAGES: usize = 512;
-
-/// The images of a volume, and which slot of the diff area holds which old block of which image. Several maps may
-/// share one pool of slots.
+/// The images of a volume, and which slot of the diff area holds which old block of which image: a group of one volume. Several
+/// maps may share one pool of slots.
 #[derive(Drop)]
 pub struct DiffMap {
-    images: Vec<u32>,
-    counts: Vec<ImageCount>,
-    links: Links,
-    /// For each noted slot, the next one of its image.
-    next: Vec<u32>,
-    /// How many slots are noted.
-    used: u32,
+    group: GroupMap,
 }
 
 impl Model for DiffMap {
-    ghost use Rattle.std.specs.Prelude.{◌≡◌};
-    ghost use Rattle.diff_map.specs.Copies.{noted_in};
-    ghost use Rattle.diff_map.specs.MapValue.{MapValue, KeepsImages};
-    ghost use Rattle.diff_map.specs.Counts.{KeepsCounts};
+    ghost use Rattle.std.specs.Prelude.{◌≡◌, length};
+    ghost use Rattle.diff_map.specs.Groups.{map_at};
+    ghost use Rattle.diff_map.specs.MapValue.{MapValue};
 
     ghost Value = { MapValue };
 
-    ghost view = { λ m. record { blocks = m.links.blocks; images = m.images.items; copies = m.links.copies } };
+    ghost view = { λ m. map_at m.group 0 };
 
-    ghost invariant = { λ m. KeepsImages m.images m.links.copies × KeepsCounts m.images m.counts m.next.items m.links.copies × (m.used ≡ noted_in m.links.copies) };
+    ghost invariant = { λ m. length m.group ≡ 1 };
 }
 
 impl DiffMap {
@@ -54,44 +42,8 @@ impl DiffMap {
         ensures { IfOk result (λ m. m ≡ record { blocks = blocks; images = []; copies = replicate slots None }) }
     {
         Ok(DiffMap {
-            images: Vec::with_capacity(alloc, MOST_IMAGES)?,
-            counts: Vec::with_capacity(alloc, MOST_IMAGES)?,
-            links: Links::new(alloc, blocks, slots)?,
-            next: vec![in alloc; 0; slots as usize]?,
-            used: 0,
+            group: GroupMap::new(alloc, &[blocks], slots)?,
         })
-    }
-
-    /// A map with the images of these sets, the oldest first, and without copies. It takes all memory that the map ever
-    /// needs.
-    pub fn with_images(
-        alloc: Global,
-        blocks: u32,
-        slots: u32,
-        images: &[u32],
-    ) -> Result<DiffMap, OutOfMemory>
-        requires { AreImages images.now }
-        ensures { IfOk result (λ m. m ≡ record { blocks = blocks; images = images.now; copies = replicate slots None }) }
-    {
-        let mut map = DiffMap::new(alloc, blocks, slots)?;
-        for image in images {
-            map.add_image(*image);
-        }
-        Ok(map)
-    }
-
-    /// How many blocks the volume has.
-    pub fn blocks(&self) -> u32
-        ensures { result ≡ self.now.blocks }
-    {
-        self.links.blocks()
-    }
-
-    /// How many slots the diff area has.
-    pub fn slots(&self) -> u32
-        ensures { result ≡ length self.now.copies }
-    {
-        self.links.slots()
     }
 
     /// The sets of the images, oldest first.
@@ -99,8 +51,7 @@ impl DiffMap {
         ensures images { result.now ≡ self.now.images }
         ensures valid { IsMap self.now }
     {
-        let _facts = self.links.slots();
-        &self.images
+        self.group.images(0)
     }
 
     /// For what the slot is noted.
@@ -108,7 +59,7 @@ impl DiffMap {
         requires { slot < length self.now.copies }
         ensures { result ≡ copied_at self.now.copies slot }
     {
-        self.links.held_by(slot)
+        self.group.held_by(0, slot)
     }
 
     /// The slot that shows what the image of `set` holds at this block: that of the first image, from the asked one
@@ -117,51 +68,21 @@ impl DiffMap {
         ensures found { IfSome result (IsFound self.now.copies set block) }
         ensures none { IsNone result ↔ IsAbsent self.now.copies set block }
     {
-        self.links.find(set, block)
+        self.group.find(0, set, block)
     }
 
     /// Whether the image of `set` has a copy of this block.
-    pub fn has(&self, set: u32, block: u32) -> bool
+    fn has(&self, set: u32, block: u32) -> bool
         ensures { IsTrue result ↔ HasCopy self.now.copies set block }
     {
-        let Some(slot) = self.links.find(set, block) else {
-            return false;
-        };
-        self.links.set_of(slot) == set
-    }
-
-    /// How many slots are noted.
-    pub fn used(&self) -> u32
-        ensures { result ≡ noted_in self.now.copies }
-    {
-        self.used
-    }
-
-    /// How many slots hold copies for the image of `set`.
-    pub fn used_by(&self, set: u32) -> u32
-        requires { Contains self.now.images set }
-        ensures { result ≡ used_for self.now.copies set }
-    {
-        let at = place_from(&self.images, set);
-        self.counts[at].used
-    }
-
-    /// The oldest image that has a copy. It goes through the images before that alone.
-    pub fn oldest_used(&self) -> Option<u32>
-        ensures found { IfSome result (IsOldestUsed self.now.copies) }
-        ensures none { IsNone result → (slot : ℕ) → copied_at self.now.copies slot ≡ None }
-    {
-        first_used(&self.counts)
+        self.group.has(0, set, block)
     }
 
     /// Whether the newest image has a copy of this block.
     pub fn newest_has(&self, block: u32) -> bool
         ensures { IsTrue result ↔ HasCopy self.now.copies (newest self.now.images) block }
     {
-        match self.images.last() {
-            Some(&set) => self.has(set, block),
-            None => false,
-        }
+        self.group.newest_has(0, block)
     }
 
     /// Adds an image, the newest, without copies.
@@ -171,12 +92,7 @@ impl DiffMap {
         requires newest { All (λ image. image < set) self.old.images }
         ensures { self.new ≡ record self.old { images = self.old.images ++ set ∷ [] } }
     {
-        let _ = self.images.push(set);
-        let _ = self.counts.push(ImageCount {
-            set,
-            used: 0,
-            first: 0,
-        });
+        self.group.add_image(0, set);
     }
 
     /// Notes the slot for this block of the newest image.
@@ -187,92 +103,53 @@ impl DiffMap {
         requires unnoted { slice_get self.old.copies slot ≡ Some None }
         ensures { self.new ≡ record self.old { copies = slice_set self.old.copies slot (Some (copy_of (newest self.old.images) block)) } }
     {
-        let set = self.images[self.images.len() - 1];
-        self.note_for(set, block, slot);
+        self.group.note(0, block, slot);
     }
 
     /// Notes the slot for this block of the image of `set`.
-    pub fn note_for(&mut self, set: u32, block: u32, slot: u32)
+    fn note_for(&mut self, set: u32, block: u32, slot: u32)
         requires image { Contains self.old.images set }
         requires in_range { block < self.old.blocks }
         requires lacks { HasCopy self.old.copies set block → ⊥ }
         requires unnoted { slice_get self.old.copies slot ≡ Some None }
         ensures { self.new ≡ record self.old { copies = slice_set self.old.copies slot (Some (copy_of set block)) } }
     {
-        let _facts = self.links.slots();
-        let at = place_from(&self.images, set);
-        let count = self.counts[at];
-        self.links.note(set, block, slot);
-        self.next[slot as usize] = count.first;
-        self.counts[at] = ImageCount {
-            set,
-            used: count.used + 1,
-            first: slot,
-        };
-        self.used += 1;
+        self.group.note_for(0, set, block, slot);
     }
 
     /// Takes a copy of the image of `set` out, and answers what it was. Its slot is not given back.
-    pub fn pop(&mut self, set: u32) -> Option<Entry>
+    fn pop(&mut self, set: u32) -> Option<Entry>
         requires { Contains self.old.images set }
         ensures some { IfSome result (IsPopped self.old self.new set) }
         ensures none { IsNone result → (self.new ≡ self.old) × (used_for self.old.copies set ≡ 0) }
     {
-        let at = place_from(&self.images, set);
-        self.pop_at(at)
+        self.group.pop(0, set)
     }
 
     /// The same for the image at a place among the images.
-    pub fn pop_at(&mut self, at: usize) -> Option<Entry>
+    fn pop_at(&mut self, at: usize) -> Option<Entry>
         requires { at < length self.old.images }
         ensures some { IfSome result (IsPopped self.old self.new (slice_index self.old.images at)) }
         ensures none { IsNone result → (self.new ≡ self.old) × (used_for self.old.copies (slice_index self.old.images at) ≡ 0) }
     {
-        let count = self.counts[at];
-        if count.used == 0 {
-            return None;
-        }
-        let slot = count.first;
-        let block = self.links.take_out(slot);
-        self.counts[at] = ImageCount {
-            set: count.set,
-            used: count.used - 1,
-            first: self.next[slot as usize],
-        };
-        self.used -= 1;
-        Some(Entry {
-            block,
-            set: count.set,
-            slot,
-        })
+        self.group.pop_at(0, at)
     }
 
     /// Takes the image of `set` out, which has no copy.
-    pub fn forget(&mut self, set: u32)
-        requires { (slot : ℕ) (copied : Copied) → copied_at self.old.copies slot ≡ Some copied → copied.set ≢ set }
+    fn forget(&mut self, set: u32)
+        requires image { Contains self.old.images set }
+        requires none { (slot : ℕ) (copied : Copied) → copied_at self.old.copies slot ≡ Some copied → copied.set ≢ set }
         ensures { self.new ≡ record self.old { images = filter (λ image. not (image == set)) self.old.images } }
     {
-        self.images.retain(|&image| image != set);
-        self.counts.retain(|count| count.set != set);
-    }
-
-    /// Takes each image up to `set` out. None of them has a copy.
-    pub fn forget_up_to(&mut self, set: u32)
-        requires { (slot : ℕ) (copied : Copied) → copied_at self.old.copies slot ≡ Some copied → set < copied.set }
-        ensures { self.new ≡ record self.old { images = filter (λ image. nat_lt set image) self.old.images } }
-    {
-        let gone = place_after(&self.images, set);
-        drop_first(&mut self.images, gone);
-        drop_first(&mut self.counts, gone);
+        self.group.forget(0, set);
     }
 
     /// Takes each image newer than `set` out. None of them has a copy.
-    pub fn forget_newer(&mut self, set: u32)
+    fn forget_newer(&mut self, set: u32)
         requires { (slot : ℕ) (copied : Copied) → copied_at self.old.copies slot ≡ Some copied → copied.set ≤ set }
         ensures { self.new ≡ record self.old { images = filter (λ image. nat_le image set) self.old.images } }
     {
-        self.images.retain(|&image| image <= set);
-        self.counts.retain(|count| count.set <= set);
+        self.group.forget_newer(0, set);
     }
 
     /// Frees the slots of the images that go, which stay.
@@ -333,18 +210,8 @@ impl DiffMap {
         ensures slots { GivesBack self.old.copies self.new.copies pool.old pool.new }
         ensures others { KeepsFinds self.old self.new (slice_index self.old.images 0) }
     {
-        let oldest = self.images[0];
+        let oldest = self.images()[0];
         self.merge_down(oldest, pool);
-    }
-
-    /// Takes each image up to `set` out and gives their slots back.
-    pub fn drop_up_to(&mut self, set: u32, pool: &mut SlotPool)
-        requires { AllTaken self.old.copies pool.old }
-        ensures map { self.new ≡ record { blocks = self.old.blocks; images = filter (λ image. nat_lt set image) self.old.images; copies = renewed (gone set) self.old.copies } }
-        ensures slots { GivesBack self.old.copies self.new.copies pool.old pool.new }
-    {
-        self.free(Going::UpTo(set), pool);
-        self.forget_up_to(set);
     }
 
     /// Takes the image of `set` out. The next older image gets the copies of those blocks that it lacks; the other

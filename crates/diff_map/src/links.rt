@@ -1,9 +1,9 @@
 //! Which slot holds which block for which set, in chains: one for each block, its copies from the newest on.
 
-ghost use Rattle.std.specs.Prelude.{◌≡◌, ◌<◌, ◌≤◌, ◌^◌, ◌↔◌, Some, None, length, replicate, slice_get, slice_set, IfOk, IfSome, IsNone};
+ghost use Rattle.std.specs.Prelude.{◌≡◌, ◌<◌, ◌≤◌, ◌^◌, ◌↔◌, Some, None, length, replicate, slice_get, slice_set, IfOk, IfSome, IsNone, IsTrue};
 ghost use Rattle.diff_map.specs.Copies.{HasCopy, copied_at, copy_of};
 ghost use Rattle.diff_map.specs.Chains.{IsFound, IsAbsent};
-ghost use Rattle.diff_map.specs.Links.{AreLinked, row_at, HasBlock, NoneBetween, IsBetween, IsBelow, IsFrom, IsNextAbove, KeepsLinks, link_from, newest_after, older_after};
+ghost use Rattle.diff_map.specs.Links.{AreLinked, row_at, HasBlock, NoneBetween, IsBetween, IsBelow, IsFrom, IsLowered, IsNextAbove, KeepsLinks, link_from, newest_after, older_after};
 
 use crate::copied::Copied;
 use crate::row::Row;
@@ -168,6 +168,16 @@ impl Links {
         next_above(&self.newest, &self.rows, block, set.saturating_sub(1))
     }
 
+    /// Whether a set has a copy of a block.
+    pub fn has(&self, set: u32, block: u32) -> bool
+        ensures { IsTrue result ↔ HasCopy self.now.copies set block }
+    {
+        let Some(slot) = self.find(set, block) else {
+            return false;
+        };
+        self.set_of(slot) == set
+    }
+
     /// Notes the slot for a block and a set, which has no copy of it.
     pub fn note(&mut self, set: u32, block: u32, slot: u32)
         requires in_range { block < self.old.blocks }
@@ -204,5 +214,21 @@ impl Links {
             row.older,
         );
         row.block
+    }
+
+    /// Gives the copy of a slot to a lesser set, where no copy of the block has a set from that one on and below its own. No link changes.
+    /// The answer is the block.
+    pub fn lower(&mut self, slot: u32, set: u32) -> Option<u32>
+        requires above_zero { 0 < set }
+        requires below { (copied : Copied) × (copied_at self.old.copies slot ≡ Some copied) × (set < copied.set) }
+        ensures some { IfSome result (IsLowered self.old self.new slot set) }
+        ensures none { IsNone result → self.new ≡ self.old }
+    {
+        let row = self.rows[slot as usize];
+        if older_above(&self.rows, row.block, slot, set - 1).is_some() {
+            return None;
+        }
+        self.rows[slot as usize] = Row { set, ..row };
+        Some(row.block)
     }
 }

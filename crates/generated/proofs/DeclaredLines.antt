@@ -16,7 +16,8 @@ use Rattle.scenario.specs.Lines.{span_from}
 use Rattle.scenario.specs.Fields.{bytes_of, fields_of, rest_fields}
 use Rattle.scenario.specs.Numbers.{number_in}
 use Rattle.scenario.specs.Words.{word_of}
-use Rattle.scenario.specs.Names.{is_name, place_of, volume_named, writer_named}
+use Rattle.vss_names.specs.Names.{is_name}
+use Rattle.scenario.specs.Names.{place_of, volume_named, writer_named}
 use Rattle.scenario.specs.Ops.{◌>>=◌, number_field}
 use Rattle.scenario.specs.SoFar.{SoFar, Saying, nothing, after}
 use Rattle.scenario.specs.SoFar as saying

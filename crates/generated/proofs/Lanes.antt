@@ -14,7 +14,8 @@ use Rattle.scenario.specs.Plan.{LanePlan}
 use Rattle.scenario.specs.Lines.{span_from}
 use Rattle.scenario.specs.Fields.{bytes_of, fields_of}
 use Rattle.scenario.specs.Words.{word_of}
-use Rattle.scenario.specs.Names.{is_name, place_of, lane_named, writer_named}
+use Rattle.vss_names.specs.Names.{is_name}
+use Rattle.scenario.specs.Names.{place_of, lane_named, writer_named}
 use Rattle.scenario.specs.Ops.{◌>>=◌, writer_field}
 use Rattle.scenario.specs.SoFar.{SoFar, Saying, after, line_count, agenda_count}
 use Rattle.scenario.specs.SoFar as saying

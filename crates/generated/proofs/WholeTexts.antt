@@ -2,7 +2,7 @@
 use Rattle.std.proofs.Common.{◌≡◌, ◌∙◌, ℕ, zero, suc, ◌+◌, ◌<◌, List, [], ◌∷◌, ◌++◌, map, Some, None, refl, ap, sym, subst, arith, codes, append_assoc}
 use Rattle.std.specs.Prelude.{slice_get}
 use Rattle.std.specs.List.{range_with_len}
-use Rattle.scenario.specs.Names.{is_name}
+use Rattle.vss_names.specs.Names.{is_name}
 use Rattle.scenario.specs.Plan.{Plan, LaneLine, lines_of}
 use Rattle.scenario.specs.SoFar.{SoFar, nothing, plan_in}
 use Rattle.scenario.specs.Grammar.{IsScenario, reading_of}

@@ -1,4 +1,3 @@
-pub mod CallsValue
 pub mod MemSinkValue
 pub mod MemSourceValue
 pub mod Messages

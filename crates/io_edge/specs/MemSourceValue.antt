@@ -1,9 +1,10 @@
--- What a contract sees of a `MemSource`: the bytes that it has left, the most that it gives per call, and its
--- calls. (This project's own.)
+-- What a contract sees of a `MemSource`: the bytes that it has left, the most that it gives per call, which of
+-- its calls fail, and its count of faults. (This project's own.)
 use Rattle.std.specs.Prelude.{ℕ, List}
-use Rattle.io_edge.specs.CallsValue.{CallsValue}
+use Rattle.vss_names.specs.Schedules.{Schedule}
 
 pub record MemSourceValue : Type 0 where
   pub left : List ℕ
   pub piece : ℕ
-  pub calls : CallsValue
+  pub calls : Schedule
+  pub faults : ℕ

@@ -7,7 +7,6 @@
 //! `OutSink` are the real streams, which tell no bytes. `read_all` and `write_all` go to the end.
 #![tactic(auto)]
 
-mod calls;
 mod in_source;
 mod mem_sink;
 mod mem_source;

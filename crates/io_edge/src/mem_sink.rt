@@ -1,13 +1,12 @@
-ghost use Rattle.std.specs.Prelude.{◌≡◌, ◌<◌, ◌≤◌, ◌↔◌, ◌⊎◌, ◌-◌, ◌++◌, Some, [], length, take, min, vec_capacity, IsErr, IfOk, OnErr};
-ghost use Rattle.io_edge.specs.CallsValue.{FailsNext, after_call, after_fault};
+ghost use Rattle.std.specs.Prelude.{◌≡◌, ◌<◌, ◌≤◌, ◌↔◌, ◌⊎◌, ◌-◌, ◌++◌, Some, [], length, take, min, vec_capacity, IsErr, IsTrue, IfOk, OnErr};
 ghost use Rattle.io_edge.specs.MemSinkValue.{IsFull, MemSinkValue};
-ghost use Rattle.vss_names.specs.Faults.{HasCause};
+ghost use Rattle.vss_names.specs.Faults.{HasCause, counted};
+ghost use Rattle.vss_names.specs.Schedules.{after_call, failing_at, fails_next};
 
-use crate::calls::Calls;
 use crate::sink::Sink;
 use std::alloc::Global;
 use std::marker::Model;
-use vss_names::{Failed, Numbers, OutOfMemory};
+use vss_names::{Failed, FailingCalls, Numbers, OutOfMemory};
 
 /// A sink in memory, which keeps what it took, has a room that it never outgrows, and fails at calls that are
 /// chosen beforehand. A call at full room is a fault too.
@@ -15,13 +14,14 @@ use vss_names::{Failed, Numbers, OutOfMemory};
 pub struct MemSink {
     bytes: Vec<u8>,
     room: usize,
-    calls: Calls,
+    calls: FailingCalls,
+    faults: u64,
 }
 
 impl Model for MemSink {
     ghost Value = { MemSinkValue };
 
-    ghost view = { λ s. record { taken = s.bytes.items; room = s.room; calls = s.calls } };
+    ghost view = { λ s. record { taken = s.bytes.items; room = s.room; calls = s.calls; faults = s.faults } };
 
     ghost invariant = { λ s. (length s.bytes.items ≤ s.room) × (s.room ≤ vec_capacity s.bytes) };
 }
@@ -32,13 +32,14 @@ impl MemSink {
     pub fn with_room(alloc: Global, room: usize, failing: Numbers) -> Result<MemSink, OutOfMemory>
         ensures taken { IfOk result (λ sink. sink.taken ≡ []) }
         ensures room { IfOk result (λ sink. sink.room ≡ room) }
-        ensures calls { IfOk result (λ sink.
-            sink.calls ≡ record { made = 0; failing = failing; faults = 0 }) }
+        ensures calls { IfOk result (λ sink. sink.calls ≡ failing_at failing) }
+        ensures faults { IfOk result (λ sink. sink.faults ≡ 0) }
     {
         Ok(MemSink {
             bytes: Vec::with_capacity(alloc, room)?,
             room,
-            calls: Calls::new(failing),
+            calls: FailingCalls::of(failing),
+            faults: 0,
         })
     }
 
@@ -53,11 +54,11 @@ impl MemSink {
 impl Sink for MemSink {
     ghost taken = { λ s. Some s.taken };
 
-    ghost count = { λ s. s.calls.faults };
+    ghost count = { λ s. s.faults };
 
     fn write(&mut self, piece: &[u8]) -> Result<usize, Failed>
         requires some { 0 < length piece.now }
-        ensures fails { IsErr result ↔ (FailsNext self.old.calls ⊎ IsFull self.old) }
+        ensures fails { IsErr result ↔ (IsTrue (fails_next self.old.calls) ⊎ IsFull self.old) }
         ensures least { IfOk result (λ n. 0 < n) }
         ensures most { IfOk result (λ n.
             n ≡ min (length piece.now) (self.old.room - length self.old.taken)) }
@@ -67,13 +68,14 @@ impl Sink for MemSink {
               calls = after_call self.old.calls;
             }) }
         ensures fault { OnErr result
-            (self.new ≡ record self.old { calls = after_fault self.old.calls }) }
-        ensures cause { HasCause self.old.calls.faults self.new.calls.faults result }
+            (self.new ≡ record self.old { calls = after_call self.old.calls; faults = counted self.old.faults 1 }) }
+        ensures cause { HasCause self.old.faults self.new.faults result }
     {
-        let is_chosen = self.calls.begin();
+        self.calls.make(&mut self.faults)?;
         let spare = self.room - self.bytes.len();
-        if is_chosen || spare == 0 {
-            return Err(self.calls.fail());
+        if spare == 0 {
+            self.faults = self.faults.saturating_add(1);
+            return Err(Failed);
         }
         let n = piece.len().min(spare);
         let _ = self.bytes.extend_from_slice(&piece[..n]);
@@ -81,6 +83,6 @@ impl Sink for MemSink {
     }
 
     fn faults(&self) -> u64 {
-        self.calls.faults()
+        self.faults
     }
 }

@@ -1,12 +1,11 @@
-ghost use Rattle.std.specs.Prelude.{◌≡◌, ◌<◌, ◌≤◌, ◌↔◌, ◌++◌, Some, [], length, take, drop, min, IsErr, IfOk, OnErr};
-ghost use Rattle.io_edge.specs.CallsValue.{FailsNext, after_call, after_fault};
+ghost use Rattle.std.specs.Prelude.{◌≡◌, ◌<◌, ◌≤◌, ◌↔◌, ◌++◌, Some, [], length, take, drop, min, is_err, IfOk, OnErr};
 ghost use Rattle.io_edge.specs.MemSourceValue.{MemSourceValue};
-ghost use Rattle.vss_names.specs.Faults.{HasCause};
+ghost use Rattle.vss_names.specs.Faults.{HasCause, counted};
+ghost use Rattle.vss_names.specs.Schedules.{after_call, failing_at, fails_next};
 
-use crate::calls::Calls;
 use crate::source::Source;
 use std::marker::Model;
-use vss_names::{Failed, Numbers};
+use vss_names::{Failed, FailingCalls, Numbers};
 
 /// A source in memory, which gives its bytes a piece at a time and fails at calls that are chosen beforehand.
 #[derive(Debug, Drop)]
@@ -14,13 +13,14 @@ pub struct MemSource {
     bytes: Vec<u8>,
     at: usize,
     piece: usize,
-    calls: Calls,
+    calls: FailingCalls,
+    faults: u64,
 }
 
 impl Model for MemSource {
     ghost Value = { MemSourceValue };
 
-    ghost view = { λ s. record { left = drop s.at s.bytes.items; piece = s.piece; calls = s.calls } };
+    ghost view = { λ s. record { left = drop s.at s.bytes.items; piece = s.piece; calls = s.calls; faults = s.faults } };
 
     ghost invariant = { λ s. (s.at ≤ length s.bytes.items) × (0 < s.piece) };
 }
@@ -32,13 +32,15 @@ impl MemSource {
         requires { 0 < piece }
         ensures left { result.left ≡ bytes.items }
         ensures piece { result.piece ≡ piece }
-        ensures calls { result.calls ≡ record { made = 0; failing = failing; faults = 0 } }
+        ensures calls { result.calls ≡ failing_at failing }
+        ensures faults { result.faults ≡ 0 }
     {
         MemSource {
             bytes,
             at: 0,
             piece,
-            calls: Calls::new(failing),
+            calls: FailingCalls::of(failing),
+            faults: 0,
         }
     }
 
@@ -53,11 +55,11 @@ impl MemSource {
 impl Source for MemSource {
     ghost left = { λ s. Some s.left };
 
-    ghost count = { λ s. s.calls.faults };
+    ghost count = { λ s. s.faults };
 
     fn read(&mut self, out: &mut [u8]) -> Result<usize, Failed>
         requires room { 0 < length out.old }
-        ensures fails { IsErr result ↔ FailsNext self.old.calls }
+        ensures fails { is_err result ≡ fails_next self.old.calls }
         ensures ends { IfOk result (λ n. (n ≡ 0) ↔ (self.old.left ≡ [])) }
         ensures most { IfOk result (λ n.
             n ≡ min (min self.old.piece (length out.old)) (length self.old.left)) }
@@ -65,13 +67,11 @@ impl Source for MemSource {
         ensures given { IfOk result (λ n.
             self.new ≡ record self.old { left = drop n self.old.left; calls = after_call self.old.calls }) }
         ensures fault { OnErr result
-            (self.new ≡ record self.old { calls = after_fault self.old.calls }) }
+            (self.new ≡ record self.old { calls = after_call self.old.calls; faults = counted self.old.faults 1 }) }
         ensures untouched { OnErr result (out.new ≡ out.old) }
-        ensures cause { HasCause self.old.calls.faults self.new.calls.faults result }
+        ensures cause { HasCause self.old.faults self.new.faults result }
     {
-        if self.calls.begin() {
-            return Err(self.calls.fail());
-        }
+        self.calls.make(&mut self.faults)?;
         let n = self.piece.min(out.len()).min(self.bytes.len() - self.at);
         let end = self.at + n;
         out[..n].copy_from_slice(&self.bytes[self.at..end]);
@@ -80,6 +80,6 @@ impl Source for MemSource {
     }
 
     fn faults(&self) -> u64 {
-        self.calls.faults()
+        self.faults
     }
 }

@@ -5,7 +5,7 @@ ghost use Rattle.mirror_volume.specs.declared.command.Command.{Command as Given}
 ghost use Rattle.mirror_volume.specs.Replies.{AreAllowed, MayBeGiven};
 
 use crate::command::Command;
-use diff_map::MOST_IMAGES;
+use vss_names::MOST_IMAGES;
 
 /// What is left as it is, where the block is one of so many.
 fn within(blocks: u32, newest: u32, room: u32, block: u32) -> Option<(u32, u32)>

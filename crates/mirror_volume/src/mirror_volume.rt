@@ -16,11 +16,10 @@ use crate::sync_fault::SyncFault;
 use crate::synced::Synced;
 use block_data::{BLOCK, BlockBuf, Payload};
 use cow_volume::{Cause, ImageFault, WriteFault, Written};
-use diff_map::MOST_IMAGES;
 use std::alloc::Global;
 use std::marker::Model;
 use volume_device::Device;
-use vss_names::{Failed, OutOfMemory};
+use vss_names::{Failed, MOST_IMAGES, OutOfMemory};
 
 /// A volume with 1 to 8 whole mirrors of it. At a cut a mirror that is in step is split off, and shows the image until that is
 /// dropped; then it is brought into step again, a block a step.

@@ -3,7 +3,8 @@ use Rattle.std.proofs.Common.{◌≡◌, ℕ, ◌<◌, List, length, refl, ap, s
 use Rattle.provider.proofs.Words.{AreGroups, AtPoint, GroupValue, HasGroups, HasImage, History, IfShown, IfStandFor, IsDigestAt, IsDigestShown, IsNow, IsPlaceOf, IsPointOf, Plan, ProviderValue}
 use Rattle.provider.proofs.Words.{StandsFor, VolumeRow, Write, and_parts, blocks_at, blocks_of, concat, content, contents, device_read, devices_of, history_at, is_among, of_group, one_place, place_at}
 use Rattle.provider.proofs.Words.{place_in, sets_at, sets_in, sets_of, sha256, slice_get_inside, told_at, told_by, told_in, told_of, used, used_by, volume_place, volumes_area}
-use Rattle.provider.specs.Words.{history_at as group_history_at}
+use Rattle.provider.specs.Calls.{IsDigestTold}
+use Rattle.provider.specs.Words.{IsBytes, IsSeen, history_at as group_history_at}
 use Rattle.provider.proofs.Places.{history_of_place, group_below, group_there, within_there, blocks_are}
 use Rattle.provider.proofs.Looked.{point_among}
 use Rattle.provider.proofs.Flat.{volume_device_at, area_device_at, area_of_place}
@@ -147,9 +148,20 @@ module _ {D : Type 0} (told : D → Option (List (List ℕ))) {s : Plan} {groups
   pub digest_shown : (set : Option ℕ) (digest : List ℕ) → IsDigestAt told f.here f.within set digest → IsDigestShown told s groups v set digest
   digest_shown set digest is = all_shown_of set (λ n ws p. digest ≡ sha256 (concat (contents n ws p))) is
 
+  pub digest_told : (set : Option ℕ) (digest : Option (List ℕ)) → IfSome digest (IsDigestAt told f.here f.within set) → IfSome digest (λ d. (length d ≡ 32) × IsBytes d)
+      → IfSome digest (IsDigestTold told s groups v set)
+  digest_told set None is wide = tt
+  digest_told set (Some d) is wide = (digest_shown set d is, wide.0, wide.1)
+
 -- what a block is now is so at the present end
 pub at_end : {D : Type 0} (told : D → Option (List (List ℕ))) (g : GroupValue D) (u b : ℕ) (bytes : List ℕ) → IsNow told g u b bytes → AtPoint told g u None (λ ws p. bytes ≡ content ws p b)
 at_end told g u b bytes now hs d p stands at tells area end = now hs d stands at tells area ∙ ap (λ (n : ℕ). content (group_history_at hs u).writes n b) (sym end)
+
+-- likewise, as the image of a set shows it
+pub at_seen : {D : Type 0} (told : D → Option (List (List ℕ))) (g : GroupValue D) (u : ℕ) (set : Option ℕ) (b : ℕ) (bytes : List ℕ) → IsSeen told g u set b bytes
+    → AtPoint told g u set (λ ws p. bytes ≡ content ws p b)
+at_seen told g u None b bytes seen = at_end told g u b bytes seen
+at_seen told g u (Some set) b bytes seen = seen
 
 pub some_map : {X : Type 0} (P Q : X → Type 0) (o : Option X) → IfSome o P → ((x : X) → P x → Q x) → IfSome o Q
 some_map P Q None h f = tt

@@ -59,6 +59,11 @@ hashed_more device first old new u set k before after was adds same quiet = reco
       (adds.taken (concat (contents k (history_at hs u).writes p)) so_far);
 }
 
+-- likewise, of a group that stays as it is
+pub hashed_still : {D : Type 0} (device : Ghosts D) (x : GroupValue D) (u : ℕ) (set : Option ℕ) (k : ℕ) (before after : Hasher) → HasHashed device x x u set k before
+    → Adds device.told x u set k before after → HasHashed device x x u set (k + 1) after
+hashed_still device x u set k before after was adds = hashed_more device x x x u set k before after was adds (record { devices = refl; area = refl }) (quiet_same device x)
+
 -- a device failed later: its count rose since the first call too
 volume_since : {D : Type 0} (count : D → ℕ) (first old new : GroupValue D) (u : ℕ) → IsUnfailed count first old → length old.devices ≡ length first.devices → VolumeRose count u old new
     → VolumeRose count u first new

@@ -11,7 +11,6 @@ pub mod Room
 pub mod Renumbered
 pub mod Refused
 pub mod Hashed
-pub mod LentRows
 pub mod Fresh
 pub mod Ended
 pub mod GivenBack

@@ -3,7 +3,7 @@ use Rattle.std.specs.Prelude.{ℕ, ◌≡◌, ◌<◌, ◌≤◌, ◌+◌, ◌&&
 use Rattle.std.specs.List.{concat, flat_map, range_with_len}
 use Rattle.vss_model.specs.Words.{Evicted, History, IsPlaceOf, Placed, Plan, Write, blocks_of, change_at, content, contents, count_images, dropped, evicted_of, evicted_up_to, gone_up_to, group_of}
 use Rattle.vss_model.specs.Words.{has_image, point_in, reverted, reverted_in_part, slots_of, to_restore, volume_in, written}
-use Rattle.provider.specs.Words.{Cause, Digested, Fault, Ghosts, GroupValue, ImageFault, IsBytes, LentBlocks, NoSuchImage, RevertFault, bytes_of, counted_by, lacks_slot, sets_at, sha256}
+use Rattle.provider.specs.Words.{Cause, Digested, Fault, Ghosts, GroupValue, ImageFault, IsBytes, NoSuchImage, RevertFault, counted_by, lacks_slot, sets_at, sha256}
 use Rattle.cow_volume.specs.declared.cause.Cause.TheVariants as cause
 use Rattle.cow_volume.specs.declared.image_fault.ImageFault.TheVariants.{NoSuchBlock, Volume, Area}
 use Rattle.cow_volume.specs.declared.revert_fault.RevertFault.TheVariants.{NoSuchImage as NoImage}
@@ -78,10 +78,6 @@ IsShown told s groups v set b bytes = IfShown told s groups v set (λ ws p. byte
 abbrev pub IsDigestShown : {D : Type 0} → (D → Option (List (List ℕ))) → Plan → List (GroupValue D) → ℕ → Option ℕ → List ℕ → Type 0
 IsDigestShown told s groups v set digest = IfShown told s groups v set (λ ws p. digest ≡ sha256 (concat (contents (blocks_of s v) ws p)))
 
--- the blocks of a row, where devices lent them, are all blocks of what it is of
-abbrev pub IsLentRow : {D : Type 0} → (D → Option (List (List ℕ))) → Plan → List (GroupValue D) → LentBlocks → Type 0
-IsLentRow told s groups row = IfSome row.blocks (λ lent. IfShown told s groups row.volume row.set (λ ws p. bytes_of lent.items ≡ contents (blocks_of s row.volume) ws p))
-
 -- likewise, and it has the width of one, whether the volume tells or not
 abbrev pub IsDigestTold : {D : Type 0} → (D → Option (List (List ℕ))) → Plan → List (GroupValue D) → ℕ → Option ℕ → List ℕ → Type 0
 IsDigestTold told s groups v set digest = IsDigestShown told s groups v set digest × (length digest ≡ 32) × IsBytes digest
@@ -89,6 +85,10 @@ IsDigestTold told s groups v set digest = IsDigestShown told s groups v set dige
 -- where there is a digest it is that of what it is said to be of
 abbrev pub IsDigestedAt : {D : Type 0} → (D → Option (List (List ℕ))) → Plan → List (GroupValue D) → Digested → Type 0
 IsDigestedAt told s groups row = IfSome row.digest (IsDigestTold told s groups row.volume row.set)
+
+-- the row is of a volume of the scenario, or of an image on it
+abbrev pub IsRowOf : Plan → Digested → Type 0
+IsRowOf s row = row.volume < length s.volumes
 
 -- ## images
 

@@ -1,9 +1,8 @@
 -- What a call on one group of several comes to. (This project's own.)
 use Rattle.std.specs.Prelude.{ℕ, ◌≡◌, ◌<◌, Bool, true, false, List, map, ◌++◌, Option, Some, None, is_some, slice_get, Result, OnOk, IfOk, IfErr}
-use Rattle.std.specs.Borrow.{Bor}
 use Rattle.std.specs.List.{concat}
 use Rattle.vss_model.specs.Words.{History, Write, content, contents, count_images, dropped}
-use Rattle.provider.specs.Words.{AreaRose, Cause, DeviceRose, Ghosts, GroupValue, HasTaken, Hasher, ImageFault, IsChanged, IsQuiet, IsUnfailed, NoSuchImage, StandsFor, VolumeRose, blocks_at, bytes_of}
+use Rattle.provider.specs.Words.{AreaRose, Cause, DeviceRose, Ghosts, GroupValue, HasTaken, Hasher, ImageFault, IsChanged, IsQuiet, IsUnfailed, NoSuchImage, StandsFor, VolumeRose, blocks_at}
 use Rattle.provider.specs.Words.{history_at, is_among, sets_at, sha256}
 use Rattle.cow_volume.specs.declared.image_fault.ImageFault.TheVariants.{NoSuchBlock, Volume, Area}
 use Rattle.provider.specs.Groups.{IsPointOf}
@@ -43,10 +42,6 @@ pub record Adds {D : Type 0} (told : D → Option (List (List ℕ))) (g : GroupV
 -- the digest is that of all blocks there
 abbrev pub IsDigestAt : {D : Type 0} → (D → Option (List (List ℕ))) → GroupValue D → ℕ → Option ℕ → List ℕ → Type 0
 IsDigestAt told g u set digest = AtPoint told g u set (λ ws p. digest ≡ sha256 (concat (contents (blocks_at g u) ws p)))
-
--- these are all blocks there
-abbrev pub AreBlocksAt : {D : Type 0} → (D → Option (List (List ℕ))) → GroupValue D → ℕ → Option ℕ → List (Bor (List ℕ)) → Type 0
-AreBlocksAt told g u set parts = AtPoint told g u set (λ ws p. bytes_of parts ≡ contents (blocks_at g u) ws p)
 
 -- only counts of devices of the group may have changed
 abbrev pub IsQuietGroup : {D : Type 0} → Ghosts D → GroupValue D → GroupValue D → Type 0

@@ -4,7 +4,7 @@ pub use Rattle.block_data.specs.Hashed.{HasTaken}
 pub use Rattle.block_data.specs.PayloadBytes.{payload_bytes}
 pub use Rattle.block_data.specs.declared.hasher.Hasher.{Hasher}
 pub use Rattle.block_data.specs.declared.payload.Payload.{Payload}
-pub use Rattle.cow_volume.specs.Calls.{AreaRose, DeviceRose, HasCauseAt, HasImageCause, IsChanged, IsEvicted, IsKept, IsNow, IsQuiet, IsRevert, IsSameDevice, IsUnfailed, NeverFails, VolumeRose}
+pub use Rattle.cow_volume.specs.Calls.{AreaRose, DeviceRose, HasCauseAt, HasImageCause, IsChanged, IsEvicted, IsKept, IsNow, IsQuiet, IsRevert, IsSameDevice, IsSeen, IsUnfailed, NeverFails, VolumeRose}
 pub use Rattle.cow_volume.specs.Calls.{blocks_at}
 pub use Rattle.cow_volume.specs.Calls.{blocks_in, changed_at, counted_by, history_at, history_in, is_among, made_room, sets_at, sets_in, uncounted}
 pub use Rattle.cow_volume.specs.Changes.{gone_row}
@@ -22,7 +22,5 @@ pub use Rattle.cow_volume.specs.declared.revert_fault.RevertFault.{RevertFault}
 pub use Rattle.cow_volume.specs.declared.revert_fault.RevertFault.TheVariants.{Fault}
 pub use Rattle.diff_area.specs.Copies.{AreStored}
 pub use Rattle.hex.specs.Hex.{IsBytes}
-pub use Rattle.lent_digests.specs.Lent.{IsDigestIfLent, IsDigestOf, bytes_of}
-pub use Rattle.lent_digests.specs.declared.digested.Digested.{Digested}
-pub use Rattle.lent_digests.specs.declared.lent_blocks.LentBlocks.{LentBlocks}
+pub use Rattle.provider.specs.declared.digested.Digested.{Digested}
 pub use Rattle.volume_device.specs.declared.device.Device.{Ghosts}

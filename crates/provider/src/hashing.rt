@@ -1,21 +1,40 @@
 //! The SHA-256 of a volume or of an image, block by block: in place where a device lends, else over one buffer.
 
-ghost use Rattle.std.specs.Prelude.{◌≡◌, ◌<◌, true, None, Some, length, IfErr, OnOk, IfOk};
+ghost use Rattle.std.specs.Prelude.{◌≡◌, ◌<◌, true, None, Some, length, IfErr, OnOk, IfOk, IfSome};
 ghost use Rattle.hex.specs.Hex.{IsBytes};
+ghost use Rattle.write_history.specs.History.{content};
 ghost use Rattle.cow_volume.specs.Calls.{DeviceRose, IsUnfailed, blocks_at, is_among, sets_at};
-ghost use Rattle.provider.specs.GroupCalls.{Adds, ImageRose, IsGroupDigest, IsGroupImageDigest, IsQuietGroup};
+ghost use Rattle.provider.specs.GroupCalls.{Adds, AtPoint, ImageRose, IsGroupDigest, IsGroupImageDigest, IsQuietGroup};
 
-use crate::lending::lend;
-use crate::preparing::is_among;
 use block_data::{BlockBuf, Hasher};
 use cow_volume::{Cause, CowGroup, ImageFault};
 use volume_device::Device;
 
 /// Says to contracts that bytes are bytes.
-fn are_bytes(bytes: &[u8])
+pub(crate) fn are_bytes(bytes: &[u8])
     ensures { IsBytes bytes.now }
 {
     let _ = bytes;
+}
+
+/// A block of a volume of a group, as it is or as the image of a set shows it. None where it is not lent, or no such image stands.
+pub(crate) fn lend<D: Device>(
+    group: &CowGroup<D>,
+    volume: u32,
+    set: Option<u32>,
+    block: u32,
+) -> Option<&[u8]>
+    requires volume { volume < length group.now.area.volumes }
+    requires in_range { block < blocks_at group.now volume }
+    ensures { IfSome result (λ bytes. AtPoint D.told group.now volume set (λ ws p. bytes.now ≡ content ws p block)) }
+{
+    let Some(set) = set else {
+        return group.lend_block(volume, block);
+    };
+    let Ok(lent) = group.lend_image(volume, set, block) else {
+        return None;
+    };
+    lent
 }
 
 /// Adds a block of a volume as it is.
@@ -98,7 +117,7 @@ pub(crate) fn digest_of_image<D: Device>(
     ensures digest { IsGroupImageDigest D.Device group.old group.new volume set result }
     ensures wide { IfOk result (λ digest. (length digest ≡ 32) × IsBytes digest) }
 {
-    if !is_among(group.images(volume), set) {
+    if !group.images(volume).contains(&set) {
         return Err(ImageFault::NoSuchImage);
     }
     let mut hasher = Hasher::new();

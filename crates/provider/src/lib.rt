@@ -5,13 +5,19 @@
 //! stand together, and each call for which they stand afterwards. All memory but that of `digests` is taken by `new`.
 #![tactic(auto)]
 
+mod digested;
+mod digesting;
+mod digests_of;
 mod dropping;
 mod ending;
 mod hashing;
-mod lending;
 mod making;
 mod preparing;
 mod provider;
+mod ready_digests;
 mod renumbering;
 
+pub use digested::Digested;
+pub use digests_of::DigestsOf;
 pub use provider::Provider;
+pub use ready_digests::ReadyDigests;

@@ -16,16 +16,17 @@ ghost use Rattle.provider.specs.Calls.{AreWithout, HasImage, HasImageCause, HasR
 ghost use Rattle.provider.specs.Words.{NeverFails};
 ghost use Rattle.provider.specs.Preparing.{CanCutOn, HasJoined, HasStepCause, IsCutOn, refusal, step_taken};
 
+use crate::digested::Digested;
+use crate::digesting::digests_in;
+use crate::digests_of::DigestsOf;
 use crate::dropping::{drop_on, drop_set_in};
 use crate::ending::list_devices;
 use crate::hashing::{digest_of, digest_of_image};
-use crate::lending::digests_in;
 use crate::making::device_count;
-use crate::preparing::{MOST_VOLUMES, is_among, refusal};
+use crate::preparing::{MOST_VOLUMES, refusal};
 use crate::renumbering::renumber;
 use block_data::{BLOCK, BlockBuf, Payload};
 use cow_volume::{Cause, CowGroup, ImageFault, RevertFault};
-use lent_digests::{Digested, DigestsOf};
 use scenario::Scenario;
 use set_agenda::Group;
 use std::alloc::Global;
@@ -197,9 +198,9 @@ impl<D: Device> Provider<D> {
         digest_of_image(group, &mut self.block, place.volume, set)
     }
 
-    /// The digests of all volumes, in order, each followed by those of its images where those are wanted, the oldest first, where devices
-    /// lend: computed side by side, in as many threads as there are processors. Memory is taken for the time of the call, 16 bytes for
-    /// each block.
+    /// The digests of all volumes, in order, each followed by those of its images if they are wanted, the oldest first. They are
+    /// made side by side, by as many threads as there are processors, of blocks that are lent or read by several threads. A row
+    /// has none if that could not be done. Memory is taken for the time of the call, a block for each thread.
     pub fn digests<R: Threads + Sync>(
         &self,
         rt: &R,
@@ -207,6 +208,8 @@ impl<D: Device> Provider<D> {
         scenario: &Scenario,
         wanted: DigestsOf,
     ) -> Result<Vec<Digested>, OutOfMemory>
+    where
+        D: Sync,
         requires { HasGroups scenario.now self.now.groups }
         ensures { IfOk result (λ rows. All (IsDigestedAt D.told scenario.now self.now.groups) rows.items) }
     {
@@ -272,7 +275,7 @@ impl<D: Device> Provider<D> {
         requires has { HasGroups scenario.now self.now.groups }
         ensures { HasImage D.told scenario.now self.now.groups volume set result }
     {
-        is_among(self.images(scenario, volume), set)
+        self.images(scenario, volume).contains(&set)
     }
 
     /// How many slots the images of a volume use.
@@ -376,7 +379,7 @@ impl<D: Device> Provider<D> {
     pub fn is_preparing(&self, volume: u32) -> bool
         ensures { result ≡ is_among volume self.now.volumes }
     {
-        is_among(&self.volumes, volume)
+        self.volumes.contains(&volume)
     }
 
     /// Makes a step of the provider, of a volume where the group has one for each. In a Flush step the volume's device is flushed, and

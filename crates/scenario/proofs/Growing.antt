@@ -23,7 +23,8 @@ use Rattle.scenario.specs.declared.reason.Reason.{Reason}
 use Rattle.scenario.specs.declared.reason.Reason.TheVariants.{Misplaced, TooMany}
 use Rattle.writer_calls.specs.declared.scripted.Scripted.{Scripted}
 use Rattle.scenario.specs.Fields.{bytes_of, IsPart}
-use Rattle.scenario.specs.Names.{is_name, place_of, volume_named, writer_named, lane_named}
+use Rattle.vss_names.specs.Names.{is_name}
+use Rattle.scenario.specs.Names.{place_of, volume_named, writer_named, lane_named}
 use Rattle.scenario.specs.Named.{IsNamed, HasNames}
 use Rattle.scenario.specs.SoFar.{SoFar, Saying, plan_in, after, line_count, agenda_count, answer_count}
 use Rattle.scenario.specs.SoFar as saying

@@ -22,7 +22,8 @@ use Rattle.scenario.specs.declared.word.Word.{Word}
 use Rattle.scenario.specs.declared.word.Word.TheVariants as word
 use Rattle.scenario.specs.Plan.{Plan, WriterPlan, LanePlan, LaneLine}
 use Rattle.scenario.specs.Bounds.{ends_sessions}
-use Rattle.scenario.specs.Names.{is_name, volume_names, writer_names, lane_names, volume_named, writer_named, lane_named}
+use Rattle.vss_names.specs.Names.{is_name}
+use Rattle.scenario.specs.Names.{volume_names, writer_names, lane_names, volume_named, writer_named, lane_named}
 use Rattle.scenario.specs.Lines.{span_from, lines_from, lines_in}
 use Rattle.scenario.specs.Fields.{bytes_of, span_of, words_at, fields_for}
 use Rattle.scenario.specs.Words.{word_of}

@@ -26,7 +26,7 @@ use Rattle.scenario.specs.declared.value.Value.{Value}
 use Rattle.scenario.specs.declared.value.Value.TheVariants as value
 use Rattle.scenario.specs.declared.volume_row.VolumeRow.{VolumeRow}
 use Rattle.scenario.specs.Plan.{WriterPlan}
-use Rattle.scenario.specs.Names.{is_name}
+use Rattle.vss_names.specs.Names.{is_name}
 use Rattle.scenario.specs.Fields.{bytes_of}
 use Rattle.scenario.specs.Ops.{◌>>=◌, volume_at, block_at, writer_at, read_of, image_of, query_of, properties_of, revert_of, delete_of, tick_of, disable_of, add_of}
 use Rattle.scenario.specs.SoFar.{SoFar, Saying, after}

@@ -26,7 +26,8 @@ use Rattle.scenario.specs.declared.name_kind.NameKind.TheVariants as kind
 use Rattle.scenario.specs.declared.fields.Fields.TheVariants.{One, Two, Three, Four, Five}
 use Rattle.scenario.specs.Plan.{WriterPlan, LanePlan, script_in}
 use Rattle.scenario.specs.Fields.{bytes_of, span_of}
-use Rattle.scenario.specs.Names.{is_name, area_named, volume_named, writer_named, lane_named}
+use Rattle.vss_names.specs.Names.{is_name}
+use Rattle.scenario.specs.Names.{area_named, volume_named, writer_named, lane_named}
 use Rattle.scenario.specs.Ops.{◌>>=◌, number_at, volume_at, writer_at, number_below, is_word}
 use Rattle.scenario.specs.SoFar.{SoFar, Saying, group_for, answer_count}
 use Rattle.scenario.specs.SoFar as saying

@@ -6,7 +6,7 @@ use Rattle.scenario.specs.declared.span.Span.{Span}
 use Rattle.scenario.specs.declared.volume_row.VolumeRow.{VolumeRow}
 use Rattle.scenario.specs.Plan.{Plan, WriterPlan, LanePlan, LaneLine}
 use Rattle.scenario.specs.Fields.{bytes_of}
-use Rattle.scenario.specs.Names.{is_name}
+use Rattle.vss_names.specs.Names.{is_name}
 use Rattle.scenario.specs.SoFar.{SoFar}
 
 -- each of these parts of the text is a name

@@ -1,22 +1,10 @@
--- Names in a scenario: 1 to 32 letters, digits, underscores, hyphens and full stops, a letter first. Areas, volumes,
--- writers and lanes have names apart from each other. (This project's own format.)
-use Rattle.std.specs.Prelude.{ℕ, ◌==◌, ◌&&◌, ◌||◌, Bool, List, map, length, slice_index, nat_le, position, Option}
-use Rattle.std.specs.List.{list_all}
+-- Names in a scenario: areas, volumes, writers and lanes have names apart from each other. (This project's own format.)
+use Rattle.std.specs.Prelude.{ℕ, List, map, position, Option}
 use Rattle.std.specs.Str.{bytes_eq}
 use Rattle.scenario.specs.declared.area_row.AreaRow.{AreaRow}
 use Rattle.scenario.specs.declared.volume_row.VolumeRow.{VolumeRow}
 use Rattle.scenario.specs.Plan.{WriterPlan, LanePlan}
 use Rattle.scenario.specs.Fields.{bytes_of}
-use Rattle.scenario.specs.Numbers.{is_digit}
-
-abbrev pub is_letter : ℕ → Bool
-is_letter byte = (nat_le 65 byte && nat_le byte 90) || (nat_le 97 byte && nat_le byte 122)
-
-abbrev pub is_name_byte : ℕ → Bool
-is_name_byte byte = is_letter byte || is_digit byte || (byte == 95) || (byte == 45) || (byte == 46)
-
-unfoldable pub is_name : List ℕ → Bool
-is_name name = nat_le 1 (length name) && nat_le (length name) 32 && is_letter (slice_index name 0) && list_all is_name_byte name
 
 -- the place of a name among these
 abbrev pub place_of : List ℕ → List (List ℕ) → Option ℕ

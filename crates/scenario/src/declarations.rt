@@ -19,18 +19,16 @@ use crate::expected::Expected;
 use crate::field::Field;
 use crate::field_values::{declared_field, number_field, word_field};
 use crate::fields::{Fields, bytes_of};
-use crate::forms::{
-    MOST_AREAS, MOST_LANES, MOST_SIZE, MOST_VOLUMES, by_word, forms, read, shape, value,
-};
+use crate::forms::{MOST_AREAS, MOST_LANES, MOST_SIZE, by_word, forms, read, shape, value};
 use crate::group_row::GroupRow;
 use crate::name_kind::NameKind;
-use crate::names::is_name;
 use crate::quantity::Quantity;
 use crate::reason::Reason;
 use crate::span::Span;
 use crate::volume_row::VolumeRow;
 use crate::word::Word;
 use crate::writer_lines::{answer_if, code_field, nth_field, order_field};
+use vss_names::{MOST_BLOCKS, MOST_SLOTS, MOST_VOLUMES, is_name};
 use writer_calls::Answer;
 
 /// A new name, where `taken` is the place of the one of its kind that has it.

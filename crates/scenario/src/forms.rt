@@ -6,11 +6,9 @@
 
 pub(crate) const MOST_AREAS: usize = 128;
 
-pub(crate) const MOST_VOLUMES: usize = 128;
 /// Of the blocks of all volumes and the slots of all areas together.
 pub(crate) const MOST_SIZE: u64 = 131_072;
 
-pub(crate) const MOST_WRITERS: usize = 64;
 /// Of the orders of a kind that a script speaks of.
 pub(crate) const MOST_NTH: u32 = 2_000;
 /// Of the `answer` lines.
@@ -37,13 +35,13 @@ macro_rules! forms {
     (Volume $do:ident [$fields:ident $text:ident $draft:ident]) => {
         $do! { [$fields $text $draft]
             (name: NAME(Volume), blocks: BLOCKS, slots: SLOTS) => {
-                at_most($draft.volumes().len(), MOST_VOLUMES, "volumes")?;
+                at_most($draft.volumes().len(), MOST_VOLUMES as usize, "volumes")?;
                 space_for($draft, blocks + slots)?;
                 let group = $draft.groups() as u32;
                 Entry::OwnVolume(VolumeRow { name, blocks, slots, group })
             },
             (name: NAME(Volume), blocks: BLOCKS, _in: "in", area: AREA) => {
-                at_most($draft.volumes().len(), MOST_VOLUMES, "volumes")?;
+                at_most($draft.volumes().len(), MOST_VOLUMES as usize, "volumes")?;
                 space_for($draft, blocks)?;
                 let (a, area) = area;
                 let group = group_for($draft, area);
@@ -107,8 +105,8 @@ macro_rules! forms {
 /// The value of a field of this kind.
 macro_rules! value {
     ($text:ident $draft:ident $field:ident VERSION) => { number_field($text, Quantity::Version, 1, 1, $field)? };
-    ($text:ident $draft:ident $field:ident SLOTS) => { number_field($text, Quantity::Slots, 0, 65_536, $field)? };
-    ($text:ident $draft:ident $field:ident BLOCKS) => { number_field($text, Quantity::Blocks, 1, 65_536, $field)? };
+    ($text:ident $draft:ident $field:ident SLOTS) => { number_field($text, Quantity::Slots, 0, MOST_SLOTS, $field)? };
+    ($text:ident $draft:ident $field:ident BLOCKS) => { number_field($text, Quantity::Blocks, 1, MOST_BLOCKS, $field)? };
     ($text:ident $draft:ident $field:ident SET) => { number_field($text, Quantity::Set, 1, u32::MAX, $field)? };
     ($text:ident $draft:ident $field:ident TICKS) => { number_field($text, Quantity::Ticks, 1, 1_000_000_000, $field)? };
     ($text:ident $draft:ident $field:ident CONTEXT) => { number_field($text, Quantity::Context, 0, u32::MAX, $field)? };

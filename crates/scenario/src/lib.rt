@@ -34,7 +34,6 @@ pub mod laws;
 mod line;
 mod name_kind;
 mod name_table;
-mod names;
 pub mod numbers;
 mod op;
 mod ops;

@@ -20,14 +20,14 @@ use crate::expected::Expected;
 use crate::field::{Field, number};
 use crate::field_values::{declared_field, number_field};
 use crate::fields::{Fields, bytes_of};
-use crate::forms::{MOST_ANSWERS, MOST_NTH, MOST_WRITERS, forms, read, shape, value};
+use crate::forms::{MOST_ANSWERS, MOST_NTH, forms, read, shape, value};
 use crate::name_kind::NameKind;
 use crate::quantity::Quantity;
 use crate::reason::Reason;
 use crate::span::Span;
 use crate::unread::Unread;
 use std::alloc::Global;
-use vss_names::{Order, WriterError};
+use vss_names::{MOST_WRITERS, Order, WriterError};
 use writer_calls::{Answer, Scripted};
 use writer_meta::{MetaFault, Metadata};
 
@@ -37,7 +37,11 @@ fn writer_if(draft: &Draft, name: Span, metadata: Metadata) -> Result<Entry, Cau
     ensures same { IfOk result (λ e. e ≡ entry.Writer name metadata) }
     ensures few { IfOk result (λ e. length draft.now.said.writers < 64) }
 {
-    at_most(draft.count(NameKind::Writer), MOST_WRITERS, "writers")?;
+    at_most(
+        draft.count(NameKind::Writer),
+        MOST_WRITERS as usize,
+        "writers",
+    )?;
     Ok(Entry::Writer(name, metadata))
 }
 

@@ -42,7 +42,7 @@ fn write_once<R: Wait>(
     if locks.group == locks.journal {
         return Ok(shards.write(handle, v, block, payload));
     }
-    let mut shard = shards.shard(v).lock(handle);
+    let mut shard = shards.lock(handle, v);
     let mut journal = locks.journal()?.lock(handle);
     Ok(write_on(&mut shard, &mut journal, block, payload))
 }

@@ -26,7 +26,7 @@
 //!
 //!     volume BLOCKS MIRRORS
 //!     write BLOCK BYTE · read BLOCK · cut SET · image SET BLOCK · drop SET
-//!     step MIRROR · stale MIRROR · ready · blocks · mirrors · images
+//!     step MIRROR · stale MIRROR · ready · blocks · mirrors · images · flush · flush MIRROR · sync
 //!     again                     takes the volume apart, and up again from its devices
 //!     fill BYTE                 writes every block; prints how many writes were Ok
 //!     steps MIRROR COUNT        makes so many steps; prints how many copied a block
@@ -45,7 +45,8 @@
 //!     write BLOCK PAYLOAD · recover SET WRITER BLOCK PAYLOAD     PAYLOAD is `fill 7` or `stamp 7`
 //!     read BLOCK · image SET BLOCK                               the first eight bytes, where the block is these again and again
 //!     pre_final SET WRITER FIRST COUNT ..                        with a claim for each three numbers
-//!     cut SET · drop SET · revert SET · post_final · window · images · used · overlay_used
+//!     cut SET · drop SET · revert SET · post_final · window · images · used · overlay_used · flush · sync
+//!     again SET ..              takes the volume apart, and up again with these final sets
 //!
 //! shards: volumes behind locks of their own, over the devices `volume` and `area`. An empty line begins anew.
 //!

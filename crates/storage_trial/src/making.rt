@@ -10,9 +10,9 @@ ghost use Rattle.cow_volume.specs.OneVolume.{StandsForOne, blocks_of};
 use crate::plan::{Kind, Plan};
 use crate::trial_error::TrialError;
 use cow_volume::{CowGroup, CowVolume};
-use diff_area::{Area, MOST_BLOCKS, MOST_SLOTS, MOST_VOLUMES, pages_for};
-use diff_map::MOST_IMAGES;
+use diff_area::{Area, pages_for};
 use volume_device::{Device, FileDevice, HostDevice, MemDevice};
+use vss_names::{MOST_BLOCKS, MOST_IMAGES, MOST_SLOTS, MOST_VOLUMES};
 
 /// A device of so many zero blocks, in a file with its name, or in memory with the calls failing that are planned for its name.
 pub fn device(

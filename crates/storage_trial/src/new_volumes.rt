@@ -4,10 +4,10 @@ use crate::making::volume;
 use crate::plan::Plan;
 use crate::trial_error::TrialError;
 use cow_volume::CowVolume;
-use diff_area::MOST_VOLUMES;
 use std::alloc::Global;
 use std::marker::Model;
 use volume_device::HostDevice;
+use vss_names::MOST_VOLUMES;
 use vss_shards::Shards;
 
 /// Volumes of zeros, for the shards that are made next.

@@ -6,11 +6,10 @@ use crate::telling::{say, tell};
 use crate::trial_error::TrialError;
 use block_data::Payload;
 use cow_volume::CowVolume;
-use diff_map::MOST_IMAGES;
 use std::alloc::Global;
 use std::fmt::Debug;
 use volume_device::HostDevice;
-use vss_names::Numbers;
+use vss_names::{MOST_IMAGES, Numbers};
 use vss_recover::{Claim, MOST_CLAIMS, RecoverVolume};
 
 type Volume = RecoverVolume<HostDevice>;

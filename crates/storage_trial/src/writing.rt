@@ -50,7 +50,7 @@ fn write_all<R: Wait>(
 /// Holds each shard for a cut.
 fn hold_all<R: Wait>(rt: &R, shards: &Shards<HostDevice>, draft: &mut Draft) {
     for v in 0..shards.volumes() {
-        let mut shard = shards.shard(v).lock(rt);
+        let mut shard = shards.lock(rt, v);
         if draft.recorded().is_none() {
             let _ = collect(&mut shard, draft);
         }
@@ -60,7 +60,7 @@ fn hold_all<R: Wait>(rt: &R, shards: &Shards<HostDevice>, draft: &mut Draft) {
 /// Lets each shard go.
 fn let_all_go<R: Wait>(rt: &R, shards: &Shards<HostDevice>, draft: &mut Draft) {
     for v in 0..shards.volumes() {
-        let mut shard = shards.shard(v).lock(rt);
+        let mut shard = shards.lock(rt, v);
         if draft.has(&shard) {
             give_back(&mut shard, draft);
         }

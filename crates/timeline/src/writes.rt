@@ -1,8 +1,5 @@
 use std::alloc::Global;
-use vss_names::OutOfMemory;
-
-/// How many blocks a volume has at most.
-const MOST_BLOCKS: usize = 65_536;
+use vss_names::{MOST_BLOCKS, OutOfMemory};
 
 /// When the blocks of each row's volume were written last.
 #[derive(Drop)]
@@ -22,7 +19,7 @@ impl Writes {
 
     /// Notes that a block of a row is written now, and answers when it was before: 0 for never.
     pub fn write(&mut self, row: usize, block: u64, now: u64) -> Result<u64, OutOfMemory> {
-        let block = (block as usize).min(MOST_BLOCKS);
+        let block = (block as usize).min(MOST_BLOCKS as usize);
         let Some(blocks) = self.rows.get_mut(row) else {
             return Ok(0);
         };

@@ -2,7 +2,7 @@
 -- (This project's own.)
 use Rattle.std.specs.Prelude.{ℕ, ◌≡◌, Bool, List, Result, Some, OnOk, replicate, slice_get, slice_set, if◌then◌else◌, is_err, length, ◌==◌}
 use Rattle.block_data.specs.Runs.{zeros}
-use Rattle.volume_device.specs.Schedules.{Schedule, IsCall, never}
+use Rattle.vss_names.specs.Schedules.{Schedule, IsCall, never}
 use Rattle.volume_device.specs.declared.mem_device.MemDevice.{MemDevice}
 
 abbrev pub blocks_of : MemDevice → List (List ℕ)

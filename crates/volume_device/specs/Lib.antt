@@ -4,5 +4,4 @@ pub mod Made
 pub mod Messages
 pub mod OnHost
 pub mod Plans
-pub mod Schedules
 pub mod Stores

@@ -2,7 +2,7 @@
 -- calls fail. The first row of a name serves the first device of that name, and is then used up. (This project's
 -- own.)
 use Rattle.std.specs.Prelude.{ℕ, Bool, false, List, Option, Some, None, bytes_eq, position, option_and_then, slice_get, remove}
-use Rattle.volume_device.specs.Schedules.{Schedule, failing_at, never}
+use Rattle.vss_names.specs.Schedules.{Schedule, failing_at, never}
 use Rattle.volume_device.specs.declared.planned.Planned.{Planned}
 
 abbrev pub is_for : List ℕ → Planned → Bool

@@ -1,6 +1,6 @@
 //! What every device of blocks promises.
 
-ghost use Rattle.std.specs.Prelude.{◌≡◌, ◌<◌, ℕ, Bool, List, length, Option, is_some, slice_get, slice_set, OnOk, OnErr, IfSome, option_map};
+ghost use Rattle.std.specs.Prelude.{◌≡◌, ◌<◌, ℕ, Bool, true, List, length, Option, Some, is_some, slice_get, slice_set, OnOk, OnErr, IfSome, option_map};
 ghost use Rattle.vss_names.specs.Faults.{HasCause};
 ghost use Rattle.volume_device.specs.Blocks.{AreBlocks};
 
@@ -39,6 +39,17 @@ pub trait Device: Drop {
         ensures size { size self.new ≡ size self.old }
         ensures lending { lending self.new ≡ lending self.old }
         ensures cause { HasCause (count self.old) (count self.new) result };
+
+    /// Fills `out` with a block, while other threads may read the device too. False if it cannot be read so, or the read
+    /// failed; then `out` holds any bytes. A failed read is counted by the next `read_into`, which fails too.
+    fn read_shared(&self, index: u32, out: &mut [u8]) -> bool
+        requires in_range { index < size self.now }
+        requires whole { length out.old ≡ BLOCK }
+        ensures block { result ≡ true → IfSome (told self.now) (λ blocks. slice_get blocks index ≡ Some out.new) }
+    {
+        let _ = (index, out.len());
+        false
+    }
 
     /// Writes a block. After a failed write the block is as before.
     fn write(&mut self, index: u32, block: &[u8]) -> Result<(), Failed>

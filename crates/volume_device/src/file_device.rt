@@ -8,10 +8,13 @@ use crate::made_file::MadeFile;
 use block_data::BLOCK;
 use std::fs::File;
 use std::os::unix::fs::FileExt;
+use std::sync::atomic::AtomicI32;
+use std::sync::atomic::Ordering::SeqCst;
 use std::{fs, io};
 use vss_names::Failed;
 
-/// A device in a file, block after block, which keeps its last failed call. It tells nothing and lends nothing.
+/// A device in a file, block after block, which keeps its last failed call. It tells nothing and lends nothing. Several
+/// threads may read it, each at the place of its block.
 #[derive(Debug, Drop)]
 pub struct FileDevice {
     file: File,
@@ -19,6 +22,8 @@ pub struct FileDevice {
     blocks: u32,
     count: u64,
     last: Option<(FileCall, io::Error)>,
+    /// The system's number of a failure of `read_shared`, 0 for none. The next `read_into` fails with it.
+    missed: AtomicI32,
 }
 
 /// Where a block begins in the file.
@@ -51,6 +56,7 @@ impl FileDevice {
             blocks,
             count: 0,
             last: None,
+            missed: AtomicI32::new(0),
         }
     }
 
@@ -117,8 +123,22 @@ impl Device for FileDevice {
     }
 
     fn read_into(&mut self, index: u32, out: &mut [u8]) -> Result<(), Failed> {
+        let missed = self.missed.swap(0, SeqCst);
+        if missed != 0 {
+            return self.outcome(FileCall::Read, Err(io::Error::from_raw_os_error(missed)));
+        }
         let done = self.file.read_exact_at(out, place_of(index));
         self.outcome(FileCall::Read, done)
+    }
+
+    fn read_shared(&self, index: u32, out: &mut [u8]) -> bool {
+        let Err(error) = self.file.read_exact_at(out, place_of(index)) else {
+            return true;
+        };
+        if let Some(code) = error.raw_os_error() {
+            self.missed.store(code, SeqCst);
+        }
+        false
     }
 
     fn write(&mut self, index: u32, block: &[u8]) -> Result<(), Failed> {

@@ -37,6 +37,13 @@ impl Device for HostDevice {
         }
     }
 
+    fn read_shared(&self, index: u32, out: &mut [u8]) -> bool {
+        match self {
+            HostDevice::Memory(device) => device.read_shared(index, out),
+            HostDevice::File(device) => device.read_shared(index, out),
+        }
+    }
+
     fn write(&mut self, index: u32, block: &[u8]) -> Result<(), Failed> {
         match self {
             HostDevice::Memory(device) => device.write(index, block),

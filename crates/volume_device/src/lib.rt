@@ -8,7 +8,6 @@
 #![tactic(auto)]
 
 mod device;
-mod failing_calls;
 mod file_call;
 mod file_device;
 mod file_fault;

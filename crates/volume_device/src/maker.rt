@@ -14,7 +14,7 @@ use vss_names::Text;
 /// Makes devices of zero blocks and takes them back. Its count of faults has the counts of the devices that it
 /// got back in it.
 pub trait Maker: Drop {
-    type Made: Device + Send;
+    type Made: Device + Send + Sync;
 
     /// Whether each device that it makes in a store tells its blocks. This never changes.
     ghost tells: { Self → Store → Bool };

@@ -4,10 +4,9 @@ ghost use Rattle.vss_names.specs.Faults.{HasCause};
 ghost use Rattle.block_data.specs.declared.block_buf.TheConstants.{BLOCK};
 
 use crate::device::Device;
-use crate::failing_calls::FailingCalls;
 use block_data::{BLOCK, BlockBuf};
 use std::alloc::Global;
-use vss_names::{Failed, Numbers, OutOfMemory};
+use vss_names::{Failed, FailingCalls, Numbers, OutOfMemory};
 
 /// A device in memory, which tells its blocks. Which of its calls fail is planned.
 #[derive(Debug, Drop)]
@@ -37,7 +36,7 @@ fn zero_blocks(alloc: Global, count: u32) -> Result<Vec<BlockBuf>, OutOfMemory>
 
 impl MemDevice {
     ghost use Rattle.volume_device.specs.InMemory.{IsNew, blocks_of, reads_of, writes_of, flushes_of, faults_of};
-    ghost use Rattle.volume_device.specs.Schedules.{failing_at};
+    ghost use Rattle.vss_names.specs.Schedules.{failing_at};
 
     /// A device of so many zero blocks, none of whose calls fails.
     pub fn new(alloc: Global, blocks: u32) -> Result<MemDevice, OutOfMemory>

@@ -34,6 +34,14 @@ impl Device for CountedDevice {
         self.device.read_into(index, out)
     }
 
+    fn read_shared(&self, index: u32, out: &mut [u8]) -> bool {
+        let is_read = self.device.read_shared(index, out);
+        if is_read {
+            self.progress.count_block();
+        }
+        is_read
+    }
+
     fn write(&mut self, index: u32, block: &[u8]) -> Result<(), Failed> {
         self.device.write(index, block)
     }

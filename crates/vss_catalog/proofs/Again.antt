@@ -7,7 +7,7 @@ use Rattle.std.proofs.lemmas.List.{append_assoc, take-append-drop, length-take-l
 use Rattle.block_data.specs.Digest.{sha256}
 use Rattle.vss_catalog.specs.Allowed.{AreRising, IsEntry, AreEntries, IsCatalog, AreBytes}
 use Rattle.vss_catalog.specs.Entries.{EntryValue}
-use Rattle.vss_catalog.specs.Names.{is_name}
+use Rattle.vss_names.specs.Names.{is_name}
 use Rattle.vss_catalog.specs.Reading.{◌>>=◌, number_in, name_of_length, name_in, blocks_in, count_in, set_in, sets_in, entry_in, end_in, entries_in, letters_in, volumes_in, body_in, front_of, is_sealed, catalog_in}
 use Rattle.vss_catalog.specs.Written.{number_bytes, entry_bytes, size_of, body_of, bytes_of}
 use Rattle.vss_catalog.specs.declared.catalog_fault.CatalogFault.{CatalogFault}

@@ -12,7 +12,8 @@ use Rattle.diff_map.specs.MapValue.{AreImages}
 use Rattle.vss_catalog.specs.Allowed.{AreRising, IsEntry, AreEntries, IsCatalog}
 use Rattle.vss_catalog.specs.Entries.{EntryValue}
 use Rattle.vss_catalog.specs.Group.{are_names_for, entry_at, entries_of}
-use Rattle.vss_catalog.specs.Names.{is_name, are_names, bytes_in}
+use Rattle.vss_names.specs.Names.{is_name}
+use Rattle.vss_catalog.specs.Names.{are_names, bytes_in}
 use Rattle.vss_catalog.proofs.Steps.{and_left, and_right}
 
 equal : (a b : ℕ) → (a == b) ≡ true → a ≡ b

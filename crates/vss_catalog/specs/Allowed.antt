@@ -1,7 +1,7 @@
 -- The conditions on a catalog, under which its bytes say it. (This project's own; the limits are those of a group.)
 use Rattle.std.specs.Prelude.{ℕ, ◌≡◌, ◌<◌, ◌≤◌, true, List, [], ◌∷◌, length}
 use Rattle.vss_catalog.specs.Entries.{EntryValue}
-use Rattle.vss_catalog.specs.Names.{is_name}
+use Rattle.vss_names.specs.Names.{is_name}
 
 -- each is above the one before it, and fits four bytes
 abbrev pub AreRising : ℕ → List ℕ → Type 0

@@ -7,7 +7,7 @@ use Rattle.std.specs.Str.{bytes_eq}
 use Rattle.byteorder.specs.Endian.{little_number}
 use Rattle.block_data.specs.Digest.{sha256}
 use Rattle.vss_catalog.specs.Entries.{EntryValue}
-use Rattle.vss_catalog.specs.Names.{is_name}
+use Rattle.vss_names.specs.Names.{is_name}
 use Rattle.vss_catalog.specs.Written.{size_of}
 use Rattle.vss_catalog.specs.declared.catalog_fault.CatalogFault.{CatalogFault}
 use Rattle.vss_catalog.specs.declared.catalog_fault.CatalogFault.TheVariants.{Digest, Magic, Volumes, Short, Name, Blocks, Images, Order, Rest, OutOfMemory}

@@ -20,4 +20,3 @@ mod writing;
 
 pub use catalog::Catalog;
 pub use catalog_fault::CatalogFault;
-pub use names::MOST_NAME;

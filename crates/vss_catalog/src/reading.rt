@@ -5,13 +5,10 @@ ghost use Rattle.vss_catalog.specs.Reading.{Tells, number_in, name_of_length, na
 
 use crate::catalog_fault::CatalogFault;
 use crate::entry::Entry;
-use crate::names::{MOST_NAME, is_name};
 use block_data::digest;
 use byteorder::{ByteOrder, LittleEndian};
-use diff_area::{MOST_BLOCKS, MOST_VOLUMES};
-use diff_map::MOST_IMAGES;
 use std::alloc::Global;
-use vss_names::Numbers;
+use vss_names::{MOST_BLOCKS, MOST_IMAGES, MOST_NAME, MOST_VOLUMES, Numbers, is_name};
 
 /// The letters with which a catalog begins.
 pub const MAGIC: &[u8; 8] = b"VSSCAT01";

@@ -3,7 +3,9 @@ pub mod Context
 pub mod Faults
 pub mod Level
 pub mod LookUp
+pub mod Names
 pub mod Order
+pub mod Schedules
 pub mod SourceKind
 pub mod TextValue
 pub mod Usage

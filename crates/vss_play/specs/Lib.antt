@@ -7,3 +7,4 @@ pub mod Messages
 pub mod Acting
 pub mod Digested
 pub mod Serving
+pub mod Resting

@@ -10,7 +10,7 @@ ghost use Rattle.vss_play.specs.Lasting.{HaveLasted};
 
 use crate::closing::sync_all;
 use crate::end_digests::digest_volume;
-use lent_digests::ReadyDigests;
+use provider::ReadyDigests;
 use scenario::Scenario;
 use volume_device::Device;
 use vss_names::Failed;

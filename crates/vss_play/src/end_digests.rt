@@ -1,4 +1,4 @@
-//! The digests at the end of a run: those that are ready, made side by side where devices lend, and the others one after another.
+//! The digests at the end of a run: those that could be made side by side, and the others one after another.
 
 ghost use Rattle.std.specs.Prelude.{◌≡◌, ◌<◌, None, Some, true, is_some, length, map, IfOk, OnOk, IsErr};
 ghost use Rattle.write_history.specs.History.{point_in};
@@ -10,7 +10,7 @@ ghost use Rattle.vss_world.specs.Stands.{IfStands};
 ghost use Rattle.vss_play.specs.Played.{AnyRose};
 ghost use Rattle.vss_play.specs.Closing.{AreReady, StandsAfter, state_after};
 
-use lent_digests::{DigestsOf, ReadyDigests};
+use provider::{DigestsOf, ReadyDigests};
 use scenario::Scenario;
 use std::alloc::Global;
 use std::thread::Threads;
@@ -19,9 +19,8 @@ use vss_names::Failed;
 use vss_world::World;
 use write_history::Trail;
 
-/// The digests that devices lend the blocks of, made side by side in as many threads as there are processors. None where memory is
-/// wanting for that.
-pub(crate) fn ready_digests<R: Threads + Sync, D: Device>(
+/// The digests that can be made side by side, by as many threads as there are processors. None if memory is wanting for that.
+pub(crate) fn ready_digests<R: Threads + Sync, D: Device + Sync>(
     rt: &R,
     alloc: Global,
     scenario: &Scenario,

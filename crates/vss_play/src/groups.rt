@@ -9,11 +9,11 @@ ghost use Rattle.vss_play.specs.Played.{device_sizes};
 ghost use Rattle.vss_play.specs.Made.{IsZero, IsOpened, AreOpened, AreSorted, in_group, groups_of_devices};
 
 use cow_volume::CowGroup;
-use diff_area::{Area, MOST_SLOTS};
+use diff_area::Area;
 use scenario::Scenario;
 use std::alloc::Global;
 use volume_device::Device;
-use vss_names::OutOfMemory;
+use vss_names::{MOST_SLOTS, OutOfMemory};
 
 /// The group of the device that is made in its turn, counted from 0: of the volumes, and then of the areas.
 fn group_of(scenario: &Scenario, place: u32) -> u32

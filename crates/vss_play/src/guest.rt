@@ -11,6 +11,8 @@ pub struct Guest<'a> {
     actor: usize,
     /// How many moves were made before it asked last.
     moves: u64,
+    /// Whether it moved since it rested.
+    moved: bool,
     /// How often it asks while it has the floor and nobody moves.
     asks: u32,
     /// How often it still asks before it rests.
@@ -24,6 +26,7 @@ impl<'a> Guest<'a> {
             room,
             actor,
             moves: 0,
+            moved: false,
             asks: 1,
             left: 0,
         }
@@ -41,6 +44,7 @@ impl<'a> Guest<'a> {
         if let Some(room) = self.room {
             room.count_move();
         }
+        self.moved = true;
         self.asks = 1;
         self.left = 0;
     }
@@ -56,7 +60,8 @@ impl<'a> Guest<'a> {
             return;
         }
         let passed = room.passed(rt);
-        let has_floor = room.rest(rt, self.actor);
+        let has_floor = room.rest(rt, self.actor, self.moved);
+        self.moved = false;
         if room.moves() != self.moves || self.asks >= MOST_ASKS || !room.went_around(rt, passed) {
             self.asks = 1;
         } else {
@@ -83,6 +88,7 @@ impl<'a> Drop for Guest<'a> {
             room: _,
             actor: _,
             moves: _,
+            moved: _,
             asks: _,
             left: _,
         } = self;

@@ -22,7 +22,7 @@ use crate::turn::{
     advance, answers_no_more, are_used_up, first_cursors, first_lines, lanes_with_lines, mark_of,
     next_line, push_move, step_by, turns_come_to_an_end, write_lines,
 };
-use lent_digests::DigestsOf;
+use provider::DigestsOf;
 use scenario::Scenario;
 use std::alloc::Global;
 use std::marker::Model;
@@ -254,13 +254,15 @@ impl<D: Device> Play<D> {
 
     /// Writes each group's area to its device, brings all that was written to the devices to where it lasts, and appends the closing lines:
     /// how many moves there are and the clock, for each volume how it stands, with its kept images, and for each writer its state. Where it
-    /// is refused, `out` has the bytes that it had. Digests are made side by side where devices lend.
+    /// is refused, `out` has the bytes that it had. Digests are made side by side where that can be done.
     pub fn close<R: Threads + Sync>(
         &mut self,
         rt: &R,
         alloc: Global,
         out: &mut Text,
     ) -> Result<(), PlayFault>
+    where
+        D: Sync,
         ensures closed { OnOk result (IsClosed D.told self.new out.old.bytes out.new.bytes) }
         ensures lasted { OnOk result (HaveLasted D.told D.lasting self.new.plan self.new.devices) }
         ensures same { OnErr result (out.new.bytes ≡ out.old.bytes) }
@@ -297,8 +299,10 @@ impl<D: Device> Play<D> {
     }
 
     /// Writes each group's area to its device, brings all that was written to the devices to where it lasts, and gives the SHA-256 of all
-    /// blocks of each volume, in order of the volumes. Those of volumes whose devices lend are made side by side.
+    /// blocks of each volume, in order of the volumes. They are made side by side where that can be done.
     pub fn digests<R: Threads + Sync>(&mut self, rt: &R, out: &mut [[u8; 32]]) -> Result<(), Failed>
+    where
+        D: Sync,
         requires many { length out.old ≡ length self.old.plan.volumes }
         ensures digests { OnOk result (AreDigests (tells_in D.told self.new) self.new.plan self.new.trail out.new) }
         ensures areas { OnOk result (AreasHold D.told self.new.plan self.new.trail self.new.devices) }
@@ -334,6 +338,8 @@ impl<D: Device> Play<D> {
         rt: &R,
         maker: &mut M,
     ) -> Result<Text, PlayFault>
+    where
+        D: Sync,
         ensures ended { IsEnded D.told D.lasting D.count self (M.places maker.old) (M.kept maker.old) (M.kept maker.new) (M.count maker.old) (M.count maker.new) result }
         ensures tells { M.tells maker.new ≡ M.tells maker.old }
         ensures named { M.named maker.new ≡ M.named maker.old }

@@ -1,4 +1,4 @@
-use crate::line::Line;
+use crate::line::{Line, RECENT};
 use std::alloc::Global;
 use std::sync::atomic::AtomicU64;
 use std::sync::atomic::Ordering::SeqCst;
@@ -28,12 +28,13 @@ impl Room {
     /// A room for so many actors.
     pub fn new(alloc: Global, actors: usize) -> Result<Room, OutOfMemory> {
         let resting = Vec::with_capacity(alloc, actors)?;
+        let recent = Vec::with_capacity(alloc, RECENT + 1)?;
         let mut bells = Vec::with_capacity(alloc, actors)?;
         for _bell in 0..actors {
             bells.push(Parker::new())?;
         }
         Ok(Room {
-            line: Mutex::new(Line::new(resting, actors as u64)),
+            line: Mutex::new(Line::new(resting, recent, actors as u64)),
             bells,
             moves: AtomicU64::new(0),
         })
@@ -57,10 +58,11 @@ impl Room {
         }
     }
 
-    /// An actor rests until it has the floor, or for the longest time. Whether it has the floor.
-    pub fn rest<R: Wait>(&self, rt: &R, actor: usize) -> bool {
+    /// An actor rests until it has the floor, or for the longest time; whether it moved before it was
+    /// blocked. Whether it has the floor.
+    pub fn rest<R: Wait>(&self, rt: &R, actor: usize, has_moved: bool) -> bool {
         let mut line = self.line.lock(rt);
-        let next = line.rest(actor);
+        let next = line.rest(actor, has_moved);
         let longest = if line.is_free() {
             SHORT_REST
         } else {

@@ -6,9 +6,8 @@ ghost use Rattle.vss_recover.specs.Recoveries.{kept_window, with_final};
 
 use crate::claim::Claim;
 use block_data::BlockBuf;
-use diff_map::MOST_IMAGES;
 use std::alloc::Global;
-use vss_names::OutOfMemory;
+use vss_names::{MOST_IMAGES, OutOfMemory};
 
 /// The most claims of a window.
 pub const MOST_CLAIMS: usize = 64;

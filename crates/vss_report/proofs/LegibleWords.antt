@@ -21,7 +21,8 @@ use Rattle.vss_names.proofs.VssResultRows.{vss_result_of_name-name_of}
 use Rattle.vss_names.proofs.WriterErrorRows.{error_of_name-name_of}
 use Rattle.vss_names.proofs.OrderRows.{order_of_name-name_of}
 use Rattle.scenario.specs.Numbers.{is_digit, begins_number, value_from, number_of}
-use Rattle.scenario.specs.Names.{is_letter, is_name_byte, is_name}
+use Rattle.std.specs.Char.{is_ascii_alphabetic}
+use Rattle.vss_names.specs.Names.{is_name_byte, is_name}
 use Rattle.vss_report.specs.Shapes.{is_number, is_hex_digit, is_hex, is_order, is_result}
 use Rattle.vss_report.proofs.Joined.{is_free, both, first_of_both, second_of_both, free_where}
 use Rattle.vss_report.proofs.Values.{digits_have_value}
@@ -160,7 +161,7 @@ hex_word bytes h = record {
 
 are_name_bytes : (name : List ℕ) → is_name name ≡ true → list_all is_name_byte name ≡ true
 unfolding is_name
-are_name_bytes name h = second_of_both (nat_le 1 (length name) && nat_le (length name) 32 && is_letter (slice_index name 0)) (list_all is_name_byte name) h
+are_name_bytes name h = second_of_both (nat_le 1 (length name) && nat_le (length name) 32 && is_ascii_alphabetic (slice_index name 0)) (list_all is_name_byte name) h
 
 name_no_space : (byte : ℕ) → is_name_byte byte ≡ true → (byte == 32) ≡ false
 name_no_space byte h = grind (arith, nat_tests)

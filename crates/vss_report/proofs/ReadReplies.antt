@@ -19,7 +19,7 @@ use Rattle.vss_names.specs.VssResult as result
 use Rattle.write_history.specs.declared.mark.Mark.{Mark}
 use Rattle.write_history.specs.declared.mark.Mark.TheVariants.{Clean, Fault, FaultAfter}
 use Rattle.writer_state.specs.declared.writer_row.WriterRow.{WriterRow}
-use Rattle.scenario.specs.Names.{is_name}
+use Rattle.vss_names.specs.Names.{is_name}
 use Rattle.scenario.specs.Plan.{Plan, WriterPlan, token}
 use Rattle.vss_model.specs.Reply.{Reply, Fine, Faulted, FaultedAfter, Numbered, Coded, NotSelectable, BlockOf, BlocksOf, KeptSets, PropertiesOf, Deleted, DocumentOf, StatusOf, Answered, Stepped, Idled}
 use Rattle.vss_report.specs.Words.{spaced, sets_text, states_text, writer_in, writer_text}

@@ -13,7 +13,7 @@ use Rattle.vss_names.specs.WriterState as state
 use Rattle.vss_names.proofs.WriterStateRows.{state_of_name-name_of}
 use Rattle.writer_state.specs.declared.writer_row.WriterRow.{WriterRow}
 use Rattle.writer_state.specs.WriterState.{is_failed}
-use Rattle.scenario.specs.Names.{is_name}
+use Rattle.vss_names.specs.Names.{is_name}
 use Rattle.scenario.specs.Plan.{Plan, WriterPlan, token}
 use Rattle.vss_report.specs.Words.{spaced, code_word, code_text, state_text, states_text}
 use Rattle.vss_report.specs.Shapes.{is_code, is_coded, is_state, is_state_in, is_named_state, is_state_of, are_states}

@@ -6,7 +6,7 @@ use Rattle.scenario.specs.declared.span.Span.{Span}
 use Rattle.scenario.specs.declared.volume_row.VolumeRow.{VolumeRow}
 use Rattle.scenario.specs.Plan.{Plan, WriterPlan, LanePlan, LaneLine, lines_in as lines_in_lane}
 use Rattle.scenario.specs.Bounds.{IsPlan}
-use Rattle.scenario.specs.Names.{is_name}
+use Rattle.vss_names.specs.Names.{is_name}
 use Rattle.scenario.specs.Fields.{bytes_of}
 use Rattle.scenario.specs.Named.{AllNamed, Differ, Distinct, volume_spans, writer_spans, lane_spans, Numbered, AllNumbered, HasNames}
 use Rattle.vss_report.specs.Words.{volume_in, volume_text, writer_in, writer_text, lane_in, lane_text}

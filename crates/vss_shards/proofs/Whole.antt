@@ -78,9 +78,10 @@ fault_is_told told size count lending old new block payload fault may unwritten 
 
 -- ## write, under locks
 
-pub refused_under_lock : {D : Type 0} → (told : D → Option (List (List ℕ))) (size count : D → ℕ) (lending : D → Bool) (s : ShardValue D) (block : ℕ) (payload : Small) (f : ShardFault)
-    → IsShard told s → IsAllowed s block (Err f) → IsWriteUnderLock told size count lending block payload (Err f)
-refused_under_lock told size count lending s block payload f is allowed = record { found = s; left = s; is = is; said = by_fault f allowed } where
+pub refused_under_lock : {D : Type 0} → (told : D → Option (List (List ℕ))) (size count : D → ℕ) (lending : D → Bool)
+    (s : ShardValue D) (v block : ℕ) (payload : Small) (f : ShardFault)
+    → IsShard told s → s.number ≡ v → IsAllowed s block (Err f) → IsWriteUnderLock told size count lending v block payload (Err f)
+refused_under_lock told size count lending s v block payload f is number allowed = record { found = s; left = s; is = is; number = number; said = by_fault f allowed } where
   by_fault : (g : ShardFault) → IsAllowed s block (Err g) → IsWriteSaid told size count lending s s block payload (Err g)
   by_fault HeldNow a = (a, refl)
   by_fault NoBlock a = (a, refl)
@@ -90,14 +91,18 @@ refused_under_lock told size count lending s block payload f is allowed = record
   by_fault AreaFailed a = absurd a
 
 -- the journal has no place
-pub unplaced_under_lock : {D : Type 0} → (told : D → Option (List (List ℕ))) (size count : D → ℕ) (lending : D → Bool) (s : ShardValue D) (block : ℕ) (payload : Small) (f : ShardFault)
-    → IsShard told s → MayBeWritten s block → (f ≡ FullNow) ⊎ (f ≡ NoMemory) → IsWriteUnderLock told size count lending block payload (Err f)
-unplaced_under_lock told size count lending s block payload f is may (inl e) = subst (λ (g : ShardFault). IsWriteUnderLock told size count lending block payload (Err g)) (sym e) (record { found = s; left = s; is = is; said = (may, refl) })
-unplaced_under_lock told size count lending s block payload f is may (inr e) = subst (λ (g : ShardFault). IsWriteUnderLock told size count lending block payload (Err g)) (sym e) (record { found = s; left = s; is = is; said = (may, refl) })
+pub unplaced_under_lock : {D : Type 0} → (told : D → Option (List (List ℕ))) (size count : D → ℕ) (lending : D → Bool)
+    (s : ShardValue D) (v block : ℕ) (payload : Small) (f : ShardFault)
+    → IsShard told s → s.number ≡ v → MayBeWritten s block → (f ≡ FullNow) ⊎ (f ≡ NoMemory) → IsWriteUnderLock told size count lending v block payload (Err f)
+unplaced_under_lock told size count lending s v block payload f is number may cause = record { found = s; left = s; is = is; number = number; said = by_cause cause } where
+  by_cause : (f ≡ FullNow) ⊎ (f ≡ NoMemory) → IsWriteSaid told size count lending s s block payload (Err f)
+  by_cause (inl e) = subst (λ (g : ShardFault). IsWriteSaid told size count lending s s block payload (Err g)) (sym e) (may, refl)
+  by_cause (inr e) = subst (λ (g : ShardFault). IsWriteSaid told size count lending s s block payload (Err g)) (sym e) (may, refl)
 
-pub unput_under_lock : {D : Type 0} → (told : D → Option (List (List ℕ))) (size count : D → ℕ) (lending : D → Bool) (s new : ShardValue D) (block : ℕ) (payload : Small) (f : ShardFault)
-    → IsShard told s → MayBeWritten s block → IsPut told size count lending s new block payload (Err f) → IsWriteUnderLock told size count lending block payload (Err f)
-unput_under_lock told size count lending s new block payload f is may put = record { found = s; left = new; is = is; said = by_fault f put } where
+pub unput_under_lock : {D : Type 0} → (told : D → Option (List (List ℕ))) (size count : D → ℕ) (lending : D → Bool)
+    (s new : ShardValue D) (v block : ℕ) (payload : Small) (f : ShardFault)
+    → IsShard told s → s.number ≡ v → MayBeWritten s block → IsPut told size count lending s new block payload (Err f) → IsWriteUnderLock told size count lending v block payload (Err f)
+unput_under_lock told size count lending s new v block payload f is number may put = record { found = s; left = new; is = is; number = number; said = by_fault f put } where
   by_fault : (g : ShardFault) → IsPut told size count lending s new block payload (Err g) → IsWriteSaid told size count lending s new block payload (Err g)
   by_fault HeldNow p = absurd p
   by_fault NoBlock p = absurd p
@@ -106,12 +111,15 @@ unput_under_lock told size count lending s new block payload f is may put = reco
   by_fault VolumeFailed p = (may, p)
   by_fault AreaFailed p = (may, p)
 
-pub put_under_lock : {D : Type 0} → (told : D → Option (List (List ℕ))) (size count : D → ℕ) (lending : D → Bool) (s new : ShardValue D) (block : ℕ) (payload : Small) (e : Entry) (answer : ℕ)
-    → IsShard told s → MayBeWritten s block → IsPut told size count lending s new block payload (Ok e) → answer ≤ most_entries → IsWriteUnderLock told size count lending block payload (Ok answer)
-put_under_lock told size count lending s new block payload e answer is may put few = record {
+pub put_under_lock : {D : Type 0} → (told : D → Option (List (List ℕ))) (size count : D → ℕ) (lending : D → Bool)
+    (s new : ShardValue D) (v block : ℕ) (payload : Small) (e : Entry) (answer : ℕ)
+    → IsShard told s → s.number ≡ v → MayBeWritten s block → IsPut told size count lending s new block payload (Ok e) → answer ≤ most_entries
+    → IsWriteUnderLock told size count lending v block payload (Ok answer)
+put_under_lock told size count lending s new v block payload e answer is number may put few = record {
   found = s;
   left = new;
   is = is;
+  number = number;
   said = (may, subst (λ (x : Entry). IsPutIn told size count lending s new x) put.0 put.1, few);
 }
 

@@ -116,11 +116,12 @@ IsWriteSaid told size count lending old new block payload (Err OutOfMemory) = Ma
 IsWriteSaid told size count lending old new block payload (Err Volume) = MayBeWritten old block × IsNotPut told size count lending old new block VolumeCause
 IsWriteSaid told size count lending old new block payload (Err Area) = MayBeWritten old block × IsNotPut told size count lending old new block AreaCause
 
--- some shard was found under the lock, and left there as the call says
-pub record IsWriteUnderLock {D : Type 0} (told : D → Option (List (List ℕ))) (size count : D → ℕ) (lending : D → Bool) (block : ℕ) (payload : Small) (result : Result ℕ ShardFault) : Type 0 where
+-- shard v was found under its lock, and left there as the call says
+pub record IsWriteUnderLock {D : Type 0} (told : D → Option (List (List ℕ))) (size count : D → ℕ) (lending : D → Bool) (v block : ℕ) (payload : Small) (result : Result ℕ ShardFault) : Type 0 where
   pub found : ShardValue D
   pub left : ShardValue D
   pub is : IsShard told found
+  pub number : found.number ≡ v
   pub said : IsWriteSaid told size count lending found left block payload result
 
 -- ## collect

@@ -8,8 +8,8 @@ use crate::draft::Draft;
 use crate::image_point::ImagePoint;
 use crate::part::Part;
 use crate::shard::Shard;
-use diff_map::MOST_IMAGES;
 use volume_device::Device;
+use vss_names::MOST_IMAGES;
 
 /// Holds a shard for a cut, and adds its part to the draft: the number of its next image, and the length of its list, which cannot
 /// grow while the shard is held.

@@ -10,10 +10,9 @@ use crate::part::Part;
 use crate::record_fault::RecordFault;
 use crate::recorded_cut::RecordedCut;
 use crate::shard::MOST_ENTRIES;
-use diff_area::MOST_VOLUMES;
 use std::alloc::Global;
 use std::marker::Model;
-use vss_names::OutOfMemory;
+use vss_names::{MOST_VOLUMES, OutOfMemory};
 
 /// How many cuts a journal may have.
 const MOST_CUTS: usize = 65_536;

@@ -8,11 +8,10 @@ use crate::entry::Entry;
 use crate::image_point::ImagePoint;
 use crate::part::Part;
 use cow_volume::CowVolume;
-use diff_map::MOST_IMAGES;
 use std::alloc::Global;
 use std::marker::Model;
 use volume_device::Device;
-use vss_names::OutOfMemory;
+use vss_names::{MOST_IMAGES, OutOfMemory};
 
 /// How many entries a list or the journal may have.
 pub(crate) const MOST_ENTRIES: usize = 1_048_576;

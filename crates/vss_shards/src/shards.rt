@@ -1,6 +1,7 @@
 ghost use Rattle.std.specs.Prelude.{◌≡◌, ◌<◌, ◌≤◌, ◌⊎◌, length, vec_len, IfErr, IfOk};
 ghost use Rattle.std.specs.List.{All};
 ghost use Rattle.std.specs.List.Sorted.{IsNonDecreasingBy};
+ghost use Rattle.std.specs.Sync.Mutex.{mutex_guard_value};
 ghost use Rattle.write_history.specs.History.{fresh};
 ghost use Rattle.cow_volume.specs.OneVolume.{StandsForOne};
 ghost use Rattle.vss_shards.specs.Entries.{most_entries, most_volumes};
@@ -19,7 +20,7 @@ use cow_volume::CowVolume;
 use std::alloc::Global;
 use std::marker::Model;
 use std::sync::atomic::Ordering;
-use std::sync::{Mutex, Wait};
+use std::sync::{Mutex, MutexGuard, Wait};
 use volume_device::Device;
 use vss_names::OutOfMemory;
 
@@ -69,6 +70,20 @@ impl<D: Device> Shards<D> {
         self.shards.len() as u32
     }
 
+    /// Lends the shard of a number under its lock. Where callers exchanged what locks keep, it waits until that shard is back.
+    pub fn lock<R: Wait>(&self, rt: &R, v: u32) -> MutexGuard<'_, Shard<D>>
+        requires { v < self.now }
+        ensures { (mutex_guard_value result).number ≡ v }
+    {
+        for _ in rt.forever() {
+            let shard = self.shard(v).lock(rt);
+            if shard.number() == v {
+                return shard;
+            }
+        }
+        unreachable!()
+    }
+
     /// The lock of a shard.
     pub fn shard(&self, v: u32) -> &Mutex<Shard<D>>
         requires { v < self.now }
@@ -92,10 +107,10 @@ impl<D: Device> Shards<D> {
         payload: Small,
     ) -> Result<u32, ShardFault>
         requires { v < self.now }
-        ensures { IsWriteUnderLock D.told D.size D.count D.lending block payload result }
+        ensures { IsWriteUnderLock D.told D.size D.count D.lending v block payload result }
     {
         let own = &self.shards[v as usize];
-        let mut shard = own.shard.lock(rt);
+        let mut shard = self.lock(rt, v);
         may_write(&shard, block)?;
         if !own.has_place.swap(false, Ordering::SeqCst) {
             self.take_place(rt)?;

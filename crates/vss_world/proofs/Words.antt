@@ -32,7 +32,8 @@ pub use Rattle.vss_model.specs.Words.{set_loses_image, sets_of, settled_if, sett
 pub use Rattle.vss_model.specs.Words.{verdict_of, volume_if, volumes_losing, volumes_of, waited_for, with_cut, with_group, with_room, with_room_if, with_volume, without_set, writer_spans}
 pub use Rattle.vss_model.specs.Words.{writes_since, written}
 pub use Rattle.vss_world.specs.Words.{Answer, Event, Idle, Line, Outcome, Provider, Told}
-pub use Rattle.provider.specs.Words.{AllTell, AreStored, Area, Cause, Digested, Ghosts, GroupValue, IsBytes, NoSuchBlock, Volume, sha256, told_in}
+pub use Rattle.provider.specs.declared.digested.Digested.{Digested}
+pub use Rattle.provider.specs.Words.{AllTell, AreStored, Area, Cause, Ghosts, GroupValue, IsBytes, NoSuchBlock, Volume, sha256, told_in}
 pub use Rattle.std.proofs.Math.Seq.{drop-length}
 pub use Rattle.std.proofs.lemmas.Bool.{and_from, and_parts, both_ways, cond-false, cond-true, cond_both, eq-eqb, eqb-false, eqb-true, false_from_ne_true, false≢true, le-leb, le-ltb, leb-false, lt-leb}
 pub use Rattle.std.proofs.lemmas.Bool.{lt-ltb, ne_eqb, not-true, or_from, or_left, or_parts, or_right, true_from_ne_false, true≢false}

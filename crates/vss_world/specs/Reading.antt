@@ -4,7 +4,8 @@ use Rattle.std.specs.Prelude.{ℕ, ◌≡◌, ◌<◌, Bool, true, false, List, 
 use Rattle.std.specs.List.{concat}
 use Rattle.vss_model.specs.Words.{IsDigestIf, Plan, State, blocks_of, content, contents, history_of, kept, point_in}
 use Rattle.vss_world.specs.Words.{HasCause, HasImage, IfShown, IsDigestTold, IsQuiet, ProviderValue, Told}
-use Rattle.provider.specs.Words.{Cause, Digested, Ghosts, IsBytes, sha256}
+use Rattle.provider.specs.Words.{Cause, Ghosts, IsBytes, sha256}
+use Rattle.provider.specs.declared.digested.Digested.{Digested}
 use Rattle.vss_model.specs.declared.told.Told.TheVariants as told
 use Rattle.vss_world.specs.declared.fingerprint.Fingerprint.{Fingerprint}
 

@@ -13,10 +13,10 @@ use std::alloc::Global;
 use std::marker::Model;
 use volume_device::Device;
 use vss_model::Evicted;
-use vss_names::OutOfMemory;
+use vss_names::{MOST_IMAGES, MOST_VOLUMES, OutOfMemory};
 
-/// The most images that a group has: 512 on each of 128 volumes.
-pub(crate) const MOST_EVICTED: usize = 65536;
+/// The most images that a group has.
+pub(crate) const MOST_EVICTED: usize = MOST_IMAGES * MOST_VOLUMES as usize;
 
 /// The kept images that a step evicted. Contracts see it as a list; memory for the most that there can be is taken by `new`.
 #[derive(Debug, Drop)]

@@ -2,10 +2,7 @@ ghost use Rattle.std.specs.Prelude.{◌≡◌, ◌≤◌, [], length, IfOk};
 
 use std::alloc::Global;
 use std::marker::Model;
-use vss_names::OutOfMemory;
-
-/// A volume has at most so many images.
-const MOST_IMAGES: usize = 512;
+use vss_names::{MOST_IMAGES, OutOfMemory};
 
 /// The sets that a step listed. Contracts see it as a list; memory for the most that there can be is taken by `new`.
 #[derive(Debug, Drop)]

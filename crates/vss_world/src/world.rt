@@ -23,8 +23,7 @@ use crate::reply::Reply;
 use crate::showing::kept_sets;
 use block_data::BlockBuf;
 use cow_volume::{Cause, CowGroup, ImageFault};
-use lent_digests::{DigestsOf, ReadyDigests};
-use provider::Provider;
+use provider::{DigestsOf, Provider, ReadyDigests};
 use scenario::Scenario;
 use sessions::Sessions;
 use std::alloc::Global;
@@ -268,9 +267,9 @@ impl<D: Device> World<D> {
         }
     }
 
-    /// The digests of all volumes, in order, each followed by those of its images where those are wanted, the oldest first, where devices
-    /// lend: computed side by side, in as many threads as there are processors. Memory is taken for the time of the call, 16 bytes for
-    /// each block.
+    /// The digests of all volumes, in order, each followed by those of its images if they are wanted, the oldest first. They are
+    /// made side by side, by as many threads as there are processors, of blocks that are lent or read by several threads. A row
+    /// has none if that could not be done. Memory is taken for the time of the call, a block for each thread.
     pub fn digests<R: Threads + Sync>(
         &self,
         rt: &R,
@@ -278,6 +277,8 @@ impl<D: Device> World<D> {
         scenario: &Scenario,
         wanted: DigestsOf,
     ) -> Result<ReadyDigests, OutOfMemory>
+    where
+        D: Sync,
         requires { IsOf self.now scenario.now }
         ensures { IfOk result (λ ready. IfStands D.told self.now scenario.now (λ st. All (IsDigestedIf (tells_of D.told scenario.now self.now.devices) scenario.now st) ready.rows.items)) }
     {

@@ -35,6 +35,7 @@ fn show_call<D: Device>(page: &mut Page, device: &mut D, block: &mut BlockBuf, w
     }
     let is_so = match word {
         "read" => device.read_into(1, block.bytes_mut()).is_ok(),
+        "shared" => device.read_shared(1, block.bytes_mut()),
         "write" => device.write(1, block.bytes()).is_ok(),
         "flush" => device.flush().is_ok(),
         "lends" => device.lends(),

@@ -34,10 +34,13 @@ fn show_parts(alloc: Global, page: &mut Page, metadata: &Metadata) -> Result<(),
     Ok(())
 }
 
-/// Shows the parts of a copy.
+/// Shows the parts of a copy, and that a time-out of 0 is not allowed.
 fn show_copy(alloc: Global, page: &mut Page, metadata: &Metadata) -> Result<(), Stopped> {
-    let copy = metadata.copy(alloc)?;
-    show_parts(alloc, page, &copy)
+    let mut copy = metadata.copy(alloc)?;
+    show_parts(alloc, page, &copy)?;
+    copy.freeze_timeout = 0;
+    page.show("allowed", &copy.is_allowed(alloc)?);
+    Ok(())
 }
 
 /// Shows a document with all its members, as it is written and as a copy has them.
@@ -45,6 +48,7 @@ fn show_metadata(alloc: Global, page: &mut Page, metadata: &Metadata) -> Result<
     requires { IsAllowed (meta_of metadata.now) }
 {
     show_fields(page, metadata);
+    page.show("allowed", &metadata.is_allowed(alloc)?);
     page.line("written", metadata.to_json(alloc)?.bytes());
     show_copy(alloc, page, metadata)
 }
@@ -55,6 +59,7 @@ pub fn show_document(alloc: Global, page: &mut Page, text: &str) -> Result<(), S
         Ok(metadata) => show_metadata(alloc, page, &metadata),
         Err(fault) => {
             page.print("refused", &fault);
+            page.show("number", &fault.number());
             Ok(())
         }
     }

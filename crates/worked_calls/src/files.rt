@@ -20,7 +20,8 @@ fn new_folder(rt: &HostRuntime) -> Result<String, Stopped> {
 }
 
 /// The calls that are made on a device in a file.
-const CALLS: &str = "lends lend blocks read zeros mark write flush first mark read first";
+const CALLS: &str =
+    "lends lend blocks read zeros mark write flush first mark read first shared first";
 
 /// A device in a file gives back what was written, and a file that is there is refused.
 fn show_made_twice(
@@ -54,7 +55,7 @@ fn show_places(rt: &HostRuntime, page: &mut Page, folder: &str) -> Result<(), St
     let path = format!(in rt.alloc(); "{folder}/D.vol")?;
     let mut block = marked(rt.alloc(), 1)?;
     let mut device = FileDevice::new(File::create_new(rt, path.as_str())?, path.clone()?, 2);
-    show_calls(page, &mut device, &mut block, "read faults write");
+    show_calls(page, &mut device, &mut block, "shared read faults write");
     if let Some(fault) = device.into_fault() {
         page.print("failed", &fault.call);
     }

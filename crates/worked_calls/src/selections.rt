@@ -74,6 +74,7 @@ fn show_document(
         &Selection::from_json(alloc, metas, document.bytes()).is_ok(),
     );
     page.show("over", &selection.is_over(alloc, metas)?);
+    page.show("allowed", &metas.are_allowed(alloc)?);
     Ok(())
 }
 

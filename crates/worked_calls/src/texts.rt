@@ -2,7 +2,7 @@
 
 use crate::page::Page;
 use crate::stopped::Stopped;
-use scenario::{Scenario, parse};
+use scenario::{Refused, Scenario, parse};
 use std::alloc::Global;
 
 /// Shows the volumes and their groups.
@@ -38,6 +38,14 @@ fn show_lanes(page: &mut Page, scenario: &Scenario) {
     page.show("line", &scenario.line(scenario.lanes(), 0));
 }
 
+/// Shows why a text is refused, and the number of the reason.
+fn show_refused(page: &mut Page, refused: &Refused) {
+    page.print("refused", refused);
+    if let Refused::Line { reason, .. } = refused {
+        page.show("number", &reason.number());
+    }
+}
+
 /// Shows what a text says, or its first bad line.
 pub fn show_scenario(alloc: Global, page: &mut Page, text: &str) -> Result<(), Stopped> {
     if text.len() > 1_000_000 {
@@ -48,7 +56,7 @@ pub fn show_scenario(alloc: Global, page: &mut Page, text: &str) -> Result<(), S
             show_volumes(page, &scenario);
             show_lanes(page, &scenario);
         }
-        Err(refused) => page.show("refused", &refused),
+        Err(refused) => show_refused(page, &refused),
     }
     Ok(())
 }

@@ -1,97 +1,87 @@
-use Rattle.std.proofs.Common.{ℕ, ◌<◌, ◌∙◌, Some, None, refl, ap, sym, subst, set}
-use Rattle.std.proofs.lemmas.Bool.{false≢true}
-use Rattle.std.proofs.lemmas.List.{set-set}
+use Rattle.std.proofs.Common.{ℕ, ◌<◌, ◌-◌, ◌∙◌, List, Some, get_or, refl, ap, sym, subst}
 use Rattle.std.proofs.lemmas.Option.{slice_get_within, get_or_from_slice_get}
-use Rattle.diff_map.specs.Copies.{copy_of}
+use Rattle.diff_map.specs.Groups.{IsOnlyAt, map_at}
 use Rattle.diff_map.specs.MapValue.{MapValue}
 use Rattle.diff_map.specs.Rules.{merged}
-use Rattle.diff_map.proofs.Leaving.{map_of}
-use Rattle.diff_map.proofs.Renewing.{IsRenewingMap-none, renewed_map, merged_all, handing_was, handing_unnoted, handing_frees, handing_moves, handing_smaller, has_now}
-use Rattle.cow_volume.proofs.Following.{Follows-first, Follows-set, slot_inside, no_other}
-use Rattle.cow_volume.proofs.Gone.{image_above}
+use Rattle.diff_map.proofs.Renewing.{IsRenewingMap-none, renewed_map, merged_all}
+use Rattle.cow_volume.proofs.Following.{Follows-first, older_above, handed_inside, handed_block, handed_once, handed_frees, handed_moves, handed_fewer}
+use Rattle.cow_volume.proofs.GroupMaps.{only-none}
 use Rattle.cow_volume.proofs.renewing.hand_down.Goals as goal
 
 pub copies-init : goal.copies-init
-copies-init g c = record {
-  renews = IsRenewingMap-none
-      (merged c.args.diffs.now.copies (Some c.args.older) c.args.set) c.args.diffs.now c.args.pool.now;
-  follows = Follows-first c.args.v c.args.area.now c.args.diffs.now c.requires.tied;
-}
-
-pub clear_record-requires : goal.clear_record-requires
-clear_record-requires g c = slot_inside c.args.v c.args.area.now c.copies.area c.args.diffs.now c.copies.diffs c.args.set c.in-Some.entry c.requires.tied c.copies.invariant.renews.renews.long
-    c.copies.invariant.follows
-    (handing_was c.args.diffs.now c.copies.diffs c.pop.new.self c.args.pool.now c.copies.pool c.args.older c.args.set c.in-Some.entry c.requires.below c.images-facts.ensures.valid
-    c.copies.invariant.renews c.in-Some.ensures.some)
-
-pub copies-preserved-then-has : goal.copies-preserved-then-has
-copies-preserved-then-has g c = rw c.give.ensures (record {
-  renews = handing_frees c.args.diffs.now c.copies.diffs c.pop.new.self c.args.pool.now c.copies.pool c.args.older c.args.set c.in-Some.entry c.requires.below c.images-facts.ensures.valid
-      c.copies.invariant.renews c.in-Some.ensures.some c.requires.taken (c.has.ensures.0 c.if-has.true);
-  follows = Follows-set c.args.v c.args.area.now c.copies.area c.args.diffs.now c.copies.diffs c.args.set c.in-Some.entry c.requires.tied c.copies.invariant.renews.renews.long
-      c.copies.invariant.follows
-      (handing_was c.args.diffs.now c.copies.diffs c.pop.new.self c.args.pool.now c.copies.pool c.args.older c.args.set c.in-Some.entry c.requires.below c.images-facts.ensures.valid
-      c.copies.invariant.renews c.in-Some.ensures.some)
-      c.clear_record.new.self c.pop.new.self None c.clear_record.ensures (ap (λ (m : MapValue). m.copies) c.in-Some.ensures.some.gone);
-})
+copies-init g c =
+    let m = map_at c.args.maps.now c.args.v in
+    record {
+      only = only-none c.args.v c.args.maps.now;
+      renews = IsRenewingMap-none (merged m.copies (Some (get_or m.images (c.args.at - 1) 0)) (get_or m.images c.args.at 0)) m c.args.pool.now;
+      follows = Follows-first c.args.v c.args.area.now m c.requires.tied;
+    }
 
 pub set_record-requires-clause-slot : goal.set_record-requires-clause-slot
-set_record-requires-clause-slot g c = slot_inside c.args.v c.args.area.now c.copies.area c.args.diffs.now c.copies.diffs c.args.set c.in-Some.entry c.requires.tied
-    c.copies.invariant.renews.renews.long c.copies.invariant.follows
-    (handing_was c.args.diffs.now c.copies.diffs c.pop.new.self c.args.pool.now c.copies.pool c.args.older c.args.set c.in-Some.entry c.requires.below c.images-facts.ensures.valid
-    c.copies.invariant.renews c.in-Some.ensures.some)
+set_record-requires-clause-slot g c = handed_inside c.args.v c.args.at c.args.area.now c.copies.area c.args.maps.now c.copies.maps
+    c.hand_down.new.self c.args.pool.now c.copies.pool c.in-Some.handed c.requires.tied c.images.ensures.valid c.requires.image c.requires.older
+    c.copies.invariant c.hand_down.ensures.others c.in-Some.ensures.some
 
 pub set_record-requires-clause-used : goal.set_record-requires-clause-used
 set_record-requires-clause-used g c =
+    let m = map_at c.args.maps.now c.args.v in
     let volumes_are = ap (λ a. a.volumes) c.copies.invariant.follows in
-    let valid = c.images-facts.ensures.valid in
-    let low = valid.of_blocks c.in-Some.entry.slot (copy_of c.args.set c.in-Some.entry.block)
-    (handing_was c.args.diffs.now c.copies.diffs c.pop.new.self c.args.pool.now c.copies.pool c.args.older c.args.set c.in-Some.entry c.requires.below c.images-facts.ensures.valid
-    c.copies.invariant.renews c.in-Some.ensures.some) in
-    let blocks = get_or_from_slice_get c.args.area.now.volumes c.args.v c.args.diffs.now.blocks 0 c.requires.volume in
-    rw volumes_are (record {
-      set = image_above c.args.diffs.now.images c.args.older valid.images c.requires.older;
-      volume = slice_get_within c.args.area.now.volumes c.args.v c.args.diffs.now.blocks c.requires.volume;
-      block = subst (λ (n : ℕ). c.in-Some.entry.block < n) (sym blocks) low;
+    let low = handed_block c.args.v c.args.at c.args.area.now c.copies.area c.args.maps.now c.copies.maps
+    c.hand_down.new.self c.args.pool.now c.copies.pool c.in-Some.handed c.requires.tied c.images.ensures.valid c.requires.image c.requires.older
+    c.copies.invariant c.hand_down.ensures.others c.in-Some.ensures.some in
+    let above = older_above c.args.v c.args.at c.args.area.now c.copies.area c.args.maps.now c.copies.maps
+    c.hand_down.new.self c.args.pool.now c.copies.pool c.in-Some.handed c.requires.tied c.images.ensures.valid c.requires.image c.requires.older
+    c.copies.invariant c.hand_down.ensures.others c.in-Some.ensures.some in
+    let blocks = get_or_from_slice_get c.args.area.now.volumes c.args.v m.blocks 0 c.requires.volume in
+    rw (volumes_are, c.images.ensures.images) (record {
+      set = above;
+      volume = slice_get_within c.args.area.now.volumes c.args.v m.blocks c.requires.volume;
+      block = subst (λ (n : ℕ). c.in-Some.handed.entry.block < n) (sym blocks) low;
     })
 
 pub set_record-requires-clause-once : goal.set_record-requires-clause-once
-set_record-requires-clause-once g c =
-    no_other c.args.v c.args.area.now c.copies.area c.args.diffs.now c.copies.diffs c.args.set c.in-Some.entry c.requires.tied c.copies.invariant.renews.renews.long c.copies.invariant.follows
-    (handing_was c.args.diffs.now c.copies.diffs c.pop.new.self c.args.pool.now c.copies.pool c.args.older c.args.set c.in-Some.entry c.requires.below c.images-facts.ensures.valid
-    c.copies.invariant.renews c.in-Some.ensures.some)
-    c.args.older (image_above c.args.diffs.now.images c.args.older c.images-facts.ensures.valid.images c.requires.older)
-    (λ has. false≢true (sym c.if-has.false
-    ∙ c.has.ensures.1 (has_now c.args.diffs.now c.copies.diffs c.pop.new.self c.args.pool.now c.copies.pool c.args.older c.args.set c.in-Some.entry c.requires.below c.images-facts.ensures.valid
-    c.copies.invariant.renews c.in-Some.ensures.some has)))
+set_record-requires-clause-once g c = rw c.images.ensures.images (handed_once c.args.v c.args.at c.args.area.now c.copies.area c.args.maps.now c.copies.maps
+    c.hand_down.new.self c.args.pool.now c.copies.pool c.in-Some.handed c.requires.tied c.images.ensures.valid c.requires.image c.requires.older
+    c.copies.invariant c.hand_down.ensures.others c.in-Some.ensures.some c.if-handed.true)
 
-pub note_for-requires-clause-unnoted : goal.note_for-requires-clause-unnoted
-note_for-requires-clause-unnoted g c = handing_unnoted c.args.diffs.now c.copies.diffs c.pop.new.self c.args.pool.now c.copies.pool c.args.older c.args.set c.in-Some.entry c.requires.below
-    c.images-facts.ensures.valid c.copies.invariant.renews c.in-Some.ensures.some
+pub copies-preserved-then-handed : goal.copies-preserved-then-handed
+copies-preserved-then-handed g c = handed_moves c.args.v c.args.at c.args.area.now c.copies.area c.args.maps.now c.copies.maps
+    c.hand_down.new.self c.args.pool.now c.copies.pool c.in-Some.handed c.requires.tied c.images.ensures.valid c.requires.image c.requires.older
+    c.copies.invariant c.hand_down.ensures.others c.in-Some.ensures.some c.if-handed.true c.set_record.new.self (rw c.images.ensures.images at c.set_record.ensures)
 
-pub copies-smaller : goal.copies-smaller
-copies-smaller g c = rw c.note_for.ensures
-    (handing_smaller c.args.diffs.now c.copies.diffs c.pop.new.self c.args.pool.now c.copies.pool c.args.older c.args.set c.in-Some.entry c.requires.below c.images-facts.ensures.valid
-    c.copies.invariant.renews c.in-Some.ensures.some)
+pub clear_record-requires : goal.clear_record-requires
+clear_record-requires g c = handed_inside c.args.v c.args.at c.args.area.now c.copies.area c.args.maps.now c.copies.maps
+    c.hand_down.new.self c.args.pool.now c.copies.pool c.in-Some.handed c.requires.tied c.images.ensures.valid c.requires.image c.requires.older
+    c.copies.invariant c.hand_down.ensures.others c.in-Some.ensures.some
 
 pub copies-preserved : goal.copies-preserved
-copies-preserved g c =
-    let e = c.in-Some.entry in
-    let popped = c.in-Some.ensures.some in
-    rw c.note_for.ensures (record {
-      renews = handing_moves c.args.diffs.now c.copies.diffs c.pop.new.self c.args.pool.now c.copies.pool c.args.older c.args.set c.in-Some.entry c.requires.below c.images-facts.ensures.valid
-          c.copies.invariant.renews c.in-Some.ensures.some (λ has. false≢true (sym c.if-has.false ∙ c.has.ensures.1 has));
-      follows = Follows-set c.args.v c.args.area.now c.copies.area c.args.diffs.now c.copies.diffs c.args.set c.in-Some.entry c.requires.tied c.copies.invariant.renews.renews.long
-          c.copies.invariant.follows
-          (handing_was c.args.diffs.now c.copies.diffs c.pop.new.self c.args.pool.now c.copies.pool c.args.older c.args.set c.in-Some.entry c.requires.below c.images-facts.ensures.valid
-          c.copies.invariant.renews c.in-Some.ensures.some)
-          c.set_record.new.self (map_of c.pop.new.self.blocks c.pop.new.self.images (set c.pop.new.self.copies e.slot (Some (copy_of c.args.older e.block))))
-          (Some (copy_of c.args.older e.block)) c.set_record.ensures
-          (ap (λ (m : MapValue). set m.copies e.slot (Some (copy_of c.args.older e.block))) popped.gone ∙ set-set c.copies.diffs.copies e.slot None (Some (copy_of c.args.older e.block)));
-    })
+copies-preserved g c = rw c.give.ensures (handed_frees c.args.v c.args.at c.args.area.now c.copies.area c.args.maps.now c.copies.maps
+    c.hand_down.new.self c.args.pool.now c.copies.pool c.in-Some.handed c.requires.tied c.images.ensures.valid c.requires.image c.requires.older
+    c.copies.invariant c.hand_down.ensures.others c.in-Some.ensures.some c.if-handed.false c.requires.taken c.clear_record.new.self c.clear_record.ensures)
+
+pub copies-smaller : goal.copies-smaller
+copies-smaller g c = handed_fewer c.args.v c.args.at c.args.area.now c.copies.area c.args.maps.now c.copies.maps
+    c.hand_down.new.self c.args.pool.now c.copies.pool c.in-Some.handed c.requires.tied c.images.ensures.valid c.requires.image c.requires.older
+    c.copies.invariant c.hand_down.ensures.others c.in-Some.ensures.some
+
+pub copies-smaller-then-handed : goal.copies-smaller-then-handed
+copies-smaller-then-handed g c = handed_fewer c.args.v c.args.at c.args.area.now c.copies.area c.args.maps.now c.copies.maps
+    c.hand_down.new.self c.args.pool.now c.copies.pool c.in-Some.handed c.requires.tied c.images.ensures.valid c.requires.image c.requires.older
+    c.copies.invariant c.hand_down.ensures.others c.in-Some.ensures.some
+
+pub returns-clause-others : goal.returns-clause-others
+returns-clause-others g c =
+    let last = c.in_default.ensures.none refl in
+    subst (λ (ms : List MapValue). IsOnlyAt c.args.v c.args.maps.now ms) (sym last.0) c.copies.invariant.only
 
 pub returns-clause-map : goal.returns-clause-map
 returns-clause-map g c =
+    let m = map_at c.args.maps.now c.args.v in
+    let mid = map_at c.copies.maps c.args.v in
+    let older = get_or m.images (c.args.at - 1) 0 in
+    let image = get_or m.images c.args.at 0 in
+    let renews = c.copies.invariant.renews in
     let last = c.in_default.ensures.none refl in
-    last.0 ∙ renewed_map (merged c.args.diffs.now.copies (Some c.args.older) c.args.set) c.args.diffs.now c.copies.diffs c.args.pool.now c.copies.pool c.copies.invariant.renews
-    (merged_all c.args.diffs.now.copies c.copies.diffs.copies c.args.pool.now c.copies.pool c.args.older c.args.set c.copies.invariant.renews.renews last.1)
+    ap (λ (ms : List MapValue). map_at ms c.args.v) last.0
+    ∙ renewed_map (merged m.copies (Some older) image) m mid c.args.pool.now c.copies.pool renews
+    (merged_all m.copies mid.copies c.args.pool.now c.copies.pool older image renews.renews (rw renews.images at last.1))

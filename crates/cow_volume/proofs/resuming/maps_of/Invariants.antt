@@ -1,6 +1,7 @@
-use Rattle.cow_volume.specs.TakingUp.{AreTakenUp}
+use Rattle.std.proofs.Common.{length}
+use Rattle.cow_volume.specs.TakingUp.{AreTakenUp, so_far}
 use Rattle.cow_volume.proofs.resuming.maps_of.Given as goal
 
--- the maps of the volumes so far
+-- the volumes so far have their images
 abbrev pub invariant-loop-v : goal.invariant-loop-v
-invariant-loop-v g l = AreTakenUp l.area.volumes l.area.records l.images 0 l.v l.maps.items
+invariant-loop-v g l = AreTakenUp l.area.volumes l.area.records (so_far l.v l.images) 0 (length l.area.volumes) l.maps

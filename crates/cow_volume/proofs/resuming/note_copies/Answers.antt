@@ -1,8 +1,10 @@
-use Rattle.std.proofs.Common.{◌≡◌, ◌∙◌, false, length, sym, refl, arith}
-use Rattle.std.proofs.lemmas.Option.{slice_get_read, slice_get_within}
+use Rattle.std.proofs.Common.{◌≡◌, ◌∙◌, false, length, sym, arith}
+use Rattle.std.proofs.lemmas.Option.{slice_get_within}
 use Rattle.diff_area.specs.Records.{is_free}
+use Rattle.diff_map.specs.Groups.{map_at}
+use Rattle.cow_volume.proofs.GroupMaps.{get_map}
 use Rattle.cow_volume.proofs.Counting.{used_record}
-use Rattle.cow_volume.proofs.TakingUp.{maps_same, maps_noted, map_unnoted, map_lacks, map_has_image, map_in_range, all_more}
+use Rattle.cow_volume.proofs.TakingUp.{maps_same, maps_noted, all_unnoted, map_lacks, map_has_image, map_in_range, all_more}
 use Rattle.cow_volume.proofs.resuming.note_copies.Goals as goal
 use Rattle.cow_volume.proofs.resuming.note_copies.Goals.{then-not-is_free, else-not-is_free}
 
@@ -13,14 +15,12 @@ lacks_image-requires g c = λ is_used.
     let many = c.requires.lists in
     omega arith
 
-pub index_mut-map-requires : goal.index_mut-map-requires
-index_mut-map-requires g c =
+pub note_for-requires-clause-volume : goal.note_for-requires-clause-volume
+note_for-requires-clause-volume g c =
     let is_used : is_free c.record_at-row.result ≡ false = sym c.is_free.ensures ∙ c.if-not-is_free.true in
     let its = c.slots-slot-end.ensures.valid.each c.loop-slot.slot c.record_at-row.result c.record_at-row.ensures (used_record c.record_at-row.result is_used) in
     let low = its.volume in
     let number = c.loop-slot.invariant.up.number in
-    let ok = c.loop-slot.maps.ok in
-    let long = ok.0 in
     omega arith
 
 pub note_for-requires-clause-image : goal.note_for-requires-clause-image
@@ -30,9 +30,9 @@ note_for-requires-clause-image g c =
     let its = c.slots-slot-end.ensures.valid.each c.loop-slot.slot r c.record_at-row.ensures (used_record r is_used) in
     let low = its.volume in
     let number = c.loop-slot.invariant.up.number in
-    let at = slice_get_read c.loop-slot.maps.items (length c.loop-slot.maps.items) r.volume c.index_mut-map.result.now refl (omega arith) c.index_mut-map.ensures.value in
-    map_has_image c.args.area.now.volumes c.args.area.now.records c.args.images.now c.loop-slot.slot c.index_mut-map.result.now r (c.lacks_image.ensures.has c.if-lacks_image.false) is_used
-    (c.loop-slot.invariant.up.each r.volume c.index_mut-map.result.now at)
+    let at = get_map c.loop-slot.maps r.volume (omega arith) in
+    map_has_image c.args.area.now.volumes c.args.area.now.records c.args.images.now c.loop-slot.slot (map_at c.loop-slot.maps r.volume) r (c.lacks_image.ensures.has c.if-lacks_image.false) is_used
+    (c.loop-slot.invariant.up.each r.volume (map_at c.loop-slot.maps r.volume) at)
 
 pub note_for-requires-clause-in_range : goal.note_for-requires-clause-in_range
 note_for-requires-clause-in_range g c =
@@ -41,9 +41,9 @@ note_for-requires-clause-in_range g c =
     let its = c.slots-slot-end.ensures.valid.each c.loop-slot.slot r c.record_at-row.ensures (used_record r is_used) in
     let low = its.volume in
     let number = c.loop-slot.invariant.up.number in
-    let at = slice_get_read c.loop-slot.maps.items (length c.loop-slot.maps.items) r.volume c.index_mut-map.result.now refl (omega arith) c.index_mut-map.ensures.value in
-    map_in_range c.args.area.now.volumes c.args.area.now.records c.args.images.now c.loop-slot.slot c.index_mut-map.result.now r c.slots-slot-end.ensures.valid c.record_at-row.ensures is_used
-    (c.loop-slot.invariant.up.each r.volume c.index_mut-map.result.now at)
+    let at = get_map c.loop-slot.maps r.volume (omega arith) in
+    map_in_range c.args.area.now.volumes c.args.area.now.records c.args.images.now c.loop-slot.slot (map_at c.loop-slot.maps r.volume) r c.slots-slot-end.ensures.valid c.record_at-row.ensures is_used
+    (c.loop-slot.invariant.up.each r.volume (map_at c.loop-slot.maps r.volume) at)
 
 pub note_for-requires-clause-lacks : goal.note_for-requires-clause-lacks
 note_for-requires-clause-lacks g c =
@@ -52,20 +52,14 @@ note_for-requires-clause-lacks g c =
     let its = c.slots-slot-end.ensures.valid.each c.loop-slot.slot r c.record_at-row.ensures (used_record r is_used) in
     let low = its.volume in
     let number = c.loop-slot.invariant.up.number in
-    let at = slice_get_read c.loop-slot.maps.items (length c.loop-slot.maps.items) r.volume c.index_mut-map.result.now refl (omega arith) c.index_mut-map.ensures.value in
-    map_lacks c.args.area.now.volumes c.args.area.now.records c.args.images.now c.loop-slot.slot c.index_mut-map.result.now r c.slots-slot-end.ensures.valid c.record_at-row.ensures is_used
-    (c.loop-slot.invariant.up.each r.volume c.index_mut-map.result.now at)
+    let at = get_map c.loop-slot.maps r.volume (omega arith) in
+    map_lacks c.args.area.now.volumes c.args.area.now.records c.args.images.now c.loop-slot.slot (map_at c.loop-slot.maps r.volume) r c.slots-slot-end.ensures.valid c.record_at-row.ensures is_used
+    (c.loop-slot.invariant.up.each r.volume (map_at c.loop-slot.maps r.volume) at)
 
 pub note_for-requires-clause-unnoted : goal.note_for-requires-clause-unnoted
 note_for-requires-clause-unnoted g c =
-    let r = c.record_at-row.result in
-    let is_used : is_free r ≡ false = sym c.is_free.ensures ∙ c.if-not-is_free.true in
-    let its = c.slots-slot-end.ensures.valid.each c.loop-slot.slot r c.record_at-row.ensures (used_record r is_used) in
-    let low = its.volume in
-    let number = c.loop-slot.invariant.up.number in
-    let at = slice_get_read c.loop-slot.maps.items (length c.loop-slot.maps.items) r.volume c.index_mut-map.result.now refl (omega arith) c.index_mut-map.ensures.value in
-    map_unnoted c.args.area.now.volumes c.args.area.now.records c.args.images.now c.loop-slot.slot r.volume c.index_mut-map.result.now r c.record_at-row.ensures
-    (c.loop-slot.invariant.up.each r.volume c.index_mut-map.result.now at)
+    all_unnoted c.args.area.now.volumes c.args.area.now.records c.args.images.now c.loop-slot.slot (length c.args.area.now.volumes) c.loop-slot.maps c.record_at-row.result c.record_at-row.ensures
+    c.loop-slot.invariant.up
 
 pub loop-slot-preserved : goal.loop-slot-preserved
 loop-slot-preserved g c =
@@ -78,15 +72,14 @@ loop-slot-preserved g c =
           let its = are.each c.loop-slot.slot r c.record_at-row.ensures (used_record r is_used) in
           let low = its.volume in
           let number = c.loop-slot.invariant.up.number in
-          let at = slice_get_read c.loop-slot.maps.items (length c.loop-slot.maps.items) r.volume w.index_mut-map.result.now refl (omega arith) w.index_mut-map.ensures.value in
           rw w.maps-is (record {
             up = maps_noted c.args.area.now.volumes c.args.area.now.records c.args.images.now c.loop-slot.slot
-                (length c.args.area.now.volumes) c.loop-slot.maps.items _ w.index_mut-map.result.now w.note_for.new.self r are c.record_at-row.ensures is_used
-                c.loop-slot.invariant.up at w.note_for.ensures w.images-facts.ensures.valid refl;
+                (length c.args.area.now.volumes) c.loop-slot.maps w.note_for.new.self r are c.record_at-row.ensures is_used
+                c.loop-slot.invariant.up (omega arith) w.note_for.ensures w.images-facts.ensures.valid;
             has = has;
           }))
       | else-not-is_free w ↦ rw w.maps-is (record {
-        up = maps_same c.args.area.now.volumes c.args.area.now.records c.args.images.now c.loop-slot.slot (length c.args.area.now.volumes) c.loop-slot.maps.items r c.record_at-row.ensures
+        up = maps_same c.args.area.now.volumes c.args.area.now.records c.args.images.now c.loop-slot.slot (length c.args.area.now.volumes) c.loop-slot.maps r c.record_at-row.ensures
             (sym c.is_free.ensures ∙ w.if-not-is_free.false) c.loop-slot.invariant.up;
         has = has;
       })

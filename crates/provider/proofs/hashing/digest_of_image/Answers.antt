@@ -17,7 +17,7 @@ returns-in_err-add_shown-clause-digest g c =
       image = tt;
       same = tt;
       cause = digest_cause g.D.Device.count c.args.group.now c.loop-block.group c.add_shown.new.group c.args.volume c.args.set _
-          (ap (is_among c.args.set) (sym c.images.ensures.images) ∙ sym c.is_among.ensures ∙ c.if-not-is_among.false)
+          (ap (is_among c.args.set) (sym c.images.ensures.images) ∙ sym c.contains.ensures.value ∙ c.if-not-contains.false)
           c.loop-block.invariant.same c.loop-block.invariant.quiet.kept.devices c.in_err-add_shown.ensures.rose;
       quiet = quiet_then g.D.Device c.args.group.now c.loop-block.group c.add_shown.new.group c.loop-block.invariant.quiet c.in_err-add_shown.ensures.quiet;
     })

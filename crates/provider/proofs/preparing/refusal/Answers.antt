@@ -3,10 +3,10 @@ use Rattle.provider.proofs.Refused.{full, covered, joins}
 use Rattle.provider.proofs.preparing.refusal.Goals as goal
 
 pub returns-then-volumes-ge-MOST_VOLUMES : goal.returns-then-volumes-ge-MOST_VOLUMES
-returns-then-volumes-ge-MOST_VOLUMES c = full c.args.volume c.args.volumes.now c.args.images (sym c.is_among.ensures ∙ c.if-is_among.false) (omega arith)
+returns-then-volumes-ge-MOST_VOLUMES c = full c.args.volume c.args.volumes.now c.args.images (sym c.contains.ensures.value ∙ c.if-contains.false) (omega arith)
 
 pub returns-then-images-ge-MOST_IMAGES : goal.returns-then-images-ge-MOST_IMAGES
-returns-then-images-ge-MOST_IMAGES c = covered c.args.volume c.args.volumes.now c.args.images (sym c.is_among.ensures ∙ c.if-is_among.false) (omega arith) (omega arith)
+returns-then-images-ge-MOST_IMAGES c = covered c.args.volume c.args.volumes.now c.args.images (sym c.contains.ensures.value ∙ c.if-contains.false) (omega arith) (omega arith)
 
 pub returns : goal.returns
-returns c = joins c.args.volume c.args.volumes.now c.args.images (sym c.is_among.ensures ∙ c.if-is_among.false) (omega arith) (omega arith)
+returns c = joins c.args.volume c.args.volumes.now c.args.images (sym c.contains.ensures.value ∙ c.if-contains.false) (omega arith) (omega arith)

@@ -9,8 +9,8 @@ use Rattle.diff_map.specs.MapValue.{MapValue}
 use Rattle.diff_map.proofs.Renewing.{left_merged}
 use Rattle.diff_map.proofs.diff_map.DiffMap.merge_down.Goals as goal
 
-pub forget-requires : goal.forget-requires
-forget-requires c = subst (λ (m : MapValue). (slot : ℕ) (d : Copied) → copied_at m.copies slot ≡ Some d → d.set ≢ c.args.set) (sym c.merge.ensures.map)
+pub forget-requires-clause-none : goal.forget-requires-clause-none
+forget-requires-clause-none c = subst (λ (m : MapValue). (slot : ℕ) (d : Copied) → copied_at m.copies slot ≡ Some d → d.set ≢ c.args.set) (sym c.merge.ensures.map)
     (left_merged c.args.self.now.images c.args.self.now.copies c.args.set)
 
 pub returns-clause-others : goal.returns-clause-others

@@ -1,0 +1,195 @@
+#!/usr/bin/env python3
+"""Damages the files of a folder of images, one at a time, and sees that each is refused by its file and with its status, and that nothing is changed.
+
+    damage.py PROGRAM FOLDER
+
+Each byte of the state is another, and it is cut off or longer; each of its fields is another below a digest that is made anew; the files of volumes and the
+area have other sizes; the length in a volume's last block has no room; a file is missing. And a second process is refused while a first has the folder.
+"""
+import fcntl
+import hashlib
+import os
+import shutil
+import subprocess
+import sys
+
+B = 16384
+
+
+def run(program, room, *words):
+    return subprocess.run([program, *words], cwd=room, capture_output=True, timeout=60, check=False)
+
+
+def sums(folder):
+    """All files and their bytes."""
+    found = {}
+    for name in sorted(os.listdir(folder)):
+        with open(os.path.join(folder, name), "rb") as file:
+            found[name] = file.read()
+    return found
+
+
+class Damage:
+    def __init__(self, program, room):
+        self.program, self.room, self.folder, self.tried = program, room, os.path.join(room, "F"), 0
+        for name, data in (("db", b"a" * B * 2), ("wal", b"log")):
+            with open(os.path.join(room, name), "wb") as file:
+                file.write(data)
+        self.must("create", "F", "3", "db=db", "wal=wal")
+        self.must("cut", "F", "db", "wal")
+        with open(os.path.join(room, "db"), "wb") as file:
+            file.write(b"b" * B * 2)
+        self.must("update", "F", "db=db")
+        self.whole = sums(self.folder)
+
+    def must(self, *words):
+        got = run(self.program, self.room, *words)
+        if got.returncode:
+            sys.exit(f"damage.py: {words}: {got.returncode} {got.stderr}")
+
+    def put(self, name, data):
+        with open(os.path.join(self.folder, name), "wb") as file:
+            file.write(data)
+
+    def refuses(self, name, data, status, words, told):
+        """With these bytes in a file, a call ends with this status and a line that has this in it (`check` may have more), and nothing is changed."""
+        self.tried += 1
+        self.put(name, data)
+        before = sums(self.folder)
+        got = run(self.program, self.room, *words)
+        if got.returncode != status or got.stdout or not got.stderr.startswith(b"images: ") or told not in got.stderr or got.stderr.count(b"\n") != 1 and words[0] != "check":
+            sys.exit(f"damage.py: {name}, {words}: {got.returncode} {got.stdout[:100]} {got.stderr}, wanted {status} {told}")
+        if sums(self.folder) != before:
+            sys.exit(f"damage.py: {name}, {words}: something was changed")
+        self.put(name, self.whole[name])
+
+    def state(self):
+        state = self.whole["images.state"]
+        places = [*range(120), *range(120, len(state), 499), *range(len(state) - 32, len(state))]
+        for place in places:
+            data = bytearray(state)
+            data[place] ^= 0x41
+            self.refuses("images.state", bytes(data), 9, ["list", "F"], b"images: F/images.state: digest: another")
+        for data, told in ((state[:-1], b"digest"), (state + b"x", b"digest"), (b"", b"size"), (state[:31], b"size"), (state + bytes(2_000_000), b"size")):
+            self.refuses("images.state", data, 9, ["list", "F"], b"images: F/images.state: " + told)
+
+    def field(self, place, data, told, reseals=False):
+        """The state with these bytes at a place, below a digest of its own, for which also the catalog's may be made anew."""
+        state, end = bytearray(self.whole["images.state"][:-32]), 16 + self.number(12)
+        state[place:place + len(data)] = data
+        if reseals:
+            state[end - 32:end] = hashlib.sha256(state[16:end - 32]).digest()
+        for words in (["list", "F"], ["check", "F"], ["show", "F", "1", "db"], ["update", "F", "db=db"]):
+            self.refuses("images.state", bytes(state) + hashlib.sha256(state).digest(), 9, words, b"images: F/images.state: " + told.encode())
+
+    def number(self, place):
+        return int.from_bytes(self.whole["images.state"][place:place + 4], "little")
+
+    def fields(self):
+        """The head, the catalog of `db` of 3 blocks and `wal` of 1, the header for 3 slots, and its records: slots 0 and 1 have blocks 0 and 1 of `db` for set 1."""
+        header, catalog = 16 + self.number(12), "catalog: "
+        record, of_header = header + B, "the header has "
+        front = "front: not that of an area"
+        for place, number, told in (
+            (8, 0, catalog + "volume 0 has an image of set 1, which was not given"),
+            (12, 0, front), (12, self.number(12) + 1, front), (12, 2**32 - 1, catalog + "cut off"),
+            (header + 8, 3, of_header + "3 in field Layout"), (header + 12, 70000, front), (header + 12, 2000, front),
+            (header + 16, 9, of_header + "9 in field Used"), (header + 20, 0, of_header + "0 in field Volumes"),
+            (header + 20, 1, of_header + "1 in field Rest"), (header + 24, 0, of_header + "0 in field Blocks"),
+            (header + 24, 9, "volume 0: 9 blocks"), (header + 100, 120, of_header + "120 in field Rest"),
+            (record, 9, "slot 0: set 9 has no image"), (record, 0, of_header + "2 in field Used"),
+            (record + 4, 9, "slot 0 has set 1, block 9, volume 0"), (record + 4, 1, "slot 1 has set 1, block 1, volume 0"),
+            (record + 8, 7, "slot 0 has set 1, block 0, volume 7"), (record + 12, 1, "slot 0 has set 1, block 0, volume 0"),
+            (record + 16, 0, "slot 1 has set 0, block 1, volume 0"), (record + 36, 1, "slot 2 has set 0, block 1, volume 0"),
+            (record + 48, 1, "slot 3 has set 1, block 0, volume 0"), (record + 16 * 1023, 1, "slot 1023 has set 1, block 0, volume 0"),
+        ):
+            self.field(place, number.to_bytes(4, "little"), told)
+        self.field(0, b"X", "letters: others")
+        self.field(header, b"X", of_header + "1095979864 in field Magic")
+        self.field(16, b"X", catalog + "the digest is another")
+        self.field(16, b"X", catalog + "no catalog", True)
+        self.field(32, b"9", catalog + "volume 0 has no name", True)
+        for place, number, told in (
+            (24, 0, "0 volumes"), (24, 200, "200 volumes"), (24, 3, "cut off at byte 49"), (24, 1, "more bytes at byte 30"),
+            (28, 0, "volume 0 has no name"), (28, 33, "volume 0 has no name"), (34, 0, "volume 0 has 0 blocks"),
+            (34, 70000, "volume 0 has 70000 blocks"), (38, 600, "volume 0 has 600 images"), (42, 0, "volume 0 at 26 falls"),
+            (42, 7, "volume 0 has an image of set 7, which was not given"),
+        ):
+            self.field(place, number.to_bytes(4, "little"), catalog + told, True)
+
+    def sizes(self):
+        for name in ("db.vol", "wal.vol"):
+            data = self.whole[name]
+            for other in (data[:-1], data + b"x", b"", data + data):
+                for words in (["list", "F"], ["cut", "F", "db"], ["update", "F", "db=db"], ["check", "F"]):
+                    self.refuses(name, other, 9, words, f"images: F/{name}: size: {len(other)}, and {len(data)} are wanted".encode())
+        area = self.whole["images.area"]
+        for other in (area[:-1], area + b"x", b"", area + bytes(B), area[:-B]):
+            self.refuses("images.area", other, 9, ["list", "F"], f"images: F/images.area: size: {len(other)}, and {len(area)} are wanted".encode())
+
+    def lengths(self):
+        for name in ("db.vol", "wal.vol"):
+            data = self.whole[name]
+            for length in (len(data) - 7, len(data), 2**32, 2**64 - 1):
+                other = data[:-8] + length.to_bytes(8, "little")
+                told = f"images: F/{name}: length: {length} in {len(data)} bytes".encode()
+                for words in (["list", "F"], ["check", "F"], ["show", "F", name[:-4]], ["digest", "F", name[:-4]]):
+                    self.refuses(name, other, 9, words, told)
+
+    def missing(self):
+        for name, status in (("db.vol", 6), ("images.area", 6), ("images.state", 3)):
+            os.remove(os.path.join(self.folder, name))
+            got = run(self.program, self.room, "list", "F")
+            if got.returncode != status or got.stdout:
+                sys.exit(f"damage.py: without {name}: {got.returncode} {got.stderr}")
+            self.put(name, self.whole[name])
+            self.tried += 1
+
+    def in_use(self):
+        """A folder that another process has is refused; readers share it."""
+        held = os.open(self.folder, os.O_RDONLY)
+        for how, refused, allowed in ((fcntl.LOCK_EX, ["list", "show", "cut", "check"], []), (fcntl.LOCK_SH, ["cut", "update"], ["list", "show", "check"])):
+            fcntl.flock(held, how)
+            for word in refused + allowed:
+                words = {"list": ["list", "F"], "show": ["show", "F", "db"], "check": ["check", "F"], "cut": ["cut", "F", "db"], "update": ["update", "F", "db=db"]}[word]
+                got = run(self.program, self.room, *words)
+                want = 10 if word in refused else 0
+                if got.returncode != want or want and got.stderr != b"images: F: in use by another process\n":
+                    sys.exit(f"damage.py: {word} beside another: {got.returncode} {got.stderr}")
+                self.tried += 1
+            fcntl.flock(held, fcntl.LOCK_UN)
+        os.close(held)
+        self.shown_slowly()
+
+    def shown_slowly(self):
+        """While `show` waits for a reader, nothing is written."""
+        out, into = os.pipe()
+        fcntl.fcntl(into, getattr(fcntl, "F_SETPIPE_SZ", 1031), 4096)
+        with subprocess.Popen([self.program, "show", "F", "db"], cwd=self.room, stdout=into) as shown:
+            os.close(into)
+            data = os.read(out, 1)
+            got = run(self.program, self.room, "cut", "F", "db")
+            while part := os.read(out, 65536):
+                data += part
+        os.close(out)
+        if got.returncode != 10 or shown.returncode or data != b"b" * B * 2:
+            sys.exit(f"damage.py: beside `show`: {got.returncode} {got.stderr}; it ended with {shown.returncode}")
+        self.tried += 1
+
+
+def main():
+    program, room = os.path.abspath(sys.argv[1]), sys.argv[2]
+    damage = Damage(program, room)
+    damage.state()
+    damage.fields()
+    damage.sizes()
+    damage.lengths()
+    damage.missing()
+    damage.in_use()
+    if sums(damage.folder) != damage.whole:
+        sys.exit("damage.py: the folder is another at the end")
+    shutil.rmtree(damage.folder)
+    print(f"{damage.tried} tries refused")
+
+
+main()

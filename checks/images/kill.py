@@ -1,0 +1,219 @@
+#!/usr/bin/env python3
+"""Kills `images` at each call of the system that changes something, and sees that wrong bytes are never given as right ones.
+
+    kill.py PROGRAM LIBRARY FOLDER [STEP]
+
+LIBRARY is kill.c as a shared library; with STEP only each so manyth place is tried. Each scene is a folder that was made by some calls, and a call that is
+killed: before its Nth change, in the middle of it, or behind it, until it ends by itself. Then each image that `show` gives has the bytes of its cut; one that
+is not there was deleted, reverted past, or printed as evicted; a volume that `show` gives is as before or as after; every other call refuses an unclean folder.
+Once the marker is removed and all volumes are updated, all agree.
+"""
+import copy
+import os
+import shutil
+import subprocess
+import sys
+
+import plain
+
+B = plain.BLOCK
+
+
+def bytes_of(letters, tail=b""):
+    """A file of a block for each letter, and a tail."""
+    return b"".join(bytes([ord(letter)]) * B for letter in letters) + tail
+
+
+# files, the calls that make the folder, what the files become before the call, and the call
+SCENES = {
+    "update": (
+        {"db": bytes_of("abcd", b"end"), "wal": bytes_of("xy")},
+        [["create", "F", "5", "db=db", "wal:4=wal"], ["cut", "F", "db", "wal"], {"db": bytes_of("aBcd", b"end")}, ["update", "F", "db=db"], ["cut", "F", "db"],
+         {"wal": bytes_of("xY", b"more")}, ["update", "F", "wal=wal"], ["cut", "F", "wal", "db"]],
+        {"db": bytes_of("ABCD", b"other"), "wal": bytes_of("Xyz")}, ["update", "F", "db=db", "wal=wal"],
+    ),
+    "update with room": (
+        {"db": bytes_of("abcd", b"end"), "wal": bytes_of("xy")},
+        [["create", "F", "12", "db=db", "wal:4=wal"], ["cut", "F", "db", "wal"], {"db": bytes_of("aBcd", b"end")}, ["update", "F", "db=db"], ["cut", "F", "db"]],
+        {"db": bytes_of("ABCDE"[:4], b"other"), "wal": bytes_of("Xyz")}, ["update", "F", "wal=wal", "db=db"],
+    ),
+    "revert": (
+        {"db": bytes_of("abcd", b"end"), "wal": bytes_of("xy")},
+        [["create", "F", "12", "db=db", "wal:4=wal"], ["cut", "F", "db", "wal"], {"db": bytes_of("aBcd", b"end")}, ["update", "F", "db=db"], ["cut", "F", "db"],
+         {"db": bytes_of("ABCd", b"longer")}, ["update", "F", "db=db"], ["cut", "F", "db", "wal"], {"db": bytes_of("1234", b"")}, ["update", "F", "db=db"]],
+        {}, ["revert", "F", "1", "db"],
+    ),
+    "cut": (
+        {"db": bytes_of("ab"), "wal": bytes_of("x")},
+        [["create", "F", "4", "db=db", "wal:4=wal"], ["cut", "F", "db", "wal"], {"db": bytes_of("aB", b"end")}, ["update", "F", "db=db"]],
+        {}, ["cut", "F", "wal", "db"],
+    ),
+    "delete": (
+        {"db": bytes_of("ab"), "wal": bytes_of("x")},
+        [["create", "F", "6", "db=db", "wal:4=wal"], ["cut", "F", "db", "wal"], {"db": bytes_of("AB", b"end")}, ["update", "F", "db=db"], ["cut", "F", "db", "wal"],
+         {"db": bytes_of("CB"), "wal": bytes_of("y")}, ["update", "F", "db=db", "wal=wal"]],
+        {}, ["delete", "F", "2"],
+    ),
+    "create": ({"db": bytes_of("ab", b"end"), "wal": b"short", "empty": b""}, [], {}, ["create", "F", "6", "db:4=db", "wal=wal", "empty=empty"]),
+}
+
+
+class Scene:
+    """A scene that was made once, in a folder of its own."""
+
+    def __init__(self, program, room, name):
+        files, calls, then, self.call = SCENES[name]
+        self.program, self.name, self.base = program, name, os.path.join(room, "base")
+        os.mkdir(self.base)
+        self.before = plain.Plain({})
+        self.keep(files)
+        for call in calls:
+            if isinstance(call, dict):
+                self.keep(call)
+                continue
+            want, got = self.before.answer(call), self.run(self.base, call)
+            if (want[0], want[1]) != (got.returncode, got.stdout):
+                self.wrong("made", f"{call}: {got.returncode} {got.stdout} {got.stderr}")
+        self.keep(then)
+        self.after = copy.deepcopy(self.before)
+        self.after.answer(self.call)
+
+    def keep(self, files):
+        for path, data in files.items():
+            self.before.files[path] = data
+            with open(os.path.join(self.base, path), "wb") as file:
+                file.write(data)
+
+    def run(self, folder, words, **more):
+        return subprocess.run([self.program, *words], cwd=folder, capture_output=True, timeout=60, check=False, env={**os.environ, **more})
+
+    def wrong(self, place, what):
+        sys.exit(f"kill.py: {self.name}, {place}: {what}")
+
+    def stores(self):
+        """The folder as it was before and after."""
+        return [p.stores["F"] for p in (self.before, self.after) if "F" in p.stores]
+
+    def images(self):
+        """Each image that stood before or after: its bytes, and whether it may be missing without having been printed."""
+        found = {}
+        for store in self.stores():
+            for v in store.volumes:
+                for i in v.images:
+                    found[v.name, i.set] = i.data
+        return found
+
+    def may_miss(self, name, number, printed):
+        """Whether an image may be missing."""
+        if f"evicted set {number} {name}\n".encode() in printed:
+            return True
+        if self.call[0] == "update":
+            return False
+        return any(v.name == name and v.image(number) is None for store in self.stores() for v in store.volumes)
+
+    def look(self, folder, place, printed):
+        """Shows everything after a kill. The volumes that are in transit are answered."""
+        marked = os.path.exists(os.path.join(folder, "F", "images.open"))
+        for (name, number), data in self.images().items():
+            got = self.run(folder, ["show", "F", str(number), name])
+            if got.returncode == 0 and got.stdout != data or got.returncode not in (0, 3):
+                self.wrong(place, f"image {number} of {name}: {got.returncode} {got.stderr}")
+            if got.returncode == 3 and not self.may_miss(name, number, printed):
+                self.wrong(place, f"image {number} of {name} is gone")
+        for v, w in zip(self.stores()[0].volumes, self.stores()[-1].volumes):
+            got = self.run(folder, ["show", "F", v.name])
+            if got.returncode == 0 and got.stdout not in (v.data, w.data) or got.returncode not in (0, 11) or got.returncode == 11 and not marked:
+                self.wrong(place, f"{v.name}: {got.returncode} {got.stderr}")
+        self.look_at_calls(folder, place, marked, printed)
+
+    def look_at_calls(self, folder, place, marked, printed):
+        """The other calls refuse an unclean folder, and else answer as before or as after."""
+        check = self.run(folder, ["check", "F"])
+        if check.returncode != (11 if marked else 0) or check.stderr:
+            self.wrong(place, f"check: {check.returncode} {check.stdout} {check.stderr}")
+        listed = self.run(folder, ["list", "F"])
+        if marked:
+            for words in (["list", "F"], ["cut", "F", "db"], ["update", "F", "db=db"], ["delete", "F", "1"], ["revert", "F", "1", "db"]):
+                got = self.run(folder, words)
+                if got.returncode != 11 or got.stdout:
+                    self.wrong(place, f"{words}: {got.returncode} {got.stdout} {got.stderr}")
+        elif listed.returncode != 0 or not printed and listed.stdout not in [p.answer(["list", "F"])[1] for p in (self.before, self.after)]:
+            self.wrong(place, f"list: {listed.returncode} {listed.stdout} {listed.stderr}")
+
+    def mend(self, folder, place):
+        """Removes the marker, updates all, and compares again."""
+        marker = os.path.join(folder, "F", "images.open")
+        if os.path.exists(marker):
+            os.remove(marker)
+        names = [v.name for v in self.stores()[0].volumes]
+        got = self.run(folder, ["update", "F", *[f"{name}={name}" for name in names]])
+        if got.returncode:
+            self.wrong(place, f"update: {got.returncode} {got.stderr}")
+        for name in names:
+            shown = self.run(folder, ["show", "F", name])
+            if shown.returncode or shown.stdout != self.before.files[name]:
+                self.wrong(place, f"{name} after an update: {shown.returncode} {shown.stderr}")
+        for (name, number), data in self.images().items():
+            shown = self.run(folder, ["show", "F", str(number), name])
+            if shown.returncode not in (0, 3) or shown.returncode == 0 and shown.stdout != data:
+                self.wrong(place, f"image {number} of {name} after an update: {shown.returncode} {shown.stderr}")
+        if self.run(folder, ["check", "F"]).returncode:
+            self.wrong(place, "check after an update")
+
+    def look_at_new(self, folder, place):
+        """After a create that was killed: no folder at all, or a whole one; what is left of it is refused by name."""
+        if os.path.exists(os.path.join(folder, "F")):
+            self.look(folder, place, b"")
+            return
+        for words in (["list", "F"], ["show", "F", "db"], ["check", "F"], ["update", "F", "db=db"]):
+            if self.run(folder, words).returncode != 3:
+                self.wrong(place, f"{words}: not refused")
+        if os.path.exists(os.path.join(folder, "F.new")):
+            if self.run(folder, self.call).returncode != 3:
+                self.wrong(place, "create beside F.new: not refused")
+            shutil.rmtree(os.path.join(folder, "F.new"))
+        if self.run(folder, self.call).returncode or self.run(folder, ["check", "F"]).returncode:
+            self.wrong(place, "create again")
+
+    def kill_at(self, room, library, number, how):
+        """Kills the call at one place. False where it came to its end."""
+        place = f"{number} {how}"
+        folder = os.path.join(room, "killed")
+        shutil.copytree(self.base, folder)
+        got = self.run(folder, self.call, LD_PRELOAD=library, KILL_AT=str(number), **({how: "1"} if how else {}))
+        if got.returncode != -9:
+            if got.returncode:
+                self.wrong(place, f"ended by itself: {got.returncode} {got.stderr}")
+            shutil.rmtree(folder)
+            return False
+        if self.call[0] == "create":
+            self.look_at_new(folder, place)
+        else:
+            self.look(folder, place, got.stdout)
+            self.mend(folder, place)
+        shutil.rmtree(folder)
+        return True
+
+
+def main():
+    program, library, folder = (os.path.abspath(word) for word in sys.argv[1:4])
+    step = int(sys.argv[4]) if len(sys.argv) > 4 else 1
+    places = 0
+    for name in SCENES:
+        room = os.path.join(folder, name.replace(" ", "_"))
+        os.mkdir(room)
+        scene = Scene(program, room, name)
+        count = 0
+        for how in ("", "KILL_HALF", "KILL_AFTER"):
+            number = 1
+            while scene.kill_at(room, library, number, how):
+                number += step
+                count += 1
+        print(f"{name}: killed at {count} places")
+        places += count
+        shutil.rmtree(room)
+    print(f"{places} places")
+
+
+if __name__ == "__main__":
+    main()

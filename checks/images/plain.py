@@ -1,0 +1,312 @@
+"""A folder of images as whole copies of files: what each call of `images` prints, and with which status it ends. A second reading, written from the description of the
+calls alone.
+
+A volume is the bytes of its file and a number of blocks; an image is a copy of these bytes. Blocks come in only where images go for want of slots: an image uses a slot
+for each block that was overwritten between its cut and the next one's on the same volume.
+"""
+import hashlib
+import struct
+
+BLOCK = 16384
+FORMS = {
+    "create": "create F SLOTS NAME[:BLOCKS]=FILE ..",
+    "cut": "cut F NAME ..",
+    "update": "update F NAME=FILE ..",
+    "list": "list F",
+    "show": "show F [SET] NAME",
+    "digest": "digest F [SET] NAME",
+    "delete": "delete F SET [NAME]",
+    "revert": "revert F SET NAME",
+    "check": "check F",
+}
+
+
+class Ends(Exception):
+    """A call that is not done: its status and its line."""
+
+    def __init__(self, status, line):
+        super().__init__(line)
+        self.status, self.line = status, line
+
+
+def number(word, least):
+    """The number that a word is, or None."""
+    if not (word.isascii() and word.isdigit()) or (len(word) > 1 and word[0] == "0"):
+        return None
+    value = int(word)
+    return value if least <= value < 2**32 else None
+
+
+def pair(word):
+    """The name, the number of blocks and the file of a word, or None."""
+    front, sign, file = word.partition("=")
+    if not sign or not file:
+        return None
+    name, sign, blocks = front.partition(":")
+    if not sign:
+        return name, None, file
+    blocks = number(blocks, 0)
+    return None if blocks is None else (name, blocks, file)
+
+
+def blocks_of(data, count):
+    """The blocks of a volume that has the file."""
+    whole = data + bytes(BLOCK * count - 8 - len(data)) + struct.pack("<Q", len(data))
+    return [whole[BLOCK * b:BLOCK * (b + 1)] for b in range(count)]
+
+
+class Image:
+    def __init__(self, number_of_set, data):
+        self.set = number_of_set
+        self.data = data
+        self.copied = set()  # the blocks that are in slots for it
+
+
+class Volume:
+    def __init__(self, name, data, count):
+        self.name = name
+        self.data = data
+        self.count = count
+        self.images = []  # the oldest first
+
+    def image(self, number_of_set):
+        return next((i for i in self.images if i.set == number_of_set), None)
+
+
+class Store:
+    """What a folder holds."""
+
+    def __init__(self, slots, volumes):
+        self.slots = slots
+        self.volumes = volumes
+        self.last = 0
+
+    def used(self):
+        return sum(len(i.copied) for v in self.volumes for i in v.images)
+
+    def evict_for(self, volume, block):
+        """The images that go so that a write of the block has its slot, the least set of all together, in order of sets and then of volumes."""
+        gone = []
+        while volume.images and block not in volume.images[-1].copied and self.used() == self.slots:
+            least = min(i.set for v in self.volumes for i in v.images)
+            for v in self.volumes:
+                gone += [(least, v.name) for i in v.images if i.set == least]
+                v.images = [i for i in v.images if i.set != least]
+        return gone
+
+    def named(self, folder, name):
+        found = next((v for v in self.volumes if v.name == name), None)
+        if found is None:
+            raise Ends(3, f"{folder}: volume {name}: there is no such volume")
+        return found
+
+    def all_named(self, folder, names):
+        volumes = []
+        for name in names:
+            v = self.named(folder, name)
+            if v in volumes:
+                raise Ends(3, f"{folder}: volume {name}: given twice")
+            volumes.append(v)
+        return volumes
+
+    def image(self, folder, number_of_set, volume):
+        found = volume.image(number_of_set)
+        if found is None:
+            raise Ends(3, f"{folder}: set {number_of_set}: there is no image of it on {volume.name}")
+        return found
+
+
+class Plain:
+    """The folders and the files: `files` has the bytes of each path, or None for a folder that is no folder of images."""
+
+    def __init__(self, files):
+        self.files = files
+        self.stores = {}
+
+    def answer(self, words):
+        """The status, the standard output and the line on the standard error, None where there is none."""
+        out = []
+        try:
+            task, rest = (words[0], words[1:]) if words else ("", [])
+            if task not in FORMS:
+                raise Ends(2, "usage: " + " | ".join(FORMS.values()))
+            done = getattr(self, task)(rest, out)
+            if done is False:
+                raise Ends(2, "usage: " + FORMS[task])
+        except Ends as ended:
+            return ended.status, b"".join(out), ended.line
+        return 0, b"".join(out), None
+
+    def read(self, path):
+        if path not in self.files:
+            raise Ends(4, f"{path}: could not be read: No such file or directory (os error 2)")
+        if self.files[path] is None:
+            raise Ends(4, f"{path}: is no file")
+        return self.files[path]
+
+    def store(self, folder):
+        if folder in self.stores:
+            return self.stores[folder]
+        missing = "No such file or directory (os error 2)" if self.files.get(folder) is None else "Not a directory (os error 20)"
+        raise Ends(3, f"{folder}: no folder of images (images.state: {missing})")
+
+    def create(self, words, _out):
+        if len(words) < 3 or number(words[1], 0) is None:
+            return False
+        folder, slots, pairs = words[0], number(words[1], 0), [pair(w) for w in words[2:]]
+        if None in pairs:
+            return False
+        self.check_create(folder, slots, pairs)
+        volumes = []
+        for name, count, file in pairs:
+            data = self.read(file)
+            need = (len(data) + 8 + BLOCK - 1) // BLOCK
+            if count is not None and len(data) > BLOCK * count - 8:
+                raise Ends(3, f"{file}: length: {len(data)} bytes, and {name} has room for {BLOCK * count - 8}")
+            volumes.append(Volume(name, data, need if count is None else count))
+        total = sum(v.count for v in volumes)
+        if total > 131072:
+            raise Ends(3, f"blocks: {total} in all, at most 131072")
+        self.stores[folder] = Store(slots, volumes)
+        return True
+
+    def check_create(self, folder, slots, pairs):
+        for place, (name, count, _file) in enumerate(pairs):
+            self.check_name(name)
+            if name in [earlier for earlier, _, _ in pairs[:place]]:
+                raise Ends(3, f"{folder}: volume {name}: given twice")
+            if count is not None and not 1 <= count <= 65536:
+                raise Ends(3, f"{name}: blocks: {count}, and a volume has 1 to 65536")
+        if slots > 65536:
+            raise Ends(3, f"SLOTS {slots}: at most 65536")
+        if len(pairs) > 128:
+            raise Ends(3, f"volumes: {len(pairs)}, at most 128")
+        if folder in self.stores or folder in self.files:
+            raise Ends(3, f"{folder}: is there already")
+
+    @staticmethod
+    def check_name(name):
+        if not name:
+            raise Ends(3, "name : is empty")
+        if len(name) > 32:
+            raise Ends(3, f"name {name}: more than 32 bytes")
+        if not (name[0].isascii() and name[0].isalpha()):
+            raise Ends(3, f"name {name}: a letter comes first")
+        if not all(c.isascii() and (c.isalnum() or c in "_-.") for c in name):
+            raise Ends(3, f"name {name}: letters, digits, `_`, `-` and `.` alone")
+
+    def cut(self, words, out):
+        if len(words) < 2:
+            return False
+        folder = words[0]
+        store = self.store(folder)
+        volumes = store.all_named(folder, words[1:])
+        for v in volumes:
+            if len(v.images) >= 512:
+                raise Ends(3, f"{folder}: images of {v.name}: 512, at most 512")
+        store.last += 1
+        for v in volumes:
+            v.images.append(Image(store.last, v.data))
+        out.append(b"set %d\n" % store.last)
+        return True
+
+    def update(self, words, out):
+        pairs = [pair(w) for w in words[1:]]
+        if not pairs or None in pairs or any(count is not None for _, count, _ in pairs):
+            return False
+        folder = words[0]
+        store = self.store(folder)
+        volumes = store.all_named(folder, [name for name, _, _ in pairs])
+        jobs = []
+        for v, (_, _, file) in zip(volumes, pairs):
+            data = self.read(file)
+            if len(data) > BLOCK * v.count - 8:
+                raise Ends(3, f"{file}: length: {len(data)} bytes, and {v.name} has room for {BLOCK * v.count - 8}")
+            old, new = blocks_of(v.data, v.count), blocks_of(data, v.count)
+            jobs.append((v, data, [b for b in range(v.count) if old[b] != new[b]]))
+        counts = []
+        for v, data, marked in jobs:
+            copied = 0
+            for b in marked:
+                out += [b"evicted set %d %s\n" % (number_of_set, name.encode()) for number_of_set, name in store.evict_for(v, b)]
+                if v.images and b not in v.images[-1].copied:
+                    v.images[-1].copied.add(b)
+                    copied += 1
+            counts.append(b"%s written %d copied %d\n" % (v.name.encode(), len(marked), copied))
+        for v, data, _ in jobs:
+            v.data = data
+        out += counts
+        return True
+
+    def list(self, words, out):
+        if len(words) != 1:
+            return False
+        store = self.store(words[0])
+        for v in store.volumes:
+            out.append(b"volume %s blocks %d length %d\n" % (v.name.encode(), v.count, len(v.data)))
+            out += [b"image %d length %d used %d\n" % (i.set, len(i.data), len(i.copied)) for i in v.images]
+        out.append(b"slots %d of %d, last set %d\n" % (store.used(), store.slots, store.last))
+        return True
+
+    def shown(self, words):
+        """The bytes that are shown, or None where the words are of another form."""
+        if len(words) not in (2, 3) or (len(words) == 3 and number(words[1], 1) is None):
+            return None
+        folder, name = words[0], words[-1]
+        store = self.store(folder)
+        v = store.named(folder, name)
+        return v.data if len(words) == 2 else store.image(folder, int(words[1]), v).data
+
+    def show(self, words, out):
+        data = self.shown(words)
+        if data is None:
+            return False
+        out.append(data)
+        return True
+
+    def digest(self, words, out):
+        data = self.shown(words)
+        if data is None:
+            return False
+        out.append(hashlib.sha256(data).hexdigest().encode() + b"\n")
+        return True
+
+    def delete(self, words, out):
+        if len(words) not in (2, 3) or number(words[1], 1) is None:
+            return False
+        folder, number_of_set = words[0], int(words[1])
+        store = self.store(folder)
+        if len(words) == 3:
+            volumes = [store.named(folder, words[2])]
+            store.image(folder, number_of_set, volumes[0])
+        else:
+            volumes = [v for v in store.volumes if v.image(number_of_set)]
+            if not volumes:
+                raise Ends(3, f"{folder}: set {number_of_set}: there is no image of it")
+        for v in volumes:
+            at = v.images.index(v.image(number_of_set))
+            if at > 0:
+                v.images[at - 1].copied |= v.images[at].copied
+            del v.images[at]
+        out.append(b"deleted %d\n" % len(volumes))
+        return True
+
+    def revert(self, words, _out):
+        if len(words) != 3 or number(words[1], 1) is None:
+            return False
+        folder, number_of_set = words[0], int(words[1])
+        store = self.store(folder)
+        v = store.named(folder, words[2])
+        image = store.image(folder, number_of_set, v)
+        v.images = v.images[:v.images.index(image) + 1]
+        image.copied = set()
+        v.data = image.data
+        return True
+
+    def check(self, words, out):
+        if len(words) != 1:
+            return False
+        store = self.store(words[0])
+        images = sum(len(v.images) for v in store.volumes)
+        out.append(b"whole: %d volumes, %d images, %d of %d slots\n" % (len(store.volumes), images, store.used(), store.slots))
+        return True

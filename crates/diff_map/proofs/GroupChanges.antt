@@ -1,0 +1,198 @@
+-- A volume of a group, and what its maps keep where a slot is noted for it or loses its copy, and where its images change.
+use Rattle.std.proofs.Common.{ℕ, ◌≡◌, ◌≢◌, ◌+◌, ◌-◌, ◌<◌, ◌≤◌, inl, inr, List, length, get_or, set, map, Option, Some, None, refl, ap, sym, ◌∙◌, subst}
+use Rattle.std.proofs.Common.{arith, Contains, Vec, vec_capacity, slice_get}
+use Rattle.std.specs.declared.alloc.Global.{Global}
+use Rattle.std.proofs.lemmas.List.{get_or-map, get_or-set_same, get_or-set_other, get_or_default, length-map, length-set, set-get_or, set-set}
+use Rattle.std.proofs.lemmas.Bool.{cases_eq}
+use Rattle.std.proofs.lemmas.Option.{get_or_from_slice_get, slice_get_read, slice_get_within}
+use Rattle.diff_map.specs.declared.copied.Copied.{Copied}
+use Rattle.diff_map.specs.declared.image_count.ImageCount.{ImageCount}
+use Rattle.diff_map.specs.declared.of_volume.OfVolume.{OfVolume}
+use Rattle.diff_map.specs.Copies.{copied_at, copy_of, noted_in, HasCopy}
+use Rattle.diff_map.specs.Counts.{KeepsCounts}
+use Rattle.diff_map.specs.Groups.{map_at, with_images, with_row, IsOnlyAt, IsUnnoted}
+use Rattle.diff_map.specs.Links.{AreLinked}
+use Rattle.diff_map.specs.MapValue.{MapValue, KeepsImages}
+use Rattle.diff_map.specs.Parts.{part_of, own, own_copies, map_of, KeepsVolume, KeepsGroup}
+use Rattle.diff_map.proofs.Counted.{KeepsImages-set, KeepsCounts-noted, KeepsCounts-popped, place_of_count, first_at_place}
+use Rattle.diff_map.proofs.Counting.{noted_more, noted_less}
+use Rattle.diff_map.proofs.Grouped.{volume_within, map_here, keeps_here, part_fits, parts_apart, KeepsGroup-one, unnoted_from, KeepsVolume-other, KeepsVolume-left, maps_after, maps_one}
+use Rattle.diff_map.proofs.Renewal.{row_within}
+use Rattle.diff_map.proofs.Parts.{AreApart, IsOwn, own_at, own_here, own_apart, own_copy, copy_own, own_same, own_set, unnoted_own}
+
+-- the volume is that at place v of a group
+pub record IsAt (blocks : ℕ) (volumes : List OfVolume) (next : List ℕ) (copies : List (Option Copied)) (maps : List MapValue) (v : ℕ) (volume : OfVolume) : Type 0 where
+  pub keeps : KeepsGroup blocks volumes next copies
+  pub view : map (map_of copies) volumes ≡ maps
+  pub inside : v < length maps
+  pub is : volume ≡ get_or volumes v volume
+
+-- the volume with other images, counts and number of slots
+abbrev pub with_lists : OfVolume → ℕ → Vec ℕ Global → Vec ImageCount Global → OfVolume
+with_lists volume used images counts = record { base = volume.base; blocks = volume.blocks; used = used; images = images; counts = counts }
+
+abbrev with_copies_of : OfVolume → List (Option Copied) → MapValue
+with_copies_of volume cs = record { blocks = volume.blocks; images = volume.images.items; copies = cs }
+
+-- one map changes
+pub map_at_set : (old new : List MapValue) (v : ℕ) (m : MapValue) → new ≡ set old v m → v < length old → map_at new v ≡ m
+map_at_set old new v m is inside = ap (λ (ms : List MapValue). map_at ms v) is ∙ get_or-set_same old v m _ inside
+
+pub only_at : (old new : List MapValue) (v : ℕ) (m : MapValue) → new ≡ set old v m → v < length old → IsOnlyAt v old new
+only_at old new v m is inside = is ∙ ap (λ (x : MapValue). set old v x) (sym (map_at_set old new v m is inside))
+
+pub no_row : (copies : List (Option Copied)) (slot : ℕ) → slot < length copies → copied_at copies slot ≡ None → slice_get copies slot ≡ Some None
+no_row copies slot inside is = slice_get_read copies (length copies) slot None refl inside (sym is)
+
+pub only_twice : (old mid new : List MapValue) (v : ℕ) (m : MapValue) → IsOnlyAt v old mid → new ≡ set mid v m → v < length old → IsOnlyAt v old new
+only_twice old mid new v m first is inside = only_at old new v m (is ∙ ap (λ (ms : List MapValue). set ms v m) first ∙ set-set old v (map_at mid v) m) inside
+
+pub only_still : (old new : List MapValue) (v : ℕ) → new ≡ old → IsOnlyAt v old new
+only_still old new v is = is ∙ sym (set-get_or old v _) ∙ ap (λ (ms : List MapValue). set old v (map_at ms v)) (sym is)
+
+module _ {blocks : ℕ} {volumes : List OfVolume} {next : List ℕ} {copies : List (Option Copied)} {maps : List MapValue} {v : ℕ} {volume : OfVolume}
+    (at : IsAt blocks volumes next copies maps v volume) where
+  pub within : v < length volumes
+  within = volume_within copies volumes maps v at.view at.inside
+
+  pub here : map_at maps v ≡ map_of copies volume
+  here = map_here copies volumes maps v volume at.view at.inside at.is
+
+  pub kept : KeepsVolume next copies volume
+  kept = keeps_here blocks volumes next copies at.keeps v volume within at.is
+
+  pub fits : volume.base + volume.blocks ≤ blocks
+  fits = part_fits blocks volumes next copies at.keeps v volume within at.is
+
+  apart : (u : ℕ) (d : OfVolume) → u ≢ v → u < length volumes → AreApart (part_of volume) (part_of (get_or volumes u d))
+  apart u d differ low = subst (λ (x : OfVolume). AreApart (part_of x) (part_of (get_or volumes u d))) (get_or_default volumes v d volume within ∙ sym at.is)
+      (parts_apart blocks volumes next copies at.keeps v u d within low differ)
+
+  pub maps_still : map (map_of copies) (set volumes v volume) ≡ maps
+  maps_still = ap (λ (x : OfVolume). map (map_of copies) (set volumes v x)) at.is ∙ ap (map (map_of copies)) (set-get_or volumes v volume) ∙ at.view
+
+  -- ## its images change
+
+  pub KeepsGroup-images : (images : Vec ℕ Global) (counts : Vec ImageCount Global) → KeepsImages images (own_copies volume copies) → KeepsCounts images counts next (own_copies volume copies)
+      → KeepsGroup blocks (set volumes v (with_lists volume volume.used images counts)) next copies
+  KeepsGroup-images images counts of_images of_counts =
+      KeepsGroup-one blocks volumes next copies at.keeps next copies v volume (with_lists volume volume.used images counts) within at.is refl
+      (record { images = of_images; counts = of_counts; used = kept.used }) (λ u d differ low. at.keeps.each u d low)
+
+  pub maps_images : (images : Vec ℕ Global) (counts : Vec ImageCount Global) (later : List ℕ) → images.items ≡ later
+      → map (map_of copies) (set volumes v (with_lists volume volume.used images counts)) ≡ set maps v (with_images later (map_at maps v))
+  maps_images images counts later is = maps_one copies volumes maps v (with_lists volume volume.used images counts) (with_images later (map_at maps v)) at.view
+      (ap (λ (xs : List ℕ). with_images xs (map_of copies volume)) is ∙ ap (with_images later) (sym here))
+
+  -- ## a slot is noted for it
+
+  pub unnoted_row : (slot : ℕ) → AreLinked (record { blocks = blocks; copies = copies }) → IsUnnoted maps slot → slice_get copies slot ≡ Some None
+  unnoted_row slot linked unnoted = unnoted_from blocks volumes next copies maps v slot volume at.keeps linked at.view within unnoted
+
+  pub lacks_row : (image block : ℕ) → block < volume.blocks → (HasCopy (own_copies volume copies) image block → ⊥) → HasCopy copies image (volume.base + block) → ⊥
+  lacks_row image block low lacks had = lacks (had.0, copy_own (part_of volume) copies had.0 image block low had.1)
+
+  pub copy_low : (slot image block : ℕ) → copied_at (map_at maps v).copies slot ≡ Some (copy_of image block) → block < (map_at maps v).blocks
+  copy_low slot image block had = subst (λ (x : MapValue). block < x.blocks) (sym here)
+      (own_copy (part_of volume) copies slot image block (subst (λ (x : MapValue). copied_at x.copies slot ≡ Some (copy_of image block)) here had)).low
+
+  -- a slot that loses a copy of the volume is noted for none
+  pub unnoted_popped : (slot image block : ℕ) → copied_at (map_at maps v).copies slot ≡ Some (copy_of image block) → IsUnnoted (set maps v (with_row slot None (map_at maps v))) slot
+  unnoted_popped slot image block had u m got =
+      let is = (own_copy (part_of volume) copies slot image block (subst (λ (x : MapValue). copied_at x.copies slot ≡ Some (copy_of image block)) here had)) in
+      let low = row_within (own_copies volume copies) slot (copy_of image block) (subst (λ (x : MapValue). copied_at x.copies slot ≡ Some (copy_of image block)) here had) in
+      let long = length-map copies (own (part_of volume)) in
+      let m_is = get_or_from_slice_get (set maps v (with_row slot None (map_at maps v))) u m m got in
+      let inside_u = slice_get_within (set maps v (with_row slot None (map_at maps v))) u m got in
+      let long_maps = length-set maps v (with_row slot None (map_at maps v)) in
+      elim (cases_eq u v) [
+        | inl same ↦
+            let x_is : with_row slot None (map_at maps v) ≡ m = sym (ap (λ k. get_or (set maps v (with_row slot None (map_at maps v))) k m) same ∙ get_or-set_same maps v _ m at.inside) ∙ m_is in
+            let long_here = ap (λ (x : MapValue). length x.copies) here in
+            subst (λ (x : MapValue). slice_get x.copies slot ≡ Some None) x_is (no_row (set (map_at maps v).copies slot None) slot
+            (let l = length-set (map_at maps v).copies slot None in omega arith) (get_or-set_same (map_at maps v).copies slot None None (omega arith)))
+        | inr differ ↦
+            let within_u : u < length volumes = volume_within copies volumes maps u at.view (omega arith) in
+            let w = get_or volumes u volume in
+            let w_is : map_of copies w ≡ m = sym (ap (λ (ms : List MapValue). get_or ms u m) (sym at.view) ∙ get_or-map (map_of copies) volumes u volume m within_u)
+            ∙ sym (get_or-set_other maps v u (with_row slot None (map_at maps v)) m differ) ∙ m_is in
+            subst (λ (x : MapValue). slice_get x.copies slot ≡ Some None) w_is (no_row (own_copies w copies) slot (let l = length-map copies (own (part_of w)) in omega arith)
+            (own_at (part_of w) copies slot ∙ ap (own (part_of w)) is.is ∙ own_apart (part_of volume) (part_of w) image block (apart u volume differ within_u) is.low))
+      ]
+
+  module _ (image block slot : ℕ) (low : block < volume.blocks) (unnoted : slice_get copies slot ≡ Some None) where
+    abbrev row : Option Copied
+    row = Some (copy_of image (volume.base + block))
+
+    mine : own_copies volume (set copies slot row) ≡ set (own_copies volume copies) slot (Some (copy_of image block))
+    mine = own_set (part_of volume) copies slot row (Some (copy_of image block)) (own_here (part_of volume) image block low)
+
+    not_before : (u : ℕ) (d : OfVolume) → own (part_of (get_or volumes u d)) (copied_at copies slot) ≡ None
+    not_before u d = ap (own (part_of (get_or volumes u d))) (get_or_from_slice_get copies slot None None unnoted)
+
+    not_after : (u : ℕ) (d : OfVolume) → u ≢ v → u < length volumes → own (part_of (get_or volumes u d)) row ≡ None
+    not_after u d differ inside = own_apart (part_of volume) (part_of (get_or volumes u d)) image block (apart u d differ inside) low
+
+    pub KeepsGroup-noted : (n : ℕ) (count : ImageCount) (newer : Vec ImageCount Global) → Contains volume.images.items image → n < length volume.images.items
+        → ((d : ℕ) → get_or volume.images.items n d ≡ image) → count ≡ get_or volume.counts.items n count
+        → newer.items ≡ set volume.counts.items n (record { set = image; used = count.used + 1; first = slot })
+        → vec_capacity volume.counts ≤ vec_capacity newer
+        → KeepsGroup blocks (set volumes v (with_lists volume (volume.used + 1) volume.images newer)) (set next slot count.first) (set copies slot row)
+    KeepsGroup-noted n count newer contains inside is read items cap =
+        let free = unnoted_own (part_of volume) copies slot unnoted in
+        KeepsGroup-one blocks volumes next copies at.keeps (set next slot count.first) (set copies slot row) v volume (with_lists volume (volume.used + 1) volume.images newer) within at.is refl
+        (record {
+          images = subst (KeepsImages volume.images) (sym mine) (KeepsImages-set volume.images (own_copies volume copies) slot (Some (copy_of image block)) kept.images contains);
+          counts = subst (KeepsCounts volume.images newer (set next slot count.first)) (sym mine)
+              (KeepsCounts-noted volume.images volume.counts next (own_copies volume copies) image n count kept.images kept.counts inside is read newer slot block free items cap);
+          used = ap (λ k. k + 1) kept.used ∙ sym (noted_more (own_copies volume copies) slot (copy_of image block) free) ∙ ap noted_in (sym mine);
+        })
+        (λ u d differ low_u. KeepsVolume-other (get_or volumes u d) next copies slot count.first row (not_before u d) (not_after u d differ low_u) (at.keeps.each u d low_u))
+
+    pub maps_noted : (used : ℕ) (newer : Vec ImageCount Global)
+        → map (map_of (set copies slot row)) (set volumes v (with_lists volume used volume.images newer)) ≡ set maps v (with_row slot (Some (copy_of image block)) (map_at maps v))
+    maps_noted used newer = maps_after copies (set copies slot row) volumes maps v (with_lists volume used volume.images newer) (with_row slot (Some (copy_of image block)) (map_at maps v)) at.view
+        (ap (with_copies_of volume) mine ∙ ap (with_row slot (Some (copy_of image block))) (sym here))
+        (λ u d differ low_u. own_same (part_of (get_or volumes u d)) copies slot row (not_before u d) (not_after u d differ low_u))
+
+  -- ## the first slot of one of its images loses its copy
+
+  module _ (n : ℕ) (count : ImageCount) (inside : n < length volume.images.items) (read : count ≡ get_or volume.counts.items n count) (some : count.used ≡ 0 → ⊥) where
+    abbrev own_rows : List (Option Copied)
+    own_rows = own_copies volume copies
+
+    pub first : (block : ℕ) × (copied_at own_rows count.first ≡ Some (copy_of count.set block)) × (count.first < length own_rows)
+    first = first_at_place volume.images volume.counts next own_rows n count kept.images kept.counts inside read some
+
+    pub first_own : IsOwn (part_of volume) (copied_at copies count.first) count.set first.0
+    first_own = own_copy (part_of volume) copies count.first count.set first.0 first.1
+
+    gone_from : (u : ℕ) (d : OfVolume) → u ≢ v → u < length volumes → own (part_of (get_or volumes u d)) (copied_at copies count.first) ≡ None
+    gone_from u d differ low = ap (own (part_of (get_or volumes u d))) first_own.is ∙ own_apart (part_of volume) (part_of (get_or volumes u d)) count.set first.0 (apart u d differ low) first_own.low
+
+    mine_out : own_copies volume (set copies count.first None) ≡ set own_rows count.first None
+    mine_out = own_set (part_of volume) copies count.first None None refl
+
+    pub KeepsGroup-popped : (newer : Vec ImageCount Global) (value : ℕ) → value ≡ get_or next count.first 0
+        → newer.items ≡ set volume.counts.items n (record { set = count.set; used = count.used - 1; first = value }) → vec_capacity volume.counts ≤ vec_capacity newer
+        → KeepsGroup blocks (set volumes v (with_lists volume (volume.used - 1) volume.images newer)) next (set copies count.first None)
+    KeepsGroup-popped newer value value_is items cap =
+        KeepsGroup-one blocks volumes next copies at.keeps next (set copies count.first None) v volume (with_lists volume (volume.used - 1) volume.images newer) within at.is refl
+        (record {
+          images = subst (KeepsImages volume.images) (sym mine_out) (KeepsImages-set volume.images own_rows count.first None kept.images tt);
+          counts = subst (KeepsCounts volume.images newer next) (sym mine_out)
+              (KeepsCounts-popped volume.images volume.counts next own_rows count.set n count kept.images kept.counts inside
+              (place_of_count volume.images volume.counts next own_rows n count kept.images kept.counts inside read) read newer first.0 value first.1 value_is items cap);
+          used = let less = noted_less own_rows count.first (copy_of count.set first.0) first.1 in let had = kept.used in let now = ap noted_in mine_out in omega arith;
+        })
+        (λ u d differ low. KeepsVolume-left (get_or volumes u d) next copies count.first None (gone_from u d differ low) refl (at.keeps.each u d low))
+
+    pub maps_popped : (used : ℕ) (newer : Vec ImageCount Global)
+        → map (map_of (set copies count.first None)) (set volumes v (with_lists volume used volume.images newer)) ≡ set maps v (with_row count.first None (map_at maps v))
+    maps_popped used newer = maps_after copies (set copies count.first None) volumes maps v (with_lists volume used volume.images newer) (with_row count.first None (map_at maps v)) at.view
+        (ap (with_copies_of volume) mine_out ∙ ap (with_row count.first None) (sym here))
+        (λ u d differ low. own_same (part_of (get_or volumes u d)) copies count.first None (gone_from u d differ low) refl)
+
+    pub map_popped : (used : ℕ) (newer : Vec ImageCount Global)
+        → map_at (map (map_of (set copies count.first None)) (set volumes v (with_lists volume used volume.images newer))) v ≡ with_row count.first None (map_at maps v)
+    map_popped used newer = map_at_set maps _ v _ (maps_popped used newer) at.inside

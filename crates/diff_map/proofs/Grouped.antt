@@ -1,0 +1,187 @@
+-- What the maps of a group keep where one volume changes, and the slot of one copy with it.
+use Rattle.std.proofs.Common.{ℕ, zero, suc, ◌≡◌, ◌≢◌, ◌+◌, ◌-◌, ◌<◌, ◌≤◌, inl, inr, List, [], ◌∷◌, length, get_or, set, map, Option, Some, None, refl, ap, sym, ◌∙◌, subst}
+use Rattle.std.proofs.Common.{arith, slice_get}
+use Rattle.std.proofs.Math.Seq.{map-set_same}
+use Rattle.std.proofs.lemmas.Bool.{cases_eq, cases_lt}
+use Rattle.std.proofs.lemmas.Option.{none-some, slice_get_read, slice_get_within, get_or_from_slice_get}
+use Rattle.std.proofs.lemmas.List.{get_or-map, get_or-set_same, get_or-set_other, length-map, length-set, set-get_or}
+use Rattle.diff_map.specs.declared.copied.Copied.{Copied}
+use Rattle.diff_map.specs.declared.image_count.ImageCount.{ImageCount}
+use Rattle.diff_map.specs.declared.of_volume.OfVolume.{OfVolume}
+use Rattle.diff_map.specs.Copies.{copied_at, copy_of, noted_in}
+use Rattle.diff_map.specs.Counts.{IsCounted, KeepsCounts}
+use Rattle.diff_map.specs.Groups.{map_at, new_map, IsUnnoted}
+use Rattle.diff_map.specs.Links.{AreLinked}
+use Rattle.diff_map.specs.MapValue.{MapValue, IsMap, KeepsImages}
+use Rattle.diff_map.specs.Parts.{Part, part_of, own, own_copies, map_of, AreParts, KeepsVolume, KeepsGroup}
+use Rattle.diff_map.proofs.Chained.{lead_on_set, not_for}
+use Rattle.diff_map.proofs.Parts.{AreApart, own_at, own_copy, own_from, own_same}
+
+-- ## a volume that is read
+
+pub volume_within : (copies : List (Option Copied)) (volumes : List OfVolume) (maps : List MapValue) (v : ℕ) → map (map_of copies) volumes ≡ maps → v < length maps → v < length volumes
+volume_within copies volumes maps v view inside = let l = length-map volumes (map_of copies) in let e = ap length view in omega arith
+
+pub map_here : (copies : List (Option Copied)) (volumes : List OfVolume) (maps : List MapValue) (v : ℕ) (volume : OfVolume) → map (map_of copies) volumes ≡ maps → v < length maps
+    → volume ≡ get_or volumes v volume → map_at maps v ≡ map_of copies volume
+map_here copies volumes maps v volume view inside is =
+    ap (λ (ms : List MapValue). map_at ms v) (sym view) ∙ get_or-map (map_of copies) volumes v volume (new_map 0 0) (volume_within copies volumes maps v view inside) ∙ ap (map_of copies) (sym is)
+
+long_of : (copies : List (Option Copied)) (volumes : List OfVolume) (v : ℕ) → v < length volumes → length (map_at (map (map_of copies) volumes) v).copies ≡ length copies
+long_of copies [] v inside = absurd (omega arith)
+long_of copies (x ∷ xs) zero inside = length-map copies (own (part_of x))
+long_of copies (x ∷ xs) (suc v) inside = long_of copies xs v (omega arith)
+
+pub long_at : (copies : List (Option Copied)) (volumes : List OfVolume) (maps : List MapValue) (v : ℕ) → map (map_of copies) volumes ≡ maps → v < length maps
+    → length (map_at maps v).copies ≡ length copies
+long_at copies volumes maps v view inside =
+    subst (λ (ms : List MapValue). length (map_at ms v).copies ≡ length copies) view (long_of copies volumes v (volume_within copies volumes maps v view inside))
+
+module _ (blocks : ℕ) (volumes : List OfVolume) (next : List ℕ) (copies : List (Option Copied)) (keeps : KeepsGroup blocks volumes next copies) where
+  pub keeps_here : (v : ℕ) (volume : OfVolume) → v < length volumes → volume ≡ get_or volumes v volume → KeepsVolume next copies volume
+  keeps_here v volume inside is = subst (KeepsVolume next copies) (sym is) (keeps.each v volume inside)
+
+  pub part_here : (v : ℕ) (d : OfVolume) → v < length volumes → get_or (map part_of volumes) v (part_of d) ≡ part_of (get_or volumes v d)
+  part_here v d inside = get_or-map part_of volumes v d (part_of d) inside
+
+  pub part_fits : (v : ℕ) (volume : OfVolume) → v < length volumes → volume ≡ get_or volumes v volume → volume.base + volume.blocks ≤ blocks
+  part_fits v volume inside is =
+      let l = length-map volumes part_of in
+      let fits = keeps.parts.within v (part_of volume) (omega arith) in
+      subst (λ (p : Part). p.base + p.blocks ≤ blocks) (part_here v volume inside ∙ ap part_of (sym is)) fits
+
+  pub parts_apart : (v u : ℕ) (d : OfVolume) → v < length volumes → u < length volumes → u ≢ v → AreApart (part_of (get_or volumes v d)) (part_of (get_or volumes u d))
+  parts_apart v u d inside within differ =
+      let l = length-map volumes part_of in
+      let here = part_here v d inside in
+      let there = part_here u d within in
+      elim (cases_lt u v) [
+        | inl before ↦ inr (subst (λ (p : Part). p.base + p.blocks ≤ (part_of (get_or volumes v d)).base) there
+            (subst (λ (p : Part). (get_or (map part_of volumes) u (part_of d)).base + (get_or (map part_of volumes) u (part_of d)).blocks ≤ p.base) here
+            (keeps.parts.apart u v (part_of d) before (omega arith))))
+        | inr after ↦ inl (subst (λ (p : Part). p.base + p.blocks ≤ (part_of (get_or volumes u d)).base) here
+            (subst (λ (p : Part). (get_or (map part_of volumes) v (part_of d)).base + (get_or (map part_of volumes) v (part_of d)).blocks ≤ p.base) there
+            (keeps.parts.apart v u (part_of d) (omega arith) (omega arith))))
+      ]
+
+  -- ## one volume changes, and keeps its part
+  pub KeepsGroup-one : (later : List ℕ) (after : List (Option Copied)) (v : ℕ) (volume new : OfVolume) → v < length volumes → volume ≡ get_or volumes v volume → part_of new ≡ part_of volume
+      → KeepsVolume later after new → ((u : ℕ) (d : OfVolume) → u ≢ v → u < length volumes → KeepsVolume later after (get_or volumes u d)) → KeepsGroup blocks (set volumes v new) later after
+  KeepsGroup-one later after v volume new inside is part here others = record {
+    parts = subst (AreParts blocks) (sym (map-set_same part_of volumes v new volume (part ∙ ap part_of is))) keeps.parts;
+    each = λ k d within.
+        let long = length-set volumes v new in
+        elim (cases_eq k v) [
+          | inl same ↦ subst (KeepsVolume later after) (sym (ap (λ j. get_or (set volumes v new) j d) same ∙ get_or-set_same volumes v new d inside)) here
+          | inr differ ↦ subst (KeepsVolume later after) (sym (get_or-set_other volumes v k new d differ)) (others k d differ (omega arith))
+        ];
+  }
+
+-- the map of a volume
+pub IsMap-from : (blocks : ℕ) (next : List ℕ) (copies : List (Option Copied)) (volume : OfVolume) → AreLinked (record { blocks = blocks; copies = copies }) → KeepsVolume next copies volume
+    → IsMap (map_of copies volume)
+IsMap-from blocks next copies volume linked keeps =
+    let p = part_of volume in
+    record {
+      images = keeps.images.are_images;
+      of_images = keeps.images.of_images;
+      of_blocks = λ slot c is. (own_copy p copies slot c.set c.block is).low;
+      once = λ slot other c is is_other. linked.once slot other (copy_of c.set (p.base + c.block)) (own_copy p copies slot c.set c.block is).is (own_copy p copies other c.set c.block is_other).is;
+    }
+
+get_map : (copies : List (Option Copied)) (volumes : List OfVolume) (u : ℕ) (d : OfVolume) → u < length volumes → slice_get (map (map_of copies) volumes) u ≡ Some (map_of copies (get_or volumes u d))
+get_map copies [] u d inside = absurd (omega arith)
+get_map copies (x ∷ xs) zero d inside = refl
+get_map copies (x ∷ xs) (suc u) d inside = get_map copies xs u d (omega arith)
+
+-- a slot that is noted for no volume has no copy
+pub unnoted_from : (blocks : ℕ) (volumes : List OfVolume) (next : List ℕ) (copies : List (Option Copied)) (maps : List MapValue) (v slot : ℕ) (volume : OfVolume)
+    → KeepsGroup blocks volumes next copies → AreLinked (record { blocks = blocks; copies = copies }) → map (map_of copies) volumes ≡ maps → v < length volumes → IsUnnoted maps slot
+    → slice_get copies slot ≡ Some None
+unnoted_from blocks volumes next copies maps v slot volume keeps linked view inside unnoted = by_row (copied_at copies slot) refl where
+  in_volume : (u : ℕ) → u < length volumes → slice_get (own_copies (get_or volumes u volume) copies) slot ≡ Some None
+  in_volume u within = unnoted u (map_of copies (get_or volumes u volume)) (ap (λ (ms : List MapValue). slice_get ms u) (sym view) ∙ get_map copies volumes u volume within)
+
+  by_row : (o : Option Copied) → copied_at copies slot ≡ o → slice_get copies slot ≡ Some None
+  by_row None is =
+      let low = slice_get_within (own_copies (get_or volumes v volume) copies) slot None (in_volume v inside) in
+      let as_long = length-map copies (own (part_of (get_or volumes v volume))) in
+      slice_get_read copies (length copies) slot None refl (omega arith) (sym is)
+  by_row (Some c) is =
+      let at = keeps.parts.all c.block (linked.of_blocks slot c is) in
+      let l = length-map volumes part_of in
+      let within : at.0 < length volumes = let lt = at.1 in omega arith in
+      let p = part_of (get_or volumes at.0 volume) in
+      let part_is = part_here blocks volumes next copies keeps at.0 volume within in
+      let from : p.base ≤ c.block = subst (λ (q : Part). q.base ≤ c.block) part_is (at.2 (part_of volume)) in
+      let to : c.block < p.base + p.blocks = subst (λ (q : Part). c.block < q.base + q.blocks) part_is (at.3 (part_of volume)) in
+      absurd (none-some (copy_of c.set (c.block - p.base))
+      (sym (get_or_from_slice_get (map (own p) copies) slot None None (in_volume at.0 within)) ∙ own_at p copies slot ∙ ap (own p) is ∙ own_from p c from to))
+
+-- ## the other volumes where a slot gets or loses a copy
+
+-- a slot that holds no copy of the volume leads nowhere in its chains
+IsCounted-other : (next : List ℕ) (copies : List (Option Copied)) (slot value : ℕ) (count : ImageCount) → copied_at copies slot ≡ None → IsCounted next copies count
+    → IsCounted (set next slot value) copies count
+IsCounted-other next copies slot value count none is = record {
+  used = is.used;
+  chain = record {
+    slots = is.chain.slots;
+    lead = lead_on_set next slot value count.first is.chain.slots (λ among. not_for copies count.set slot none (is.chain.each slot among)) is.chain.lead;
+    once = is.chain.once;
+    each = is.chain.each;
+    all = is.chain.all;
+  };
+}
+
+pub KeepsVolume-other : (volume : OfVolume) (next : List ℕ) (copies : List (Option Copied)) (slot value : ℕ) (row : Option Copied) → own (part_of volume) (copied_at copies slot) ≡ None
+    → own (part_of volume) row ≡ None → KeepsVolume next copies volume → KeepsVolume (set next slot value) (set copies slot row) volume
+KeepsVolume-other volume next copies slot value row before after keeps =
+    let p = part_of volume in
+    let same = own_same p copies slot row before after in
+    let none : copied_at (map (own p) copies) slot ≡ None = own_at p copies slot ∙ before in
+    let long = length-set next slot value in
+    let as_long = keeps.counts.long in
+    record {
+      images = subst (KeepsImages volume.images) (sym same) keeps.images;
+      counts = subst (KeepsCounts volume.images volume.counts (set next slot value)) (sym same) (record {
+        sets = keeps.counts.sets;
+        each = λ k d within. IsCounted-other next (map (own p) copies) slot value (get_or volume.counts.items k d) none (keeps.counts.each k d within);
+        count_room = keeps.counts.count_room;
+        long = omega arith;
+      });
+      used = keeps.used ∙ ap noted_in (sym same);
+    }
+
+pub KeepsVolume-left : (volume : OfVolume) (next : List ℕ) (copies : List (Option Copied)) (slot : ℕ) (row : Option Copied) → own (part_of volume) (copied_at copies slot) ≡ None
+    → own (part_of volume) row ≡ None → KeepsVolume next copies volume → KeepsVolume next (set copies slot row) volume
+KeepsVolume-left volume next copies slot row before after keeps =
+    subst (λ (links : List ℕ). KeepsVolume links (set copies slot row) volume) (set-get_or next slot 0) (KeepsVolume-other volume next copies slot (get_or next slot 0) row before after keeps)
+
+-- ## the value afterwards
+
+map_same : (f g : OfVolume → MapValue) (volumes : List OfVolume) → ((u : ℕ) (d : OfVolume) → u < length volumes → f (get_or volumes u d) ≡ g (get_or volumes u d)) → map f volumes ≡ map g volumes
+map_same f g [] same = refl
+map_same f g (x ∷ xs) same = ap (λ y. y ∷ map f xs) (same 0 x (omega arith)) ∙ ap (λ ys. g x ∷ ys) (map_same f g xs (λ u d within. same (suc u) d (omega arith)))
+
+set_others : (f g : OfVolume → MapValue) (volumes : List OfVolume) (v : ℕ) (new : OfVolume) (m : MapValue) → f new ≡ m
+    → ((u : ℕ) (d : OfVolume) → u ≢ v → u < length volumes → f (get_or volumes u d) ≡ g (get_or volumes u d)) → map f (set volumes v new) ≡ set (map g volumes) v m
+set_others f g [] v new m is same = refl
+set_others f g (x ∷ xs) zero new m is same = ap (λ y. y ∷ map f xs) is ∙ ap (λ ys. m ∷ ys) (map_same f g xs (λ u d within. same (suc u) d (omega arith) (omega arith)))
+set_others f g (x ∷ xs) (suc v) new m is same =
+    ap (λ y. y ∷ map f (set xs v new)) (same 0 x (omega arith) (omega arith))
+    ∙ ap (λ ys. g x ∷ ys) (set_others f g xs v new m is (λ u d differ within. same (suc u) d (λ e. differ (omega arith)) (omega arith)))
+
+-- the maps, where one volume changes and the copies of the others do not
+pub maps_after : (copies after : List (Option Copied)) (volumes : List OfVolume) (maps : List MapValue) (v : ℕ) (new : OfVolume) (m : MapValue) → map (map_of copies) volumes ≡ maps
+    → map_of after new ≡ m
+    → ((u : ℕ) (d : OfVolume) → u ≢ v → u < length volumes → own_copies (get_or volumes u d) after ≡ own_copies (get_or volumes u d) copies) → map (map_of after) (set volumes v new) ≡ set maps v m
+maps_after copies after volumes maps v new m view is same =
+    set_others (map_of after) (map_of copies) volumes v new m is (λ u d differ within. ap (λ (cs : List (Option Copied)). map_with (get_or volumes u d) cs) (same u d differ within))
+    ∙ ap (λ (ms : List MapValue). set ms v m) view where
+      map_with : OfVolume → List (Option Copied) → MapValue
+      map_with volume cs = record { blocks = volume.blocks; images = volume.images.items; copies = cs }
+
+pub maps_one : (copies : List (Option Copied)) (volumes : List OfVolume) (maps : List MapValue) (v : ℕ) (new : OfVolume) (m : MapValue) → map (map_of copies) volumes ≡ maps → map_of copies new ≡ m
+    → map (map_of copies) (set volumes v new) ≡ set maps v m
+maps_one copies volumes maps v new m view is = maps_after copies copies volumes maps v new m view is (λ u d differ within. refl)

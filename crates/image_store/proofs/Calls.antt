@@ -1,0 +1,207 @@
+-- What the calls of a group do to the whole copies that it has.
+use Rattle.std.proofs.Common.{◌≡◌, ◌≢◌, ℕ, ◌+◌, ◌<◌, ◌≤◌, List, [], ◌∷◌, ◌++◌, length, map, take, refl, ap, sym, subst, ◌∙◌, arith, Bool, false, Option, Some, is_some, option_map}
+use Rattle.std.specs.Prelude.{slice_get, slice_set, nat_lt, not, Result, Ok, Err, All}
+use Rattle.std.proofs.lemmas.Option.{slice_get_within}
+use Rattle.write_history.specs.History.{Write, Image, History, contents, point_in, cut, written, dropped, reverted, reverted_in_part}
+use Rattle.write_history.specs.Slots.{gone_up_to}
+use Rattle.diff_area.specs.AreaValue.{AreaValue}
+use Rattle.cow_volume.specs.GroupValue.{GroupValue, placed}
+use Rattle.cow_volume.specs.StandsFor.{StandsFor}
+use Rattle.cow_volume.specs.Ending.{AllTell}
+use Rattle.cow_volume.specs.Room.{HasRoom, lacks_slot}
+use Rattle.cow_volume.specs.Steps.{IsPut, IsNotPut, IsPutOr}
+use Rattle.cow_volume.specs.Calls.{history_at, changed_at, blocks_at, blocks_in, sets_at, sets_in, is_among, IsChanged, IsReverted, IsRevertedInPart, IsQuiet, IsNow}
+use Rattle.cow_volume.specs.declared.cause.Cause.{Cause}
+use Rattle.cow_volume.proofs.Group.{slice_set-same, slice_get-set_other, history_at_is, place_at}
+use Rattle.cow_volume.proofs.Evicting.{gone_up_to_none}
+use Rattle.cow_volume.proofs.Reverting.{take_next}
+use Rattle.image_store.specs.Plain.{Plain, volume_in, plain_of, plains_of, on_volume, on_each, with_blocks, cut_on, gone_on, dropped_on, older_on, reverted_on, image_in}
+use Rattle.image_store.specs.Steps.{AreMixed}
+use Rattle.image_store.specs.StoreValue.{HasPlains, KeepsPlains}
+use Rattle.image_store.proofs.Copies.{plain-cut, plain-dropped, plain-written, plain-reverted, plain-in_part, mixed-in_part, in_time-filter, image_of_point}
+use Rattle.image_store.proofs.Plains.{at_volume, volumes_changed, volumes_gone, has_changed, has_now, on_volume-same, point_there, quiet_kept, block_now}
+
+-- ## cuts
+
+pub cut_plains : {D : Type 0} → (told : D → Option (List (List ℕ))) (old new : GroupValue D) (ps : List Plain) (v set : ℕ) → new.devices ≡ old.devices → new.area ≡ old.area
+    → ((hs : List History) → StandsFor told old hs → StandsFor told new (changed_at v (cut set) hs)) → v < length old.area.volumes → HasPlains told old ps
+    → HasPlains told new (on_volume v (cut_on set) ps)
+cut_plains told old new ps v set devices area stands l has =
+    let at = at_volume told old ps v has l in
+    record {
+      hs = changed_at v (cut set) has.hs;
+      stands = stands has.hs has.stands;
+      devices = subst (λ (ds : List _). AllTell told ds) (sym devices) has.devices;
+      area = ap (λ (a : AreaValue _). is_some (told a.device)) area ∙ has.area;
+      plains = ap (on_volume v (cut_on set)) has.plains
+          ∙ sym (volumes_changed old.area.volumes has.hs v at.blocks at.history (cut set) (cut_on set) at.blocks_are at.history_is (plain-cut at.blocks set at.history))
+          ∙ ap (λ (a : AreaValue _). plains_of a.volumes (changed_at v (cut set) has.hs)) (sym area);
+    }
+
+pub on_each-more : (vs : List ℕ) (v : ℕ) (f : Plain → Plain) (ps : List Plain) → on_each (vs ++ v ∷ []) f ps ≡ on_volume v f (on_each vs f ps)
+on_each-more [] v f ps = refl
+on_each-more (u ∷ vs) v f ps = on_each-more vs v f (on_volume u f ps)
+
+-- the set is cut over the first k of these volumes
+pub record IsCutTo {D : Type 0} (told : D → Option (List (List ℕ))) (old now : GroupValue D) (vs : List ℕ) (set k : ℕ) : Type 0 where
+  pub volumes : now.area.volumes ≡ old.area.volumes
+  pub plains : (ps : List Plain) → HasPlains told old ps → HasPlains told now (on_each (take k vs) (cut_on set) ps)
+  pub rest : (j u : ℕ) → k ≤ j → slice_get vs j ≡ Some u → sets_at now u ≡ sets_at old u
+
+pub cut_none : {D : Type 0} → (told : D → Option (List (List ℕ))) (old : GroupValue D) (vs : List ℕ) (set : ℕ) → IsCutTo told old old vs set 0
+cut_none told old vs set = record { volumes = refl; plains = λ ps has. has; rest = λ j u l at. refl }
+
+pub cut_more : {D : Type 0} → (told : D → Option (List (List ℕ))) (old now new : GroupValue D) (vs : List ℕ) (set k v : ℕ) → IsCutTo told old now vs set k → slice_get vs k ≡ Some v
+    → ((j u : ℕ) → k < j → slice_get vs j ≡ Some u → v ≢ u) → v < length old.area.volumes → new.devices ≡ now.devices → new.area ≡ now.area
+    → new.images ≡ slice_set now.images v (sets_at now v ++ set ∷ []) → ((hs : List History) → StandsFor told now hs → StandsFor told new (changed_at v (cut set) hs))
+    → IsCutTo told old new vs set (k + 1)
+cut_more told old now new vs set k v so at apart l devices area images stands =
+    let more : on_each (take k vs ++ v ∷ []) (cut_on set) ≡ on_each (take (k + 1) vs) (cut_on set) = ap (λ us. on_each us (cut_on set)) (sym (take_next vs k v at)) in
+    let volumes = so.volumes in
+    let within : v < length now.area.volumes = omega (arith, ap length volumes) in
+    record {
+      volumes = ap (λ (a : AreaValue _). a.volumes) area ∙ so.volumes;
+      plains = λ ps has. subst (λ (qs : List Plain). HasPlains told new qs) (sym (on_each-more (take k vs) v (cut_on set) ps) ∙ ap (λ us. on_each us (cut_on set) ps) (sym (take_next vs k v at)))
+          (cut_plains told now new (on_each (take k vs) (cut_on set) ps) v set devices area stands within (so.plains ps has));
+      rest = λ j u m is. ap (λ (xs : List (List ℕ)). sets_in (slice_get xs u)) images ∙ ap sets_in (slice_get-set_other now.images v u (sets_at now v ++ set ∷ []) (apart j u (omega arith) is))
+          ∙ so.rest j u (omega arith) is;
+    }
+
+-- ## images that go
+
+pub dropped_plains : {D : Type 0} → (told : D → Option (List (List ℕ))) (size count : D → ℕ) (lending : D → Bool) (old new : GroupValue D) (ps : List Plain) (v set : ℕ) → v < length old.area.volumes
+    → IsChanged told size count lending old new v (dropped set) → HasPlains told old ps → HasPlains told new (on_volume v (dropped_on set) ps)
+dropped_plains told size count lending old new ps v set l is has =
+    has_changed told size count lending old new ps v (dropped set) (dropped_on set) has is.kept l (is.stands has.hs has.stands) (λ at. plain-dropped at.blocks set at.history)
+
+-- the group without its images up to a set
+pub gone_plains : {D : Type 0} → (told : D → Option (List (List ℕ))) (old new : GroupValue D) (ps : List Plain) (v b up_to : ℕ) → HasRoom told old new v b up_to → HasPlains told old ps
+    → HasPlains told new (map (gone_on up_to) ps)
+gone_plains told old new ps v b up_to room has = subst (λ (g : GroupValue _). HasPlains told g (map (gone_on up_to) ps)) (sym room.left) (record {
+  hs = gone_up_to up_to (placed old.area.volumes) has.hs;
+  stands = subst (λ (g : GroupValue _). StandsFor told g (gone_up_to up_to (placed old.area.volumes) has.hs)) room.left (room.stands has.hs has.stands);
+  devices = has.devices;
+  area = has.area;
+  plains = ap (map (gone_on up_to)) has.plains ∙ sym (volumes_gone up_to old.area.volumes has.hs);
+})
+
+-- none goes
+pub room_plains : {D : Type 0} → (told : D → Option (List (List ℕ))) (old new : GroupValue D) (v b up_to : ℕ) → up_to ≡ 0 → HasRoom told old new v b up_to → KeepsPlains told old new
+room_plains told old new v b up_to none room =
+    let volumes : new.area.volumes ≡ old.area.volumes = ap (λ (g : GroupValue _). g.area.volumes) room.left in
+    record {
+      volumes = volumes;
+      plains = λ ps has.
+          let same : gone_up_to up_to (placed old.area.volumes) has.hs ≡ has.hs = ap (λ m. gone_up_to m (placed old.area.volumes) has.hs) none
+          ∙ gone_up_to_none (placed old.area.volumes) has.hs (λ u h at.
+          let within = slice_get_within has.hs u h at in
+          let long = has.stands.histories in
+          let place = place_at told old has.hs u has.stands (omega arith) in
+          subst (λ (g : History). All (λ (i : Image). 0 < i.set) g.images) (history_at_is has.hs u h at) place.stands.images.above_zero) in
+          record {
+            hs = has.hs;
+            stands = subst (λ (hs : List History). StandsFor told new hs) same (room.stands has.hs has.stands);
+            devices = subst (λ (g : GroupValue _). AllTell told g.devices) (sym room.left) has.devices;
+            area = ap (λ (g : GroupValue _). is_some (told g.area.device)) room.left ∙ has.area;
+            plains = has.plains ∙ ap (λ ns. plains_of ns has.hs) (sym volumes);
+          };
+    }
+
+pub room_volumes : {D : Type 0} → (told : D → Option (List (List ℕ))) (old new : GroupValue D) (v b up_to : ℕ) → HasRoom told old new v b up_to → new.area.volumes ≡ old.area.volumes
+room_volumes told old new v b up_to room = ap (λ (g : GroupValue _). g.area.volumes) room.left
+
+-- ## writes
+
+-- these bytes are in a block
+abbrev pub put_on : ℕ → List ℕ → Plain → Plain
+put_on b bytes p = with_blocks (slice_set p.blocks b bytes) p
+
+pub put_plains : {D : Type 0} → (told : D → Option (List (List ℕ))) (size count : D → ℕ) (lending : D → Bool) (old new : GroupValue D) (ps : List Plain) (v b : ℕ) (bytes : List ℕ)
+    → v < length old.area.volumes
+    → b < blocks_at old v → IsPut told size count lending old new v (record { block = b; bytes = bytes }) → HasPlains told old ps → HasPlains told new (on_volume v (put_on b bytes) ps)
+put_plains told size count lending old new ps v b bytes l m is has =
+    has_changed told size count lending old new ps v (written (record { block = b; bytes = bytes })) (put_on b bytes) has is.kept l (is.stands has.hs has.stands)
+    (λ at. plain-written at.blocks (record { block = b; bytes = bytes }) at.history (let n = at.blocks_at_is in omega arith) at.time)
+
+pub not_put_kept : {D : Type 0} → (told : D → Option (List (List ℕ))) (size count : D → ℕ) (lending : D → Bool) (old new : GroupValue D) (v : ℕ) (cause : Cause)
+    → IsNotPut told size count lending old new v cause
+    → KeepsPlains told old new
+not_put_kept told size count lending old new v cause is = record {
+  volumes = is.kept.volumes;
+  plains = λ ps has. has_now told size count lending old new ps ps has.hs has is.kept (is.stands has.hs has.stands) has.plains;
+}
+
+-- a block's own bytes are put
+put_same : {D : Type 0} → (told : D → Option (List (List ℕ))) (size count : D → ℕ) (lending : D → Bool) (old new : GroupValue D) (ps : List Plain) (v b : ℕ) (bytes : List ℕ) (r : Result Unit Cause)
+    → v < length old.area.volumes → b < blocks_at old v → IsPutOr told size count lending old new v (record { block = b; bytes = bytes }) r → slice_get (volume_in ps v).blocks b ≡ Some bytes
+    → HasPlains told old ps → HasPlains told new ps
+put_same told size count lending old new ps v b bytes (Ok done) l m is own has = subst (λ (qs : List Plain). HasPlains told new qs)
+    (on_volume-same ps v (put_on b bytes) (ap (λ blocks. with_blocks blocks (volume_in ps v)) (slice_set-same (volume_in ps v).blocks b bytes own)))
+    (put_plains told size count lending old new ps v b bytes l m is has)
+put_same told size count lending old new ps v b bytes (Err cause) l m is own has = (not_put_kept told size count lending old new v cause is).plains ps has
+
+pub put_volumes : {D : Type 0} → (told : D → Option (List (List ℕ))) (size count : D → ℕ) (lending : D → Bool) (old new : GroupValue D) (v : ℕ) (w : Write) (r : Result Unit Cause)
+    → IsPutOr told size count lending old new v w r → new.area.volumes ≡ old.area.volumes
+put_volumes told size count lending old new v w (Ok done) is = is.kept.volumes
+put_volumes told size count lending old new v w (Err cause) is = is.kept.volumes
+
+-- a block is read and its own bytes are put
+pub copy_kept : {D : Type 0} → (told : D → Option (List (List ℕ))) (size count : D → ℕ) (lending : D → Bool) (old mid new : GroupValue D) (v b : ℕ) (bytes : List ℕ) (r : Result Unit Cause)
+    → v < length old.area.volumes → b < blocks_at old v → IsQuiet told size count lending old mid → IsNow told old v b bytes
+    → IsPutOr told size count lending mid new v (record { block = b; bytes = bytes }) r → KeepsPlains told old new
+copy_kept told size count lending old mid new v b bytes r l m quiet now is =
+    let volumes = ap length quiet.kept.volumes in
+    let blocks = ap (λ (ns : List ℕ). blocks_in (slice_get ns v)) quiet.kept.volumes in
+    record {
+      volumes = put_volumes told size count lending mid new v (record { block = b; bytes = bytes }) r is ∙ quiet.kept.volumes;
+      plains = λ ps has. put_same told size count lending mid new ps v b bytes r (omega arith) (omega arith) is (block_now told old ps v b bytes has l m now)
+          ((quiet_kept told size count lending old mid quiet).plains ps has);
+    }
+
+-- a read leaves the room for a write
+pub room_left : {D : Type 0} → (told : D → Option (List (List ℕ))) (size count : D → ℕ) (lending : D → Bool) (old new : GroupValue D) (v b : ℕ) → IsQuiet told size count lending old new
+    → lacks_slot old.area.records v (sets_at old v) b ≡ false → lacks_slot new.area.records v (sets_at new v) b ≡ false
+room_left told size count lending old new v b quiet room =
+    ap (λ records. lacks_slot records v (sets_at new v) b) quiet.records ∙ ap (λ (images : List (List ℕ)). lacks_slot old.area.records v (sets_in (slice_get images v)) b) quiet.images ∙ room
+
+-- ## reverts
+
+pub reverted_plains : {D : Type 0} → (told : D → Option (List (List ℕ))) (size count : D → ℕ) (lending : D → Bool) (old new : GroupValue D) (ps : List Plain) (v set : ℕ) → v < length old.area.volumes
+    → IsReverted told size count lending old new v set → HasPlains told old ps → HasPlains told new (on_volume v (reverted_on set) ps)
+reverted_plains told size count lending old new ps v set l is has =
+    let at = at_volume told old ps v has l in
+    let p = point_there (length at.history.writes) set at.history.images at.time (ap (is_among set) (sym at.sets_are) ∙ is.image) in
+    let point : point_in set (history_at has.hs v).images ≡ Some p.0 = ap (λ (h : History). point_in set h.images) at.history_at_is ∙ p.1 in
+    has_changed told size count lending old new ps v (reverted set p.0) (reverted_on set) has is.kept l (is.stands has.hs p.0 has.stands point)
+    (λ here. plain-reverted here.blocks set p.0 here.history (in_time-filter (λ i. not (nat_lt set i.set)) (length here.history.writes) here.history.images here.time)
+    (ap (λ (h : History). point_in set h.images) (sym here.history_at_is) ∙ point))
+
+-- the blocks that are left where a device failed
+pub record IsMixedTo {D : Type 0} (told : D → Option (List (List ℕ))) (new : GroupValue D) (ps : List Plain) (v set : ℕ) : Type 0 where
+  pub image : List (List ℕ)
+  pub image_is : image_in set (volume_in ps v).images ≡ Some image
+  pub now : List (List ℕ)
+  pub mixed : AreMixed (volume_in ps v).blocks image now
+  pub plains : HasPlains told new (on_volume v (λ p. with_blocks now (older_on set p)) ps)
+
+pub in_part_plains : {D : Type 0} → (told : D → Option (List (List ℕ))) (size count : D → ℕ) (lending : D → Bool) (old new : GroupValue D) (ps : List Plain) (v set restored : ℕ)
+    → v < length old.area.volumes
+    → IsRevertedInPart told size count lending old new v set restored → HasPlains told old ps → IsMixedTo told new ps v set
+in_part_plains told size count lending old new ps v set restored l is has =
+    let at = at_volume told old ps v has l in
+    let p = point_there (length at.history.writes) set at.history.images at.time (ap (is_among set) (sym at.sets_are) ∙ is.image) in
+    let point : point_in set (history_at has.hs v).images ≡ Some p.0 = ap (λ (h : History). point_in set h.images) at.history_at_is ∙ p.1 in
+    let now = (plain_of at.blocks (reverted_in_part at.blocks set p.0 restored at.history)).blocks in
+    record {
+      image = contents at.blocks at.history.writes p.0;
+      image_is = ap (λ (q : Plain). image_in set q.images) at.plain ∙ image_of_point set at.blocks at.history.writes at.history.images ∙ ap (option_map (contents at.blocks at.history.writes)) p.1;
+      now = now;
+      mixed = subst (λ (q : Plain). AreMixed q.blocks (contents at.blocks at.history.writes p.0) now) (sym at.plain) (mixed-in_part at.blocks set p.0 restored at.history);
+      plains = has_now told size count lending old new ps (on_volume v (λ q. with_blocks now (older_on set q)) ps)
+          (changed_at v (reverted_in_part (blocks_at old v) set p.0 restored) has.hs) has is.kept
+          (is.stands has.hs p.0 has.stands point)
+          (ap (on_volume v (λ q. with_blocks now (older_on set q))) has.plains
+          ∙ sym (ap (λ n. plains_of old.area.volumes (changed_at v (reverted_in_part n set p.0 restored) has.hs)) at.blocks_at_is
+          ∙ volumes_changed old.area.volumes has.hs v at.blocks at.history (reverted_in_part at.blocks set p.0 restored) (λ q. with_blocks now (older_on set q)) at.blocks_are at.history_is
+          (plain-in_part at.blocks set p.0 restored at.history (in_time-filter (λ i. not (nat_lt set i.set)) (length at.history.writes) at.history.images at.time))));
+    }

@@ -1,0 +1,76 @@
+-- What lasts of a store that is closed is what the next opening takes up.
+use Rattle.std.proofs.Common.{◌≡◌, ℕ, ◌<◌, List, ◌++◌, length, map, drop, refl, ap, sym, subst, ◌∙◌, arith, Option, is_some, Result, Ok}
+use Rattle.std.specs.Prelude.{codes, slice_get}
+use Rattle.std.proofs.lemmas.List.{append_assoc, drop_at, length-append, length-map}
+use Rattle.std.proofs.lemmas.Option.{same_Some, slice_get_within}
+use Rattle.write_history.specs.Slots.{copies}
+use Rattle.diff_area.specs.Copies.{AreStored}
+use Rattle.vss_catalog.specs.Entries.{EntryValue}
+use Rattle.vss_catalog.specs.Reading.{catalog_in, number_in}
+use Rattle.vss_catalog.specs.Written.{bytes_of, number_bytes}
+use Rattle.vss_catalog.specs.declared.catalog_fault.CatalogFault.{CatalogFault}
+use Rattle.vss_catalog.proofs.Numbers.{number-back, length-number_bytes}
+use Rattle.cow_volume.specs.GroupValue.{placed}
+use Rattle.cow_volume.proofs.Group.{slice_get_inside, slice_get_map}
+use Rattle.image_store.specs.Head.{HeadValue, head_bytes, bytes_of_head}
+use Rattle.image_store.specs.Keeping.{IsKeptAs, blocks_of}
+use Rattle.image_store.specs.Plain.{PlainStore}
+
+-- ## the bytes of a head say one head
+
+said_catalog : (last : ℕ) (es : List EntryValue) → drop 16 (head_bytes last es) ≡ bytes_of es
+unfolding head_bytes
+said_catalog last es =
+    let letters : length (codes "VSSIMG01") ≡ 8 = refl in
+    let one = length-append (codes "VSSIMG01") (number_bytes last) in
+    let two = length-append (codes "VSSIMG01" ++ number_bytes last) (number_bytes (length (bytes_of es))) in
+    let three = length-number_bytes last in
+    let four = length-number_bytes (length (bytes_of es)) in
+    drop_at (codes "VSSIMG01" ++ number_bytes last ++ number_bytes (length (bytes_of es))) (bytes_of es) 16 (omega arith)
+
+said_last : (last : ℕ) (es : List EntryValue) → last < 4294967296 → number_in 0 (drop 8 (head_bytes last es)) ≡ Ok last
+unfolding head_bytes
+said_last last es l =
+    let rest = number_bytes (length (bytes_of es)) ++ bytes_of es in
+    ap (λ (xs : List ℕ). number_in 0 (drop 8 xs))
+    (append_assoc (codes "VSSIMG01" ++ number_bytes last) (number_bytes (length (bytes_of es))) (bytes_of es) ∙ append_assoc (codes "VSSIMG01") (number_bytes last) rest)
+    ∙ ap (number_in 0) (drop_at (codes "VSSIMG01") (number_bytes last ++ rest) 8 refl) ∙ number-back 0 last rest l
+
+same_ok : {X : Type 0} (a b : Result X CatalogFault) (x y : X) → a ≡ Ok x → b ≡ Ok y → a ≡ b → x ≡ y
+same_ok a b x y is so same = cc
+
+pub same_head : (h s : HeadValue) → bytes_of_head h ≡ bytes_of_head s → catalog_in (bytes_of h.entries) ≡ Ok h.entries → catalog_in (bytes_of s.entries) ≡ Ok s.entries → h.last < 4294967296
+    → s.last < 4294967296 → h ≡ s
+same_head h s same read_h read_s low_h low_s =
+    let bytes : bytes_of h.entries ≡ bytes_of s.entries = sym (said_catalog h.last h.entries) ∙ ap (drop 16) same ∙ said_catalog s.last s.entries in
+    let entries : h.entries ≡ s.entries = same_ok (catalog_in (bytes_of h.entries)) (catalog_in (bytes_of s.entries)) h.entries s.entries read_h read_s (ap catalog_in bytes) in
+    let last : h.last ≡ s.last = same_ok (number_in 0 (drop 8 (bytes_of_head h))) (number_in 0 (drop 8 (bytes_of_head s))) h.last s.last (said_last h.last h.entries low_h)
+    (said_last s.last s.entries low_s) (ap (λ (xs : List ℕ). number_in 0 (drop 8 xs)) same) in
+    let of : ℕ → List EntryValue → HeadValue = λ n es. record { last = n; entries = es } in
+    ap (of h.last) entries ∙ ap (λ (n : ℕ). of n s.entries) last
+
+-- ## devices that tell what lasted
+
+pub found : {D : Type 0} (told lasting : D → Option (List (List ℕ))) (devices later : List D) (area again : D) (head said : HeadValue) (p : PlainStore) → head ≡ said
+    → IsKeptAs lasting devices area said p
+    → map told later ≡ map lasting devices → told again ≡ lasting area → IsKeptAs told later again head p
+found {D = D} told lasting devices later area again head said p same kept tells slots =
+    let many : length later ≡ length devices = sym (length-map later told) ∙ ap length tells ∙ length-map devices lasting in
+    subst (λ (h : HeadValue). IsKeptAs told later again h p) (sym same)
+    (record {
+      hs = kept.hs;
+      last = kept.last;
+      devices_are = many ∙ kept.devices_are;
+      histories = kept.histories;
+      each = λ v d e h at is of.
+          let within = slice_get_within later v d at in
+          let x = slice_get_inside devices v (omega arith) in
+          let held : told d ≡ lasting x.0 = same_Some (told d) (lasting x.0)
+          (sym (slice_get_map told later v d at) ∙ ap (λ (ts : List (Option (List (List ℕ)))). slice_get ts v) tells ∙ slice_get_map lasting devices v x.0 x.1) in
+          let volume = kept.each v x.0 e h x.1 is of in
+          record { blocks = held ∙ volume.blocks; sets = volume.sets; images = volume.images };
+      tells = ap is_some slots ∙ kept.tells;
+      stored = subst (λ (t : Option (List (List ℕ))). AreStored t (copies (placed (blocks_of said.entries)) kept.hs)) (sym slots) kept.stored;
+      given = kept.given;
+      volumes = kept.volumes;
+    })

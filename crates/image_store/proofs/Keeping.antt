@@ -1,0 +1,235 @@
+-- What lasts of a store that is closed, and what a store is that is opened again.
+use Rattle.std.proofs.Common.{◌≡◌, ℕ, suc, ◌+◌, ◌<◌, ◌≤◌, List, [], ◌∷◌, ◌++◌, length, map, take, drop, refl, ap, sym, subst, ◌∙◌, arith, Bool, true, false, Option, Some, None, is_some}
+use Rattle.std.specs.Prelude.{◌==◌, slice_get, slice_set, IfErr, IfSome, Result, Ok, Err, OnErr, OnOk}
+use Rattle.std.proofs.lemmas.List.{length-map, map-set, take_all, take-append-le}
+use Rattle.std.proofs.lemmas.List.FromFn.{length-map-range_with_len}
+use Rattle.std.proofs.lemmas.Option.{same_Some, slice_get_within}
+use Rattle.vss_names.specs.TextValue.{TextValue}
+use Rattle.write_history.specs.History.{History, contents}
+use Rattle.write_history.specs.Slots.{Copy, copies}
+use Rattle.diff_area.specs.AreaValue.{AreaValue}
+use Rattle.diff_area.specs.Copies.{AreStored, AreHeld}
+use Rattle.diff_area.proofs.TableBlocks.{get-map_range}
+use Rattle.vss_catalog.specs.Entries.{EntryValue, lists_of}
+use Rattle.vss_catalog.specs.Group.{entry_at, entries_of}
+use Rattle.cow_volume.specs.GroupValue.{GroupValue, placed}
+use Rattle.cow_volume.specs.StandsFor.{StandsFor, told_in}
+use Rattle.cow_volume.specs.Ending.{IsSync}
+use Rattle.cow_volume.specs.Resuming.{AreKept}
+use Rattle.cow_volume.specs.Calls.{blocks_in, sets_in}
+use Rattle.cow_volume.specs.declared.cause.Cause.{Cause}
+use Rattle.cow_volume.specs.declared.cause.Cause.TheVariants.{Volume}
+use Rattle.cow_volume.proofs.Group.{slice_get-set_same, slice_get-set_other, slice_get_inside, slice_get_map, same_number, other_number}
+use Rattle.cow_volume.proofs.Kept.{map_set_told}
+use Rattle.vss_names.specs.Faults.{Rose}
+use Rattle.image_store.specs.Closing.{IsCloseFault, OneRose}
+use Rattle.image_store.specs.Head.{HeadValue, said_of}
+use Rattle.image_store.specs.Keeping.{IsKeptAs, blocks_of}
+use Rattle.image_store.specs.Plain.{PlainStore, plains_of}
+use Rattle.image_store.specs.StoreValue.{StoreValue, HasPlains, StandsAs}
+use Rattle.image_store.proofs.Plains.{same_lists}
+use Rattle.image_store.proofs.Stores.{store_of}
+
+-- ## devices are flushed one after another
+
+-- the first k were, none of them failed, and all tell what they told
+pub record HaveLasted {D : Type 0} (told lasting : D → Option (List (List ℕ))) (count : D → ℕ) (k : ℕ) (old now : List D) : Type 0 where
+  pub told_is : map told now ≡ map told old
+  pub counts : map count now ≡ map count old
+  pub last : (j : ℕ) (d : D) → j < k → slice_get now j ≡ Some d → lasting d ≡ told d
+
+pub none_lasted : {D : Type 0} (told lasting : D → Option (List (List ℕ))) (count : D → ℕ) (ds : List D) → HaveLasted told lasting count 0 ds ds
+none_lasted told lasting count ds = record { told_is = refl; counts = refl; last = λ j d low at. absurd (omega arith) }
+
+pub still_told : {D X : Type 0} (told : D → X) (k : ℕ) (old now : List D) (d next : D) → map told now ≡ map told old → slice_get now k ≡ Some d → told next ≡ told d
+    → map told (slice_set now k next) ≡ map told old
+still_told told k old now d next have at same = map_set_told told now k d next at same ∙ have
+
+pub one_lasted : {D : Type 0} (told lasting : D → Option (List (List ℕ))) (count : D → ℕ) (k : ℕ) (old now : List D) (d next : D) → HaveLasted told lasting count k old now → slice_get now k ≡ Some d
+    → told next ≡ told d → count next ≡ count d → lasting next ≡ told next → HaveLasted told lasting count (k + 1) old (slice_set now k next)
+one_lasted {D = D} told lasting count k old now d next have at same counted lasts = record {
+  told_is = still_told told k old now d next have.told_is at same;
+  counts = still_told count k old now d next have.counts at counted;
+  last = λ j e low there. by_number j e (j == k) refl low there;
+} where
+  by_number : (j : ℕ) (e : D) (t : Bool) → (j == k) ≡ t → j < k + 1 → slice_get (slice_set now k next) j ≡ Some e → lasting e ≡ told e
+  by_number j e true is low there =
+      let here : Some next ≡ Some e = sym (slice_get-set_same now k d next at) ∙ ap (slice_get (slice_set now k next)) (sym (same_number j k is)) ∙ there in
+      subst (λ (x : D). lasting x ≡ told x) (same_Some next e here) lasts
+  by_number j e false is low there =
+      let other = other_number j k is in
+      have.last j e (omega arith) (sym (slice_get-set_other now k j next (λ same. other (sym same))) ∙ there)
+
+-- the next one failed
+pub one_failed : {D : Type 0} (count : D → ℕ) (k : ℕ) (old now : List D) (d next : D) → map count now ≡ map count old → slice_get now k ≡ Some d → Rose (count d) (count next)
+    → OneRose (map count old) (map count (slice_set now k next))
+one_failed count k old now d next counts at rose = record {
+  place = k;
+  before = count d;
+  now = count next;
+  at = ap (λ (ns : List ℕ). slice_get ns k) (sym counts) ∙ slice_get_map count now k d at;
+  rose = rose;
+  counts = map-set count now k next ∙ ap (λ (ns : List ℕ). slice_set ns k (count next)) counts;
+}
+
+maps_same : {X Y : Type 0} (f g : X → Y) (xs : List X) → ((j : ℕ) (x : X) → slice_get xs j ≡ Some x → f x ≡ g x) → map f xs ≡ map g xs
+maps_same f g [] h = refl
+maps_same f g (x ∷ xs) h = ap (λ y. y ∷ map f xs) (h 0 x refl) ∙ ap (λ ys. g x ∷ ys) (maps_same f g xs (λ j y at. h (suc j) y at))
+
+pub all_lasted : {D : Type 0} (told lasting : D → Option (List (List ℕ))) (count : D → ℕ) (k : ℕ) (old now : List D) → HaveLasted told lasting count k old now → length now ≤ k
+    → map lasting now ≡ map told old
+all_lasted told lasting count k old now have all =
+    maps_same lasting told now (λ j d at. have.last j d (let within = slice_get_within now j d at in omega arith) at) ∙ have.told_is
+
+-- ## the entries of a group
+
+entry_there : {D : Type 0} (g : GroupValue D) (names : List TextValue) (v : ℕ) → v < length g.area.volumes → slice_get (entries_of g names) v ≡ Some (entry_at g names v)
+entry_there g names v l = get-map_range (entry_at g names) 0 (length g.area.volumes) v v l (omega arith)
+
+pub as_many_entries : {D : Type 0} (g : GroupValue D) (names : List TextValue) → length (entries_of g names) ≡ length g.area.volumes
+as_many_entries g names = length-map-range_with_len (entry_at g names) 0 (length g.area.volumes)
+
+pub own_blocks : {D : Type 0} (g : GroupValue D) (names : List TextValue) → blocks_of (entries_of g names) ≡ g.area.volumes
+own_blocks g names = same_lists (blocks_of (entries_of g names)) g.area.volumes (length-map (entries_of g names) (λ (e : EntryValue). e.blocks) ∙ as_many_entries g names)
+    (λ v x y at is. (let within = slice_get_within g.area.volumes v y is in
+    sym (same_Some (blocks_in (slice_get g.area.volumes v)) x
+    (sym (slice_get_map (λ (e : EntryValue). e.blocks) (entries_of g names) v (entry_at g names v) (entry_there g names v (omega arith))) ∙ at)) ∙ ap blocks_in is))
+
+-- ## a store that is closed
+
+told_blocks : (area told : Option (List (List ℕ))) (want : List (List ℕ)) → is_some area ≡ true → is_some told ≡ true → IfSome (told_in area told) (λ blocks. blocks ≡ want) → told ≡ Some want
+told_blocks None told want a t is = cc
+told_blocks (Some slots) None want a t is = cc
+told_blocks (Some slots) (Some blocks) want a t is = ap Some is
+
+pub closed_kept : {D : Type 0} (told lasting : D → Option (List (List ℕ))) (size count : D → ℕ) (lending : D → Bool) (old new : GroupValue D) (names : List TextValue) (last : ℕ) (devices : List D)
+    (done : Unit {0}) (p : PlainStore)
+    → IsSync told size count lending old new (Ok done) → lasting new.area.device ≡ told new.area.device → map lasting devices ≡ map told new.devices → StandsAs told (store_of old names last) p
+    → IsKeptAs lasting devices new.area.device (said_of (store_of old names last)) p
+closed_kept {D = D} told lasting size count lending old new names last devices done p sync area lasts stands =
+    let hs = stands.group.hs in
+    let all = stands.group.stands in
+    let entries = entries_of old names in
+    let long : length devices ≡ length new.devices = sym (length-map devices lasting) ∙ ap length lasts ∙ length-map new.devices told in
+    let many = as_many_entries old names in
+    record {
+      hs = hs;
+      last = stands.last;
+      devices_are = long ∙ ap length sync.0.devices ∙ all.devices ∙ sym many;
+      histories = all.histories ∙ sym many;
+      each = λ v d e h at is of.
+          let in_hs = slice_get_within hs v h of in
+          let many_hs = all.histories in
+          let many_devices = all.devices in
+          let many_images = all.images in
+          let within : v < length old.area.volumes = omega arith in
+          let n = slice_get_inside old.area.volumes v within in
+          let x = slice_get_inside old.devices v (omega arith) in
+          let sets = slice_get_inside old.images v (omega arith) in
+          let here : slice_get new.devices v ≡ Some x.0 = ap (λ (ds : List D). slice_get ds v) sync.0.devices ∙ x.1 in
+          let held : lasting d ≡ told x.0 = same_Some (lasting d) (told x.0)
+          (sym (slice_get_map lasting devices v d at) ∙ ap (λ (ts : List (Option (List (List ℕ)))). slice_get ts v) lasts ∙ slice_get_map told new.devices v x.0 here) in
+          let volume = all.each v n.0 x.0 sets.0 h n.1 x.1 sets.1 of in
+          let blocks = told_blocks (told old.area.device) (told x.0) (contents n.0 h.writes (length h.writes)) stands.group.area (stands.group.devices v x.0 x.1) volume.blocks in
+          let entry : entry_at old names v ≡ e = same_Some (entry_at old names v) e (sym (entry_there old names v within) ∙ is) in
+          let size_is : n.0 ≡ e.blocks = sym (ap blocks_in n.1) ∙ ap (λ (f : EntryValue). f.blocks) entry in
+          let sets_is : e.images ≡ sets.0 = sym (ap (λ (f : EntryValue). f.images) entry) ∙ ap sets_in sets.1 in
+          record {
+            blocks = held ∙ blocks ∙ ap (λ (m : ℕ). Some (contents m h.writes (length h.writes))) size_is;
+            sets = sets_is ∙ volume.sets_are;
+            images = volume.images;
+          };
+      tells = ap is_some area ∙ sync.0.kept.area.tells ∙ stands.group.area;
+      stored = subst (λ (t : Option (List (List ℕ))). AreStored t (copies (placed (blocks_of entries)) hs)) (sym area)
+          (subst (λ (ns : List ℕ). AreStored (told new.area.device) (copies (placed ns) hs)) (sym (own_blocks old names)) (sync.1 hs all stands.group.devices));
+      given = stands.given;
+      volumes = stands.group.plains ∙ ap (λ (ns : List ℕ). plains_of ns hs) (sym (own_blocks old names));
+    }
+
+-- what is written back to a vector is all of it
+whole_again : {X : Type 0} (n : ℕ) (xs ys : List X) → length ys ≡ n → length xs ≡ length ys → take n (xs ++ drop (length xs) ys) ≡ xs
+whole_again n xs ys all same = take-append-le n xs (drop (length xs) ys) (omega arith) ∙ take_all n xs (omega arith)
+
+pub closed_outcome : {D : Type 0} (told lasting : D → Option (List (List ℕ))) (size count : D → ℕ) (lending : D → Bool) (old new : GroupValue D) (names : List TextValue) (last : ℕ)
+    (items before flushed : List D) (len : ℕ)
+    (area : D) (done : Unit {0}) (r : Result Unit Cause) → IsSync told size count lending old new (Ok done) → lasting new.area.device ≡ told new.area.device → items ≡ new.devices → length items ≡ len
+    → before ≡ items
+    → area ≡ new.area.device → OnOk r (map lasting flushed ≡ map told before) → map told flushed ≡ map told before
+    → OnOk r ((p : PlainStore) → StandsAs told (store_of old names last) p → IsKeptAs lasting (take len (flushed ++ drop (length flushed) items)) area (said_of (store_of old names last)) p)
+closed_outcome told lasting size count lending old new names last items before flushed len area done (Err cause) sync lasts devices_are many same area_is flushes tells = tt
+closed_outcome {D = D} told lasting size count lending old new names last items before flushed len area done (Ok all) sync lasts devices_are many same area_is flushes tells = λ p stands.
+    let as_many : length flushed ≡ length items = sym (length-map flushed told) ∙ ap length tells ∙ length-map before told ∙ ap length same in
+    subst (λ (a : D). IsKeptAs lasting (take len (flushed ++ drop (length flushed) items)) a (said_of (store_of old names last)) p) (sym area_is)
+    (subst (λ (ds : List D). IsKeptAs lasting ds new.area.device (said_of (store_of old names last)) p) (sym (whole_again len flushed items many as_many))
+    (closed_kept told lasting size count lending old new names last flushed done p sync lasts (flushes ∙ ap (map told) (same ∙ devices_are)) stands))
+
+-- the devices that are given back tell what they told
+pub closed_told : {D : Type 0} (told : D → Option (List (List ℕ))) (old new : GroupValue D) (items before flushed : List D) (len : ℕ) → new.devices ≡ old.devices → items ≡ new.devices
+    → length items ≡ len → before ≡ items
+    → map told flushed ≡ map told before → map told (take len (flushed ++ drop (length flushed) items)) ≡ map told old.devices
+closed_told told old new items before flushed len kept devices_are many same tells =
+    let as_many : length flushed ≡ length items = sym (length-map flushed told) ∙ ap length tells ∙ length-map before told ∙ ap length same in
+    ap (map told) (whole_again len flushed items many as_many) ∙ tells ∙ ap (map told) (same ∙ devices_are ∙ kept)
+
+-- one of them failed
+pub closed_failed : {D : Type 0} (told : D → Option (List (List ℕ))) (count : D → ℕ) (old new : GroupValue D) (items before flushed : List D) (len : ℕ) (area : D) (r : Result Unit Cause)
+    → new.devices ≡ old.devices
+    → count new.area.device ≡ count old.area.device → items ≡ new.devices → length items ≡ len → before ≡ items → area ≡ new.area.device → map told flushed ≡ map told before
+    → IfErr r (λ cause. cause ≡ Volume) → OnErr r (OneRose (map count before) (map count flushed)) → IfErr r (IsCloseFault count old (take len (flushed ++ drop (length flushed) items)) area)
+closed_failed told count old new items before flushed len area (Ok done) kept quiet devices_are many same area_is tells is rose = tt
+closed_failed {D = D} told count old new items before flushed len area (Err cause) kept quiet devices_are many same area_is tells is rose =
+    let as_many : length flushed ≡ length items = sym (length-map flushed told) ∙ ap length tells ∙ length-map before told ∙ ap length same in
+    subst (λ (c : Cause). IsCloseFault count old (take len (flushed ++ drop (length flushed) items)) area c) (sym is) (
+      subst (λ (ds : List D). OneRose (map count old.devices) (map count ds)) (sym (whole_again len flushed items many as_many))
+          (subst (λ (ds : List D). OneRose (map count ds) (map count flushed)) (same ∙ devices_are ∙ kept) rose),
+      ap count area_is ∙ quiet,
+    )
+
+-- ## a store that is opened
+
+resumed : {D : Type 0} (told : D → Option (List (List ℕ))) (devices : List D) (device : D) (area : AreaValue D) (head : HeadValue) (p : PlainStore)
+    → told area.device ≡ told device → ((cs : List Copy) → AreStored (told device) cs → AreHeld (told area.device) area.records cs) → area.volumes ≡ blocks_of head.entries
+    → (kept : IsKeptAs told devices device head p) → AreKept told devices area (lists_of head.entries) kept.hs
+resumed told devices device area head p same loaded volumes kept = record {
+  histories = kept.histories ∙ sym (ap length volumes ∙ length-map head.entries (λ (e : EntryValue). e.blocks));
+  each = λ v n d sets h at is row of.
+      let in_hs = slice_get_within kept.hs v h of in
+      let many = kept.histories in
+      let e = slice_get_inside head.entries v (omega arith) in
+      let volume = kept.each v d e.0 h is e.1 of in
+      let size_is : e.0.blocks ≡ n = same_Some e.0.blocks n (sym (slice_get_map (λ (f : EntryValue). f.blocks) head.entries v e.0 e.1) ∙ ap (λ (ns : List ℕ). slice_get ns v) (sym volumes) ∙ at) in
+      let sets_is : e.0.images ≡ sets = same_Some e.0.images sets (sym (slice_get_map (λ (f : EntryValue). f.images) head.entries v e.0 e.1) ∙ row) in
+      record {
+        blocks = subst (λ (t : Option (List (List ℕ))). IfSome t (λ blocks. blocks ≡ contents n h.writes (length h.writes))) (sym volume.blocks)
+            (ap (λ (m : ℕ). contents m h.writes (length h.writes)) size_is);
+        sets_are = sym sets_is ∙ volume.sets;
+        images = volume.images;
+      };
+  tells = ap is_some same ∙ kept.tells;
+  held = loaded (copies (placed area.volumes) kept.hs) (subst (λ (ns : List ℕ). AreStored (told device) (copies (placed ns) kept.hs)) (sym volumes) kept.stored);
+}
+
+pub opened_stands : {D : Type 0} (told : D → Option (List (List ℕ))) (devices : List D) (device : D) (area : AreaValue D) (head : HeadValue) (s : StoreValue D) (p : PlainStore)
+    → told area.device ≡ told device → ((cs : List Copy) → AreStored (told device) cs → AreHeld (told area.device) area.records cs) → area.volumes ≡ blocks_of head.entries
+    → s.group ≡ record { devices = devices; area = area; images = lists_of head.entries } → s.last ≡ head.last
+    → ((hs : List History) → AreKept told devices area (lists_of head.entries) hs → StandsFor told s.group hs) → IsKeptAs told devices device head p → StandsAs told s p
+opened_stands {D = D} told devices device area head s p same loaded volumes group last stands kept =
+    let parts = resumed told devices device area head p same loaded volumes kept in
+    record {
+      group = subst (λ (g : GroupValue D). HasPlains told g p.volumes) (sym group)
+          (record {
+            hs = kept.hs;
+            stands = subst (λ (g : GroupValue D). StandsFor told g kept.hs) group (stands kept.hs parts);
+            devices = λ v d at.
+                let within = slice_get_within devices v d at in
+                let many = kept.devices_are in
+                let same_many = kept.histories in
+                let e = slice_get_inside head.entries v (omega arith) in
+                let h = slice_get_inside kept.hs v (omega arith) in
+                ap is_some (kept.each v d e.0 h.0 at e.1 h.1).blocks;
+            area = parts.tells;
+            plains = kept.volumes ∙ ap (λ (ns : List ℕ). plains_of ns kept.hs) (sym volumes);
+          });
+      last = kept.last ∙ sym last;
+      given = kept.given;
+    }

@@ -1,0 +1,17 @@
+pub mod Sets
+pub mod Opens
+pub mod Copies
+pub mod Plains
+pub mod Calls
+pub mod Passes
+pub mod Shown
+pub mod Given
+pub mod Stores
+pub mod Lasting
+pub mod Keeping
+pub mod Heads
+pub mod Names
+pub mod Found
+pub mod Files
+pub mod Origins
+pub mod Failing

@@ -1,0 +1,240 @@
+-- What holds of every list of steps: where an image comes from.
+use Rattle.std.proofs.Common.{◌≡◌, ◌≢◌, ℕ, zero, suc, ◌<◌, ◌≤◌, List, [], ◌∷◌, ◌++◌, length, map, refl, ap, sym, subst, ◌∙◌, arith, append_assoc, Bool, true, false, ◌||◌, Option, Some, None, inl, inr}
+use Rattle.std.specs.Prelude.{◌==◌, ◌&&◌, ◌⊎◌, not, filter, nat_lt, nat_le, if◌then◌else◌}
+use Rattle.std.proofs.lemmas.Bool.Decides.{nat_tests}
+use Rattle.cow_volume.specs.Calls.{is_among}
+use Rattle.cow_volume.proofs.Group.{same_number, other_number}
+use Rattle.image_store.specs.FileBytes.{blocks_of_file, file_in}
+use Rattle.image_store.specs.Plain.{Kept, Plain, PlainStore, plain_at, volume_in, image_in, image_of, on_volume, on_each, cut_on, gone_on, with_blocks, dropped_on, older_on, reverted_on}
+use Rattle.image_store.specs.Steps.{Step, IsAllowed, AreAllowed, after, after_all, goes, stays}
+use Rattle.image_store.specs.Steps.Step.{Cut, Gone, Updated, UpdatedInPart, Dropped, Reverted, RevertedInPart, Shown, Read, Opened}
+use Rattle.image_store.specs.Course.{CallsFollowOneAnother, ShownIsOfItsCut, ImagesComeOfCuts, IsCutIn, SetsAreCutOnce, FilesComeBack}
+use Rattle.image_store.specs.StoreValue.{StandsAs}
+use Rattle.image_store.proofs.Files.{file_back}
+use Rattle.image_store.proofs.Lasting.{after-append, Has, allowed-append, as_many, as_many_after, cut-each, other-on}
+
+-- ## what was there before one volume changed
+
+back-on : (u v set : ℕ) (f : Plain → Plain) (t : Bool) (ps : List Plain) (blocks : List (List ℕ))
+    → ((p : Plain) → image_in set (f p).images ≡ Some blocks → (image_in set p.images ≡ Some blocks) × (t ≡ true)) → Has (on_volume u f ps) set v blocks → Has ps set v blocks × (u ≡ v → t ≡ true)
+back-on u v set f t [] blocks h has = cc
+back-on zero zero set f t (p ∷ ps) blocks h has = let r = h p has in (r.0, λ e. r.1)
+back-on zero (suc v) set f t (p ∷ ps) blocks h has = (has, λ e. absurd (omega arith))
+back-on (suc u) zero set f t (p ∷ ps) blocks h has = (has, λ e. absurd (omega arith))
+back-on (suc u) (suc v) set f t (p ∷ ps) blocks h has = let r = back-on u v set f t ps blocks h has in (r.0, λ e. r.1 (omega arith))
+
+back-all : (v set : ℕ) (f : Plain → Plain) (t : Bool) (ps : List Plain) (blocks : List (List ℕ))
+    → ((p : Plain) → image_in set (f p).images ≡ Some blocks → (image_in set p.images ≡ Some blocks) × (t ≡ true)) → Has (map f ps) set v blocks → Has ps set v blocks × (t ≡ true)
+back-all v set f t [] blocks h has = cc
+back-all zero set f t (p ∷ ps) blocks h has = h p has
+back-all (suc v) set f t (p ∷ ps) blocks h has = back-all v set f t ps blocks h has
+
+-- images that are left of some were among them, and their set is one of those that are left
+filter-if : (keeps here : Bool) (f : ℕ → Bool) (set : ℕ) (k : Kept) (xs : List Kept) (o : Option (List (List ℕ))) (blocks : List (List ℕ)) → f k.set ≡ keeps → (k.set == set) ≡ here
+    → (image_in set xs ≡ Some blocks → (o ≡ Some blocks) × (f set ≡ true)) → image_in set (if keeps then k ∷ xs else xs) ≡ Some blocks
+    → ((if here then Some k.blocks else o) ≡ Some blocks) × (f set ≡ true)
+filter-if true true f set k xs o blocks kept is rest has =
+    (sym (ap (λ t. if t then Some k.blocks else image_in set xs) is) ∙ has, sym (ap f (same_number k.set set is)) ∙ kept)
+filter-if true false f set k xs o blocks kept is rest has = rest (sym (ap (λ t. if t then Some k.blocks else image_in set xs) is) ∙ has)
+filter-if false true f set k xs o blocks kept is rest has =
+    let left = (rest has).1 in
+    let gone = sym (ap f (same_number k.set set is)) ∙ kept in
+    cc
+filter-if false false f set k xs o blocks kept is rest has = rest has
+
+back-filter : (f : ℕ → Bool) (set : ℕ) (ks : List Kept) (blocks : List (List ℕ)) → image_in set (filter (λ k. f k.set) ks) ≡ Some blocks → (image_in set ks ≡ Some blocks) × (f set ≡ true)
+back-filter f set [] blocks has = cc
+back-filter f set (k ∷ ks) blocks has = filter-if (f k.set) (k.set == set) f set k (filter (λ j. f j.set) ks) (image_in set ks) blocks refl refl (back-filter f set ks blocks) has
+
+-- ## what was there before a cut
+
+push-if : (t : Bool) (here blocks : List (List ℕ)) (o q : Option (List (List ℕ))) → (q ≡ Some blocks → o ≡ Some blocks) → (if t then Some here else q) ≡ Some blocks
+    → (if t then Some here else o) ≡ Some blocks
+push-if true here blocks o q h e = e
+push-if false here blocks o q h e = h e
+
+differs : (a b : ℕ) → a ≢ b → (a == b) ≡ false
+differs a b other = grind (arith, nat_tests)
+
+back-push : (set other : ℕ) (ks : List Kept) (had blocks : List (List ℕ)) → other ≢ set → image_in set (ks ++ record { set = other; blocks = had } ∷ []) ≡ Some blocks → image_in set ks ≡ Some blocks
+back-push set other [] had blocks apart e = let no = differs other set apart in let is = sym (ap (λ t. if t then Some had else None) no) ∙ e in cc
+back-push set other (k ∷ ks) had blocks apart e = push-if (k.set == set) k.blocks blocks (image_in set ks) (image_in set (ks ++ record { set = other; blocks = had } ∷ []))
+    (back-push set other ks had blocks apart) e
+
+back-each : (vs : List ℕ) (v set other : ℕ) (ps : List Plain) (blocks : List (List ℕ)) → other ≢ set → Has (on_each vs (cut_on other) ps) set v blocks → Has ps set v blocks
+back-each [] v set other ps blocks apart has = has
+back-each (u ∷ vs) v set other ps blocks apart has =
+    (back-on u v set (cut_on other) true ps blocks (λ p e. (back-push set other p.images p.blocks blocks apart e, refl)) (back-each vs v set other (on_volume u (cut_on other) ps) blocks apart has)).0
+
+-- a volume that is not among those that are cut is as it was
+other-each : (vs : List ℕ) (v : ℕ) (f : Plain → Plain) (ps : List Plain) → is_among v vs ≡ false → volume_in (on_each vs f ps) v ≡ volume_in ps v
+other-each [] v f ps none = refl
+other-each (u ∷ vs) v f ps none = by_test (u == v) refl none (other-each vs v f (on_volume u f ps)) where
+  by_test : (t : Bool) → (u == v) ≡ t → (t || is_among v vs) ≡ false → (is_among v vs ≡ false → volume_in (on_each vs f (on_volume u f ps)) v ≡ volume_in (on_volume u f ps) v)
+      → volume_in (on_each vs f (on_volume u f ps)) v ≡ volume_in ps v
+  by_test true is e rest = cc
+  by_test false is e rest = rest e ∙ other-on u v f ps (other_number u v is)
+
+within : (ps : List Plain) (v set : ℕ) (blocks : List (List ℕ)) → Has ps set v blocks → v < length ps
+within [] v set blocks has = cc
+within (p ∷ ps) zero set blocks has = omega arith
+within (p ∷ ps) (suc v) set blocks has = let l = within ps v set blocks has in omega arith
+
+-- ## a step
+
+-- the step is the cut of the set over the volume, which had these blocks
+abbrev IsCutHere : PlainStore → Step → ℕ → ℕ → List (List ℕ) → Type 0
+IsCutHere s x set v blocks = (vs : List ℕ) × (x ≡ Cut set vs) × (is_among v vs ≡ true) × (blocks ≡ (plain_at s v).blocks)
+
+-- it was there, and did not go
+abbrev IsStill : PlainStore → Step → ℕ → ℕ → List (List ℕ) → Type 0
+IsStill s x set v blocks = (image_of s set v ≡ Some blocks) × (goes set v x ≡ false)
+
+cut-here : (s : PlainStore) (set v : ℕ) (vs : List ℕ) (blocks : List (List ℕ)) → image_of s set v ≡ None → image_of (after s (Cut set vs)) set v ≡ Some blocks → (t : Bool) → is_among v vs ≡ t
+    → IsCutHere s (Cut set vs) set v blocks
+cut-here s set v vs blocks none has true among =
+    let many = as_many s (Cut set vs) in
+    let inside = within (after s (Cut set vs)).volumes v set blocks has in
+    let here : Some blocks ≡ Some (plain_at s v).blocks = sym has ∙ cut-each vs v set s.volumes (omega arith) none among in
+    (vs, refl, among, cc)
+cut-here s set v vs blocks none has false among =
+    let was : image_of s set v ≡ Some blocks = sym (ap (λ (p : Plain). image_in set p.images) (other-each vs v (cut_on set) s.volumes among)) ∙ has in
+    cc
+
+back-cut : (s : PlainStore) (other set v : ℕ) (vs : List ℕ) (blocks : List (List ℕ)) → ((u : ℕ) → image_of s other u ≡ None) → image_of (after s (Cut other vs)) set v ≡ Some blocks → (t : Bool)
+    → (other == set) ≡ t
+    → IsStill s (Cut other vs) set v blocks ⊎ IsCutHere s (Cut other vs) set v blocks
+back-cut s other set v vs blocks none has true is = inr
+    (subst (λ (n : ℕ). ((u : ℕ) → image_of s n u ≡ None) → image_of (after s (Cut n vs)) set v ≡ Some blocks → IsCutHere s (Cut n vs) set v blocks) (sym (same_number other set is))
+    (λ free had. cut-here s set v vs blocks (free v) had (is_among v vs) refl) none has)
+back-cut s other set v vs blocks none has false is = inl (back-each vs v set other s.volumes blocks (other_number other set is) has, refl)
+
+goes_not : (t : Bool) (u v : ℕ) → (u ≡ v → not t ≡ true) → (t && (u == v)) ≡ false
+goes_not false u v h = refl
+goes_not true u v h = by_test (u == v) refl where
+  by_test : (e : Bool) → (u == v) ≡ e → e ≡ false
+  by_test true is = let no = h (same_number u v is) in cc
+  by_test false is = refl
+
+turned : (s set : ℕ) → not (s == set) ≡ not (set == s)
+turned s set = grind (arith, nat_tests)
+
+kept_on : (up_to set : ℕ) → nat_lt up_to set ≡ true → nat_le set up_to ≡ false
+kept_on up_to set e = grind (arith, nat_tests)
+
+-- the images of a volume that is changed in this way are of those that it had
+still : (s : PlainStore) (x : Step) (u set v : ℕ) (f : Plain → Plain) (test : ℕ → Bool) (gone : Bool) (blocks : List (List ℕ)) → ((p : Plain) → (f p).images ≡ filter (λ k. test k.set) p.images)
+    → test set ≡ not gone
+    → goes set v x ≡ (gone && (u == v)) → Has (on_volume u f s.volumes) set v blocks → IsStill s x set v blocks
+still s x u set v f test gone blocks are is goes_is has =
+    let r = back-on u v set f (test set) s.volumes blocks (λ p e. back-filter test set p.images blocks (sym (ap (image_in set) (are p)) ∙ e)) has in
+    (r.0, goes_is ∙ goes_not gone u v (λ e. sym is ∙ r.1 e))
+
+back-step : (s : PlainStore) (x : Step) (set v : ℕ) (blocks : List (List ℕ)) → IsAllowed s x → image_of (after s x) set v ≡ Some blocks → IsStill s x set v blocks ⊎ IsCutHere s x set v blocks
+back-step s (Cut other vs) set v blocks allowed has = back-cut s other set v vs blocks allowed.1 has (other == set) refl
+back-step s (Gone up_to) set v blocks allowed has =
+    let r = back-all v set (gone_on up_to) (nat_lt up_to set) s.volumes blocks (λ p e. back-filter (λ n. nat_lt up_to n) set p.images blocks e) has in
+    inl (r.0, kept_on up_to set r.1)
+back-step s (Updated u wanted) set v blocks allowed has = inl ((back-on u v set (with_blocks wanted) true s.volumes blocks (λ p e. (e, refl)) has).0, refl)
+back-step s (UpdatedInPart u wanted now) set v blocks allowed has = inl ((back-on u v set (with_blocks now) true s.volumes blocks (λ p e. (e, refl)) has).0, refl)
+back-step s (Dropped other u) set v blocks allowed has =
+    inl (still s (Dropped other u) u set v (dropped_on other) (λ n. not (n == other)) (other == set) blocks (λ p. refl) (turned set other) refl has)
+back-step s (Reverted other u) set v blocks allowed has = inl (still s (Reverted other u) u set v (reverted_on other) (λ n. not (nat_lt other n)) (nat_lt other set) blocks (λ p. refl) refl refl has)
+back-step s (RevertedInPart other u now) set v blocks allowed has =
+    inl (still s (RevertedInPart other u now) u set v (λ p. with_blocks now (older_on other p)) (λ n. not (nat_lt other n)) (nat_lt other set) blocks (λ p. refl) refl refl has)
+back-step s (Shown other u bytes) set v blocks allowed has = inl (has, refl)
+back-step s (Read u bytes) set v blocks allowed has = inl (has, refl)
+back-step s Opened set v blocks allowed has = inl (has, refl)
+
+-- ## all steps
+
+allowed-front : (s : PlainStore) (xs ys : List Step) → AreAllowed s (xs ++ ys) → AreAllowed s xs
+allowed-front s [] ys all = tt
+allowed-front s (x ∷ xs) ys all = (all.0, allowed-front (after s x) xs ys all.1)
+
+stays_more : (a b : Bool) → a ≡ false → b ≡ true → (not a && b) ≡ true
+stays_more a b e f = grind (arith, nat_tests)
+
+pub images_come : ImagesComeOfCuts
+images_come s [] set v blocks all has = inl (has, refl)
+images_come s (x ∷ xs) set v blocks all has = of_rest (images_come (after s x) xs set v blocks all.1 has) where
+  of_first : stays set v xs ≡ true → IsStill s x set v blocks ⊎ IsCutHere s x set v blocks → ((image_of s set v ≡ Some blocks) × (stays set v (x ∷ xs) ≡ true)) ⊎ IsCutIn s (x ∷ xs) set v blocks
+  of_first stay (inl h) = inl (h.0, stays_more (goes set v x) (stays set v xs) h.1 stay)
+  of_first stay (inr (vs, is, among, had)) = inr (record { earlier = []; later = xs; vs = vs; steps_are = ap (λ y. y ∷ xs) is; over = among; had = had; stayed = stay })
+
+  of_rest : ((image_of (after s x) set v ≡ Some blocks) × (stays set v xs ≡ true)) ⊎ IsCutIn (after s x) xs set v blocks
+      → ((image_of s set v ≡ Some blocks) × (stays set v (x ∷ xs) ≡ true)) ⊎ IsCutIn s (x ∷ xs) set v blocks
+  of_rest (inl h) = of_first h.1 (back-step s x set v blocks all.0 h.0)
+  of_rest (inr c) = inr (record { earlier = x ∷ c.earlier; later = c.later; vs = c.vs; steps_are = ap (λ ys. x ∷ ys) c.steps_are; over = c.over; had = c.had; stayed = c.stayed })
+
+pub shown_of_cut : ShownIsOfItsCut
+shown_of_cut s steps later set v shown none all =
+    let last = (allowed-append s steps (Shown set v shown ∷ later) all).0 in
+    (last.0, not_first (images_come s steps set v last.0 (allowed-front s steps (Shown set v shown ∷ later) all) last.1), last.2) where
+      not_first : {blocks : List (List ℕ)} → ((image_of s set v ≡ Some blocks) × (stays set v steps ≡ true)) ⊎ IsCutIn s steps set v blocks → IsCutIn s steps set v blocks
+      not_first (inl h) = let free = none set v in let both = sym h.0 ∙ free in cc
+      not_first (inr c) = c
+
+-- ## no set is cut twice
+
+rises : (s : PlainStore) (x : Step) → IsAllowed s x → s.last ≤ (after s x).last
+rises s (Cut set vs) allowed = let l = allowed.0 in omega arith
+rises s (Gone up_to) allowed = omega arith
+rises s (Updated v wanted) allowed = omega arith
+rises s (UpdatedInPart v wanted now) allowed = omega arith
+rises s (Dropped set v) allowed = omega arith
+rises s (Reverted set v) allowed = omega arith
+rises s (RevertedInPart set v now) allowed = omega arith
+rises s (Shown set v bytes) allowed = omega arith
+rises s (Read v bytes) allowed = omega arith
+rises s Opened allowed = omega arith
+
+not_again : (s : PlainStore) (xs ys : List Step) (set : ℕ) (vs : List ℕ) → set ≤ s.last → AreAllowed s (xs ++ Cut set vs ∷ ys) → ⊥
+not_again s [] ys set vs given all = let l = all.0.0 in absurd (omega arith)
+not_again s (x ∷ xs) ys set vs given all = let more = rises s x all.0 in not_again (after s x) xs ys set vs (omega arith) all.1
+
+pub cut_once : SetsAreCutOnce
+cut_once s earlier between later set vs ws all =
+    let rest = allowed-append s earlier ((Cut set vs ∷ between) ++ Cut set ws ∷ later) (subst (AreAllowed s) (append_assoc earlier (Cut set vs ∷ between) (Cut set ws ∷ later)) all) in
+    not_again (after (after_all s earlier) (Cut set vs)) between later set ws (omega arith) rest.1
+
+-- ## a file comes back
+
+updated-here : (v : ℕ) (wanted : List (List ℕ)) (ps : List Plain) → v < length ps → (volume_in (on_volume v (with_blocks wanted) ps) v).blocks ≡ wanted
+updated-here v wanted [] l = absurd (omega arith)
+updated-here zero wanted (p ∷ ps) l = refl
+updated-here (suc v) wanted (p ∷ ps) l = updated-here v wanted ps (omega arith)
+
+-- an image that was cut before these steps, and is there after them, is that one
+same_cut : (s : PlainStore) (xs : List Step) (set v : ℕ) (blocks found : List (List ℕ)) → set ≤ s.last → AreAllowed s xs → image_of s set v ≡ Some blocks
+    → image_of (after_all s xs) set v ≡ Some found → found ≡ blocks
+same_cut s xs set v blocks found given all has at = by_origin (images_come s xs set v found all at) where
+  by_origin : ((image_of s set v ≡ Some found) × (stays set v xs ≡ true)) ⊎ IsCutIn s xs set v found → found ≡ blocks
+  by_origin (inl h) = let both : Some found ≡ Some blocks = sym h.0 ∙ has in cc
+  by_origin (inr c) = absurd (not_again s c.earlier c.later set c.vs given (subst (AreAllowed s) c.steps_are all))
+
+pub files_back : FilesComeBack
+files_back s earlier between later file shown n set v vs fits all l among =
+    let before = after_all s earlier in
+    let wanted = blocks_of_file n file in
+    let updated = after before (Updated v wanted) in
+    let cut = after updated (Cut set vs) in
+    let calls = Updated v wanted ∷ Cut set vs ∷ between in
+    let rest = allowed-append s earlier (calls ++ Shown set v shown ∷ later) (subst (AreAllowed s) (append_assoc earlier calls (Shown set v shown ∷ later)) all) in
+    let last = allowed-append cut between (Shown set v shown ∷ later) rest.1.1 in
+    let many = as_many_after s earlier in
+    let as_before = as_many before (Updated v wanted) in
+    let inside : v < length updated.volumes = omega arith in
+    let here : image_of cut set v ≡ Some wanted = cut-each vs v set updated.volumes inside (rest.1.0.1 v) among ∙ ap Some (updated-here v wanted before.volumes (omega arith)) in
+    let same = same_cut cut between set v wanted last.0.0 (omega arith) (allowed-front cut between (Shown set v shown ∷ later) rest.1.1) here last.0.1 in
+    last.0.2 ∙ ap file_in same ∙ file_back n file fits
+
+-- ## calls
+
+allowed-both : (s : PlainStore) (xs ys : List Step) → AreAllowed s xs → AreAllowed (after_all s xs) ys → AreAllowed s (xs ++ ys)
+allowed-both s [] ys first others = others
+allowed-both s (x ∷ xs) ys first others = (first.0, allowed-both (after s x) xs ys first.1 others)
+
+pub calls_follow : {D : Type 0} (told : D → Option (List (List ℕ))) → CallsFollowOneAnother told
+calls_follow told p xs ys middle new first others =
+    record { allowed = allowed-both p xs ys first.allowed others.allowed; stands = subst (λ (q : PlainStore). StandsAs told new q) (sym (after-append p xs ys)) others.stands }

@@ -1,0 +1,298 @@
+-- The loops of an update.
+use Rattle.std.proofs.Common.{◌≡◌, ◌≢◌, ℕ, zero, suc, ◌+◌, ◌<◌, ◌≤◌, List, length, refl, ap, sym, subst, ◌∙◌, arith, Bool, true, false, Option, Some, inl, inr}
+use Rattle.std.specs.Prelude.{◌⊎◌, IfSome, not, slice_get, slice_set}
+use Rattle.volume_device.specs.Blocks.{AreBlocks}
+use Rattle.std.proofs.lemmas.Option.{slice_get_within}
+use Rattle.write_history.specs.declared.evicted.Evicted.{Evicted}
+use Rattle.cow_volume.specs.GroupValue.{GroupValue}
+use Rattle.cow_volume.specs.Room.{HasRoom, images_going}
+use Rattle.cow_volume.specs.Steps.{IsPut}
+use Rattle.cow_volume.specs.Calls.{blocks_at, blocks_in, IsNow}
+use Rattle.cow_volume.proofs.Group.{slice_get-set_same, slice_get-set_other, length-slice_set, slice_get_inside}
+use Rattle.image_store.specs.Plain.{Plain, volume_in, with_blocks, on_volume}
+use Rattle.image_store.specs.Passes.{IsGone, HasSome, HasSomeGone, HasMixed}
+use Rattle.image_store.specs.Steps.{AreMixed}
+use Rattle.image_store.specs.StoreValue.{HasPlains, KeepsPlains}
+use Rattle.image_store.specs.Updating.{AreReady}
+use Rattle.image_store.proofs.Plains.{same_lists, on_volume-same, on_volume-twice, as_many_plains, as_many_blocks, sets_of_volumes, kept_refl, kept_then, block_now}
+use Rattle.image_store.proofs.Calls.{gone_plains, room_plains, put_on, put_plains}
+use Rattle.image_store.proofs.Sets.{at_or_below}
+
+-- ## the first pass
+
+-- the first k blocks are compared
+pub record IsMarkedTo {D I : Type 0} (told : D → Option (List (List ℕ))) (has : I → Option (List (List ℕ))) (size : I → ℕ) (old now : GroupValue D) (input input_now : I) (v : ℕ)
+    (before differs : List Bool) (k : ℕ) : Type 0 where
+  pub kept : KeepsPlains told old now
+  pub told_is : has input_now ≡ has input
+  pub size_is : size input_now ≡ size input
+  pub len : length differs ≡ length before
+  pub marked : (wanted : List (List ℕ)) (ps : List Plain) → has input ≡ Some wanted → HasPlains told old ps → (b : ℕ) → b < k → slice_get differs b ≡ Some false
+      → slice_get (volume_in ps v).blocks b ≡ slice_get wanted b
+
+pub marked_none : {D I : Type 0} (told : D → Option (List (List ℕ))) (has : I → Option (List (List ℕ))) (size : I → ℕ) (old : GroupValue D) (input : I) (v : ℕ) (differs : List Bool)
+    → IsMarkedTo told has size old old input input v differs differs 0
+marked_none told has size old input v differs = record { kept = kept_refl told old; told_is = refl; size_is = refl; len = refl; marked = λ wanted ps is plains b l. absurd (omega arith) }
+
+-- one more is
+pub marked_more : {D I : Type 0} (told : D → Option (List (List ℕ))) (has : I → Option (List (List ℕ))) (size : I → ℕ) (old now new : GroupValue D) (input input_now input_new : I) (v : ℕ)
+    (before differs : List Bool) (k : ℕ) (mark : Bool) → IsMarkedTo told has size old now input input_now v before differs k → KeepsPlains told now new → has input_new ≡ has input_now
+    → size input_new ≡ size input_now → k < length differs
+    → ((wanted : List (List ℕ)) (ps : List Plain) → has input_now ≡ Some wanted → HasPlains told now ps → mark ≡ false → slice_get (volume_in ps v).blocks k ≡ slice_get wanted k)
+    → IsMarkedTo told has size old new input input_new v before (slice_set differs k mark) (k + 1)
+marked_more told has size old now new input input_now input_new v before differs k mark so kept told_is size_is l same = record {
+  kept = kept_then told old now new so.kept kept;
+  told_is = told_is ∙ so.told_is;
+  size_is = size_is ∙ so.size_is;
+  len = length-slice_set differs k mark ∙ so.len;
+  marked = λ wanted ps is plains b m at. by_place wanted ps is plains b m at (at_or_below b k (omega arith));
+} where
+  by_place : (wanted : List (List ℕ)) (ps : List Plain) → has input ≡ Some wanted → HasPlains told old ps → (b : ℕ) → b < k + 1 → slice_get (slice_set differs k mark) b ≡ Some false
+      → (b ≡ k) ⊎ (b < k)
+      → slice_get (volume_in ps v).blocks b ≡ slice_get wanted b
+  by_place wanted ps is plains b m at (inl e) =
+      let found = slice_get_inside differs k l in
+      let here : slice_get (slice_set differs k mark) k ≡ Some false = ap (λ j. slice_get (slice_set differs k mark) j) (sym e) ∙ at in
+      let there = slice_get-set_same differs k found.0 mark found.1 in
+      let none : mark ≡ false = cc in
+      let equal = same wanted ps (so.told_is ∙ is) (so.kept.plains ps plains) none in
+      subst (λ (j : ℕ). slice_get (volume_in ps v).blocks j ≡ slice_get wanted j) (sym e) equal
+  by_place wanted ps is plains b m at (inr n) =
+      so.marked wanted ps is plains b n (sym (slice_get-set_other differs k b mark (λ e. absurd (omega arith))) ∙ at)
+
+pub marked_all : {D I : Type 0} (told : D → Option (List (List ℕ))) (has : I → Option (List (List ℕ))) (size : I → ℕ) (old now : GroupValue D) (input input_now : I) (v : ℕ)
+    (before differs : List Bool) (k : ℕ)
+    → v < length old.area.volumes → length before ≡ blocks_at old v → blocks_at old v ≤ k → ((wanted : List (List ℕ)) → has input ≡ Some wanted → length wanted ≡ blocks_at old v)
+    → IsMarkedTo told has size old now input input_now v before differs k
+    → (wanted : List (List ℕ)) (ps : List Plain) → has input ≡ Some wanted → HasPlains told old ps → AreReady differs wanted (volume_in ps v).blocks 0
+marked_all told has size old now input input_now v before differs k l marks all whole so wanted ps is plains =
+    let many = as_many_blocks told old ps v plains l in
+    record {
+      marks = so.len ∙ marks ∙ sym many;
+      as_many = whole wanted is ∙ sym many;
+      rest = λ b at.
+          let within = slice_get_within differs b false at in
+          let len = so.len in
+          so.marked wanted ps is plains b (omega arith) at;
+      first = λ b m. absurd (omega arith);
+    }
+
+-- the block is that of the other device
+pub compared : {D : Type 0} (told : D → Option (List (List ℕ))) (g : GroupValue D) (ps : List Plain) (v k : ℕ) (piece other a b : List ℕ) (same : Bool) (input : Option (List (List ℕ)))
+    (wanted : List (List ℕ))
+    → HasPlains told g ps → v < length g.area.volumes → k < blocks_at g v → IsNow told g v k piece → IfSome input (λ blocks. slice_get blocks k ≡ Some other) → input ≡ Some wanted
+    → (same ≡ true → a ≡ b) → a ≡ piece → b ≡ other → not same ≡ false → slice_get (volume_in ps v).blocks k ≡ slice_get wanted k
+compared told g ps v k piece other a b true input wanted has l m now read is equal first second e =
+    let there : slice_get wanted k ≡ Some other = subst (λ (o : Option (List (List ℕ))). IfSome o (λ blocks. slice_get blocks k ≡ Some other)) is read in
+    block_now told g ps v k piece has l m now ∙ ap Some (sym first ∙ equal refl ∙ second) ∙ sym there
+compared told g ps v k piece other a b false input wanted has l m now read is equal first second e = cc
+
+pub as_many_wanted : (size n : ℕ) (input : Option (List (List ℕ))) (wanted : List (List ℕ)) → IfSome input (AreBlocks size) → size ≡ n → input ≡ Some wanted → length wanted ≡ n
+as_many_wanted size n input wanted whole e is = (subst (λ (o : Option (List (List ℕ))). IfSome o (AreBlocks size)) is whole).number ∙ e
+
+-- ## the second pass
+
+-- one more block is copied
+pub copy_more : {D : Type 0} (told : D → Option (List (List ℕ))) (old now room new : GroupValue D) (v b up_to : ℕ) → KeepsPlains told old now → up_to ≤ 0 → HasRoom told now room v b up_to
+    → KeepsPlains told room new
+    → KeepsPlains told old new
+copy_more told old now room new v b up_to kept none made more =
+    kept_then told old now new kept (kept_then told now room new (room_plains told now room v b up_to (omega arith) made) more)
+
+-- it stops where images went
+pub copying_stopped : {D : Type 0} (told : D → Option (List (List ℕ))) (old now new : GroupValue D) (ps : List Plain) (v b up_to : ℕ) (list : List Evicted) → KeepsPlains told old now → 0 < up_to
+    → HasRoom told now new v b up_to → list ≡ images_going up_to now.images → HasPlains told old ps → IsGone told new ps up_to list
+copying_stopped told old now new ps v b up_to list kept some room list_is has =
+    let plains = kept.plains ps has in
+    record {
+      some = some;
+      list_is = list_is ∙ ap (images_going up_to) (sets_of_volumes told now ps plains);
+      plains = gone_plains told now new ps v b up_to room plains;
+    }
+
+-- ## the third pass
+
+-- what was read of the other device
+pub read_there : (input : Option (List (List ℕ))) (wanted : List (List ℕ)) (k : ℕ) (piece bytes : List ℕ) → IfSome input (λ blocks. slice_get blocks k ≡ Some piece) → input ≡ Some wanted
+    → bytes ≡ piece
+    → slice_get wanted k ≡ Some bytes
+read_there input wanted k piece bytes read is same = subst (λ (o : Option (List (List ℕ))). IfSome o (λ blocks. slice_get blocks k ≡ Some piece)) is read ∙ ap Some (sym same)
+
+pub record IsWrittenTo {D I : Type 0} (told : D → Option (List (List ℕ))) (has : I → Option (List (List ℕ))) (size : I → ℕ) (old now : GroupValue D) (input input_now : I) (v : ℕ)
+    (differs : List Bool) (from k : ℕ) : Type 0 where
+  pub volumes : now.area.volumes ≡ old.area.volumes
+  pub told_is : has input_now ≡ has input
+  pub size_is : size input_now ≡ size input
+  pub written : (wanted : List (List ℕ)) (ps : List Plain) → has input ≡ Some wanted → HasPlains told old ps → AreReady differs wanted (volume_in ps v).blocks from
+      → HasSome told now ps v differs wanted k
+
+with_own : (p : Plain) → with_blocks p.blocks p ≡ p
+with_own p = refl
+
+pub written_none : {D I : Type 0} (told : D → Option (List (List ℕ))) (has : I → Option (List (List ℕ))) (size : I → ℕ) (old : GroupValue D) (input : I) (v : ℕ) (differs : List Bool) (from : ℕ)
+    → IsWrittenTo told has size old old input input v differs from from
+written_none told has size old input v differs from = record {
+  volumes = refl;
+  told_is = refl;
+  size_is = refl;
+  written = λ wanted ps is plains ready. record {
+    now = (volume_in ps v).blocks;
+    mixed = (refl, λ b. inl refl);
+    ready = ready;
+    plains = subst (λ (qs : List Plain). HasPlains told old qs) (sym (on_volume-same ps v (with_blocks (volume_in ps v).blocks) (with_own (volume_in ps v)))) plains;
+  };
+}
+
+-- a block is the wanted one, by either list of which it comes
+wanted_at : (x y z : Option (List ℕ)) → x ≡ z → (y ≡ x) ⊎ (y ≡ z) → y ≡ z
+wanted_at x y z e (inl f) = f ∙ e
+wanted_at x y z e (inr f) = f
+
+ready_more : (differs : List Bool) (wanted now : List (List ℕ)) (k : ℕ) → AreReady differs wanted now k → slice_get now k ≡ slice_get wanted k → AreReady differs wanted now (k + 1)
+ready_more differs wanted now k ready here = record {
+  marks = ready.marks;
+  as_many = ready.as_many;
+  rest = ready.rest;
+  first = λ b l. by_place b (at_or_below b k l);
+} where
+  by_place : (b : ℕ) → (b ≡ k) ⊎ (b < k) → slice_get now b ≡ slice_get wanted b
+  by_place b (inl e) = subst (λ (j : ℕ). slice_get now j ≡ slice_get wanted j) (sym e) here
+  by_place b (inr l) = ready.first b l
+
+-- a block that is not marked is passed
+pub written_past : {D I : Type 0} (told : D → Option (List (List ℕ))) (has : I → Option (List (List ℕ))) (size : I → ℕ) (old now : GroupValue D) (input input_now : I) (v : ℕ) (differs : List Bool)
+    (from k : ℕ)
+    → slice_get differs k ≡ Some false → IsWrittenTo told has size old now input input_now v differs from k → IsWrittenTo told has size old now input input_now v differs from (k + 1)
+written_past told has size old now input input_now v differs from k unmarked so = record {
+  volumes = so.volumes;
+  told_is = so.told_is;
+  size_is = so.size_is;
+  written = λ wanted ps is plains ready.
+      let some = so.written wanted ps is plains ready in
+      record { now = some.now; mixed = some.mixed; ready = ready_more differs wanted some.now k some.ready (some.ready.rest k unmarked); plains = some.plains };
+}
+
+-- a marked block is put
+set_ready : (differs : List Bool) (wanted now : List (List ℕ)) (k : ℕ) (bytes : List ℕ) → k < length now → slice_get wanted k ≡ Some bytes → AreReady differs wanted now k
+    → AreReady differs wanted (slice_set now k bytes) (k + 1)
+set_ready differs wanted now k bytes l at ready = record {
+  marks = ready.marks ∙ sym (length-slice_set now k bytes);
+  as_many = ready.as_many ∙ sym (length-slice_set now k bytes);
+  rest = λ b is. by_test b is (same_or_other b k);
+  first = λ b m. by_place b (at_or_below b k m);
+} where
+  here : slice_get (slice_set now k bytes) k ≡ slice_get wanted k
+  here = let found = slice_get_inside now k l in slice_get-set_same now k found.0 bytes found.1 ∙ sym at
+
+  other : (b : ℕ) → b ≢ k → slice_get now b ≡ slice_get wanted b → slice_get (slice_set now k bytes) b ≡ slice_get wanted b
+  other b m e = slice_get-set_other now k b bytes (λ f. m (sym f)) ∙ e
+
+  same_or_other : (b k : ℕ) → (b ≡ k) ⊎ (b ≢ k)
+  same_or_other zero zero = inl refl
+  same_or_other zero (suc k) = inr (λ e. absurd (omega arith))
+  same_or_other (suc b) zero = inr (λ e. absurd (omega arith))
+  same_or_other (suc b) (suc k) = further b k (same_or_other b k) where
+    further : (b k : ℕ) → (b ≡ k) ⊎ (b ≢ k) → (suc b ≡ suc k) ⊎ (suc b ≢ suc k)
+    further b k (inl e) = inl (ap suc e)
+    further b k (inr m) = inr (λ e. m (omega arith))
+
+  by_test : (b : ℕ) → slice_get differs b ≡ Some false → (b ≡ k) ⊎ (b ≢ k) → slice_get (slice_set now k bytes) b ≡ slice_get wanted b
+  by_test b is (inl e) = subst (λ (j : ℕ). slice_get (slice_set now k bytes) j ≡ slice_get wanted j) (sym e) here
+  by_test b is (inr m) = other b m (ready.rest b is)
+
+  by_place : (b : ℕ) → (b ≡ k) ⊎ (b < k) → slice_get (slice_set now k bytes) b ≡ slice_get wanted b
+  by_place b (inl e) = subst (λ (j : ℕ). slice_get (slice_set now k bytes) j ≡ slice_get wanted j) (sym e) here
+  by_place b (inr m) = other b (λ e. absurd (omega arith)) (ready.first b m)
+
+set_mixed : (old wanted now : List (List ℕ)) (k : ℕ) (bytes : List ℕ) → k < length now → slice_get wanted k ≡ Some bytes → AreMixed old wanted now → AreMixed old wanted (slice_set now k bytes)
+set_mixed old wanted now k bytes l at mixed = (length-slice_set now k bytes ∙ mixed.0, λ b. by_test b (same_or_other b k)) where
+  same_or_other : (b k : ℕ) → (b ≡ k) ⊎ (b ≢ k)
+  same_or_other zero zero = inl refl
+  same_or_other zero (suc k) = inr (λ e. absurd (omega arith))
+  same_or_other (suc b) zero = inr (λ e. absurd (omega arith))
+  same_or_other (suc b) (suc k) = further b k (same_or_other b k) where
+    further : (b k : ℕ) → (b ≡ k) ⊎ (b ≢ k) → (suc b ≡ suc k) ⊎ (suc b ≢ suc k)
+    further b k (inl e) = inl (ap suc e)
+    further b k (inr m) = inr (λ e. m (omega arith))
+
+  by_test : (b : ℕ) → (b ≡ k) ⊎ (b ≢ k) → (slice_get (slice_set now k bytes) b ≡ slice_get old b) ⊎ (slice_get (slice_set now k bytes) b ≡ slice_get wanted b)
+  by_test b (inl e) =
+      let found = slice_get_inside now k l in
+      inr (subst (λ (j : ℕ). slice_get (slice_set now k bytes) j ≡ slice_get wanted j) (sym e) (slice_get-set_same now k found.0 bytes found.1 ∙ sym at))
+  by_test b (inr m) = shifted (slice_get-set_other now k b bytes (λ f. m (sym f))) (mixed.1 b) where
+    shifted : {x y z w : Option (List ℕ)} → x ≡ y → (y ≡ z) ⊎ (y ≡ w) → (x ≡ z) ⊎ (x ≡ w)
+    shifted e (inl f) = inl (e ∙ f)
+    shifted e (inr f) = inr (e ∙ f)
+
+pub written_more : {D I : Type 0} (told : D → Option (List (List ℕ))) (size count : D → ℕ) (lending : D → Bool) (has : I → Option (List (List ℕ))) (measure : I → ℕ) (old now room new : GroupValue D)
+    (input input_now input_new : I) (v : ℕ)
+    (differs : List Bool) (from k : ℕ) (bytes : List ℕ) → v < length old.area.volumes → k < blocks_at old v → IsWrittenTo told has measure old now input input_now v differs from k
+    → KeepsPlains told now room
+    → has input_new ≡ has input_now → measure input_new ≡ measure input_now → ((wanted : List (List ℕ)) → has input_now ≡ Some wanted → slice_get wanted k ≡ Some bytes)
+    → IsPut told size count lending room new v (record { block = k; bytes = bytes }) → IsWrittenTo told has measure old new input input_new v differs from (k + 1)
+written_more told size count lending has measure old now room new input input_now input_new v differs from k bytes l m so kept told_is size_is read put = record {
+  volumes = put.kept.volumes ∙ kept.volumes ∙ so.volumes;
+  told_is = told_is ∙ so.told_is;
+  size_is = size_is ∙ so.size_is;
+  written = λ wanted ps is plains ready.
+      let some = so.written wanted ps is plains ready in
+      let at : slice_get wanted k ≡ Some bytes = read wanted (so.told_is ∙ is) in
+      let many = as_many_blocks told old ps v plains l in
+      let long = some.mixed.0 in
+      let volumes = ap length (kept.volumes ∙ so.volumes) in
+      let blocks = ap (λ (ns : List ℕ). blocks_of ns) (kept.volumes ∙ so.volumes) in
+      let many_ps = as_many_plains told old ps plains in
+      let before = kept.plains (on_volume v (with_blocks some.now) ps) some.plains in
+      let after = put_plains told size count lending room new (on_volume v (with_blocks some.now) ps) v k bytes (omega arith) (omega arith) put before in
+      record {
+        now = slice_set some.now k bytes;
+        mixed = set_mixed (volume_in ps v).blocks wanted some.now k bytes (omega arith) at some.mixed;
+        ready = set_ready differs wanted some.now k bytes (omega arith) at some.ready;
+        plains = subst (λ (qs : List Plain). HasPlains told new qs) (on_volume-twice ps v (put_on k bytes) (with_blocks some.now) (with_blocks (slice_set some.now k bytes)) (λ p. refl)) after;
+      };
+} where
+  blocks_of : List ℕ → ℕ
+  blocks_of ns = blocks_in (slice_get ns v)
+
+-- all marked blocks are put
+pub written_all : {D I : Type 0} (told : D → Option (List (List ℕ))) (has : I → Option (List (List ℕ))) (size : I → ℕ) (old now : GroupValue D) (input input_now : I) (v : ℕ) (differs : List Bool)
+    (from k : ℕ)
+    (wanted : List (List ℕ)) (ps : List Plain) → v < length old.area.volumes → blocks_at old v ≤ k → IsWrittenTo told has size old now input input_now v differs from k → has input ≡ Some wanted
+    → HasPlains told old ps → AreReady differs wanted (volume_in ps v).blocks from → HasPlains told now (on_volume v (with_blocks wanted) ps)
+written_all told has size old now input input_now v differs from k wanted ps l all so is plains ready =
+    let some = so.written wanted ps is plains ready in
+    let many = as_many_blocks told old ps v plains l in
+    let long = some.mixed.0 in
+    let same : some.now ≡ wanted = same_lists some.now wanted (sym some.ready.as_many) (λ i x y at there.
+    let within = slice_get_within some.now i x at in
+    let here = some.ready.first i (omega arith) in
+    let both : Some x ≡ Some y = sym at ∙ here ∙ there in
+    cc) in
+    subst (λ (blocks : List (List ℕ)). HasPlains told now (on_volume v (with_blocks blocks) ps)) same some.plains
+
+pub written_stopped : {D I : Type 0} (told : D → Option (List (List ℕ))) (has : I → Option (List (List ℕ))) (size : I → ℕ) (old now new : GroupValue D) (input input_now : I) (v : ℕ)
+    (differs : List Bool) (from k up_to : ℕ)
+    (wanted : List (List ℕ)) (ps : List Plain) (list : List Evicted) → 0 < up_to → IsWrittenTo told has size old now input input_now v differs from k → HasRoom told now new v k up_to
+    → list ≡ images_going up_to now.images → has input ≡ Some wanted → HasPlains told old ps → AreReady differs wanted (volume_in ps v).blocks from
+    → HasSomeGone told new ps v differs wanted k up_to list
+written_stopped told has size old now new input input_now v differs from k up_to wanted ps list some so room list_is is plains ready =
+    let part = so.written wanted ps is plains ready in
+    record {
+      now = part.now;
+      mixed = part.mixed;
+      ready = part.ready;
+      went = record {
+        some = some;
+        list_is = list_is ∙ ap (images_going up_to) (sets_of_volumes told now (on_volume v (with_blocks part.now) ps) part.plains);
+        plains = gone_plains told now new (on_volume v (with_blocks part.now) ps) v k up_to room part.plains;
+      };
+    }
+
+-- a device failed
+pub written_part : {D I : Type 0} (told : D → Option (List (List ℕ))) (has : I → Option (List (List ℕ))) (size : I → ℕ) (old now new : GroupValue D) (input input_now : I) (v : ℕ)
+    (differs : List Bool) (from k : ℕ)
+    (wanted : List (List ℕ)) (ps : List Plain) → IsWrittenTo told has size old now input input_now v differs from k → KeepsPlains told now new → has input ≡ Some wanted
+    → HasPlains told old ps → AreReady differs wanted (volume_in ps v).blocks from → HasMixed told new ps v wanted
+written_part told has size old now new input input_now v differs from k wanted ps so kept is plains ready =
+    let part = so.written wanted ps is plains ready in
+    (part.now, part.mixed, kept.plains (on_volume v (with_blocks part.now) ps) part.plains)

@@ -1,0 +1,197 @@
+-- A store and the whole copies that it stands for: its calls as steps.
+use Rattle.std.proofs.Common.{◌≡◌, ℕ, ◌<◌, List, [], ◌∷◌, length, map, refl, ap, sym, subst, ◌∙◌, arith, Bool, true, false, Option, Some, None, is_some}
+use Rattle.std.specs.Prelude.{◌||◌, ◌&&◌, ◌==◌, not, nat_lt, if◌then◌else◌, slice_get, replicate, Result, Ok, Err, OnOk}
+use Rattle.std.specs.List.{range_with_len}
+use Rattle.vss_names.specs.TextValue.{TextValue}
+use Rattle.vss_catalog.specs.Group.{are_names_for}
+use Rattle.vss_catalog.specs.Names.{are_names, bytes_in}
+use Rattle.write_history.specs.declared.evicted.Evicted.{Evicted}
+use Rattle.block_data.specs.Runs.{zeros}
+use Rattle.write_history.specs.History.{fresh}
+use Rattle.cow_volume.specs.GroupValue.{GroupValue}
+use Rattle.cow_volume.specs.StandsFor.{StandsFor}
+use Rattle.cow_volume.specs.Ending.{AllTell, IsSync, IsSynced}
+use Rattle.cow_volume.specs.Calls.{IsDropped, is_among, blocks_in, sets_in}
+use Rattle.cow_volume.specs.Calls.{IsRevert as IsGroupRevert}
+use Rattle.cow_volume.specs.declared.cause.Cause.{Cause}
+use Rattle.cow_volume.specs.declared.image_fault.ImageFault.{ImageFault}
+use Rattle.cow_volume.specs.declared.revert_fault.RevertFault.{RevertFault}
+use Rattle.cow_volume.specs.declared.revert_fault.RevertFault.TheVariants.{NoSuchImage, Fault}
+use Rattle.image_store.specs.Head.{head_bytes, head_of}
+use Rattle.image_store.specs.Passes.{IsCopying, IsWriting}
+use Rattle.image_store.specs.Plain.{Kept, Plain, PlainStore, plain_at, on_each, cut_on, gone_on, with_blocks, dropped_on, older_on, reverted_on, image_in, fresh_store, plains_of, AllGiven}
+use Rattle.image_store.specs.Reverting.{IsRevert}
+use Rattle.image_store.specs.Steps.Step.{Cut, Dropped}
+use Rattle.image_store.specs.StoreValue.{StoreValue, HasPlains, KeepsPlains, StandsAs, IsStep, StandsStill}
+use Rattle.image_store.specs.Updating.{AreReady, IsAhead, IsOverwriting}
+use Rattle.image_store.specs.declared.pass.Pass.{Pass}
+use Rattle.image_store.specs.declared.pass.Pass.TheVariants.{Done, Evicted as Stopped}
+use Rattle.image_store.proofs.Calls.{dropped_plains, reverted_plains, in_part_plains}
+use Rattle.image_store.proofs.Copies.{plain-fresh}
+use Rattle.image_store.proofs.Given.{given-filter, given-on, given-all, given-cut, ungiven, given-at}
+use Rattle.image_store.proofs.Plains.{image_there, sets_of_volume}
+
+-- a store of these parts
+abbrev pub store_of : {D : Type 0} → GroupValue D → List TextValue → ℕ → StoreValue D
+store_of group names last = record { group = group; names = names; last = last }
+
+pub named_still : {D : Type 0} (old new : GroupValue D) (names : List TextValue) → new.area.volumes ≡ old.area.volumes → are_names_for old names ≡ true → are_names_for new names ≡ true
+named_still old new names same named = ap (λ (ns : List ℕ). (length names == length ns) && are_names names) same ∙ named
+
+-- the head is that of the volumes and the images
+pub head_still : {D : Type 0} (old new : GroupValue D) (names : List TextValue) (last : ℕ) → new.area.volumes ≡ old.area.volumes → new.images ≡ old.images
+    → head_of (store_of new names last) ≡ head_of (store_of old names last)
+head_still old new names last volumes images =
+    ap (λ (ns : List ℕ). head_bytes last
+    (map (λ v. record { name = bytes_in (slice_get names v); blocks = blocks_in (slice_get ns v); images = sets_in (slice_get new.images v) }) (range_with_len 0 (length ns)))) volumes
+    ∙ ap (λ (is : List (List ℕ)). head_bytes last (map (λ v. record { name = bytes_in (slice_get names v); blocks = blocks_in (slice_get old.area.volumes v); images = sets_in (slice_get is v) })
+    (range_with_len 0 (length old.area.volumes)))) images
+
+pub synced : {D : Type 0} (told : D → Option (List (List ℕ))) (size count : D → ℕ) (lending : D → Bool) (old new : GroupValue D) (r : Result Unit Cause) → IsSync told size count lending old new r
+    → IsSynced told size count lending old new
+synced told size count lending old new (Ok done) is = is.0
+synced told size count lending old new (Err cause) is = is.0
+
+pub still : {D : Type 0} (told : D → Option (List (List ℕ))) (old new : StoreValue D) → KeepsPlains told old.group new.group → new.last ≡ old.last → StandsStill told old new
+still told old new kept last = λ p stands. record { group = kept.plains p.volumes stands.group; last = stands.last ∙ sym last; given = stands.given }
+
+pub cut_step : {D : Type 0} (told : D → Option (List (List ℕ))) (old new : StoreValue D) (set : ℕ) (vs : List ℕ) → old.last < set → new.last ≡ set
+    → ((ps : List Plain) → HasPlains told old.group ps → HasPlains told new.group (on_each vs (cut_on set) ps)) → IsStep told old new (Cut set vs)
+cut_step told old new set vs later last cut = λ p stands.
+    let same = stands.last in (
+      (omega arith, λ v. ungiven p.last set (plain_at p v).images (omega arith) (given-at p.last v p.volumes stands.given)),
+      record { group = cut p.volumes stands.group; last = sym last; given = given-cut p.last set vs p.volumes (omega arith) stands.given },
+    )
+
+pub dropped_step : {D : Type 0} (told : D → Option (List (List ℕ))) (size count : D → ℕ) (lending : D → Bool) (old new : StoreValue D) (set v : ℕ) (r : Result Unit ImageFault) → new.last ≡ old.last
+    → v < length old.group.area.volumes → IsDropped told size count lending old.group new.group v set r → OnOk r (IsStep told old new (Dropped set v))
+dropped_step told size count lending old new set v (Ok done) last l is = λ p stands. (
+  image_there told old.group p.volumes v set stands.group l is.0,
+  record {
+    group = dropped_plains told size count lending old.group new.group p.volumes v set l is.1 stands.group;
+    last = stands.last ∙ sym last;
+    given = given-on p.last v (dropped_on set) p.volumes (λ q given. given-filter (λ k. not (k.set == set)) p.last q.images given) stands.given;
+  },
+)
+dropped_step told size count lending old new set v (Err fault) last l is = tt
+
+pub dropped_volumes : {D : Type 0} (told : D → Option (List (List ℕ))) (size count : D → ℕ) (lending : D → Bool) (old new : GroupValue D) (set v : ℕ) (r : Result Unit ImageFault)
+    → IsDropped told size count lending old new v set r → new.area.volumes ≡ old.area.volumes
+dropped_volumes told size count lending old new set v (Ok done) is = is.1.kept.volumes
+dropped_volumes told size count lending old new set v (Err fault) is = ap (λ (g : GroupValue _). g.area.volumes) is.2
+
+-- ## reverts
+
+unseen-if : (t : Bool) (rest : Bool) (blocks : List (List ℕ)) (o : Option (List (List ℕ))) → (t || rest) ≡ false → (rest ≡ false → o ≡ None) → (if t then Some blocks else o) ≡ None
+unseen-if true rest blocks o e h = cc
+unseen-if false rest blocks o e h = h e
+
+unseen : (set : ℕ) (ks : List Kept) → is_among set (map (λ (k : Kept). k.set) ks) ≡ false → image_in set ks ≡ None
+unseen set [] e = refl
+unseen set (k ∷ ks) e = unseen-if (k.set == set) (is_among set (map (λ (j : Kept). j.set) ks)) k.blocks (image_in set ks) e (unseen set ks)
+
+pub revert_is : {D : Type 0} (told : D → Option (List (List ℕ))) (size count : D → ℕ) (lending : D → Bool) (old new : StoreValue D) (set v : ℕ) (r : Result Unit RevertFault) → new.last ≡ old.last
+    → v < length old.group.area.volumes → IsGroupRevert told size count lending old.group new.group v set r → (p : PlainStore) → StandsAs told old p → IsRevert told new p set v r
+revert_is told size count lending old new set v (Ok done) last l is p stands = (
+  image_there told old.group p.volumes v set stands.group l is.image,
+  record {
+    group = reverted_plains told size count lending old.group new.group p.volumes v set l is stands.group;
+    last = stands.last ∙ sym last;
+    given = given-on p.last v (reverted_on set) p.volumes (λ q given. given-filter (λ k. not (nat_lt set k.set)) p.last q.images given) stands.given;
+  },
+)
+revert_is told size count lending old new set v (Err NoSuchImage) last l is p stands = (
+  unseen set (plain_at p v).images (ap (is_among set) (sym (sets_of_volume told old.group p.volumes v stands.group l)) ∙ is.0),
+  record { group = subst (λ (g : GroupValue _). HasPlains told g p.volumes) (sym is.1) stands.group; last = stands.last ∙ sym last; given = stands.given },
+)
+revert_is told size count lending old new set v (Err (Fault restored cause)) last l is p stands =
+    let mixed = in_part_plains told size count lending old.group new.group p.volumes v set restored l is.0 stands.group in (
+      mixed.now,
+      (mixed.image, mixed.image_is, mixed.mixed),
+      record {
+        group = mixed.plains;
+        last = stands.last ∙ sym last;
+        given = given-on p.last v (λ q. with_blocks mixed.now (older_on set q)) p.volumes (λ q given. given-filter (λ k. not (nat_lt set k.set)) p.last q.images given) stands.given;
+      },
+    )
+
+pub revert_volumes : {D : Type 0} (told : D → Option (List (List ℕ))) (size count : D → ℕ) (lending : D → Bool) (old new : GroupValue D) (set v : ℕ) (r : Result Unit RevertFault)
+    → IsGroupRevert told size count lending old new v set r → new.area.volumes ≡ old.area.volumes
+revert_volumes told size count lending old new set v (Ok done) is = is.kept.volumes
+revert_volumes told size count lending old new set v (Err NoSuchImage) is = ap (λ (g : GroupValue _). g.area.volumes) is.1
+revert_volumes told size count lending old new set v (Err (Fault restored cause)) is = is.0.kept.volumes
+
+-- ## updates
+
+pub ahead : {D E : Type 0} (told : D → Option (List (List ℕ))) (old new : StoreValue D) (list : List Evicted) (r : Result Pass E) → new.last ≡ old.last
+    → ((ps : List Plain) → HasPlains told old.group ps → IsCopying told new.group ps list r) → (p : PlainStore) → StandsAs told old p → IsAhead told new p list r
+ahead told old new list (Ok Done) last is p stands = record { group = is p.volumes stands.group; last = stands.last ∙ sym last; given = stands.given }
+ahead told old new list (Ok (Stopped at up_to)) last is p stands =
+    let gone = is p.volumes stands.group in
+    record {
+      some = gone.some;
+      list_is = gone.list_is;
+      stands = record {
+        group = gone.plains;
+        last = stands.last ∙ sym last;
+        given = given-all p.last (gone_on up_to) p.volumes (λ q given. given-filter (λ k. nat_lt up_to k.set) p.last q.images given) stands.given;
+      };
+    }
+ahead told old new list (Err failed) last is p stands = record { group = is p.volumes stands.group; last = stands.last ∙ sym last; given = stands.given }
+
+pub overwriting : {D E : Type 0} (told : D → Option (List (List ℕ))) (old new : StoreValue D) (v : ℕ) (differs : List Bool) (wanted : List (List ℕ)) (from : ℕ) (list : List Evicted)
+    (r : Result Pass E)
+    → new.last ≡ old.last → (p : PlainStore) → StandsAs told old p → AreReady differs wanted (plain_at p v).blocks from → IsWriting told new.group p.volumes v differs wanted list r
+    → IsOverwriting told new p v differs wanted list r
+overwriting told old new v differs wanted from list (Ok Done) last p stands ready is = (
+  ready.as_many,
+  record { group = is; last = stands.last ∙ sym last; given = given-on p.last v (with_blocks wanted) p.volumes (λ q given. given) stands.given },
+)
+overwriting told old new v differs wanted from list (Ok (Stopped at up_to)) last p stands ready is = (
+  is.now,
+  record {
+    allowed = is.mixed;
+    ready = is.ready;
+    stopped = record {
+      some = is.went.some;
+      list_is = is.went.list_is;
+      stands = record {
+        group = is.went.plains;
+        last = stands.last ∙ sym last;
+        given = given-all p.last (gone_on up_to) _ (λ q given. given-filter (λ k. nat_lt up_to k.set) p.last q.images given)
+            (given-on p.last v (with_blocks is.now) p.volumes (λ q given. given) stands.given);
+      };
+    };
+  },
+)
+overwriting told old new v differs wanted from list (Err failed) last p stands ready is = (
+  is.0,
+  is.1,
+  record { group = is.2; last = stands.last ∙ sym last; given = given-on p.last v (with_blocks is.0) p.volumes (λ q given. given) stands.given },
+)
+
+-- ## a store that is new
+
+fresh_plains : (ns : List ℕ) → plains_of ns (map (λ n. fresh) ns) ≡ (fresh_store ns).volumes
+fresh_plains [] = refl
+fresh_plains (n ∷ ns) = ap (λ blocks. record { blocks = blocks; images = [] } ∷ plains_of ns (map (λ m. fresh) ns)) (plain-fresh 0 n)
+    ∙ ap (λ ps. record { blocks = replicate n zeros; images = [] } ∷ ps) (fresh_plains ns)
+
+fresh_given : (ns : List ℕ) → AllGiven 0 (fresh_store ns).volumes
+fresh_given [] = tt
+fresh_given (n ∷ ns) = (tt, fresh_given ns)
+
+pub fresh_stands : {D : Type 0} (told : D → Option (List (List ℕ))) (s : StoreValue D) (volumes : List ℕ) → s.group.area.volumes ≡ volumes → s.last ≡ 0 → AllTell told s.group.devices
+    → is_some (told s.group.area.device) ≡ true
+    → StandsFor told s.group (map (λ n. fresh) volumes) → StandsAs told s (fresh_store volumes)
+fresh_stands told s volumes volumes_are last devices area stands = record {
+  group = record {
+    hs = map (λ n. fresh) volumes;
+    stands = stands;
+    devices = devices;
+    area = area;
+    plains = sym (fresh_plains volumes) ∙ ap (λ ns. plains_of ns (map (λ n. fresh) volumes)) (sym volumes_are);
+  };
+  last = sym last;
+  given = fresh_given volumes;
+}

@@ -1,0 +1,5 @@
+use Rattle.image_store.specs.Naming.{AreOthers}
+use Rattle.image_store.proofs.naming.first_of.Given as goal
+
+abbrev pub invariant-loop-place : goal.invariant-loop-place
+invariant-loop-place l = AreOthers l.names l.name l.place

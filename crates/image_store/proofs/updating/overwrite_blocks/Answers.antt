@@ -1,0 +1,95 @@
+use Rattle.std.proofs.Common.{◌∙◌, ◌<◌, refl, length, arith}
+use Rattle.std.proofs.lemmas.Result.{err_from_is_err_and}
+use Rattle.block_data.specs.PayloadBytes.{payload_bytes}
+use Rattle.image_store.proofs.Calls.{room_plains, not_put_kept}
+use Rattle.image_store.proofs.Failing.{device_after, pass_failed, room_unfailed, unfailed_itself, unfailed_then}
+use Rattle.image_store.proofs.Passes.{written_none, written_past, written_more, written_stopped, written_part, written_all, read_there}
+use Rattle.image_store.proofs.Plains.{kept_then}
+use Rattle.image_store.proofs.Sets.{flag_is}
+use Rattle.image_store.proofs.updating.overwrite_blocks.Goals as goal
+use Rattle.image_store.proofs.updating.overwrite_blocks.Goals.{then-differs-b+else-up_to-gt0+in-Ok+in_ok-put, else-differs-b}
+
+pub loop-b-init : goal.loop-b-init
+loop-b-init g c = record {
+  written = written_none g.D.Device.told g.I.Device.told g.I.Device.size c.args.group.now c.args.input.now c.args.v c.args.differs.now
+      c.args.from;
+  room = refl;
+  unfailed = record { group = unfailed_itself g.D.Device.count c.args.group.now; input = refl };
+}
+
+pub returns-then-up_to-gt0-clause-writing : goal.returns-then-up_to-gt0-clause-writing
+returns-then-up_to-gt0-clause-writing g c = λ wanted ps is has ready.
+    written_stopped g.D.Device.told g.I.Device.told g.I.Device.size c.args.group.now c.loop-b.group c.make_room-up_to.new.self c.args.input.now c.loop-b.input c.args.v c.args.differs.now c.args.from
+    c.loop-b.b
+    c.make_room-up_to.result wanted ps c.make_room-up_to.new.gone.items c.if-up_to-gt0.true c.loop-b.invariant.written c.make_room-up_to.ensures.room c.make_room-up_to.ensures.told is has ready
+
+pub returns-clause-writing : goal.returns-clause-writing
+returns-clause-writing g c = λ wanted ps is has ready.
+    let test = c.loop-b-test.false in
+    let end = c.blocks-b-end.ensures in
+    written_all g.D.Device.told g.I.Device.told g.I.Device.size c.args.group.now c.loop-b.group c.args.input.now c.loop-b.input c.args.v c.args.differs.now c.args.from c.loop-b.b wanted ps
+    c.requires.volume
+    (omega arith) c.loop-b.invariant.written is has ready
+
+pub returns-in_default-clause-writing : goal.returns-in_default-clause-writing
+returns-in_default-clause-writing g c = λ wanted ps is has ready.
+    written_part g.D.Device.told g.I.Device.told g.I.Device.size c.args.group.now c.loop-b.group c.make_room-up_to.new.self c.args.input.now c.loop-b.input c.args.v c.args.differs.now c.args.from
+    c.loop-b.b wanted ps
+    c.loop-b.invariant.written
+    (room_plains g.D.Device.told c.loop-b.group c.make_room-up_to.new.self c.args.v c.loop-b.b c.make_room-up_to.result (let none = c.if-up_to-gt0.false in omega arith) c.make_room-up_to.ensures.room)
+    is has ready
+
+pub returns-in_err-put-clause-writing : goal.returns-in_err-put-clause-writing
+returns-in_err-put-clause-writing g c =
+    let p = err_from_is_err_and c.from_residual.result c.from_residual.ensures.1 in
+    let made = room_plains g.D.Device.told c.loop-b.group c.make_room-up_to.new.self c.args.v c.loop-b.b c.make_room-up_to.result
+    (let none = c.if-up_to-gt0.false in omega arith) c.make_room-up_to.ensures.room in
+    rw p.1 (λ wanted ps is has ready. written_part g.D.Device.told g.I.Device.told g.I.Device.size c.args.group.now c.loop-b.group c.put.new.self c.args.input.now c.loop-b.input c.args.v
+    c.args.differs.now c.args.from
+    c.loop-b.b wanted ps c.loop-b.invariant.written
+    (kept_then g.D.Device.told c.loop-b.group c.make_room-up_to.new.self c.put.new.self made
+    (not_put_kept g.D.Device.told g.D.Device.size g.D.Device.count g.D.Device.lending c.make_room-up_to.new.self c.put.new.self c.args.v _ c.in_err-put.ensures.put))
+    is has ready)
+
+pub returns-in_err-put-clause-failed : goal.returns-in_err-put-clause-failed
+returns-in_err-put-clause-failed g c =
+    let p = err_from_is_err_and c.from_residual.result c.from_residual.ensures.1 in
+    rw (p.1, p.2) (pass_failed g.D.Device.count c.args.v c.args.group.now c.put.new.self (g.I.Device.count c.args.input.now) (g.I.Device.count c.read_device.new.device) c.in_err-put.field-0.0
+    (c.in-Ok.ensures.cause.same ∙ c.loop-b.invariant.unfailed.input)
+    (device_after g.D.Device.count c.args.v c.args.group.now c.make_room-up_to.new.self c.put.new.self c.in_err-put.field-0.0
+    (unfailed_then g.D.Device.count c.args.group.now c.loop-b.group c.make_room-up_to.new.self c.loop-b.invariant.unfailed.group
+    (room_unfailed g.D.Device.told g.D.Device.count c.loop-b.group c.make_room-up_to.new.self c.args.v c.loop-b.b c.make_room-up_to.result c.make_room-up_to.ensures.room))
+    c.in_err-put.ensures.put.rose))
+
+pub loop-b-preserved : goal.loop-b-preserved
+loop-b-preserved g c =
+    let inv = c.loop-b.invariant in
+    let test = c.loop-b-test.true in
+    let end = c.blocks-b-end.ensures in
+    let marks = c.requires.marks in
+    let within : c.loop-b.b < length c.args.differs.now = omega arith in
+    elim c.if-differs-b.branch [
+      | then-differs-b+else-up_to-gt0+in-Ok+in_ok-put w ↦ rw (w.group-is, w.input-is, w.gone-is) (record {
+        written = written_more g.D.Device.told g.D.Device.size g.D.Device.count g.D.Device.lending g.I.Device.told g.I.Device.size c.args.group.now c.loop-b.group w.make_room-up_to.new.self
+            w.put.new.self c.args.input.now c.loop-b.input w.read_device.new.device c.args.v
+            c.args.differs.now c.args.from c.loop-b.b (payload_bytes w.payload.result.now) c.requires.volume (omega arith) inv.written
+            (room_plains g.D.Device.told c.loop-b.group w.make_room-up_to.new.self c.args.v c.loop-b.b w.make_room-up_to.result
+            (let none = w.if-up_to-gt0.false in omega arith) w.make_room-up_to.ensures.room)
+            w.read_device.ensures.told w.read_device.ensures.size
+            (λ wanted is. read_there (g.I.Device.told c.loop-b.input) wanted c.loop-b.b w.read_device.new.self (payload_bytes w.payload.result.now) w.in-Ok.ensures.block is w.payload.ensures)
+            w.in_ok-put.ensures.put;
+        room = w.make_room-up_to.ensures.space ∙ inv.room;
+        unfailed = record {
+          group = unfailed_then g.D.Device.count c.args.group.now w.make_room-up_to.new.self w.put.new.self (unfailed_then g.D.Device.count c.args.group.now c.loop-b.group w.make_room-up_to.new.self
+              inv.unfailed.group (room_unfailed g.D.Device.told g.D.Device.count c.loop-b.group w.make_room-up_to.new.self c.args.v c.loop-b.b w.make_room-up_to.result w.make_room-up_to.ensures.room))
+              w.in_ok-put.ensures.put.unfailed;
+          input = w.in-Ok.ensures.cause.same ∙ inv.unfailed.input;
+        };
+      })
+      | else-differs-b w ↦ rw (w.group-is, w.input-is, w.gone-is) (record {
+        written = written_past g.D.Device.told g.I.Device.told g.I.Device.size c.args.group.now c.loop-b.group c.args.input.now c.loop-b.input c.args.v c.args.differs.now c.args.from c.loop-b.b
+            (flag_is c.args.differs.now c.loop-b.b _ within w.if-differs-b.false) inv.written;
+        room = inv.room;
+        unfailed = inv.unfailed;
+      })
+    ]

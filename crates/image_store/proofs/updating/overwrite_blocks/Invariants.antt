@@ -1,0 +1,12 @@
+use Rattle.std.proofs.Common.{◌≡◌}
+use Rattle.std.specs.Prelude.{vec_capacity}
+use Rattle.image_store.proofs.Failing.{NoneFailed}
+use Rattle.image_store.proofs.Passes.{IsWrittenTo}
+use Rattle.image_store.proofs.updating.overwrite_blocks.Given as goal
+
+abbrev pub invariant-loop-b : goal.invariant-loop-b
+invariant-loop-b g l = record {
+  written : IsWrittenTo g.D.Device.told g.I.Device.told g.I.Device.size l.fn.group l.group l.fn.input l.input l.v l.differs l.from l.b;
+  room : vec_capacity l.gone ≡ vec_capacity l.fn.gone;
+  unfailed : NoneFailed g.D.Device.count g.I.Device.count l.fn.group l.group l.fn.input l.input;
+}

@@ -1,0 +1,17 @@
+pub mod Plain
+pub mod Steps
+pub mod Course
+pub mod FileBytes
+pub mod BlockPayload
+pub mod Head
+pub mod StoreValue
+pub mod Keeping
+pub mod Naming
+pub mod Opening
+pub mod Closing
+pub mod Failing
+pub mod Updating
+pub mod Passes
+pub mod Cutting
+pub mod Showing
+pub mod Reverting

@@ -1,0 +1,14 @@
+-- What a revert of a volume to the image of a set comes to. (This project's own.)
+use Rattle.std.specs.Prelude.{ℕ, ◌≡◌, List, None, Option, Result, Ok, Err}
+use Rattle.cow_volume.specs.declared.revert_fault.RevertFault.{RevertFault}
+use Rattle.cow_volume.specs.declared.revert_fault.RevertFault.TheVariants.{NoSuchImage, Fault}
+use Rattle.image_store.specs.Plain.{PlainStore, image_of}
+use Rattle.image_store.specs.Steps.{IsAllowed, after}
+use Rattle.image_store.specs.Steps.Step.{Reverted, RevertedInPart}
+use Rattle.image_store.specs.StoreValue.{StoreValue, StandsAs}
+
+abbrev pub IsRevert : {D : Type 0} → (D → Option (List (List ℕ))) → StoreValue D → PlainStore → ℕ → ℕ → Result Unit RevertFault → Type 0
+IsRevert told new p set v (Ok done) = IsAllowed p (Reverted set v) × StandsAs told new (after p (Reverted set v))
+IsRevert told new p set v (Err NoSuchImage) = (image_of p set v ≡ None) × StandsAs told new p
+-- a device failed: the newer images are gone, and each block is as before or as in the image
+IsRevert told new p set v (Err (Fault restored cause)) = (now : List (List ℕ)) × IsAllowed p (RevertedInPart set v now) × StandsAs told new (after p (RevertedInPart set v now))

@@ -1,0 +1,56 @@
+//! What holds of every list of calls on a store, and of one that is closed and opened again: functions that do nothing, whose contracts are
+//! the laws.
+
+ghost use Rattle.std.specs.Prelude.{◌≡◌, List, map};
+ghost use Rattle.image_store.specs.Course.{CallsFollowOneAnother, FilesComeBack, ImagesAreOfTheirCut, ImagesComeOfCuts, SetsAreCutOnce, ShownIsOfItsCut};
+ghost use Rattle.image_store.specs.Head.{bytes_of_head, head_of, said_of};
+ghost use Rattle.image_store.specs.Keeping.{IsKeptAs};
+ghost use Rattle.image_store.specs.Plain.{PlainStore};
+
+use crate::head::Head;
+use crate::store::Store;
+use volume_device::Device;
+
+/// An image that was cut has, until it is deleted, its volume is reverted past it, or it is reported as evicted, the blocks that its
+/// volume had at that cut.
+pub fn images_are_of_their_cut()
+    ensures { ImagesAreOfTheirCut }
+{}
+
+/// An image that stands was there at first, or it has the blocks that its volume had at its set's cut, which is one of the calls.
+pub fn images_come_of_cuts()
+    ensures { ImagesComeOfCuts }
+{}
+
+/// What is shown of an image is the file that its volume had at its set's cut, which is one of the calls before.
+pub fn shown_is_of_its_cut()
+    ensures { ShownIsOfItsCut }
+{}
+
+/// Of each set there is one cut.
+pub fn sets_are_cut_once()
+    ensures { SetsAreCutOnce }
+{}
+
+/// A file that is put in, cut, and shown of that image later comes back byte for byte, whatever is done between.
+pub fn files_come_back()
+    ensures { FilesComeBack }
+{}
+
+/// Calls that follow one another take one list of steps, to which the laws above apply.
+pub fn calls_follow_one_another<D: Device>()
+    ensures { CallsFollowOneAnother D.told }
+{}
+
+/// What lasts of a store that was closed (`Store::close`) is what the next opening takes up (`Store::open`): devices that tell what lasted
+/// of the old ones, with the head that was read of the store's bytes, are kept for the same whole copies.
+pub fn what_lasts_is_found<D: Device>(store: &Store<D>, head: &Head)
+    requires { bytes_of_head head.now ≡ head_of store.now }
+    ensures { (devices later : List D) (area again : D) (p : PlainStore) → IsKeptAs D.lasting devices area (said_of store.now) p
+        → map D.told later ≡ map D.lasting devices → D.told again ≡ D.lasting area → IsKeptAs D.told later again head.now p }
+{
+    store.has_a_head();
+    let _given = store.last();
+    let _catalog = head.catalog();
+    let _last = head.last();
+}

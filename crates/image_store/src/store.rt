@@ -1,0 +1,483 @@
+ghost use Rattle.std.specs.Prelude.{◌≡◌, ◌≢◌, ◌<◌, ◌≤◌, ◌*◌, ℕ, List, Some, None, Ok, true, false, length, replicate, map, slice_get, vec_capacity, is_some, All, IfOk, IfErr, IfSome, IsErrOf, IsNone, OnOk, OnErr, IsTrue};
+ghost use Rattle.std.specs.List.{AllPairs};
+ghost use Rattle.block_data.specs.Runs.{zeros};
+ghost use Rattle.diff_area.specs.Records.{free};
+ghost use Rattle.diff_area.specs.AreaValue.{AreaValue};
+ghost use Rattle.vss_catalog.specs.Names.{bytes_in};
+ghost use Rattle.vss_catalog.specs.Entries.{lists_of};
+ghost use Rattle.vss_catalog.specs.Group.{entries_of};
+ghost use Rattle.vss_catalog.specs.Reading.{catalog_in};
+ghost use Rattle.vss_catalog.specs.Written.{bytes_of};
+ghost use Rattle.cow_volume.specs.GroupValue.{placed};
+ghost use Rattle.write_history.specs.History.{History};
+ghost use Rattle.write_history.specs.Slots.{group_used, used_by};
+ghost use Rattle.cow_volume.specs.Calls.{AreaRose, DeviceRose, VolumeRose, blocks_at, history_at, is_among, sets_at};
+ghost use Rattle.cow_volume.specs.Ending.{AllTell};
+ghost use Rattle.cow_volume.specs.Resuming.{AreKept, NoneTell};
+ghost use Rattle.cow_volume.specs.StandsFor.{StandsFor};
+ghost use Rattle.vss_names.specs.Faults.{Rose};
+ghost use Rattle.image_store.specs.Plain.{PlainStore, fresh_store, plain_at};
+ghost use Rattle.image_store.specs.Steps.Step.{Cut, Dropped};
+ghost use Rattle.image_store.specs.StoreValue.{StandsAs, IsStep, StandsStill};
+ghost use Rattle.image_store.specs.Updating.{AreReady, IsAhead, IsOverwriting};
+ghost use Rattle.image_store.specs.Showing.{HasLength, HasShowCause, IsShow, shown_in};
+ghost use Rattle.image_store.specs.Reverting.{IsRevert};
+ghost use Rattle.image_store.specs.Cutting.{IsCutRefused};
+ghost use Rattle.image_store.specs.Closing.{IsCloseFault, OneRose};
+ghost use Rattle.image_store.specs.Failing.{IsPassFault, IsRevertFault, IsShowFault};
+ghost use Rattle.image_store.specs.Head.{head_of, said_of};
+ghost use Rattle.image_store.specs.Keeping.{IsKeptAs, blocks_of};
+ghost use Rattle.image_store.specs.Naming.{AreApart, AreNoNames, AreOthers, IsNamed};
+ghost use Rattle.image_store.specs.Opening.{AreParts, IsHeadFor, IsNoHeadFor, IsOpened, IsOpenFault, IsPartsFault, names_of};
+ghost use Rattle.vss_names.specs.TextValue.{TextValue};
+
+use crate::closed::Closed;
+use crate::cut_fault::CutFault;
+use crate::cutting::{cut_all, first_full, greatest_set};
+use crate::flushing::flush_each;
+use crate::head::{Head, bytes_with};
+use crate::naming::{first_of, has_double};
+use crate::new_fault::NewFault;
+use crate::open_fault::OpenFault;
+use crate::opening::{check_blocks, check_devices, names_of};
+use crate::pass::Pass;
+use crate::pass_fault::PassFault;
+use crate::piece::Piece;
+use crate::refused::Refused;
+use crate::show_fault::ShowFault;
+use crate::showing::{length_of, show_blocks};
+use crate::updating::{compare_blocks, copy_blocks, overwrite_blocks};
+use crate::which::Which;
+use cow_volume::{Cause, CowGroup, ImageFault, RevertFault};
+use diff_area::{Area, Unopened};
+use io_edge::Sink;
+use std::alloc::Global;
+use std::marker::Model;
+use volume_device::Device;
+use vss_catalog::Catalog;
+use vss_catalog::laws::the_catalog_of_a_group_is_read_back;
+use vss_names::{OutOfMemory, Text};
+use write_history::Evicted;
+
+/// Volumes that hold files, and images of them that were cut together. Contracts see the group of the volumes, their names and the last
+/// set that was given; `specs/StoreValue.antt` says for which whole copies of all volumes and images it stands.
+#[derive(Drop)]
+pub struct Store<D: Device> {
+    group: CowGroup<D>,
+    names: Vec<Text>,
+    last: u32,
+    /// A block of a volume or an image.
+    piece: Piece,
+    /// A block that a volume is to have.
+    wanted: Piece,
+}
+
+impl<D: Device> Model for Store<D> {
+    ghost use Rattle.std.specs.Prelude.{◌≡◌, true};
+    ghost use Rattle.image_store.specs.StoreValue.{StoreValue};
+    ghost use Rattle.vss_catalog.specs.Group.{are_names_for};
+
+    ghost Value = { StoreValue D };
+
+    ghost view = { λ s. record { group = s.group; names = s.names.items; last = s.last } };
+
+    ghost invariant = { λ s. are_names_for s.group s.names.items ≡ true };
+}
+
+impl<D: Device> Store<D> {
+    /// A store of volumes of zeros with these names, without images. It takes all memory of the later calls but that of `head`.
+    pub fn new(
+        alloc: Global,
+        devices: Vec<D>,
+        area: Area<D>,
+        names: Vec<Text>,
+    ) -> Result<Store<D>, NewFault>
+        requires fits { map D.size devices.items ≡ area.volumes }
+        requires free { area.records ≡ replicate (length area.records) free }
+        requires zeros { All (λ d. IfSome (D.told d) (λ blocks. blocks ≡ replicate (D.size d) zeros)) devices.items }
+        ensures stands { IfOk result (λ store. AllTell D.told devices.items → IsTrue (is_some (D.told area.device)) → StandsAs D.told store (fresh_store area.volumes)) }
+        ensures names { IfOk result (λ store. store.names ≡ names.items) }
+        ensures apart { OnOk result (AreApart names.items) }
+        ensures refused { IsErrOf result NewFault.Names → AreNoNames area.volumes names.items }
+        ensures last { IfOk result (λ store. store.last ≡ 0) }
+    {
+        let group = CowGroup::new(alloc, devices, area)?;
+        if !Catalog::are_names_for(&names, &group) {
+            return Err(NewFault::Names);
+        }
+        if has_double(&names) {
+            return Err(NewFault::Names);
+        }
+        let piece = Piece::new(alloc)?;
+        let wanted = Piece::new(alloc)?;
+        Ok(Store {
+            group,
+            names,
+            last: 0,
+            piece,
+            wanted,
+        })
+    }
+
+    /// The store that devices, an area's device and the head of a state are: as `close` and `head` left them. The devices are read
+    /// alone.
+    pub fn open(
+        alloc: Global,
+        devices: Vec<D>,
+        area: D,
+        head: &Head,
+    ) -> Result<Store<D>, Refused<D>>
+        ensures kept { IfOk result (λ store. (p : PlainStore) → IsKeptAs D.told devices.items area head.now p → StandsAs D.told store p) }
+        ensures untold { IfOk result (λ store. NoneTell D.told devices.items area → (hs : List History) × StandsFor D.told store.group hs) }
+        ensures opened { IfOk result (IsOpened D.told D.size D.lending D.count devices.items area head.now) }
+        ensures refused { IfErr result (λ refused. IsOpenFault D.told D.size D.lending D.count devices.items area head.now refused.area refused.fault) }
+    {
+        if let Err(fault) = check_devices(head, &devices) {
+            return Err(Refused { fault, area: None });
+        }
+        match Area::load(alloc, area) {
+            Err(Unopened { device, fault }) => Err(Refused {
+                fault: OpenFault::from(fault),
+                area: Some(device),
+            }),
+            Ok(area) => match take_up(alloc, devices, area, head) {
+                Ok(store) => Ok(store),
+                Err(fault) => Err(Refused { fault, area: None }),
+            },
+        }
+    }
+
+    /// The bytes of the head of its state: the last set, and the catalog.
+    pub fn head(&self, alloc: Global) -> Result<Text, OutOfMemory>
+        ensures { IfOk result (λ text. text.bytes ≡ head_of self.now) }
+    {
+        let catalog = Catalog::of_group(alloc, &self.names, &self.group)?;
+        bytes_with(alloc, self.last, &catalog)
+    }
+
+    /// The bytes of its head say its catalog (`laws`).
+    pub(crate) fn has_a_head(&self)
+        ensures catalog { catalog_in (bytes_of (entries_of self.now.group self.now.names)) ≡ Ok (entries_of self.now.group self.now.names) }
+    {
+        the_catalog_of_a_group_is_read_back(&self.names, &self.group);
+    }
+
+    /// How many volumes it has.
+    pub fn volumes(&self) -> u32
+        ensures { result ≡ length self.now.group.area.volumes }
+    {
+        self.group.volumes()
+    }
+
+    /// The number of the volume of a name.
+    pub fn place_of(&self, name: &[u8]) -> Option<u32>
+        ensures named { IfSome result (λ v. IsNamed self.now.names name.now v) }
+        ensures within { IfSome result (λ v. v < length self.now.group.area.volumes) }
+        ensures none { IsNone result → AreOthers self.now.names name.now (length self.now.names) }
+    {
+        let _facts = self.group.volumes();
+        match first_of(&self.names, name) {
+            Some(volume) => Some(volume as u32),
+            None => None,
+        }
+    }
+
+    /// The name of a volume.
+    pub fn name(&self, v: u32) -> &Text
+        requires { v < length self.now.group.area.volumes }
+        ensures { slice_get self.now.names v ≡ Some result.now }
+    {
+        &self.names[v as usize]
+    }
+
+    /// How many blocks of 16,384 bytes a volume has.
+    pub fn blocks(&self, v: u32) -> u32
+        requires { v < length self.now.group.area.volumes }
+        ensures { result ≡ blocks_at self.now.group v }
+    {
+        self.group.blocks(v)
+    }
+
+    /// The sets of the images of a volume, the oldest first.
+    pub fn images(&self, v: u32) -> &[u32]
+        requires { v < length self.now.group.area.volumes }
+        ensures { result.now ≡ sets_at self.now.group v }
+    {
+        self.group.images(v)
+    }
+
+    /// How many slots the image of a set uses; None where no such image stands on the volume.
+    pub fn used_by(&self, v: u32, set: u32) -> Option<u32>
+        requires { v < length self.now.group.area.volumes }
+        ensures { (hs : List History) → StandsFor D.told self.now.group hs → result ≡ used_by (blocks_at self.now.group v) (history_at hs v).writes (history_at hs v).images set }
+    {
+        self.group.used_by(v, set)
+    }
+
+    /// How many slots all images use.
+    pub fn used_all(&self) -> u32
+        ensures { (hs : List History) → StandsFor D.told self.now.group hs → result ≡ group_used (placed self.now.group.area.volumes) hs }
+    {
+        self.group.used_all()
+    }
+
+    /// How many slots there are.
+    pub fn slots(&self) -> u32
+        ensures { result ≡ length self.now.group.area.records }
+    {
+        self.group.slots()
+    }
+
+    /// The last set that was given, 0 where none was.
+    pub fn last(&self) -> u32
+        ensures { result ≡ self.now.last }
+    {
+        self.last
+    }
+
+    /// One set is cut over these volumes, which are apart. Its number is answered, the next after the last that was given.
+    pub fn cut(&mut self, volumes: &[u32]) -> Result<u32, CutFault>
+        requires within { All (λ v. v < length self.old.group.area.volumes) volumes.now }
+        requires apart { AllPairs (λ u v. u ≢ v) volumes.now }
+        ensures cut { IfOk result (λ set. IsStep D.told self.old self.new (Cut set volumes.now)) }
+        ensures last { IfOk result (λ set. self.new.last ≡ set) }
+        ensures later { IfOk result (λ set. self.old.last < set) }
+        ensures refused { IfErr result (IsCutRefused self.old volumes.now) }
+        ensures unchanged { OnErr result (self.new ≡ self.old) }
+        ensures volumes { self.new.group.area.volumes ≡ self.old.group.area.volumes }
+    {
+        let greatest = greatest_set(&self.group, self.last);
+        if greatest == u32::MAX {
+            return Err(CutFault::NoNextSet);
+        }
+        if let Some(volume) = first_full(&self.group, volumes) {
+            return Err(CutFault::TooManyImages { volume });
+        }
+        let set = greatest + 1;
+        cut_all(&mut self.group, volumes, set);
+        self.last = set;
+        Ok(set)
+    }
+
+    /// The image of a set goes from a volume.
+    pub fn drop_image(&mut self, set: u32, v: u32) -> Result<(), ImageFault>
+        requires { v < length self.old.group.area.volumes }
+        ensures dropped { OnOk result (IsStep D.told self.old self.new (Dropped set v)) }
+        ensures refused { IfErr result (λ fault. (fault ≡ ImageFault.NoSuchImage) × (is_among set (sets_at self.old.group v) ≡ false)) }
+        ensures unchanged { OnErr result (self.new ≡ self.old) }
+        ensures volumes { self.new.group.area.volumes ≡ self.old.group.area.volumes }
+    {
+        self.group.drop_image(v, set)
+    }
+
+    /// Brings a volume back to the image of a set.
+    pub fn revert(&mut self, set: u32, v: u32) -> Result<(), RevertFault>
+        requires { v < length self.old.group.area.volumes }
+        ensures revert { (p : PlainStore) → StandsAs D.told self.old p → IsRevert D.told self.new p set v result }
+        ensures failed { IfErr result (IsRevertFault D.count v self.old.group self.new.group) }
+        ensures volumes { self.new.group.area.volumes ≡ self.old.group.area.volumes }
+    {
+        self.group.revert(v, set)
+    }
+
+    /// Marks the blocks in which a volume differs from another device of as many blocks. Nothing changes.
+    pub fn compare<I: Device>(
+        &mut self,
+        v: u32,
+        input: &mut I,
+        differs: &mut [bool],
+    ) -> Result<(), PassFault>
+        requires volume { v < length self.old.group.area.volumes }
+        requires sizes { I.size input.old ≡ blocks_at self.old.group v }
+        requires marks { length differs.old ≡ blocks_at self.old.group v }
+        ensures ready { OnOk result ((wanted : List (List ℕ)) (p : PlainStore) → I.told input.old ≡ Some wanted → StandsAs D.told self.old p
+            → AreReady differs.new wanted (plain_at p v).blocks 0) }
+        ensures failed { IfErr result (IsPassFault D.count v self.old.group self.new.group (I.count input.old) (I.count input.new)) }
+        ensures still { StandsStill D.told self.old self.new }
+        ensures told { I.told input.new ≡ I.told input.old }
+        ensures len { length differs.new ≡ length differs.old }
+        ensures volumes { self.new.group.area.volumes ≡ self.old.group.area.volumes }
+    {
+        compare_blocks(
+            &mut self.group,
+            &mut self.piece,
+            &mut self.wanted,
+            v,
+            input,
+            differs,
+        )
+    }
+
+    /// Copies the old bytes of the marked blocks from `from` on, and adds to `copied` how many it copied. It stops where images have to go
+    /// for one: they are gone from memory, and none of their slots is used before the next call. The volume has what it had.
+    pub fn copy_ahead(
+        &mut self,
+        v: u32,
+        differs: &[bool],
+        from: u32,
+        copied: &mut u32,
+        gone: &mut Vec<Evicted>,
+    ) -> Result<Pass, Cause>
+        requires volume { v < length self.old.group.area.volumes }
+        requires marks { length differs.now ≡ blocks_at self.old.group v }
+        requires space { 512 * length self.old.group.area.volumes ≤ vec_capacity gone.old }
+        ensures failed { IfErr result (DeviceRose D.count v self.old.group self.new.group) }
+        ensures ahead { (p : PlainStore) → StandsAs D.told self.old p → IsAhead D.told self.new p gone.new.items result }
+        ensures space { vec_capacity gone.new ≡ vec_capacity gone.old }
+        ensures volumes { self.new.group.area.volumes ≡ self.old.group.area.volumes }
+    {
+        copy_blocks(
+            &mut self.group,
+            &mut self.piece,
+            v,
+            differs,
+            from,
+            copied,
+            gone,
+        )
+    }
+
+    /// Writes the marked blocks from `from` on with those of the other device.
+    pub fn overwrite<I: Device>(
+        &mut self,
+        v: u32,
+        input: &mut I,
+        differs: &[bool],
+        from: u32,
+        gone: &mut Vec<Evicted>,
+    ) -> Result<Pass, PassFault>
+        requires volume { v < length self.old.group.area.volumes }
+        requires sizes { I.size input.old ≡ blocks_at self.old.group v }
+        requires marks { length differs.now ≡ blocks_at self.old.group v }
+        requires space { 512 * length self.old.group.area.volumes ≤ vec_capacity gone.old }
+        ensures failed { IfErr result (IsPassFault D.count v self.old.group self.new.group (I.count input.old) (I.count input.new)) }
+        ensures overwriting { (wanted : List (List ℕ)) (p : PlainStore) → I.told input.old ≡ Some wanted → StandsAs D.told self.old p
+            → AreReady differs.now wanted (plain_at p v).blocks from → IsOverwriting D.told self.new p v differs.now wanted gone.new.items result }
+        ensures told { I.told input.new ≡ I.told input.old }
+        ensures space { vec_capacity gone.new ≡ vec_capacity gone.old }
+        ensures volumes { self.new.group.area.volumes ≡ self.old.group.area.volumes }
+    {
+        overwrite_blocks(
+            &mut self.group,
+            &mut self.wanted,
+            v,
+            input,
+            differs,
+            from,
+            gone,
+        )
+    }
+
+    /// How many bytes the file has that a volume, or its image of a set, holds.
+    pub fn length(&mut self, v: u32, which: Which) -> Result<u64, ShowFault>
+        requires { v < length self.old.group.area.volumes }
+        ensures length { IfOk result (λ n. (p : PlainStore) → StandsAs D.told self.old p → HasLength (shown_in p.volumes v which) (blocks_at self.old.group v) n) }
+        ensures cause { IfErr result (HasShowCause self.old.group v which ⊥) }
+        ensures failed { IfErr result (IsShowFault D.count v self.old.group self.new.group) }
+        ensures still { StandsStill D.told self.old self.new }
+        ensures volumes { self.new.group.area.volumes ≡ self.old.group.area.volumes }
+    {
+        length_of(&mut self.group, &mut self.piece, v, which)
+    }
+
+    /// Writes the file that a volume, or its image of a set, has, to its length.
+    pub fn show<K: Sink>(&mut self, v: u32, which: Which, sink: &mut K) -> Result<(), ShowFault>
+        requires { v < length self.old.group.area.volumes }
+        ensures show { (p : PlainStore) → StandsAs D.told self.old p → IsShow (shown_in p.volumes v which) (K.taken sink.old) (K.taken sink.new) result }
+        ensures cause { IfErr result (HasShowCause self.old.group v which (Rose (K.count sink.old) (K.count sink.new))) }
+        ensures failed { IfErr result (IsShowFault D.count v self.old.group self.new.group) }
+        ensures still { StandsStill D.told self.old self.new }
+        ensures volumes { self.new.group.area.volumes ≡ self.old.group.area.volumes }
+    {
+        show_blocks(&mut self.group, &mut self.piece, v, which, sink)
+    }
+
+    /// Writes the table of its area, and brings all slots and it to where they last.
+    pub fn sync(&mut self) -> Result<(), Cause>
+        ensures failed { IfErr result (λ cause. (cause ≡ Cause.Area) × AreaRose D.count self.old.group self.new.group) }
+        ensures still { StandsStill D.told self.old self.new }
+        ensures head { head_of self.new ≡ head_of self.old }
+        ensures volumes { self.new.group.area.volumes ≡ self.old.group.area.volumes }
+    {
+        self.group.sync()
+    }
+
+    /// Brings all accepted writes of a volume to where they last.
+    pub fn flush(&mut self, v: u32) -> Result<(), Cause>
+        requires { v < length self.old.group.area.volumes }
+        ensures failed { IfErr result (λ cause. (cause ≡ Cause.Volume) × VolumeRose D.count v self.old.group self.new.group) }
+        ensures still { StandsStill D.told self.old self.new }
+        ensures head { head_of self.new ≡ head_of self.old }
+        ensures volumes { self.new.group.area.volumes ≡ self.old.group.area.volumes }
+    {
+        self.group.flush(v)
+    }
+
+    /// Takes it apart: everything is brought to where it lasts. The devices are given back, whether or not that failed.
+    pub fn close(self) -> Closed<D>
+        ensures kept { OnOk result.outcome ((p : PlainStore) → StandsAs D.told self p → IsKeptAs D.lasting result.devices.items result.area (said_of self) p) }
+        ensures told { map D.told result.devices.items ≡ map D.told self.group.devices }
+        ensures failed { IfErr result.outcome (IsCloseFault D.count self.group result.devices.items result.area) }
+    {
+        let Store { group, .. } = self;
+        let mut group = group;
+        let synced = group.sync();
+        let (mut devices, area) = group.into_parts();
+        let area = area.into_device();
+        let Ok(()) = synced else {
+            return Closed {
+                devices,
+                area,
+                outcome: synced,
+            };
+        };
+        let outcome = flush_each(&mut devices);
+        Closed {
+            devices,
+            area,
+            outcome,
+        }
+    }
+
+    /// Takes it apart as it is. Nothing is brought to where it lasts.
+    pub fn into_devices(self) -> (Vec<D>, D)
+        ensures devices { result.0.items ≡ self.group.devices }
+        ensures area { result.1 ≡ self.group.area.device }
+    {
+        let Store { group, .. } = self;
+        let (devices, area) = group.into_parts();
+        (devices, area.into_device())
+    }
+}
+
+/// Takes devices and a loaded area up as a store.
+fn take_up<D: Device>(
+    alloc: Global,
+    devices: Vec<D>,
+    area: Area<D>,
+    head: &Head,
+) -> Result<Store<D>, OpenFault>
+    requires { length devices.items ≡ length head.now.entries }
+    ensures group { IfOk result (λ store. store.group ≡ record { devices = devices.items; area = area; images = lists_of head.now.entries }) }
+    ensures stands { IfOk result (λ store. (hs : List History) → AreKept D.told devices.items area (lists_of head.now.entries) hs → StandsFor D.told store.group hs) }
+    ensures parts { OnOk result (AreParts D.size devices.items area head.now.entries) }
+    ensures names { IfOk result (λ store. map (λ (name : TextValue). name.bytes) store.names ≡ names_of head.now.entries) }
+    ensures last { IfOk result (λ store. store.last ≡ head.now.last) }
+    ensures refused { IfErr result (IsPartsFault D.size devices.items area head.now.entries) }
+    ensures untold { IfOk result (λ store. NoneTell D.told devices.items area.device → (hs : List History) × StandsFor D.told store.group hs) }
+{
+    let catalog = head.catalog();
+    check_blocks(catalog, &devices, &area)?;
+    let names = names_of(alloc, catalog)?;
+    let lists = catalog.lists(alloc)?;
+    let piece = Piece::new(alloc)?;
+    let wanted = Piece::new(alloc)?;
+    let group = CowGroup::resume(alloc, devices, area, &lists)?;
+    Ok(Store {
+        group,
+        names,
+        last: head.last(),
+        piece,
+        wanted,
+    })
+}

@@ -1,0 +1,8 @@
+/// What of a volume is shown.
+#[derive(Clone, Copy, Debug, PartialEq, Eq)]
+pub enum Which {
+    /// The volume as it is.
+    Now,
+    /// Its image of this set.
+    Of(u32),
+}

@@ -1,0 +1,19 @@
+use Rattle.std.proofs.Common.{◌≡◌, ◌∙◌, ℕ, List, ap, length, sym, subst}
+use Rattle.cow_volume.specs.Calls.{IsSeen}
+use Rattle.cow_volume.proofs.GroupSteps.{whole_written}
+use Rattle.provider.proofs.Found.{at_seen}
+use Rattle.provider.proofs.digesting.add_shared.Goals as goal
+
+pub returns-in-Some : goal.returns-in-Some
+returns-in-Some g c = λ is. record { bytes = c.in-Some.bytes.now; is = c.in-Some.ensures; taken = c.add.ensures }
+
+pub returns : goal.returns
+returns g c = λ is.
+    let same : c.bytes.result.now ≡ c.read_shared.new.out = c.bytes.ensures.bytes ∙ whole_written c.args.buffer.now c.read_shared.new.out
+    (c.read_shared.auto.out ∙ ap length c.bytes_mut.ensures.bytes) in
+    record {
+      bytes = c.bytes.result.now;
+      is = at_seen g.D.Device.told c.args.group.now c.args.volume c.args.set c.args.block c.bytes.result.now
+          (subst (λ (bytes : List ℕ). IsSeen g.D.Device.told c.args.group.now c.args.volume c.args.set c.args.block bytes) (sym same) (c.read_shared.ensures c.if-not-read_shared.false));
+      taken = c.add-2.ensures;
+    }
