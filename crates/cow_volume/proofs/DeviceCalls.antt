@@ -4,6 +4,7 @@ use Rattle.std.specs.Prelude.{Result, Ok, Err, OnOk, OnErr, is_err, is_some, IsN
 use Rattle.std.proofs.lemmas.Option.{slice_get_read, slice_get_within, slice_get-map}
 use Rattle.std.proofs.lemmas.List.{length-map, take_at}
 use Rattle.vss_names.specs.Faults.{HasCause}
+use Rattle.volume_device.specs.declared.device.Device.{Ghosts}
 use Rattle.cow_volume.specs.Tied.{CopiesValue}
 use Rattle.cow_volume.specs.Changes.{HasNoCopy}
 use Rattle.cow_volume.specs.Calls.{IsNow, IsShown, blocks_in}
@@ -47,18 +48,18 @@ size_row size devices volumes v d sizes at = ap (λ (ns : List ℕ). slice_get n
 pub device_read : {D : Type 0} (devices : List D) (v : ℕ) (d : D) → v < length devices → d ≡ get_or devices v d → slice_get devices v ≡ Some d
 device_read devices v d l is = slice_get_read devices (length devices) v d refl l is
 
-abbrev pub called : {D E : Type 0} (told : D → Option (List (List ℕ))) (size count : D → ℕ) (lending : D → Bool) (v : ℕ) (devices : List D) (before after : D) (r : Result Unit E)
+abbrev pub called : {D E : Type 0} (ghosts : Ghosts D) (v : ℕ) (devices : List D) (before after : D) (r : Result Unit E)
     → slice_get devices v ≡ Some before
-    → is_some (told after) ≡ is_some (told before) → size after ≡ size before → lending after ≡ lending before → HasCause (count before) (count after) r
-    → IsCalled told size count lending v devices (slice_set devices v after) (is_err r)
-called told size count lending v devices before after r at tells size_is lends cause = record {
+    → is_some (ghosts.told after) ≡ is_some (ghosts.told before) → ghosts.size after ≡ ghosts.size before → ghosts.lending after ≡ ghosts.lending before → HasCause (ghosts.count before) (ghosts.count after) r
+    → IsCalled ghosts v devices (slice_set devices v after) (is_err r)
+called ghosts v devices before after r at tells size_is lends cause = record {
   before = before;
   after = after;
   was = at;
   devices = refl;
   same = record { tells = tells; size_is = size_is; lends = lends; later = cause.later };
   rose = cause.rose;
-  unfailed = on_ok r (count after ≡ count before) cause.same;
+  unfailed = on_ok r (ghosts.count after ≡ ghosts.count before) cause.same;
 }
 
 tells_put : (old new : Option (List (List ℕ))) (b : ℕ) (bytes : List ℕ) → new ≡ option_map (λ blocks. slice_set blocks b bytes) old → is_some new ≡ is_some old
@@ -70,15 +71,15 @@ tells_after : {E : Type 0} (old new : Option (List (List ℕ))) (b : ℕ) (bytes
 tells_after old new b bytes (Ok x) ok err = tells_put old new b bytes ok
 tells_after old new b bytes (Err x) ok err = ap is_some err
 
-pub device_put : {D E : Type 0} (told : D → Option (List (List ℕ))) (size count : D → ℕ) (lending : D → Bool) (v b : ℕ) (bytes : List ℕ) (devices : List D) (before after : D) (r : Result Unit E)
+pub device_put : {D E : Type 0} (ghosts : Ghosts D) (v b : ℕ) (bytes : List ℕ) (devices : List D) (before after : D) (r : Result Unit E)
     → slice_get devices v ≡ Some before
-    → OnOk r (told after ≡ option_map (λ blocks. slice_set blocks b bytes) (told before)) → OnErr r (told after ≡ told before) → size after ≡ size before → lending after ≡ lending before
-    → HasCause (count before) (count after) r
-    → IsPut told size count lending v b bytes devices (slice_set devices v after) (is_err r)
-device_put told size count lending v b bytes devices before after r at written kept size_is lends cause = record {
-  call = called told size count lending v devices before after r at (tells_after (told before) (told after) b bytes r written kept) size_is lends cause;
-  written = on_ok r (told after ≡ option_map (λ blocks. slice_set blocks b bytes) (told before)) written;
-  kept = on_err r (told after ≡ told before) kept;
+    → OnOk r (ghosts.told after ≡ option_map (λ blocks. slice_set blocks b bytes) (ghosts.told before)) → OnErr r (ghosts.told after ≡ ghosts.told before) → ghosts.size after ≡ ghosts.size before → ghosts.lending after ≡ ghosts.lending before
+    → HasCause (ghosts.count before) (ghosts.count after) r
+    → IsPut ghosts v b bytes devices (slice_set devices v after) (is_err r)
+device_put ghosts v b bytes devices before after r at written kept size_is lends cause = record {
+  call = called ghosts v devices before after r at (tells_after (ghosts.told before) (ghosts.told after) b bytes r written kept) size_is lends cause;
+  written = on_ok r (ghosts.told after ≡ option_map (λ blocks. slice_set blocks b bytes) (ghosts.told before)) written;
+  kept = on_err r (ghosts.told after ≡ ghosts.told before) kept;
 }
 
 -- ## what a call answered
@@ -103,16 +104,16 @@ device_with size devices volumes v b sizes l =
     slice_get_inside devices v (size_within size devices v b (subst (λ (ns : List ℕ). b < blocks_in (slice_get ns v)) (sym sizes) l))
 
 -- what was read of a volume's device is what the volume has now
-pub read_is_now : {D : Type 0} (told : D → Option (List (List ℕ))) (size count : D → ℕ) (lending : D → Bool) (devices new : List D) (copies : CopiesValue D) (v b : ℕ) (bytes : List ℕ)
+pub read_is_now : {D : Type 0} (ghosts : Ghosts D) (devices new : List D) (copies : CopiesValue D) (v b : ℕ) (bytes : List ℕ)
     → b < blocks_in (slice_get copies.area.volumes v)
-    → IsRead told size count lending v b bytes devices new false → IsNow told (group_of devices copies) v b bytes
-read_is_now told size count lending devices new copies v b bytes l read = group_now told (group_of devices copies) v b read.call.before bytes l read.call.was (read.block refl)
+    → IsRead ghosts v b bytes devices new false → IsNow ghosts.told (group_of devices copies) v b bytes
+read_is_now ghosts devices new copies v b bytes l read = group_now ghosts.told (group_of devices copies) v b read.call.before bytes l read.call.was (read.block refl)
 
 -- where no image has a copy, it is what the image shows
-pub read_is_shown : {D : Type 0} (told : D → Option (List (List ℕ))) (size count : D → ℕ) (lending : D → Bool) (devices new : List D) (copies : CopiesValue D) (v set b : ℕ) (bytes : List ℕ)
+pub read_is_shown : {D : Type 0} (ghosts : Ghosts D) (devices new : List D) (copies : CopiesValue D) (v set b : ℕ) (bytes : List ℕ)
     → b < blocks_in (slice_get copies.area.volumes v)
-    → IsRead told size count lending v b bytes devices new false → HasNoCopy copies.area.records v set b → IsShown told (group_of devices copies) v set b bytes
-read_is_shown told size count lending devices new copies v set b bytes l read none = group_shown_there told (group_of devices copies) v set b read.call.before bytes l read.call.was
+    → IsRead ghosts v b bytes devices new false → HasNoCopy copies.area.records v set b → IsShown ghosts.told (group_of devices copies) v set b bytes
+read_is_shown ghosts devices new copies v set b bytes l read none = group_shown_there ghosts.told (group_of devices copies) v set b read.call.before bytes l read.call.was
     (read.block refl) none
 
 -- a buffer that was filled has what it was filled with

@@ -18,6 +18,7 @@ use Rattle.cow_volume.proofs.Group.{same_number, number_is, slice_get-set_same}
 use Rattle.cow_volume.proofs.Merging.{image_dropped, image_dropped_within, AreWithin}
 use Rattle.cow_volume.proofs.Kept.{kept_records}
 use Rattle.cow_volume.proofs.GroupReverts.{AreGoing, going_none, going_more, going_all}
+use Rattle.volume_device.specs.declared.device.Device.{Ghosts}
 
 -- ## the sets of the images of a volume
 
@@ -133,14 +134,14 @@ merged_stands_within told devices old hs v set within at stands =
     image_dropped_within told (group_of devices old) (group_of devices (after_merge old v set)) hs v set (images_on old v) stands within (images_row old v set among) among refl refl refl refl refl
 
 -- one image goes, and nothing else changes
-pub image_gone : {D : Type 0} (told : D → Option (List (List ℕ))) (size count : D → ℕ) (lending : D → Bool) (devices : List D) (old new : CopiesValue D) (v set : ℕ)
+pub image_gone : {D : Type 0} (ghosts : Ghosts D) (devices : List D) (old new : CopiesValue D) (v set : ℕ)
     → is_among set (images_on old v) ≡ true → new ≡ after_merge old v set
-    → ((hs : List History) → StandsFor told (group_of devices old) hs → StandsFor told (group_of devices new) (changed_at v (dropped set) hs))
-    → (is_among set (images_on old v) ≡ true) × IsChanged told size count lending (group_of devices old) (group_of devices new) v (dropped set)
-image_gone {D = D} told size count lending devices old new v set among is stands = (
+    → ((hs : List History) → StandsFor ghosts.told (group_of devices old) hs → StandsFor ghosts.told (group_of devices new) (changed_at v (dropped set) hs))
+    → (is_among set (images_on old v) ≡ true) × IsChanged ghosts (group_of devices old) (group_of devices new) v (dropped set)
+image_gone {D = D} ghosts devices old new v set among is stands = (
   among,
   record {
-    kept = kept_records told size count lending devices old new (ap (λ (x : CopiesValue D). x.area.volumes) is) (ap (λ (x : CopiesValue D). length x.area.records) is ∙ length-map old.area.records _)
+    kept = kept_records ghosts devices old new (ap (λ (x : CopiesValue D). x.area.volumes) is) (ap (λ (x : CopiesValue D). length x.area.records) is ∙ length-map old.area.records _)
         (ap (λ (x : CopiesValue D). x.area.device) is);
     devices = refl;
     area = ap (λ (x : CopiesValue D). x.area.device) is;

@@ -6,6 +6,7 @@ use Rattle.std.proofs.lemmas.List.{length-set, length-map, map-set}
 use Rattle.std.proofs.lemmas.Option.{none-some, same_Some, slice_get_read}
 use Rattle.vss_names.specs.Faults.{Rose}
 use Rattle.block_data.specs.Lending.{overwritten}
+use Rattle.volume_device.specs.declared.device.Device.{Ghosts}
 use Rattle.diff_area.proofs.Gets.{get-set}
 use Rattle.cow_volume.specs.Calls.{IsSameDevice, IsKept, VolumeRose, blocks_at, blocks_in}
 use Rattle.std.specs.Prelude.{Result, Ok, Err}
@@ -17,14 +18,14 @@ use Rattle.cow_volume.proofs.DeviceCalls.{size_row}
 use Rattle.cow_volume.proofs.Kept.{same_itself}
 use Rattle.cow_volume.proofs.Group.{slice_set-same}
 
-module _ {D : Type 0} (told : D → Option (List (List ℕ))) (size count : D → ℕ) (lending : D → Bool) where
-  pub same_on : (d e : D) (now : Option (List (List ℕ))) → IsOn told size count lending d e now → is_some now ≡ is_some (told d) → IsSameDevice told size count lending d e
+module _ {D : Type 0} (ghosts : Ghosts D) where
+  pub same_on : (d e : D) (now : Option (List (List ℕ))) → IsOn ghosts d e now → is_some now ≡ is_some (ghosts.told d) → IsSameDevice ghosts d e
   same_on d e now on tells = record { tells = ap is_some on.tells ∙ tells; size_is = on.size_is; lends = on.lends; later = on.later }
 
   -- one device and the area's changed
-  pub kept : (devices : List D) (v : ℕ) (d e : D) (old new : CopiesValue D) → slice_get devices v ≡ Some d → IsSameDevice told size count lending d e
-      → IsSameDevice told size count lending old.area.device new.area.device → new.area.volumes ≡ old.area.volumes → length new.area.records ≡ length old.area.records
-      → IsKept told size count lending (group_of devices old) (group_of (slice_set devices v e) new)
+  pub kept : (devices : List D) (v : ℕ) (d e : D) (old new : CopiesValue D) → slice_get devices v ≡ Some d → IsSameDevice ghosts d e
+      → IsSameDevice ghosts old.area.device new.area.device → new.area.volumes ≡ old.area.volumes → length new.area.records ≡ length old.area.records
+      → IsKept ghosts (group_of devices old) (group_of (slice_set devices v e) new)
   kept devices v d e old new at same area volumes slots = record {
     volumes = volumes;
     slots = slots;
@@ -33,24 +34,24 @@ module _ {D : Type 0} (told : D → Option (List (List ℕ))) (size count : D �
     each = λ u x y was is. elim (get-set devices v u e y is) [
       | inl own ↦
           let d_is : x ≡ d = same_Some x d (sym was ∙ ap (λ (k : ℕ). slice_get devices k) own.0 ∙ at) in
-          subst (λ (a : D). IsSameDevice told size count lending a y) (sym d_is) (subst (λ (b : D). IsSameDevice told size count lending d b) (sym own.1) same)
+          subst (λ (a : D). IsSameDevice ghosts a y) (sym d_is) (subst (λ (b : D). IsSameDevice ghosts d b) (sym own.1) same)
       | inr other ↦
           let y_is : y ≡ x = same_Some y x (sym other.1 ∙ was) in
-          subst (λ (b : D). IsSameDevice told size count lending x b) (sym y_is) (same_itself told size count lending x)
+          subst (λ (b : D). IsSameDevice ghosts x b) (sym y_is) (same_itself ghosts x)
     ];
   }
 
-  pub told_set : (devices : List D) (v : ℕ) (d e : D) → slice_get devices v ≡ Some d → told e ≡ told d → map told (slice_set devices v e) ≡ map told devices
-  told_set devices v d e at same = map-set told devices v e ∙ ap (λ (t : Option (List (List ℕ))). slice_set (map told devices) v t) same
-      ∙ slice_set-same (map told devices) v (told d) (mapped devices v at) where
-        mapped : (ds : List D) (k : ℕ) → slice_get ds k ≡ Some d → slice_get (map told ds) k ≡ Some (told d)
+  pub told_set : (devices : List D) (v : ℕ) (d e : D) → slice_get devices v ≡ Some d → ghosts.told e ≡ ghosts.told d → map ghosts.told (slice_set devices v e) ≡ map ghosts.told devices
+  told_set devices v d e at same = map-set ghosts.told devices v e ∙ ap (λ (t : Option (List (List ℕ))). slice_set (map ghosts.told devices) v t) same
+      ∙ slice_set-same (map ghosts.told devices) v (ghosts.told d) (mapped devices v at) where
+        mapped : (ds : List D) (k : ℕ) → slice_get ds k ≡ Some d → slice_get (map ghosts.told ds) k ≡ Some (ghosts.told d)
         mapped [] k h = absurd (none-some d h)
-        mapped (x ∷ ds) zero h = ap (λ (y : D). Some (told y)) (same_Some x d h)
+        mapped (x ∷ ds) zero h = ap (λ (y : D). Some (ghosts.told y)) (same_Some x d h)
         mapped (x ∷ ds) (suc k) h = mapped ds k h
 
-  pub volume_rose : (devices : List D) (v : ℕ) (d e : D) (old new : CopiesValue D) → slice_get devices v ≡ Some d → Rose (count d) (count e) → count new.area.device ≡ count old.area.device
-      → VolumeRose count v (group_of devices old) (group_of (slice_set devices v e) new)
-  volume_rose devices v d e old new at rose area = record { before = d; now = e; was = at; is = set_here devices v at; rose = rose; devices = map-set count devices v e; area = area } where
+  pub volume_rose : (devices : List D) (v : ℕ) (d e : D) (old new : CopiesValue D) → slice_get devices v ≡ Some d → Rose (ghosts.count d) (ghosts.count e) → ghosts.count new.area.device ≡ ghosts.count old.area.device
+      → VolumeRose ghosts.count v (group_of devices old) (group_of (slice_set devices v e) new)
+  volume_rose devices v d e old new at rose area = record { before = d; now = e; was = at; is = set_here devices v at; rose = rose; devices = map-set ghosts.count devices v e; area = area } where
     set_here : (ds : List D) (k : ℕ) → slice_get ds k ≡ Some d → slice_get (slice_set ds k e) k ≡ Some e
     set_here [] k h = absurd (none-some d h)
     set_here (x ∷ ds) zero h = refl
@@ -75,22 +76,22 @@ device_within size devices volumes v b d fits at low = subst (λ (o : Option ℕ
 
 -- ## a block is copied
 
-pub on_itself : {D : Type 0} (told : D → Option (List (List ℕ))) (size count : D → ℕ) (lending : D → Bool) (d : D) → IsOn told size count lending d d (told d)
-on_itself told size count lending d = record { tells = refl; size_is = refl; lends = refl; later = omega arith }
+pub on_itself : {D : Type 0} (ghosts : Ghosts D) (d : D) → IsOn ghosts d d (ghosts.told d)
+on_itself ghosts d = record { tells = refl; size_is = refl; lends = refl; later = omega arith }
 
-pub area_itself : {D : Type 0} (told : D → Option (List (List ℕ))) (size count : D → ℕ) (lending : D → Bool) (c : CopiesValue D) → IsAreaOn told size count lending c c (told c.area.device)
-area_itself told size count lending c = record { device = on_itself told size count lending c.area.device; volumes = refl; records = refl; images = refl }
+pub area_itself : {D : Type 0} (ghosts : Ghosts D) (c : CopiesValue D) → IsAreaOn ghosts c c (ghosts.told c.area.device)
+area_itself ghosts c = record { device = on_itself ghosts c.area.device; volumes = refl; records = refl; images = refl }
 
-pub slot_copied : {D : Type 0} (told : D → Option (List (List ℕ))) (size count : D → ℕ) (lending : D → Bool) (device new_device : D) (old new : CopiesValue D) (block slot : ℕ) (bytes : List ℕ)
-    (r : Result Unit Cause) → IsOn told size count lending device new_device (told device) → count new_device ≡ count device
-    → IfSome (told device) (λ blocks. slice_get blocks block ≡ Some bytes) → IsSlotCopy told size count lending old new slot bytes r
-    → IsCopy told size count lending device new_device old new block slot r
-slot_copied told size count lending device new_device old new block slot bytes
+pub slot_copied : {D : Type 0} (ghosts : Ghosts D) (device new_device : D) (old new : CopiesValue D) (block slot : ℕ) (bytes : List ℕ)
+    (r : Result Unit Cause) → IsOn ghosts device new_device (ghosts.told device) → ghosts.count new_device ≡ ghosts.count device
+    → IfSome (ghosts.told device) (λ blocks. slice_get blocks block ≡ Some bytes) → IsSlotCopy ghosts old new slot bytes r
+    → IsCopy ghosts device new_device old new block slot r
+slot_copied ghosts device new_device old new block slot bytes
     (Ok done) on same read h = record { copy = bytes; read = read; device_on = on; area_on = h.0; device_same = same; area_same = h.1 }
-slot_copied told size count lending device new_device old new block slot bytes (Err cause) on same read h = record {
+slot_copied ghosts device new_device old new block slot bytes (Err cause) on same read h = record {
   device_on = on;
   area_on = h.area_on;
-  rose = subst (λ (c : Cause). RoseBy count device new_device old.area.device new.area.device c) (sym h.cause_is) (h.rose, same);
+  rose = subst (λ (c : Cause). RoseBy ghosts.count device new_device old.area.device new.area.device c) (sym h.cause_is) (h.rose, same);
 }
 
 -- ## a block that was lent to be written

@@ -7,6 +7,7 @@ use Rattle.std.proofs.lemmas.List.{length-map, length-set}
 use Rattle.vss_names.specs.Faults.{Rose}
 use Rattle.write_history.specs.History.{History, Write}
 use Rattle.volume_device.specs.Blocks.{AreBlocks}
+use Rattle.volume_device.specs.declared.device.Device.{Ghosts}
 use Rattle.diff_area.specs.Places.{blocks_for, place_of_slot}
 use Rattle.diff_area.specs.Records.{free, is_free}
 use Rattle.diff_area.specs.declared.table_record.Record.{Record}
@@ -32,102 +33,102 @@ use Rattle.cow_volume.proofs.Kept.{same_itself}
 use Rattle.cow_volume.proofs.Kept.{kept_itself, map_set_told}
 use Rattle.cow_volume.proofs.GroupSteps.{same_on, kept, told_set, volume_rose, put_tells}
 
-module _ {D : Type 0} (told : D → Option (List (List ℕ))) (size count : D → ℕ) (lending : D → Bool) (devices : List D) (c : CopiesValue D) (v : ℕ) (d : D) (w : Write)
+module _ {D : Type 0} (ghosts : Ghosts D) (devices : List D) (c : CopiesValue D) (v : ℕ) (d : D) (w : Write)
     (low : w.block < blocks_at (group_of devices c) v) (at : slice_get devices v ≡ Some d) where
   -- a block that needs no copy is written
-  pub put_again : (e : D) (r : Result Unit Cause) → lacks_copy c.area.records v (sets_at (group_of devices c) v) w.block ≡ false → IsPutOn told size count lending d e w.block w.bytes r
-      → IsPutOr told size count lending (group_of devices c) (group_of (slice_set devices v e) c) v w r
+  pub put_again : (e : D) (r : Result Unit Cause) → lacks_copy c.area.records v (sets_at (group_of devices c) v) w.block ≡ false → IsPutOn ghosts d e w.block w.bytes r
+      → IsPutOr ghosts (group_of devices c) (group_of (slice_set devices v e) c) v w r
   put_again e (Ok done) has on = record {
-    kept = kept told size count lending devices v d e c c at (same_on told size count lending d e (put w.block w.bytes (told d)) on.0 (put_tells w.block w.bytes (told d)))
-        (same_itself told size count lending c.area.device) refl refl;
-    stands = λ hs stood. group_written_again told (group_of devices c) (group_of (slice_set devices v e) c) hs v d e w stood low
-        (sym (needs_by_records told (group_of devices c) hs v w.block stood low) ∙ has) at on.0.tells refl refl refl refl refl;
-    unfailed = record { devices = map_set_told count devices v d e at on.1; area = refl };
+    kept = kept ghosts devices v d e c c at (same_on ghosts d e (put w.block w.bytes (ghosts.told d)) on.0 (put_tells w.block w.bytes (ghosts.told d)))
+        (same_itself ghosts c.area.device) refl refl;
+    stands = λ hs stood. group_written_again ghosts.told (group_of devices c) (group_of (slice_set devices v e) c) hs v d e w stood low
+        (sym (needs_by_records ghosts.told (group_of devices c) hs v w.block stood low) ∙ has) at on.0.tells refl refl refl refl refl;
+    unfailed = record { devices = map_set_told ghosts.count devices v d e at on.1; area = refl };
   }
   put_again e (Err cause) has failed = record {
-    kept = kept told size count lending devices v d e c c at (same_on told size count lending d e (told d) failed.0 refl) (same_itself told size count lending c.area.device) refl refl;
-    stands = λ hs stood. quiet_stands told (group_of devices c) (group_of (slice_set devices v e) c) hs stood (told_set told size count lending devices v d e at failed.0.tells) refl refl refl refl;
-    rose = subst (λ (f : Cause). DeviceRose count v (group_of devices c) (group_of (slice_set devices v e) c) f) (sym failed.1)
-        (volume_rose told size count lending devices v d e c c at failed.2 refl);
+    kept = kept ghosts devices v d e c c at (same_on ghosts d e (ghosts.told d) failed.0 refl) (same_itself ghosts c.area.device) refl refl;
+    stands = λ hs stood. quiet_stands ghosts.told (group_of devices c) (group_of (slice_set devices v e) c) hs stood (told_set ghosts devices v d e at failed.0.tells) refl refl refl refl;
+    rose = subst (λ (f : Cause). DeviceRose ghosts.count v (group_of devices c) (group_of (slice_set devices v e) c) f) (sym failed.1)
+        (volume_rose ghosts devices v d e c c at failed.2 refl);
   }
 
   -- the copy failed
-  pub not_copied : (e : D) (new : CopiesValue D) (cause : Cause) → IsNotCopied told size count lending d e c new cause
-      → IsNotPut told size count lending (group_of devices c) (group_of (slice_set devices v e) new) v cause
+  pub not_copied : (e : D) (new : CopiesValue D) (cause : Cause) → IsNotCopied ghosts d e c new cause
+      → IsNotPut ghosts (group_of devices c) (group_of (slice_set devices v e) new) v cause
   not_copied e new cause failed = record {
-    kept = kept told size count lending devices v d e c new at (same_on told size count lending d e (told d) failed.device_on refl)
-        (same_on told size count lending c.area.device new.area.device (told c.area.device) failed.area_on.device refl) failed.area_on.volumes (ap length failed.area_on.records);
-    stands = λ hs stood. quiet_stands told (group_of devices c) (group_of (slice_set devices v e) new) hs stood
-        (told_set told size count lending devices v d e at failed.device_on.tells) failed.area_on.images failed.area_on.volumes failed.area_on.records failed.area_on.device.tells;
+    kept = kept ghosts devices v d e c new at (same_on ghosts d e (ghosts.told d) failed.device_on refl)
+        (same_on ghosts c.area.device new.area.device (ghosts.told c.area.device) failed.area_on.device refl) failed.area_on.volumes (ap length failed.area_on.records);
+    stands = λ hs stood. quiet_stands ghosts.told (group_of devices c) (group_of (slice_set devices v e) new) hs stood
+        (told_set ghosts devices v d e at failed.device_on.tells) failed.area_on.images failed.area_on.volumes failed.area_on.records failed.area_on.device.tells;
     rose = by_cause cause failed.rose;
   } where
-    by_cause : (cause : Cause) → RoseBy count d e c.area.device new.area.device cause → DeviceRose count v (group_of devices c) (group_of (slice_set devices v e) new) cause
+    by_cause : (cause : Cause) → RoseBy ghosts.count d e c.area.device new.area.device cause → DeviceRose ghosts.count v (group_of devices c) (group_of (slice_set devices v e) new) cause
     by_cause NoSuchBlock rose = rose
-    by_cause Volume rose = volume_rose told size count lending devices v d e c new at rose.0 rose.1
-    by_cause Area rose = record { rose = rose.0; devices = map_set_told count devices v d e at rose.1 }
+    by_cause Volume rose = volume_rose ghosts devices v d e c new at rose.0 rose.1
+    by_cause Area rose = record { rose = rose.0; devices = map_set_told ghosts.count devices v d e at rose.1 }
 
-  module _ (slot : ℕ) (free_at : IsLowestFree (map is_free c.area.records) slot) (fits : size c.area.device ≡ blocks_for (length c.area.records))
-      (whole : IfSome (told c.area.device) (AreBlocks (size c.area.device))) (e f : D) (new : CopiesValue D) (copied : IsCopiedIn told size count lending d e c new w.block slot) where
+  module _ (slot : ℕ) (free_at : IsLowestFree (map is_free c.area.records) slot) (fits : ghosts.size c.area.device ≡ blocks_for (length c.area.records))
+      (whole : IfSome (ghosts.told c.area.device) (AreBlocks (ghosts.size c.area.device))) (e f : D) (new : CopiesValue D) (copied : IsCopiedIn ghosts d e c new w.block slot) where
     is_there : slice_get c.area.records slot ≡ Some free
     is_there = free_slot_is c.area.records slot free_at
 
-    area_same : IsSameDevice told size count lending c.area.device new.area.device
-    area_same = same_on told size count lending c.area.device new.area.device (put (place_of_slot (length c.area.records) slot) copied.copy (told c.area.device)) copied.area_on.device
-        (put_tells (place_of_slot (length c.area.records) slot) copied.copy (told c.area.device))
+    area_same : IsSameDevice ghosts c.area.device new.area.device
+    area_same = same_on ghosts c.area.device new.area.device (put (place_of_slot (length c.area.records) slot) copied.copy (ghosts.told c.area.device)) copied.area_on.device
+        (put_tells (place_of_slot (length c.area.records) slot) copied.copy (ghosts.told c.area.device))
 
     -- the copy was made, and the overwrite failed
-    pub not_overwritten : (cause : Cause) → IsOn told size count lending e f (told e) → cause ≡ Volume → Rose (count e) (count f)
-        → IsNotPut told size count lending (group_of devices c) (group_of (slice_set devices v f) new) v cause
+    pub not_overwritten : (cause : Cause) → IsOn ghosts e f (ghosts.told e) → cause ≡ Volume → Rose (ghosts.count e) (ghosts.count f)
+        → IsNotPut ghosts (group_of devices c) (group_of (slice_set devices v f) new) v cause
     not_overwritten cause on is rose = record {
-      kept = kept told size count lending devices v d f c new at (record {
+      kept = kept ghosts devices v d f c new at (record {
         tells = ap is_some (on.tells ∙ copied.device_on.tells);
         size_is = on.size_is ∙ copied.device_on.size_is;
         lends = on.lends ∙ copied.device_on.lends;
         later = let a = on.later in let b = copied.device_on.later in omega arith;
       }) area_same copied.area_on.volumes (ap length copied.area_on.records);
-      stands = λ hs stood. group_overwritten told (group_of devices c) (group_of (slice_set devices v f) new) hs slot copied.copy stood is_there
-          (told_set told size count lending devices v d f at (on.tells ∙ copied.device_on.tells))
+      stands = λ hs stood. group_overwritten ghosts.told (group_of devices c) (group_of (slice_set devices v f) new) hs slot copied.copy stood is_there
+          (told_set ghosts devices v d f at (on.tells ∙ copied.device_on.tells))
           copied.area_on.images copied.area_on.volumes copied.area_on.records copied.area_on.device.tells;
-      rose = subst (λ (x : Cause). DeviceRose count v (group_of devices c) (group_of (slice_set devices v f) new) x) (sym is)
-          (volume_rose told size count lending devices v d f c new at (risen rose copied.device_on.later) copied.area_same);
+      rose = subst (λ (x : Cause). DeviceRose ghosts.count v (group_of devices c) (group_of (slice_set devices v f) new) x) (sym is)
+          (volume_rose ghosts devices v d f c new at (risen rose copied.device_on.later) copied.area_same);
     } where
-      risen : Rose (count e) (count f) → count d ≤ count e → Rose (count d) (count f)
+      risen : Rose (ghosts.count e) (ghosts.count f) → ghosts.count d ≤ ghosts.count e → Rose (ghosts.count d) (ghosts.count f)
       risen (inl up) le = inl (omega arith)
       risen (inr most_now) le = inr most_now
 
     -- the block was copied, written and noted
-    pub put_first : (last : CopiesValue D) → lacks_copy c.area.records v (sets_at (group_of devices c) v) w.block ≡ true → IsOn told size count lending e f (put w.block w.bytes (told e))
-        → count f ≡ count e → last ≡ after_note new v w.block slot
-        → IsPut told size count lending (group_of devices c) (group_of (slice_set devices v f) last) v w
+    pub put_first : (last : CopiesValue D) → lacks_copy c.area.records v (sets_at (group_of devices c) v) w.block ≡ true → IsOn ghosts e f (put w.block w.bytes (ghosts.told e))
+        → ghosts.count f ≡ ghosts.count e → last ≡ after_note new v w.block slot
+        → IsPut ghosts (group_of devices c) (group_of (slice_set devices v f) last) v w
     put_first last lacks on unfailed is =
-        let told_is : told f ≡ put w.block w.bytes (told d) = on.tells ∙ ap (put w.block w.bytes) copied.device_on.tells in
+        let told_is : ghosts.told f ≡ put w.block w.bytes (ghosts.told d) = on.tells ∙ ap (put w.block w.bytes) copied.device_on.tells in
         let device_is : last.area.device ≡ new.area.device = ap (λ x. x.area.device) is in
         let on_new : images_on new v ≡ images_on c v = ap (λ (i : List (List ℕ)). images_on (record { area = c.area; images = i }) v) copied.area_on.images in
         let records_are : last.area.records ≡ noted slot (record_of v (newest (sets_at (group_of devices c) v)) w.block) c.area.records =
         ap (λ x. x.area.records) is ∙ ap (λ (s : List ℕ). noted slot (record_of v (newest s) w.block) new.area.records) on_new
         ∙ ap (λ (rs : List Record). noted slot (record_of v (newest (images_on c v)) w.block) rs) copied.area_on.records in
         record {
-          kept = kept told size count lending devices v d f c last at (record {
-            tells = ap is_some told_is ∙ put_tells w.block w.bytes (told d);
+          kept = kept ghosts devices v d f c last at (record {
+            tells = ap is_some told_is ∙ put_tells w.block w.bytes (ghosts.told d);
             size_is = on.size_is ∙ copied.device_on.size_is;
             lends = on.lends ∙ copied.device_on.lends;
             later = let a = on.later in let b = copied.device_on.later in omega arith;
-          }) (subst (λ (x : D). IsSameDevice told size count lending c.area.device x) (sym device_is) area_same) (ap (λ x. x.area.volumes) is ∙ copied.area_on.volumes)
+          }) (subst (λ (x : D). IsSameDevice ghosts c.area.device x) (sym device_is) area_same) (ap (λ x. x.area.volumes) is ∙ copied.area_on.volumes)
               (ap length records_are ∙ length-set c.area.records slot (record_of v (newest (sets_at (group_of devices c) v)) w.block));
-          stands = λ hs stood. group_written_first told (group_of devices c) (group_of (slice_set devices v f) last) hs v d f w slot copied.copy stood low
-              (sym (needs_by_records told (group_of devices c) hs v w.block stood low) ∙ lacks) at told_is is_there copied.read
-              (slot_room (told c.area.device) (length c.area.records) slot (subst (λ (n : ℕ). IfSome (told c.area.device) (AreBlocks n)) fits whole) (slot_within c.area.records slot is_there))
-              refl (ap (λ x. x.images) is ∙ copied.area_on.images) (ap (λ x. x.area.volumes) is ∙ copied.area_on.volumes) records_are (ap told device_is ∙ copied.area_on.device.tells);
-          unfailed = record { devices = map_set_told count devices v d f at (unfailed ∙ copied.device_same); area = ap count device_is ∙ copied.area_same };
+          stands = λ hs stood. group_written_first ghosts.told (group_of devices c) (group_of (slice_set devices v f) last) hs v d f w slot copied.copy stood low
+              (sym (needs_by_records ghosts.told (group_of devices c) hs v w.block stood low) ∙ lacks) at told_is is_there copied.read
+              (slot_room (ghosts.told c.area.device) (length c.area.records) slot (subst (λ (n : ℕ). IfSome (ghosts.told c.area.device) (AreBlocks n)) fits whole) (slot_within c.area.records slot is_there))
+              refl (ap (λ x. x.images) is ∙ copied.area_on.images) (ap (λ x. x.area.volumes) is ∙ copied.area_on.volumes) records_are (ap ghosts.told device_is ∙ copied.area_on.device.tells);
+          unfailed = record { devices = map_set_told ghosts.count devices v d f at (unfailed ∙ copied.device_same); area = ap ghosts.count device_is ∙ copied.area_same };
         } where
           slot_within : (rs : List Record) (k : ℕ) → slice_get rs k ≡ Some free → k < length rs
           slot_within rs k h = slice_get_within rs k free h
 
 -- ## the whole write
 
-kept_gone : {D : Type 0} (told : D → Option (List (List ℕ))) (size count : D → ℕ) (lending : D → Bool) (m : ℕ) (old new : GroupValue D) → IsKept told size count lending (gone_group m old) new
-    → IsKept told size count lending old new
-kept_gone told size count lending m old new k = record { volumes = k.volumes; slots = k.slots ∙ length-map old.area.records (gone_row m); area = k.area; devices = k.devices; each = k.each }
+kept_gone : {D : Type 0} (ghosts : Ghosts D) (m : ℕ) (old new : GroupValue D) → IsKept ghosts (gone_group m old) new
+    → IsKept ghosts old new
+kept_gone ghosts m old new k = record { volumes = k.volumes; slots = k.slots ∙ length-map old.area.records (gone_row m); area = k.area; devices = k.devices; each = k.each }
 
 rose_gone : {D : Type 0} (count : D → ℕ) (v b m : ℕ) (old new : GroupValue D) (cause : Cause) → b < blocks_at old v → DeviceRose count v (gone_group m old) new cause
     → HasCauseAt count v b old new cause
@@ -135,36 +136,36 @@ rose_gone count v b m old new NoSuchBlock low rose = absurd rose
 rose_gone count v b m old new Volume low rose = (low, record { before = rose.before; now = rose.now; was = rose.was; is = rose.is; rose = rose.rose; devices = rose.devices; area = rose.area })
 rose_gone count v b m old new Area low rose = (low, record { rose = rose.rose; devices = rose.devices })
 
-module _ {D : Type 0} (told : D → Option (List (List ℕ))) (size count : D → ℕ) (lending : D → Bool) (old mid new : GroupValue D) (v : ℕ) (w : Write) (m : ℕ) (low : w.block < blocks_at old v)
+module _ {D : Type 0} (ghosts : Ghosts D) (old mid new : GroupValue D) (v : ℕ) (w : Write) (m : ℕ) (low : w.block < blocks_at old v)
     (gone : mid ≡ gone_group m old)
-    (evicted : (hs : List History) → StandsFor told old hs → IsEvicted old v w.block hs m) (room : (hs : List History) → StandsFor told old hs → StandsFor told mid (made_room old m hs)) where
-  pub is_written : IsPut told size count lending mid new v w → IsWritten told size count lending old new v w m
+    (evicted : (hs : List History) → StandsFor ghosts.told old hs → IsEvicted old v w.block hs m) (room : (hs : List History) → StandsFor ghosts.told old hs → StandsFor ghosts.told mid (made_room old m hs)) where
+  pub is_written : IsPut ghosts mid new v w → IsWritten ghosts old new v w m
   is_written done = record {
     in_range = low;
-    kept = kept_gone told size count lending m old new (subst (λ (x : GroupValue D). IsKept told size count lending x new) gone done.kept);
+    kept = kept_gone ghosts m old new (subst (λ (x : GroupValue D). IsKept ghosts x new) gone done.kept);
     evicted = evicted;
     stands = λ hs stood. done.stands (made_room old m hs) (room hs stood);
-    unfailed = (let is = subst (λ (x : GroupValue D). IsUnfailed count x new) gone done.unfailed in record { devices = is.devices; area = is.area });
+    unfailed = (let is = subst (λ (x : GroupValue D). IsUnfailed ghosts.count x new) gone done.unfailed in record { devices = is.devices; area = is.area });
   }
 
-  pub is_unwritten : (cause : Cause) → IsNotPut told size count lending mid new v cause → IsUnwritten told size count lending old new v w.block (record { cause = cause; evicted_up_to = m })
+  pub is_unwritten : (cause : Cause) → IsNotPut ghosts mid new v cause → IsUnwritten ghosts old new v w.block (record { cause = cause; evicted_up_to = m })
   is_unwritten cause failed = record {
-    cause = rose_gone count v w.block m old new cause low (subst (λ (x : GroupValue D). DeviceRose count v x new cause) gone failed.rose);
-    kept = kept_gone told size count lending m old new (subst (λ (x : GroupValue D). IsKept told size count lending x new) gone failed.kept);
+    cause = rose_gone ghosts.count v w.block m old new cause low (subst (λ (x : GroupValue D). DeviceRose ghosts.count v x new cause) gone failed.rose);
+    kept = kept_gone ghosts m old new (subst (λ (x : GroupValue D). IsKept ghosts x new) gone failed.kept);
     evicted = λ within. evicted;
     none = λ past. absurd (omega arith);
     stands = λ hs stood. failed.stands (made_room old m hs) (room hs stood);
   }
 
 -- there is no such block
-pub no_block : {D : Type 0} (told : D → Option (List (List ℕ))) (size count : D → ℕ) (lending : D → Bool) (g : GroupValue D) (v b : ℕ) → blocks_at g v ≤ b
-    → IsUnwritten told size count lending g g v b (record { cause = NoSuchBlock; evicted_up_to = 0 })
-no_block told size count lending g v b past = record {
+pub no_block : {D : Type 0} (ghosts : Ghosts D) (g : GroupValue D) (v b : ℕ) → blocks_at g v ≤ b
+    → IsUnwritten ghosts g g v b (record { cause = NoSuchBlock; evicted_up_to = 0 })
+no_block ghosts g v b past = record {
   cause = (past, refl);
-  kept = kept_itself told size count lending g;
+  kept = kept_itself ghosts g;
   evicted = λ low. absurd (omega arith);
   none = λ p. refl;
-  stands = λ hs stood. none_gone_stands told g hs stood;
+  stands = λ hs stood. none_gone_stands ghosts.told g hs stood;
 }
 
 -- ## what a copy leaves
@@ -183,7 +184,7 @@ pub and_rest : (a b : Bool) → a ≡ true → (a && b) ≡ false → b ≡ fals
 and_rest true b e h = h
 and_rest false b e h = absurd (false≢true e)
 
-pub put_size : {D : Type 0} (told : D → Option (List (List ℕ))) (size count : D → ℕ) (lending : D → Bool) (d e : D) (block : ℕ) (bytes : List ℕ) (r : Result Unit Cause)
-    → IsPutOn told size count lending d e block bytes r → size e ≡ size d
-put_size told size count lending d e block bytes (Ok done) on = on.0.size_is
-put_size told size count lending d e block bytes (Err cause) failed = failed.0.size_is
+pub put_size : {D : Type 0} (ghosts : Ghosts D) (d e : D) (block : ℕ) (bytes : List ℕ) (r : Result Unit Cause)
+    → IsPutOn ghosts d e block bytes r → ghosts.size e ≡ ghosts.size d
+put_size ghosts d e block bytes (Ok done) on = on.0.size_is
+put_size ghosts d e block bytes (Err cause) failed = failed.0.size_is

@@ -12,35 +12,36 @@ use Rattle.cow_volume.specs.StandsFor.{told_in, IsVolume, StandsFor}
 use Rattle.cow_volume.specs.Calls.{IsSameDevice, IsKept, IsUnfailed, IsQuiet, VolumeRose}
 use Rattle.cow_volume.specs.Parts.{group_of, IsCalled}
 use Rattle.cow_volume.proofs.Group.{same_number, other_number, slice_get-set_same, slice_get-set_other, length-slice_set, slice_get_inside}
+use Rattle.volume_device.specs.declared.device.Device.{Ghosts}
 
 -- ## one device
 
-pub same_itself : {D : Type 0} (told : D → Option (List (List ℕ))) (size count : D → ℕ) (lending : D → Bool) (d : D) → IsSameDevice told size count lending d d
-same_itself told size count lending d = record { tells = refl; size_is = refl; lends = refl; later = omega arith }
+pub same_itself : {D : Type 0} (ghosts : Ghosts D) (d : D) → IsSameDevice ghosts d d
+same_itself ghosts d = record { tells = refl; size_is = refl; lends = refl; later = omega arith }
 
-pub same_further : {D : Type 0} (told : D → Option (List (List ℕ))) (size count : D → ℕ) (lending : D → Bool) (d e f : D) → IsSameDevice told size count lending d e
-    → IsSameDevice told size count lending e f → IsSameDevice told size count lending d f
-same_further told size count lending d e f first second =
+pub same_further : {D : Type 0} (ghosts : Ghosts D) (d e f : D) → IsSameDevice ghosts d e
+    → IsSameDevice ghosts e f → IsSameDevice ghosts d f
+same_further ghosts d e f first second =
     let one = first.later in
     let two = second.later in
     record { tells = second.tells ∙ first.tells; size_is = second.size_is ∙ first.size_is; lends = second.lends ∙ first.lends; later = omega arith }
 
 -- each device is the same one after a call on one of them
-pub each_same : {D : Type 0} (told : D → Option (List (List ℕ))) (size count : D → ℕ) (lending : D → Bool) (v : ℕ) (old new : List D) (failed : Bool)
-    → IsCalled told size count lending v old new failed
-    → (u : ℕ) (d e : D) → slice_get old u ≡ Some d → slice_get new u ≡ Some e → IsSameDevice told size count lending d e
-each_same {D = D} told size count lending v old new failed call u d e was is = by_number (u == v) refl where
-  by_number : (t : Bool) → (u == v) ≡ t → IsSameDevice told size count lending d e
+pub each_same : {D : Type 0} (ghosts : Ghosts D) (v : ℕ) (old new : List D) (failed : Bool)
+    → IsCalled ghosts v old new failed
+    → (u : ℕ) (d e : D) → slice_get old u ≡ Some d → slice_get new u ≡ Some e → IsSameDevice ghosts d e
+each_same {D = D} ghosts v old new failed call u d e was is = by_number (u == v) refl where
+  by_number : (t : Bool) → (u == v) ≡ t → IsSameDevice ghosts d e
   by_number true f =
       let n = same_number u v f in
       let one : call.before ≡ d = same_Some call.before d (sym call.was ∙ ap (slice_get old) (sym n) ∙ was) in
       let two : call.after ≡ e = same_Some call.after e
       (sym (slice_get-set_same old v call.before call.after call.was) ∙ ap (slice_get (slice_set old v call.after)) (sym n) ∙ ap (λ (ds : List D). slice_get ds u) (sym call.devices) ∙ is) in
-      subst (λ (x : D). IsSameDevice told size count lending x e) one (subst (λ (x : D). IsSameDevice told size count lending call.before x) two call.same)
+      subst (λ (x : D). IsSameDevice ghosts x e) one (subst (λ (x : D). IsSameDevice ghosts call.before x) two call.same)
   by_number false f =
       let n = other_number u v f in
       let same : d ≡ e = same_Some d e (sym was ∙ sym (slice_get-set_other old v u call.after (λ h. n (sym h))) ∙ ap (λ (ds : List D). slice_get ds u) (sym call.devices) ∙ is) in
-      subst (λ (x : D). IsSameDevice told size count lending d x) same (same_itself told size count lending d)
+      subst (λ (x : D). IsSameDevice ghosts d x) same (same_itself ghosts d)
 
 pub map_set_told : {X Y : Type 0} (f : X → Y) (xs : List X) (v : ℕ) (before after : X) → slice_get xs v ≡ Some before → f after ≡ f before → map f (slice_set xs v after) ≡ map f xs
 map_set_told f [] v before after at e = refl
@@ -48,62 +49,62 @@ map_set_told f (x ∷ xs) zero before after at e = let same : x ≡ before = cc 
 map_set_told f (x ∷ xs) (suc v) before after at e = ap (λ ys. f x ∷ ys) (map_set_told f xs v before after at e)
 
 -- what a list of devices tells is as before where the device that was called tells the same
-pub all_told : {D : Type 0} (told : D → Option (List (List ℕ))) (size count : D → ℕ) (lending : D → Bool) (v : ℕ) (old new : List D) (failed : Bool)
-    (call : IsCalled told size count lending v old new failed) → told call.after ≡ told call.before → map told new ≡ map told old
-all_told told size count lending v old new failed call e = ap (map told) call.devices ∙ map_set_told told old v call.before call.after call.was e
+pub all_told : {D : Type 0} (ghosts : Ghosts D) (v : ℕ) (old new : List D) (failed : Bool)
+    (call : IsCalled ghosts v old new failed) → ghosts.told call.after ≡ ghosts.told call.before → map ghosts.told new ≡ map ghosts.told old
+all_told ghosts v old new failed call e = ap (map ghosts.told) call.devices ∙ map_set_told ghosts.told old v call.before call.after call.was e
 
 -- the count of the device of a volume rose where the call failed
-pub volume_rose_if : {D : Type 0} (told : D → Option (List (List ℕ))) (size count : D → ℕ) (lending : D → Bool) (v : ℕ) (old new : List D) (failed : Bool) (g h : CopiesValue D)
-    → IsCalled told size count lending v old new failed → failed ≡ true → count h.area.device ≡ count g.area.device → VolumeRose count v (group_of old g) (group_of new h)
-volume_rose_if {D = D} told size count lending v old new failed g h call e area = record {
+pub volume_rose_if : {D : Type 0} (ghosts : Ghosts D) (v : ℕ) (old new : List D) (failed : Bool) (g h : CopiesValue D)
+    → IsCalled ghosts v old new failed → failed ≡ true → ghosts.count h.area.device ≡ ghosts.count g.area.device → VolumeRose ghosts.count v (group_of old g) (group_of new h)
+volume_rose_if {D = D} ghosts v old new failed g h call e area = record {
   before = call.before;
   now = call.after;
   was = call.was;
   is = ap (λ (ds : List D). slice_get ds v) call.devices ∙ slice_get-set_same old v call.before call.after call.was;
   rose = call.rose e;
-  devices = ap (map count) call.devices ∙ map-set count old v call.after;
+  devices = ap (map ghosts.count) call.devices ∙ map-set ghosts.count old v call.after;
   area = area;
 }
 
-pub volume_rose : {D : Type 0} (told : D → Option (List (List ℕ))) (size count : D → ℕ) (lending : D → Bool) (v : ℕ) (old new : List D) (g h : CopiesValue D)
-    → IsCalled told size count lending v old new true → count h.area.device ≡ count g.area.device → VolumeRose count v (group_of old g) (group_of new h)
-volume_rose told size count lending v old new g h call area = volume_rose_if told size count lending v old new true g h call refl area
+pub volume_rose : {D : Type 0} (ghosts : Ghosts D) (v : ℕ) (old new : List D) (g h : CopiesValue D)
+    → IsCalled ghosts v old new true → ghosts.count h.area.device ≡ ghosts.count g.area.device → VolumeRose ghosts.count v (group_of old g) (group_of new h)
+volume_rose ghosts v old new g h call area = volume_rose_if ghosts v old new true g h call refl area
 
 -- ## the group
 
 -- nothing was called
-pub kept_itself : {D : Type 0} (told : D → Option (List (List ℕ))) (size count : D → ℕ) (lending : D → Bool) (g : GroupValue D) → IsKept told size count lending g g
-kept_itself {D = D} told size count lending g = record {
+pub kept_itself : {D : Type 0} (ghosts : Ghosts D) (g : GroupValue D) → IsKept ghosts g g
+kept_itself {D = D} ghosts g = record {
   volumes = refl;
   slots = refl;
-  area = same_itself told size count lending g.area.device;
+  area = same_itself ghosts g.area.device;
   devices = refl;
-  each = λ v d e was is. let same : d ≡ e = same_Some d e (sym was ∙ is) in subst (λ (x : D). IsSameDevice told size count lending d x) same (same_itself told size count lending d);
+  each = λ v d e was is. let same : d ≡ e = same_Some d e (sym was ∙ is) in subst (λ (x : D). IsSameDevice ghosts d x) same (same_itself ghosts d);
 }
 
-pub quiet_itself : {D : Type 0} (told : D → Option (List (List ℕ))) (size count : D → ℕ) (lending : D → Bool) (g : GroupValue D) → IsQuiet told size count lending g g
-quiet_itself told size count lending g = record { kept = kept_itself told size count lending g; records = refl; images = refl; blocks = refl; slots = refl }
+pub quiet_itself : {D : Type 0} (ghosts : Ghosts D) (g : GroupValue D) → IsQuiet ghosts g g
+quiet_itself ghosts g = record { kept = kept_itself ghosts g; records = refl; images = refl; blocks = refl; slots = refl }
 
 -- one call after another
-pub kept_further : {D : Type 0} (told : D → Option (List (List ℕ))) (size count : D → ℕ) (lending : D → Bool) (a b c : GroupValue D) → IsKept told size count lending a b
-    → IsKept told size count lending b c → IsKept told size count lending a c
-kept_further {D = D} told size count lending a b c first second = record {
+pub kept_further : {D : Type 0} (ghosts : Ghosts D) (a b c : GroupValue D) → IsKept ghosts a b
+    → IsKept ghosts b c → IsKept ghosts a c
+kept_further {D = D} ghosts a b c first second = record {
   volumes = second.volumes ∙ first.volumes;
   slots = second.slots ∙ first.slots;
-  area = same_further told size count lending a.area.device b.area.device c.area.device first.area second.area;
+  area = same_further ghosts a.area.device b.area.device c.area.device first.area second.area;
   devices = second.devices ∙ first.devices;
   each = λ v d f was is.
       let inside = slice_get_within a.devices v d was in
       let long = first.devices in
       let e = slice_get_inside b.devices v (omega arith) in
-      same_further told size count lending d e.0 f (first.each v d e.0 was e.1) (second.each v e.0 f e.1 is);
+      same_further ghosts d e.0 f (first.each v d e.0 was e.1) (second.each v e.0 f e.1 is);
 }
 
 -- one quiet call after another
-pub quiet_further : {D : Type 0} (told : D → Option (List (List ℕ))) (size count : D → ℕ) (lending : D → Bool) (a b c : GroupValue D) → IsQuiet told size count lending a b
-    → IsQuiet told size count lending b c → IsQuiet told size count lending a c
-quiet_further told size count lending a b c first second = record {
-  kept = kept_further told size count lending a b c first.kept second.kept;
+pub quiet_further : {D : Type 0} (ghosts : Ghosts D) (a b c : GroupValue D) → IsQuiet ghosts a b
+    → IsQuiet ghosts b c → IsQuiet ghosts a c
+quiet_further ghosts a b c first second = record {
+  kept = kept_further ghosts a b c first.kept second.kept;
   records = second.records ∙ first.records;
   images = second.images ∙ first.images;
   blocks = second.blocks ∙ first.blocks;
@@ -111,43 +112,43 @@ quiet_further told size count lending a b c first second = record {
 }
 
 -- a device was called
-pub kept_called : {D : Type 0} (told : D → Option (List (List ℕ))) (size count : D → ℕ) (lending : D → Bool) (v : ℕ) (old new : List D) (failed : Bool) (c : CopiesValue D)
-    → IsCalled told size count lending v old new failed → IsKept told size count lending (group_of old c) (group_of new c)
-kept_called told size count lending v old new failed c call = record {
+pub kept_called : {D : Type 0} (ghosts : Ghosts D) (v : ℕ) (old new : List D) (failed : Bool) (c : CopiesValue D)
+    → IsCalled ghosts v old new failed → IsKept ghosts (group_of old c) (group_of new c)
+kept_called ghosts v old new failed c call = record {
   volumes = refl;
   slots = refl;
-  area = same_itself told size count lending c.area.device;
+  area = same_itself ghosts c.area.device;
   devices = ap length call.devices ∙ length-slice_set old v call.after;
-  each = each_same told size count lending v old new failed call;
+  each = each_same ghosts v old new failed call;
 }
 
-pub quiet_called : {D : Type 0} (told : D → Option (List (List ℕ))) (size count : D → ℕ) (lending : D → Bool) (v : ℕ) (old new : List D) (failed : Bool) (c : CopiesValue D)
-    (call : IsCalled told size count lending v old new failed) → told call.after ≡ told call.before → IsQuiet told size count lending (group_of old c) (group_of new c)
-quiet_called told size count lending v old new failed c call e = record {
-  kept = kept_called told size count lending v old new failed c call;
+pub quiet_called : {D : Type 0} (ghosts : Ghosts D) (v : ℕ) (old new : List D) (failed : Bool) (c : CopiesValue D)
+    (call : IsCalled ghosts v old new failed) → ghosts.told call.after ≡ ghosts.told call.before → IsQuiet ghosts (group_of old c) (group_of new c)
+quiet_called ghosts v old new failed c call e = record {
+  kept = kept_called ghosts v old new failed c call;
   records = refl;
   images = refl;
-  blocks = all_told told size count lending v old new failed call e;
+  blocks = all_told ghosts v old new failed call e;
   slots = refl;
 }
 
 -- the area's device was called
-pub kept_area : {D : Type 0} (told : D → Option (List (List ℕ))) (size count : D → ℕ) (lending : D → Bool) (devices : List D) (old new : CopiesValue D) → KeepsTable size lending old.area new.area
-    → is_some (told new.area.device) ≡ is_some (told old.area.device) → count old.area.device ≤ count new.area.device
-    → IsKept told size count lending (group_of devices old) (group_of devices new)
-kept_area {D = D} told size count lending devices old new table tells later = record {
+pub kept_area : {D : Type 0} (ghosts : Ghosts D) (devices : List D) (old new : CopiesValue D) → KeepsTable ghosts.size ghosts.lending old.area new.area
+    → is_some (ghosts.told new.area.device) ≡ is_some (ghosts.told old.area.device) → ghosts.count old.area.device ≤ ghosts.count new.area.device
+    → IsKept ghosts (group_of devices old) (group_of devices new)
+kept_area {D = D} ghosts devices old new table tells later = record {
   volumes = table.volumes;
   slots = ap length table.records;
   area = record { tells = tells; size_is = table.size_is; lends = table.lends; later = later };
   devices = refl;
-  each = λ v d e was is. let same : d ≡ e = same_Some d e (sym was ∙ is) in subst (λ (x : D). IsSameDevice told size count lending d x) same (same_itself told size count lending d);
+  each = λ v d e was is. let same : d ≡ e = same_Some d e (sym was ∙ is) in subst (λ (x : D). IsSameDevice ghosts d x) same (same_itself ghosts d);
 }
 
-pub quiet_area : {D : Type 0} (told : D → Option (List (List ℕ))) (size count : D → ℕ) (lending : D → Bool) (devices : List D) (old new : CopiesValue D) → KeepsTable size lending old.area new.area
-    → new.images ≡ old.images → told new.area.device ≡ told old.area.device → count old.area.device ≤ count new.area.device
-    → IsQuiet told size count lending (group_of devices old) (group_of devices new)
-quiet_area told size count lending devices old new table images same later = record {
-  kept = kept_area told size count lending devices old new table (ap is_some same) later;
+pub quiet_area : {D : Type 0} (ghosts : Ghosts D) (devices : List D) (old new : CopiesValue D) → KeepsTable ghosts.size ghosts.lending old.area new.area
+    → new.images ≡ old.images → ghosts.told new.area.device ≡ ghosts.told old.area.device → ghosts.count old.area.device ≤ ghosts.count new.area.device
+    → IsQuiet ghosts (group_of devices old) (group_of devices new)
+quiet_area ghosts devices old new table images same later = record {
+  kept = kept_area ghosts devices old new table (ap is_some same) later;
   records = table.records;
   images = images;
   blocks = refl;
@@ -155,21 +156,21 @@ quiet_area told size count lending devices old new table images same later = rec
 }
 
 -- the records changed in memory, and no device was called
-pub kept_records : {D : Type 0} (told : D → Option (List (List ℕ))) (size count : D → ℕ) (lending : D → Bool) (devices : List D) (old new : CopiesValue D) → new.area.volumes ≡ old.area.volumes
+pub kept_records : {D : Type 0} (ghosts : Ghosts D) (devices : List D) (old new : CopiesValue D) → new.area.volumes ≡ old.area.volumes
     → length new.area.records ≡ length old.area.records → new.area.device ≡ old.area.device
-    → IsKept told size count lending (group_of devices old) (group_of devices new)
-kept_records {D = D} told size count lending devices old new volumes slots device = record {
+    → IsKept ghosts (group_of devices old) (group_of devices new)
+kept_records {D = D} ghosts devices old new volumes slots device = record {
   volumes = volumes;
   slots = slots;
-  area = subst (λ (x : D). IsSameDevice told size count lending old.area.device x) (sym device) (same_itself told size count lending old.area.device);
+  area = subst (λ (x : D). IsSameDevice ghosts old.area.device x) (sym device) (same_itself ghosts old.area.device);
   devices = refl;
-  each = λ v d e was is. let same : d ≡ e = same_Some d e (sym was ∙ is) in subst (λ (x : D). IsSameDevice told size count lending d x) same (same_itself told size count lending d);
+  each = λ v d e was is. let same : d ≡ e = same_Some d e (sym was ∙ is) in subst (λ (x : D). IsSameDevice ghosts d x) same (same_itself ghosts d);
 }
 
 -- the device that was called
-pub called_is : {D : Type 0} (told : D → Option (List (List ℕ))) (size count : D → ℕ) (lending : D → Bool) (v : ℕ) (old new : List D) (failed : Bool) (d : D)
-    (call : IsCalled told size count lending v old new failed) → slice_get new v ≡ Some d → call.after ≡ d
-called_is {D = D} told size count lending v old new failed d call is =
+pub called_is : {D : Type 0} (ghosts : Ghosts D) (v : ℕ) (old new : List D) (failed : Bool) (d : D)
+    (call : IsCalled ghosts v old new failed) → slice_get new v ≡ Some d → call.after ≡ d
+called_is {D = D} ghosts v old new failed d call is =
     same_Some call.after d (sym (slice_get-set_same old v call.before call.after call.was) ∙ ap (λ (ds : List D). slice_get ds v) (sym call.devices) ∙ is)
 
 -- ## no device failed
@@ -181,11 +182,11 @@ pub unfailed_further : {D : Type 0} (count : D → ℕ) (a b c : GroupValue D) �
 unfailed_further count a b c first second = record { devices = second.devices ∙ first.devices; area = second.area ∙ first.area }
 
 -- the device of a volume was called, and did not fail
-pub unfailed_called : {D : Type 0} (told : D → Option (List (List ℕ))) (size count : D → ℕ) (lending : D → Bool) (v : ℕ) (old new : List D) (failed : Bool) (g h : CopiesValue D)
-    → IsCalled told size count lending v old new failed → failed ≡ false → count h.area.device ≡ count g.area.device
-    → IsUnfailed count (group_of old g) (group_of new h)
-unfailed_called told size count lending v old new failed g h call e area = record {
-  devices = ap (map count) call.devices ∙ map_set_told count old v call.before call.after call.was (call.unfailed e);
+pub unfailed_called : {D : Type 0} (ghosts : Ghosts D) (v : ℕ) (old new : List D) (failed : Bool) (g h : CopiesValue D)
+    → IsCalled ghosts v old new failed → failed ≡ false → ghosts.count h.area.device ≡ ghosts.count g.area.device
+    → IsUnfailed ghosts.count (group_of old g) (group_of new h)
+unfailed_called ghosts v old new failed g h call e area = record {
+  devices = ap (map ghosts.count) call.devices ∙ map_set_told ghosts.count old v call.before call.after call.was (call.unfailed e);
   area = area;
 }
 
@@ -199,9 +200,9 @@ maps_same f (x ∷ xs) (y ∷ ys) long each =
     let rest : map f ys ≡ map f xs = maps_same f xs ys (omega arith) (λ v d e was is. each (suc v) d e was is) in
     ap (λ z. z ∷ map f ys) first ∙ ap (λ zs. f x ∷ zs) rest
 
-pub sizes_kept : {D : Type 0} (told : D → Option (List (List ℕ))) (size count : D → ℕ) (lending : D → Bool) (old new : GroupValue D) → IsKept told size count lending old new
-    → map size old.devices ≡ old.area.volumes → map size new.devices ≡ new.area.volumes
-sizes_kept told size count lending old new kept sizes = maps_same size old.devices new.devices kept.devices (λ v d e was is. (kept.each v d e was is).size_is) ∙ sizes ∙ sym kept.volumes
+pub sizes_kept : {D : Type 0} (ghosts : Ghosts D) (old new : GroupValue D) → IsKept ghosts old new
+    → map ghosts.size old.devices ≡ old.area.volumes → map ghosts.size new.devices ≡ new.area.volumes
+sizes_kept ghosts old new kept sizes = maps_same ghosts.size old.devices new.devices kept.devices (λ v d e was is. (kept.each v d e was is).size_is) ∙ sizes ∙ sym kept.volumes
 
 -- ## what it stands for
 
@@ -214,17 +215,17 @@ told_before f xs ys v e same at =
       from (Some d) g h = (d, g, same_Some (f d) (f e) h)
 
 -- a group of which only counts of devices changed stands for what it stood for
-pub quiet_stands : {D : Type 0} (told : D → Option (List (List ℕ))) (size count : D → ℕ) (lending : D → Bool) (old new : GroupValue D) (hs : List History) → IsQuiet told size count lending old new
-    → StandsFor told old hs → StandsFor told new hs
-quiet_stands told size count lending old new hs quiet stands = record {
+pub quiet_stands : {D : Type 0} (ghosts : Ghosts D) (old new : GroupValue D) (hs : List History) → IsQuiet ghosts old new
+    → StandsFor ghosts.told old hs → StandsFor ghosts.told new hs
+quiet_stands ghosts old new hs quiet stands = record {
   devices = quiet.kept.devices ∙ stands.devices ∙ ap length (sym quiet.kept.volumes);
   images = ap length quiet.images ∙ stands.images ∙ ap length (sym quiet.kept.volumes);
   histories = stands.histories ∙ ap length (sym quiet.kept.volumes);
   each = λ v n e sets h blocks device images history.
-      let was = told_before told old.devices new.devices v e quiet.blocks device in
+      let was = told_before ghosts.told old.devices new.devices v e quiet.blocks device in
       let volume = stands.each v n was.0 sets h (ap (λ (ns : List ℕ). slice_get ns v) (sym quiet.kept.volumes) ∙ blocks) was.1
       (ap (λ (ss : List (List ℕ)). slice_get ss v) (sym quiet.images) ∙ images) history in
-      subst (λ (t : Option (List (List ℕ))). IsVolume (told_in (told new.area.device) t) (told new.area.device) new.area.records v n sets h) was.2
-      (subst (λ (t : Option (List (List ℕ))). IsVolume (told_in t (told was.0)) t new.area.records v n sets h) (sym quiet.slots)
-      (subst (λ (rs : List Record). IsVolume (told_in (told old.area.device) (told was.0)) (told old.area.device) rs v n sets h) (sym quiet.records) volume));
+      subst (λ (t : Option (List (List ℕ))). IsVolume (told_in (ghosts.told new.area.device) t) (ghosts.told new.area.device) new.area.records v n sets h) was.2
+      (subst (λ (t : Option (List (List ℕ))). IsVolume (told_in t (ghosts.told was.0)) t new.area.records v n sets h) (sym quiet.slots)
+      (subst (λ (rs : List Record). IsVolume (told_in (ghosts.told old.area.device) (ghosts.told was.0)) (ghosts.told old.area.device) rs v n sets h) (sym quiet.records) volume));
 }

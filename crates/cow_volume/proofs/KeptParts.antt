@@ -6,6 +6,7 @@ use Rattle.std.proofs.lemmas.List.{length-map}
 use Rattle.std.proofs.lemmas.List.Sorted.{Contains-permutation, IsPermutation-sym}
 use Rattle.std.proofs.lemmas.Option.{same_Some, slice_get_within, get_or_from_slice_get}
 use Rattle.volume_device.specs.Blocks.{AreBlocks}
+use Rattle.volume_device.specs.declared.device.Device.{Ghosts}
 use Rattle.write_history.specs.History.{History, content, point_in}
 use Rattle.write_history.specs.Slots.{Copy, copies_of, copies, copy_of}
 use Rattle.diff_area.specs.AreaValue.{AreaValue}
@@ -147,11 +148,11 @@ tells_both : (slots told : Option (List (List ℕ))) → is_some slots ≡ true 
 tells_both None told e = cc
 tells_both (Some blocks) told e = refl
 
-pub synced_kept : {D : Type 0} (told : D → Option (List (List ℕ))) (size count : D → ℕ) (lending : D → Bool) (old new : GroupValue D) (area : AreaValue D) (hs : List History)
-    → IsSync told size count lending old new (Ok tt) → StandsFor told old hs → AllTell told old.devices → is_some (told old.area.device) ≡ true
-    → area.volumes ≡ new.area.volumes → told area.device ≡ told new.area.device → ((cs : List Copy) → AreStored (told new.area.device) cs → AreHeld (told area.device) area.records cs)
-    → AreKept told new.devices area new.images hs
-synced_kept {D = D} told size count lending old new area hs sync stands all tells volumes same loaded =
+pub synced_kept : {D : Type 0} (ghosts : Ghosts D) (old new : GroupValue D) (area : AreaValue D) (hs : List History)
+    → IsSync ghosts old new (Ok tt) → StandsFor ghosts.told old hs → AllTell ghosts.told old.devices → is_some (ghosts.told old.area.device) ≡ true
+    → area.volumes ≡ new.area.volumes → ghosts.told area.device ≡ ghosts.told new.area.device → ((cs : List Copy) → AreStored (ghosts.told new.area.device) cs → AreHeld (ghosts.told area.device) area.records cs)
+    → AreKept ghosts.told new.devices area new.images hs
+synced_kept {D = D} ghosts old new area hs sync stands all tells volumes same loaded =
     let kept = sync.0.kept in
     let volumes_are : area.volumes ≡ old.area.volumes = volumes ∙ kept.volumes in
     record {
@@ -159,8 +160,8 @@ synced_kept {D = D} told size count lending old new area hs sync stands all tell
       each = λ v n d sets h at device row is.
           let volume = stands.each v n d sets h (ap (λ (ns : List ℕ). slice_get ns v) (sym volumes_are) ∙ at) (ap (λ (ds : List D). slice_get ds v) (sym sync.0.devices) ∙ device)
           (ap (λ (ss : List (List ℕ)). slice_get ss v) (sym sync.0.images) ∙ row) is in
-          volume_kept (told d) (told old.area.device) old.area.records v n sets h
-          (subst (λ (t : Option (List (List ℕ))). IsVolume t (told old.area.device) old.area.records v n sets h) (tells_both (told old.area.device) (told d) tells) volume);
+          volume_kept (ghosts.told d) (ghosts.told old.area.device) old.area.records v n sets h
+          (subst (λ (t : Option (List (List ℕ))). IsVolume t (ghosts.told old.area.device) old.area.records v n sets h) (tells_both (ghosts.told old.area.device) (ghosts.told d) tells) volume);
       tells = ap is_some same ∙ kept.area.tells ∙ tells;
-      held = subst (λ (ns : List ℕ). AreHeld (told area.device) area.records (copies (placed ns) hs)) (sym volumes_are) (loaded (copies (placed old.area.volumes) hs) (sync.1 hs stands all));
+      held = subst (λ (ns : List ℕ). AreHeld (ghosts.told area.device) area.records (copies (placed ns) hs)) (sym volumes_are) (loaded (copies (placed old.area.volumes) hs) (sync.1 hs stands all));
     }

@@ -20,6 +20,7 @@ use Rattle.cow_volume.specs.declared.image_fault.ImageFault.TheVariants.{NoSuchI
 use Rattle.cow_volume.specs.declared.revert_fault.RevertFault.{RevertFault}
 use Rattle.cow_volume.specs.declared.revert_fault.RevertFault.TheVariants.{NoSuchImage, Fault}
 use Rattle.cow_volume.proofs.Group.{quiet_stands}
+use Rattle.volume_device.specs.declared.device.Device.{Ghosts}
 
 -- ## a list of one
 
@@ -65,9 +66,9 @@ first_of_one (d ∷ devices) one = (d, refl)
 
 -- ## what a volume stands for
 
-pub one_quiet : {D : Type 0} → (told : D → Option (List (List ℕ))) (size count : D → ℕ) (lending : D → Bool) (old new : GroupValue D)
-    → IsQuiet told size count lending old new → (h : History) → StandsForOne told old h → StandsForOne told new h
-one_quiet told size count lending old new quiet h stood = quiet_stands told old new (h ∷ []) stood quiet.blocks quiet.images quiet.kept.volumes quiet.records quiet.slots
+pub one_quiet : {D : Type 0} → (ghosts : Ghosts D) (old new : GroupValue D)
+    → IsQuiet ghosts old new → (h : History) → StandsForOne ghosts.told old h → StandsForOne ghosts.told new h
+one_quiet ghosts old new quiet h stood = quiet_stands ghosts.told old new (h ∷ []) stood quiet.blocks quiet.images quiet.kept.volumes quiet.records quiet.slots
 
 pub one_cut : {D : Type 0} → (told : D → Option (List (List ℕ))) (old new : GroupValue D) (f : History → History)
     → ((hs : List History) → StandsFor told old hs → StandsFor told new (changed_at 0 f hs)) → (h : History) → StandsForOne told old h → StandsForOne told new (f h)
@@ -128,33 +129,33 @@ one_unseen count volume set b AreaFailed is = absurd is
 
 -- ## writes
 
-pub one_write : {D : Type 0} → (told : D → Option (List (List ℕ))) (size count : D → ℕ) (lending : D → Bool) (old new : GroupValue D) (w : Write) (result : Result Written WriteFault)
-    → length old.area.volumes ≡ 1 → IsWrite told size count lending old new 0 w result → IsOneWrite told size count lending old new w result
-one_write told size count lending old new w (Ok done) one is = record {
+pub one_write : {D : Type 0} → (ghosts : Ghosts D) (old new : GroupValue D) (w : Write) (result : Result Written WriteFault)
+    → length old.area.volumes ≡ 1 → IsWrite ghosts old new 0 w result → IsOneWrite ghosts old new w result
+one_write ghosts old new w (Ok done) one is = record {
   in_range = is.in_range;
   kept = is.kept;
   evicted = λ h stood. one_evicted old w.block h done.evicted_up_to (is.evicted (h ∷ []) stood);
-  stands = λ h stood. subst (λ (hs : List History). StandsFor told new hs) (ap (changed_at 0 (written w)) (one_gone old.area.volumes done.evicted_up_to h one)) (is.stands (h ∷ []) stood);
+  stands = λ h stood. subst (λ (hs : List History). StandsFor ghosts.told new hs) (ap (changed_at 0 (written w)) (one_gone old.area.volumes done.evicted_up_to h one)) (is.stands (h ∷ []) stood);
   unfailed = is.unfailed;
 }
-one_write told size count lending old new w (Err fault) one is = record {
+one_write ghosts old new w (Err fault) one is = record {
   cause = is.cause;
   kept = is.kept;
   evicted = λ low h stood. one_evicted old w.block h fault.evicted_up_to (is.evicted low (h ∷ []) stood);
   none = is.none;
-  stands = λ h stood. subst (λ (hs : List History). StandsFor told new hs) (one_gone old.area.volumes fault.evicted_up_to h one) (is.stands (h ∷ []) stood);
+  stands = λ h stood. subst (λ (hs : List History). StandsFor ghosts.told new hs) (one_gone old.area.volumes fault.evicted_up_to h one) (is.stands (h ∷ []) stood);
 }
 
-pub write_volumes : {D : Type 0} → (told : D → Option (List (List ℕ))) (size count : D → ℕ) (lending : D → Bool) (old new : GroupValue D) (w : Write) (result : Result Written WriteFault)
-    → IsWrite told size count lending old new 0 w result → new.area.volumes ≡ old.area.volumes
-write_volumes told size count lending old new w (Ok done) is = is.kept.volumes
-write_volumes told size count lending old new w (Err fault) is = is.kept.volumes
+pub write_volumes : {D : Type 0} → (ghosts : Ghosts D) (old new : GroupValue D) (w : Write) (result : Result Written WriteFault)
+    → IsWrite ghosts old new 0 w result → new.area.volumes ≡ old.area.volumes
+write_volumes ghosts old new w (Ok done) is = is.kept.volumes
+write_volumes ghosts old new w (Err fault) is = is.kept.volumes
 
 -- ## images
 
-pub one_dropped : {D : Type 0} → (told : D → Option (List (List ℕ))) (size count : D → ℕ) (lending : D → Bool) (old new : GroupValue D) (set : ℕ) (result : Result Unit ImageFault)
-    → IsDropped told size count lending old new 0 set result → IsOneDropped told size count lending old new set result
-one_dropped told size count lending old new set (Ok done) is = (
+pub one_dropped : {D : Type 0} → (ghosts : Ghosts D) (old new : GroupValue D) (set : ℕ) (result : Result Unit ImageFault)
+    → IsDropped ghosts old new 0 set result → IsOneDropped ghosts old new set result
+one_dropped ghosts old new set (Ok done) is = (
   is.0,
   record {
     kept = is.1.kept;
@@ -163,24 +164,24 @@ one_dropped told size count lending old new set (Ok done) is = (
     stands = λ h stood. is.1.stands (h ∷ []) stood;
   },
 )
-one_dropped told size count lending old new set (Err fault) is = is
+one_dropped ghosts old new set (Err fault) is = is
 
-pub dropped_volumes : {D : Type 0} → (told : D → Option (List (List ℕ))) (size count : D → ℕ) (lending : D → Bool) (old new : GroupValue D) (set : ℕ) (result : Result Unit ImageFault)
-    → IsDropped told size count lending old new 0 set result → new.area.volumes ≡ old.area.volumes
-dropped_volumes told size count lending old new set (Ok done) is = is.1.kept.volumes
-dropped_volumes told size count lending old new set (Err fault) is = ap (λ (g : GroupValue _). g.area.volumes) is.2
+pub dropped_volumes : {D : Type 0} → (ghosts : Ghosts D) (old new : GroupValue D) (set : ℕ) (result : Result Unit ImageFault)
+    → IsDropped ghosts old new 0 set result → new.area.volumes ≡ old.area.volumes
+dropped_volumes ghosts old new set (Ok done) is = is.1.kept.volumes
+dropped_volumes ghosts old new set (Err fault) is = ap (λ (g : GroupValue _). g.area.volumes) is.2
 
-pub one_revert : {D : Type 0} → (told : D → Option (List (List ℕ))) (size count : D → ℕ) (lending : D → Bool) (old new : GroupValue D) (set : ℕ) (result : Result Unit RevertFault)
-    → IsRevert told size count lending old new 0 set result → IsOneRevert told size count lending old new set result
-one_revert told size count lending old new set (Ok done) is = record {
+pub one_revert : {D : Type 0} → (ghosts : Ghosts D) (old new : GroupValue D) (set : ℕ) (result : Result Unit RevertFault)
+    → IsRevert ghosts old new 0 set result → IsOneRevert ghosts old new set result
+one_revert ghosts old new set (Ok done) is = record {
   image = is.image;
   kept = is.kept;
   stands = λ h p stood point. is.stands (h ∷ []) p stood point;
   unfailed = is.unfailed;
   slots = is.slots;
 }
-one_revert told size count lending old new set (Err NoSuchImage) is = is
-one_revert told size count lending old new set (Err (Fault restored cause)) is = (
+one_revert ghosts old new set (Err NoSuchImage) is = is
+one_revert ghosts old new set (Err (Fault restored cause)) is = (
   record {
     image = is.0.image;
     kept = is.0.kept;
@@ -191,11 +192,11 @@ one_revert told size count lending old new set (Err (Fault restored cause)) is =
   is.1,
 )
 
-pub revert_volumes : {D : Type 0} → (told : D → Option (List (List ℕ))) (size count : D → ℕ) (lending : D → Bool) (old new : GroupValue D) (set : ℕ) (result : Result Unit RevertFault)
-    → IsRevert told size count lending old new 0 set result → new.area.volumes ≡ old.area.volumes
-revert_volumes told size count lending old new set (Ok done) is = is.kept.volumes
-revert_volumes told size count lending old new set (Err NoSuchImage) is = ap (λ (g : GroupValue _). g.area.volumes) is.1
-revert_volumes told size count lending old new set (Err (Fault restored cause)) is = is.0.kept.volumes
+pub revert_volumes : {D : Type 0} → (ghosts : Ghosts D) (old new : GroupValue D) (set : ℕ) (result : Result Unit RevertFault)
+    → IsRevert ghosts old new 0 set result → new.area.volumes ≡ old.area.volumes
+revert_volumes ghosts old new set (Ok done) is = is.kept.volumes
+revert_volumes ghosts old new set (Err NoSuchImage) is = ap (λ (g : GroupValue _). g.area.volumes) is.1
+revert_volumes ghosts old new set (Err (Fault restored cause)) is = is.0.kept.volumes
 
 -- ## what lasts
 
@@ -204,17 +205,17 @@ one_copies [] h one = absurd (omega arith)
 one_copies (n ∷ []) h one = append-nil (copies_of 0 n h.writes h.images)
 one_copies (n ∷ m ∷ volumes) h one = absurd (omega arith)
 
-pub one_sync : {D : Type 0} → (told : D → Option (List (List ℕ))) (size count : D → ℕ) (lending : D → Bool) (old new : GroupValue D) (result : Result Unit Cause)
-    → length old.area.volumes ≡ 1 → IsSync told size count lending old new result → IsOneSync told size count lending old new result
-one_sync told size count lending old new (Ok done) one is = (
+pub one_sync : {D : Type 0} → (ghosts : Ghosts D) (old new : GroupValue D) (result : Result Unit Cause)
+    → length old.area.volumes ≡ 1 → IsSync ghosts old new result → IsOneSync ghosts old new result
+one_sync ghosts old new (Ok done) one is = (
   is.0,
   (λ h stood all.
-      subst (λ cs. AreStored (told new.area.device) cs) (one_copies old.area.volumes h one) (is.1 (h ∷ []) stood (device_tells told old all))),
+      subst (λ cs. AreStored (ghosts.told new.area.device) cs) (one_copies old.area.volumes h one) (is.1 (h ∷ []) stood (device_tells ghosts.told old all))),
   is.2,
 )
-one_sync told size count lending old new (Err cause) one is = is
+one_sync ghosts old new (Err cause) one is = is
 
-pub sync_volumes : {D : Type 0} → (told : D → Option (List (List ℕ))) (size count : D → ℕ) (lending : D → Bool) (old new : GroupValue D) (result : Result Unit Cause)
-    → IsSync told size count lending old new result → new.area.volumes ≡ old.area.volumes
-sync_volumes told size count lending old new (Ok done) is = is.0.kept.volumes
-sync_volumes told size count lending old new (Err cause) is = is.0.kept.volumes
+pub sync_volumes : {D : Type 0} → (ghosts : Ghosts D) (old new : GroupValue D) (result : Result Unit Cause)
+    → IsSync ghosts old new result → new.area.volumes ≡ old.area.volumes
+sync_volumes ghosts old new (Ok done) is = is.0.kept.volumes
+sync_volumes ghosts old new (Err cause) is = is.0.kept.volumes

@@ -22,32 +22,33 @@ use Rattle.cow_volume.proofs.Merging.{within_blocks}
 use Rattle.cow_volume.proofs.DroppingNewer.{images_row}
 use Rattle.cow_volume.proofs.NewerMerged.{IsMerging, merging_none, AreMergeable, merge_all}
 use Rattle.cow_volume.proofs.RestoringSteps.{revert_done, revert_failed}
+use Rattle.volume_device.specs.declared.device.Device.{Ghosts}
 
 -- ## what stays while blocks are restored
 
-pub keeps_itself : {D : Type 0} (told : D → Option (List (List ℕ))) (size count : D → ℕ) (lending : D → Bool) (g : GroupValue D) → KeepsCopies told size count lending g g
-keeps_itself told size count lending g = record { kept = kept_itself told size count lending g; records = refl; images = refl; slots = refl }
+pub keeps_itself : {D : Type 0} (ghosts : Ghosts D) (g : GroupValue D) → KeepsCopies ghosts g g
+keeps_itself ghosts g = record { kept = kept_itself ghosts g; records = refl; images = refl; slots = refl }
 
-keeps_more : {D : Type 0} (told : D → Option (List (List ℕ))) (size count : D → ℕ) (lending : D → Bool) (g now new : GroupValue D) → KeepsCopies told size count lending g now
-    → KeepsCopies told size count lending now new → KeepsCopies told size count lending g new
-keeps_more told size count lending g now new a b = record {
-  kept = kept_further told size count lending g now new a.kept b.kept;
+keeps_more : {D : Type 0} (ghosts : Ghosts D) (g now new : GroupValue D) → KeepsCopies ghosts g now
+    → KeepsCopies ghosts now new → KeepsCopies ghosts g new
+keeps_more ghosts g now new a b = record {
+  kept = kept_further ghosts g now new a.kept b.kept;
   records = b.records ∙ a.records;
   images = b.images
       ∙ a.images;
   slots = b.slots ∙ a.slots;
 }
 
-one_keeps : {D : Type 0} (told : D → Option (List (List ℕ))) (size count : D → ℕ) (lending : D → Bool) (now new : GroupValue D) (v set b : ℕ) (r : Result Bool Cause)
-    → IsOneRestored told size count lending now new v set b r → KeepsCopies told size count lending now new
-one_keeps {D = D} told size count lending now new v set b (Ok false) one = subst (λ (x : GroupValue D). KeepsCopies told size count lending now x) (sym one.0)
-    (keeps_itself told size count lending now)
-one_keeps told size count lending now new v set b (Ok true) one = record { kept = one.kept; records = one.records; images = one.images; slots = one.slots }
-one_keeps told size count lending now new v set b (Err cause) one = record { kept = one.quiet.kept; records = one.quiet.records; images = one.quiet.images; slots = one.quiet.slots }
+one_keeps : {D : Type 0} (ghosts : Ghosts D) (now new : GroupValue D) (v set b : ℕ) (r : Result Bool Cause)
+    → IsOneRestored ghosts now new v set b r → KeepsCopies ghosts now new
+one_keeps {D = D} ghosts now new v set b (Ok false) one = subst (λ (x : GroupValue D). KeepsCopies ghosts now x) (sym one.0)
+    (keeps_itself ghosts now)
+one_keeps ghosts now new v set b (Ok true) one = record { kept = one.kept; records = one.records; images = one.images; slots = one.slots }
+one_keeps ghosts now new v set b (Err cause) one = record { kept = one.quiet.kept; records = one.quiet.records; images = one.quiet.images; slots = one.quiet.slots }
 
-pub keeps_one : {D : Type 0} (told : D → Option (List (List ℕ))) (size count : D → ℕ) (lending : D → Bool) (g now new : GroupValue D) (v set b : ℕ) (r : Result Bool Cause)
-    → KeepsCopies told size count lending g now → IsOneRestored told size count lending now new v set b r → KeepsCopies told size count lending g new
-keeps_one told size count lending g now new v set b r had one = keeps_more told size count lending g now new had (one_keeps told size count lending now new v set b r one)
+pub keeps_one : {D : Type 0} (ghosts : Ghosts D) (g now new : GroupValue D) (v set b : ℕ) (r : Result Bool Cause)
+    → KeepsCopies ghosts g now → IsOneRestored ghosts now new v set b r → KeepsCopies ghosts g new
+keeps_one ghosts g now new v set b r had one = keeps_more ghosts g now new had (one_keeps ghosts now new v set b r one)
 
 -- ## one block, seen so
 
@@ -57,39 +58,39 @@ rose_merged count v devices after mid now new NoSuchBlock rose = rose
 rose_merged count v devices after mid now new Volume rose = record { before = rose.before; now = rose.now; was = rose.was; is = rose.is; rose = rose.rose; devices = rose.devices; area = rose.area }
 rose_merged count v devices after mid now new Area rose = record { rose = rose.rose; devices = rose.devices }
 
-kept_merged : {D : Type 0} (told : D → Option (List (List ℕ))) (size count : D → ℕ) (lending : D → Bool) (devices after : List D) (mid now new : CopiesValue D)
-    → IsKept told size count lending (group_of devices now) (group_of after new) → IsKept told size count lending (group_of devices (merged_as mid now)) (group_of after (merged_as mid new))
-kept_merged told size count lending devices after mid now new kept = record { volumes = kept.volumes; slots = refl; area = kept.area; devices = kept.devices; each = kept.each }
+kept_merged : {D : Type 0} (ghosts : Ghosts D) (devices after : List D) (mid now new : CopiesValue D)
+    → IsKept ghosts (group_of devices now) (group_of after new) → IsKept ghosts (group_of devices (merged_as mid now)) (group_of after (merged_as mid new))
+kept_merged ghosts devices after mid now new kept = record { volumes = kept.volumes; slots = refl; area = kept.area; devices = kept.devices; each = kept.each }
 
-pub one_merged : {D : Type 0} (told : D → Option (List (List ℕ))) (size count : D → ℕ) (lending : D → Bool) (devices after : List D) (old mid now new : CopiesValue D) (v set b : ℕ)
-    (r : Result Bool Cause) → IsMergedTo told old mid v set → now.area.records ≡ old.area.records
-    → IsOneRestored told size count lending (group_of devices now) (group_of after new) v set b r
-    → IsOneRestored told size count lending (group_of devices (merged_as mid now)) (group_of after (merged_as mid new)) v set b r
-one_merged {D = D} told size count lending devices after old mid now new v set b (Ok false) m same one = (
+pub one_merged : {D : Type 0} (ghosts : Ghosts D) (devices after : List D) (old mid now new : CopiesValue D) (v set b : ℕ)
+    (r : Result Bool Cause) → IsMergedTo ghosts.told old mid v set → now.area.records ≡ old.area.records
+    → IsOneRestored ghosts (group_of devices now) (group_of after new) v set b r
+    → IsOneRestored ghosts (group_of devices (merged_as mid now)) (group_of after (merged_as mid new)) v set b r
+one_merged {D = D} ghosts devices after old mid now new v set b (Ok false) m same one = (
   ap (λ (g : GroupValue D). let x : GroupValue D = record { devices = g.devices; area = with_records mid.area.records g.area; images = mid.images } in x) one.0,
   m.none b (subst (λ (rs : List Record). HasNoCopy rs v set b) same one.1),
 )
-one_merged told size count lending devices after old mid now new v set b (Ok true) m same one = record {
+one_merged ghosts devices after old mid now new v set b (Ok true) m same one = record {
   slot = one.slot;
   bytes = one.bytes;
   before = one.before;
   after = one.after;
   found = m.found b one.slot (subst (λ (rs : List Record). IsFirstCopy rs v set b one.slot) same one.found);
-  held = subst (λ (k : ℕ). IfSome (told now.area.device) (λ blocks. slice_get blocks (place_of_slot k one.slot) ≡ Some one.bytes)) (ap length same ∙ sym m.gone.slots) one.held;
+  held = subst (λ (k : ℕ). IfSome (ghosts.told now.area.device) (λ blocks. slice_get blocks (place_of_slot k one.slot) ≡ Some one.bytes)) (ap length same ∙ sym m.gone.slots) one.held;
   was = one.was;
   devices = one.devices;
   written = one.written;
   unfailed = record { devices = one.unfailed.devices; area = one.unfailed.area };
-  kept = kept_merged told size count lending devices after mid now new one.kept;
+  kept = kept_merged ghosts devices after mid now new one.kept;
   records = refl;
   images = refl;
   slots = one.slots;
 }
-one_merged told size count lending devices after old mid now new v set b (Err cause) m same one = record {
+one_merged ghosts devices after old mid now new v set b (Err cause) m same one = record {
   slot = one.slot;
   found = m.found b one.slot (subst (λ (rs : List Record). IsFirstCopy rs v set b one.slot) same one.found);
-  quiet = record { kept = kept_merged told size count lending devices after mid now new one.quiet.kept; records = refl; images = refl; blocks = one.quiet.blocks; slots = one.quiet.slots };
-  rose = rose_merged count v devices after mid now new cause one.rose;
+  quiet = record { kept = kept_merged ghosts devices after mid now new one.quiet.kept; records = refl; images = refl; blocks = one.quiet.blocks; slots = one.quiet.slots };
+  rose = rose_merged ghosts.count v devices after mid now new cause one.rose;
 }
 
 -- ## where the newer images are merged down
@@ -130,19 +131,19 @@ clear_merged {D = D} told old mid now v set m records images =
     images_in : List (List ℕ) → List ℕ
     images_in ss = images_on (let c : CopiesValue D = record { area = now.area; images = ss } in c) v
 
-pub restored_then_cleared : {D : Type 0} (told : D → Option (List (List ℕ))) (size count : D → ℕ) (lending : D → Bool) (devices after : List D) (old mid now new : CopiesValue D) (v set : ℕ)
-    (x : Unit) → v < length old.area.volumes → is_among set (images_on old v) ≡ true → IsMergedTo told old mid v set
-    → IsRestoring told size count lending (group_of devices (merged_as mid old)) (group_of after (merged_as mid now)) v set (Ok x)
-    → KeepsCopies told size count lending (group_of devices old) (group_of after now) → new ≡ after_clear now v set
-    → IsReverted told size count lending (group_of devices old) (group_of after new) v set
-restored_then_cleared told size count lending devices after old mid now new v set x inside image m done keeps is =
-    revert_done told size count lending devices after old (merged_as mid old) (merged_as mid now) new v set x inside image (gone_as told old mid v set m) done
-    (is ∙ clear_merged told old mid now v set m keeps.records keeps.images)
+pub restored_then_cleared : {D : Type 0} (ghosts : Ghosts D) (devices after : List D) (old mid now new : CopiesValue D) (v set : ℕ)
+    (x : Unit) → v < length old.area.volumes → is_among set (images_on old v) ≡ true → IsMergedTo ghosts.told old mid v set
+    → IsRestoring ghosts (group_of devices (merged_as mid old)) (group_of after (merged_as mid now)) v set (Ok x)
+    → KeepsCopies ghosts (group_of devices old) (group_of after now) → new ≡ after_clear now v set
+    → IsReverted ghosts (group_of devices old) (group_of after new) v set
+restored_then_cleared ghosts devices after old mid now new v set x inside image m done keeps is =
+    revert_done ghosts devices after old (merged_as mid old) (merged_as mid now) new v set x inside image (gone_as ghosts.told old mid v set m) done
+    (is ∙ clear_merged ghosts.told old mid now v set m keeps.records keeps.images)
 
 -- a device failed, and then the newer images were merged down
-merged_before : {D : Type 0} (told : D → Option (List (List ℕ))) (size count : D → ℕ) (lending : D → Bool) (devices after : List D) (old now new : CopiesValue D) (v set : ℕ)
-    → IsMergedTo told now new v set → KeepsCopies told size count lending (group_of devices old) (group_of after now) → IsMergedTo told old (merged_as new old) v set
-merged_before {D = D} told size count lending devices after old now new v set m keeps =
+merged_before : {D : Type 0} (ghosts : Ghosts D) (devices after : List D) (old now new : CopiesValue D) (v set : ℕ)
+    → IsMergedTo ghosts.told now new v set → KeepsCopies ghosts (group_of devices old) (group_of after now) → IsMergedTo ghosts.told old (merged_as new old) v set
+merged_before {D = D} ghosts devices after old now new v set m keeps =
     let records = keeps.records in
     let images = keeps.images in
     record {
@@ -153,9 +154,9 @@ merged_before {D = D} told size count lending devices after old now new v set m 
         volumes = refl;
         slots = m.gone.slots ∙ ap length records;
         stands = λ ds hs stands.
-            let at_now = quiet_stands told (group_of ds old) (group_of ds now) hs stands refl images keeps.kept.volumes records keeps.slots in
+            let at_now = quiet_stands ghosts.told (group_of ds old) (group_of ds now) hs stands refl images keeps.kept.volumes records keeps.slots in
             let gone = m.gone.stands ds hs at_now in
-            quiet_stands told (group_of ds new) (group_of ds (merged_as new old)) _ gone refl refl (sym (m.gone.volumes ∙ keeps.kept.volumes)) refl (sym (ap told m.gone.device ∙ keeps.slots));
+            quiet_stands ghosts.told (group_of ds new) (group_of ds (merged_as new old)) _ gone refl refl (sym (m.gone.volumes ∙ keeps.kept.volumes)) refl (sym (ap ghosts.told m.gone.device ∙ keeps.slots));
       };
       found = λ b slot f. m.found b slot (subst (λ (rs : List Record). IsFirstCopy rs v set b slot) (sym records) f);
       none = λ b n. m.none b (subst (λ (rs : List Record). HasNoCopy rs v set b) (sym records) n);
@@ -167,12 +168,12 @@ merged_before {D = D} told size count lending devices after old now new v set m 
     images_in : List (List ℕ) → List ℕ
     images_in ss = images_on (let c : CopiesValue D = record { area = now.area; images = ss } in c) v
 
-pub stopped_then_merged : {D : Type 0} (told : D → Option (List (List ℕ))) (size count : D → ℕ) (lending : D → Bool) (devices after : List D) (old now new : CopiesValue D) (v set : ℕ)
+pub stopped_then_merged : {D : Type 0} (ghosts : Ghosts D) (devices after : List D) (old now new : CopiesValue D) (v set : ℕ)
     (fault : RevertFault) → v < length old.area.volumes → is_among set (images_on old v) ≡ true
-    → ((mid : CopiesValue D) → IsMergedTo told old mid v set → IsRestoring told size count lending (group_of devices (merged_as mid old)) (group_of after (merged_as mid now)) v set (Err fault))
-    → KeepsCopies told size count lending (group_of devices old) (group_of after now) → IsMergedTo told now new v set
-    → IsRevert told size count lending (group_of devices old) (group_of after new) v set (Err fault)
-stopped_then_merged {D = D} told size count lending devices after old now new v set fault inside image stopped keeps m =
-    let before = merged_before told size count lending devices after old now new v set m keeps in
-    let end = revert_failed told size count lending devices after old (merged_as new old) (merged_as new now) v set fault inside image before.gone (stopped (merged_as new old) before) in
-    subst (λ (c : CopiesValue D). IsRevert told size count lending (group_of devices old) (group_of after c) v set (Err fault)) (same_copies now new m.gone.device m.gone.volumes) end
+    → ((mid : CopiesValue D) → IsMergedTo ghosts.told old mid v set → IsRestoring ghosts (group_of devices (merged_as mid old)) (group_of after (merged_as mid now)) v set (Err fault))
+    → KeepsCopies ghosts (group_of devices old) (group_of after now) → IsMergedTo ghosts.told now new v set
+    → IsRevert ghosts (group_of devices old) (group_of after new) v set (Err fault)
+stopped_then_merged {D = D} ghosts devices after old now new v set fault inside image stopped keeps m =
+    let before = merged_before ghosts devices after old now new v set m keeps in
+    let end = revert_failed ghosts devices after old (merged_as new old) (merged_as new now) v set fault inside image before.gone (stopped (merged_as new old) before) in
+    subst (λ (c : CopiesValue D). IsRevert ghosts (group_of devices old) (group_of after c) v set (Err fault)) (same_copies now new m.gone.device m.gone.volumes) end

@@ -6,6 +6,7 @@ use Rattle.std.proofs.lemmas.Bool.Decides.{nat_tests}
 use Rattle.std.proofs.lemmas.List.Elements.{All-head, All-tail}
 use Rattle.std.proofs.lemmas.Option.{slice_get_within}
 use Rattle.vss_names.specs.Faults.{Rose, most}
+use Rattle.volume_device.specs.declared.device.Device.{Ghosts}
 use Rattle.write_history.specs.History.{History, Image, Write, names, point_in, sets_of, up_to_set, to_restore, reverted, reverted_in_part}
 use Rattle.write_history.specs.Slots.{writes_since}
 use Rattle.diff_area.specs.AreaValue.{KeepsTable}
@@ -125,17 +126,17 @@ below hs v n set p m restored e = changed_at-agree v (reverted_in_part n set p r
     ap (λ (k : ℕ). reverted_in_part n set p k h) (e ∙ ap (λ (x : History). length (to_restore m x.writes p)) here))
 
 -- none so far
-pub restoring_start : {D : Type 0} (told : D → Option (List (List ℕ))) (size count : D → ℕ) (lending : D → Bool) (g : GroupValue D) (v set : ℕ) → v < length g.area.volumes
-    → All (λ s. s ≤ set) (sets_at g v) → AreRestored told size count lending g g v set 0 0
-restoring_start told size count lending g v set inside newest = record {
-  kept = kept_itself told size count lending g;
+pub restoring_start : {D : Type 0} (ghosts : Ghosts D) (g : GroupValue D) (v set : ℕ) → v < length g.area.volumes
+    → All (λ s. s ≤ set) (sets_at g v) → AreRestored ghosts g g v set 0 0
+restoring_start ghosts g v set inside newest = record {
+  kept = kept_itself ghosts g;
   records = refl;
   images = refl;
   slots = refl;
   number = λ hs p stands point. refl;
   stands = λ hs p stands point.
-      let start = at_start told g hs v set p stands inside newest point in
-      subst (λ (xs : List History). StandsFor told g xs)
+      let start = at_start ghosts.told g hs v set p stands inside newest point in
+      subst (λ (xs : List History). StandsFor ghosts.told g xs)
       (sym (changed_at-none v hs) ∙ changed_at-agree v (λ h. h) (reverted_in_part (blocks_at g v) set p 0) hs (λ h at.
       let here : history_at hs v ≡ h = history_at_is hs v h at in
       let up : h.images ≡ up_to_set set h.images = subst (λ (x : History). x.images ≡ up_to_set set x.images) here (sym start.up_to) in
@@ -144,47 +145,47 @@ restoring_start told size count lending g v set inside newest = record {
 }
 
 -- block m has no copy for the set
-pub restoring_skips : {D : Type 0} (told : D → Option (List (List ℕ))) (size count : D → ℕ) (lending : D → Bool) (g now : GroupValue D) (v set m restored : ℕ) → v < length g.area.volumes
+pub restoring_skips : {D : Type 0} (ghosts : Ghosts D) (g now : GroupValue D) (v set m restored : ℕ) → v < length g.area.volumes
     → All (λ s. s ≤ set) (sets_at g v) → m < blocks_at g v
-    → AreRestored told size count lending g now v set m restored → HasNoRecord now.area.records v set m → AreRestored told size count lending g now v set (m + 1) restored
-restoring_skips told size count lending g now v set m restored inside newest l done none = record {
+    → AreRestored ghosts g now v set m restored → HasNoRecord now.area.records v set m → AreRestored ghosts g now v set (m + 1) restored
+restoring_skips ghosts g now v set m restored inside newest l done none = record {
   kept = done.kept;
   records = done.records;
   images = done.images;
   slots = done.slots;
   number = λ hs p stands point.
-      let start = at_start told g hs v set p stands inside newest point in
-      let other = not_named told g hs v set p m start point l (subst (λ (rs : List Record). HasNoRecord rs v set m) done.records none) in
+      let start = at_start ghosts.told g hs v set p stands inside newest point in
+      let other = not_named ghosts.told g hs v set p m start point l (subst (λ (rs : List Record). HasNoRecord rs v set m) done.records none) in
       done.number hs p stands point ∙ ap length (sym (block_kept m (history_at hs v).writes p other));
   stands = done.stands;
 }
 
 -- block m got the bytes of its slot
-pub restoring_puts : {D : Type 0} (told : D → Option (List (List ℕ))) (size count : D → ℕ) (lending : D → Bool) (g now new : GroupValue D) (v set m restored : ℕ) → v < length g.area.volumes
+pub restoring_puts : {D : Type 0} (ghosts : Ghosts D) (g now new : GroupValue D) (v set m restored : ℕ) → v < length g.area.volumes
     → All (λ s. s ≤ set) (sets_at g v) → m < blocks_at g v → 0 < set
-    → AreRestored told size count lending g now v set m restored → IsPutBack told size count lending now new v set m → AreRestored told size count lending g new v set (m + 1) (restored + 1)
-restoring_puts {D = D} told size count lending g now new v set m restored inside newest l above done put = record {
-  kept = kept_further told size count lending g now new done.kept put.kept;
+    → AreRestored ghosts g now v set m restored → IsPutBack ghosts now new v set m → AreRestored ghosts g new v set (m + 1) (restored + 1)
+restoring_puts {D = D} ghosts g now new v set m restored inside newest l above done put = record {
+  kept = kept_further ghosts g now new done.kept put.kept;
   records = put.records ∙ done.records;
   images = put.images ∙ done.images;
   slots = put.slots ∙ done.slots;
   number = numbered;
   stands = λ hs p stands point.
-      let start = at_start told g hs v set p stands inside newest point in
-      let before = subst (λ (xs : List History). StandsFor told now xs) (below hs v (blocks_at g v) set p m restored (done.number hs p stands point)) (done.stands hs p stands point) in
-      let after = restoring_at told now new hs v (blocks_at g v) set p m put.slot put.bytes put.before put.after (sets_at g v) (history_at hs v) before
+      let start = at_start ghosts.told g hs v set p stands inside newest point in
+      let before = subst (λ (xs : List History). StandsFor ghosts.told now xs) (below hs v (blocks_at g v) set p m restored (done.number hs p stands point)) (done.stands hs p stands point) in
+      let after = restoring_at ghosts.told now new hs v (blocks_at g v) set p m put.slot put.bytes put.before put.after (sets_at g v) (history_at hs v) before
       (ap (λ (ns : List ℕ). slice_get ns v) done.kept.volumes ∙ start.blocks_is) put.was
       (ap (λ (ss : List (List ℕ)). slice_get ss v) done.images ∙ start.sets_is) start.history_is point start.point_past l
       (ap (λ (rs : List Record). slice_get rs put.slot) done.records ∙ slot_at hs p start) put.held put.devices put.written put.images put.kept.volumes put.records put.slots in
-      subst (λ (xs : List History). StandsFor told new xs) (sym (below hs v (blocks_at g v) set p (m + 1) (restored + 1) (numbered hs p stands point))) after;
+      subst (λ (xs : List History). StandsFor ghosts.told new xs) (sym (below hs v (blocks_at g v) set p (m + 1) (restored + 1) (numbered hs p stands point))) after;
 } where
-  slot_at : (hs : List History) (p : ℕ) → IsAtStart told g hs v set p → slice_get g.area.records put.slot ≡ Some (record_of v set m)
-  slot_at hs p start = slot_of_set told g hs v set p m put.slot start newest above (subst (λ (rs : List Record). IsFirstCopy rs v set m put.slot) done.records put.found)
+  slot_at : (hs : List History) (p : ℕ) → IsAtStart ghosts.told g hs v set p → slice_get g.area.records put.slot ≡ Some (record_of v set m)
+  slot_at hs p start = slot_of_set ghosts.told g hs v set p m put.slot start newest above (subst (λ (rs : List Record). IsFirstCopy rs v set m put.slot) done.records put.found)
 
-  numbered : (hs : List History) (p : ℕ) → StandsFor told g hs → point_in set (history_at hs v).images ≡ Some p → restored + 1 ≡ length (to_restore (m + 1) (history_at hs v).writes p)
+  numbered : (hs : List History) (p : ℕ) → StandsFor ghosts.told g hs → point_in set (history_at hs v).images ≡ Some p → restored + 1 ≡ length (to_restore (m + 1) (history_at hs v).writes p)
   numbered hs p stands point =
-      let start = at_start told g hs v set p stands inside newest point in
-      let named = named_at told g hs v set p m put.slot start point l (slot_at hs p start) in
+      let start = at_start ghosts.told g hs v set p stands inside newest point in
+      let named = named_at ghosts.told g hs v set p m put.slot start point l (slot_at hs p start) in
       ap (λ (k : ℕ). k + 1) (done.number hs p stands point) ∙ sym (ap length (block_restored m (history_at hs v).writes p named) ∙ length-append (to_restore m (history_at hs v).writes p) (m ∷ []))
 
 -- ## a device failed
@@ -193,9 +194,9 @@ pub rose_further : (a b c : ℕ) → a ≤ b → Rose b c → Rose a c
 rose_further a b c l (inl m) = inl (omega arith)
 rose_further a b c l (inr e) = inr e
 
-volume_rose_further : {D : Type 0} (told : D → Option (List (List ℕ))) (size count : D → ℕ) (lending : D → Bool) (g now new : GroupValue D) (v : ℕ) → IsKept told size count lending g now
-    → IsUnfailed count g now → VolumeRose count v now new → VolumeRose count v g new
-volume_rose_further told size count lending g now new v kept same rose =
+volume_rose_further : {D : Type 0} (ghosts : Ghosts D) (g now new : GroupValue D) (v : ℕ) → IsKept ghosts g now
+    → IsUnfailed ghosts.count g now → VolumeRose ghosts.count v now new → VolumeRose ghosts.count v g new
+volume_rose_further ghosts g now new v kept same rose =
     let inside = slice_get_within now.devices v rose.before rose.was in
     let long = kept.devices in
     let d = slice_get_inside g.devices v (omega arith) in
@@ -204,53 +205,53 @@ volume_rose_further told size count lending g now new v kept same rose =
       now = rose.now;
       was = d.1;
       is = rose.is;
-      rose = rose_further (count d.0) (count rose.before) (count rose.now) (kept.each v d.0 rose.before d.1 rose.was).later rose.rose;
-      devices = rose.devices ∙ ap (λ (ns : List ℕ). slice_set ns v (count rose.now)) same.devices;
+      rose = rose_further (ghosts.count d.0) (ghosts.count rose.before) (ghosts.count rose.now) (kept.each v d.0 rose.before d.1 rose.was).later rose.rose;
+      devices = rose.devices ∙ ap (λ (ns : List ℕ). slice_set ns v (ghosts.count rose.now)) same.devices;
       area = rose.area ∙ same.area;
     }
 
-pub device_rose_further : {D : Type 0} (told : D → Option (List (List ℕ))) (size count : D → ℕ) (lending : D → Bool) (g now new : GroupValue D) (v : ℕ) (cause : Cause)
-    → IsKept told size count lending g now → IsUnfailed count g now → DeviceRose count v now new cause → DeviceRose count v g new cause
-device_rose_further told size count lending g now new v NoSuchBlock kept same rose = rose
-device_rose_further told size count lending g now new v Volume kept same rose = volume_rose_further told size count lending g now new v kept same rose
-device_rose_further told size count lending g now new v Area kept same rose =
-    record { rose = rose_further (count g.area.device) (count now.area.device) (count new.area.device) kept.area.later rose.rose; devices = rose.devices ∙ same.devices }
+pub device_rose_further : {D : Type 0} (ghosts : Ghosts D) (g now new : GroupValue D) (v : ℕ) (cause : Cause)
+    → IsKept ghosts g now → IsUnfailed ghosts.count g now → DeviceRose ghosts.count v now new cause → DeviceRose ghosts.count v g new cause
+device_rose_further ghosts g now new v NoSuchBlock kept same rose = rose
+device_rose_further ghosts g now new v Volume kept same rose = volume_rose_further ghosts g now new v kept same rose
+device_rose_further ghosts g now new v Area kept same rose =
+    record { rose = rose_further (ghosts.count g.area.device) (ghosts.count now.area.device) (ghosts.count new.area.device) kept.area.later rose.rose; devices = rose.devices ∙ same.devices }
 
-pub restoring_stops : {D : Type 0} (told : D → Option (List (List ℕ))) (size count : D → ℕ) (lending : D → Bool) (g now new : GroupValue D) (v set m restored : ℕ) (cause : Cause)
+pub restoring_stops : {D : Type 0} (ghosts : Ghosts D) (g now new : GroupValue D) (v set m restored : ℕ) (cause : Cause)
     → v < length g.area.volumes → All (λ s. s ≤ set) (sets_at g v) → m < blocks_at g v → 0 < set
-    → AreRestored told size count lending g now v set m restored → IsUnfailed count g now → IsNotPutBack told size count lending now new v set m cause
-    → IsStopped told size count lending g new v set restored cause
-restoring_stops told size count lending g now new v set m restored cause inside newest l above done same failed = record {
+    → AreRestored ghosts g now v set m restored → IsUnfailed ghosts.count g now → IsNotPutBack ghosts now new v set m cause
+    → IsStopped ghosts g new v set restored cause
+restoring_stops ghosts g now new v set m restored cause inside newest l above done same failed = record {
   block = m;
   done = record {
-    kept = kept_further told size count lending g now new done.kept failed.quiet.kept;
+    kept = kept_further ghosts g now new done.kept failed.quiet.kept;
     records = failed.quiet.records ∙ done.records;
     images = failed.quiet.images ∙ done.images;
     slots = failed.quiet.slots ∙ done.slots;
     number = done.number;
-    stands = λ hs p stands point. quiet_stands told size count lending now new (changed_at v (reverted_in_part (blocks_at g v) set p restored) hs) failed.quiet (done.stands hs p stands point);
+    stands = λ hs p stands point. quiet_stands ghosts now new (changed_at v (reverted_in_part (blocks_at g v) set p restored) hs) failed.quiet (done.stands hs p stands point);
   };
   fewer = λ hs p stands point.
-      let start = at_start told g hs v set p stands inside newest point in
-      let at = slot_of_set told g hs v set p m failed.slot start newest above (subst (λ (rs : List Record). IsFirstCopy rs v set m failed.slot) done.records failed.found) in
-      let named = named_at told g hs v set p m failed.slot start point l at in
+      let start = at_start ghosts.told g hs v set p stands inside newest point in
+      let at = slot_of_set ghosts.told g hs v set p m failed.slot start newest above (subst (λ (rs : List Record). IsFirstCopy rs v set m failed.slot) done.records failed.found) in
+      let named = named_at ghosts.told g hs v set p m failed.slot start point l at in
       let number = done.number hs p stands point in
       let within = slice_get_within (to_restore (blocks_at g v) (history_at hs v).writes p) (length (to_restore m (history_at hs v).writes p)) m
       (next_restored m (blocks_at g v) (history_at hs v).writes p l named) in
       omega arith;
-  rose = device_rose_further told size count lending g now new v cause done.kept same failed.rose;
+  rose = device_rose_further ghosts g now new v cause done.kept same failed.rose;
 }
 
 -- ## one block
 
 -- what was read of its slot was written to it
-pub put_back : {D : Type 0} (told : D → Option (List (List ℕ))) (size count : D → ℕ) (lending : D → Bool) (devices after : List D) (old new : CopiesValue D) (v set b slot : ℕ) (bytes : List ℕ)
-    (failed : Bool) → IsFirstCopy old.area.records v set b slot → KeepsTable size lending old.area new.area → new.images ≡ old.images
-    → told new.area.device ≡ told old.area.device → count old.area.device ≤ count new.area.device → count new.area.device ≡ count old.area.device
-    → IfSome (told old.area.device) (λ blocks. slice_get blocks (place_of_slot (length old.area.records) slot) ≡ Some bytes) → IsPut told size count lending v b bytes devices after failed
+pub put_back : {D : Type 0} (ghosts : Ghosts D) (devices after : List D) (old new : CopiesValue D) (v set b slot : ℕ) (bytes : List ℕ)
+    (failed : Bool) → IsFirstCopy old.area.records v set b slot → KeepsTable ghosts.size ghosts.lending old.area new.area → new.images ≡ old.images
+    → ghosts.told new.area.device ≡ ghosts.told old.area.device → ghosts.count old.area.device ≤ ghosts.count new.area.device → ghosts.count new.area.device ≡ ghosts.count old.area.device
+    → IfSome (ghosts.told old.area.device) (λ blocks. slice_get blocks (place_of_slot (length old.area.records) slot) ≡ Some bytes) → IsPut ghosts v b bytes devices after failed
     → failed ≡ false
-    → IsPutBack told size count lending (group_of devices old) (group_of after new) v set b
-put_back told size count lending devices after old new v set b slot bytes failed found table images same later unfailed held put e = record {
+    → IsPutBack ghosts (group_of devices old) (group_of after new) v set b
+put_back ghosts devices after old new v set b slot bytes failed found table images same later unfailed held put e = record {
   slot = slot;
   bytes = bytes;
   before = put.call.before;
@@ -260,25 +261,25 @@ put_back told size count lending devices after old new v set b slot bytes failed
   was = put.call.was;
   devices = put.call.devices;
   written = put.written e;
-  unfailed = unfailed_called told size count lending v devices after failed old new put.call e unfailed;
-  kept = kept_further told size count lending (group_of devices old) (group_of devices new) (group_of after new) (kept_area told size count lending devices old new table (ap is_some same) later)
-      (kept_called told size count lending v devices after failed new put.call);
+  unfailed = unfailed_called ghosts v devices after failed old new put.call e unfailed;
+  kept = kept_further ghosts (group_of devices old) (group_of devices new) (group_of after new) (kept_area ghosts devices old new table (ap is_some same) later)
+      (kept_called ghosts v devices after failed new put.call);
   records = table.records;
   images = images;
   slots = same;
 }
 
 -- the volume's device failed
-pub not_put_back : {D : Type 0} (told : D → Option (List (List ℕ))) (size count : D → ℕ) (lending : D → Bool) (devices after : List D) (old new : CopiesValue D) (v set b slot : ℕ) (bytes : List ℕ)
-    (failed : Bool) → IsFirstCopy old.area.records v set b slot → KeepsTable size lending old.area new.area → new.images ≡ old.images
-    → told new.area.device ≡ told old.area.device → count old.area.device ≤ count new.area.device → count new.area.device ≡ count old.area.device
-    → IsPut told size count lending v b bytes devices after failed → failed ≡ true → IsNotPutBack told size count lending (group_of devices old) (group_of after new) v set b Volume
-not_put_back told size count lending devices after old new v set b slot bytes failed found table images same later unfailed put e = record {
+pub not_put_back : {D : Type 0} (ghosts : Ghosts D) (devices after : List D) (old new : CopiesValue D) (v set b slot : ℕ) (bytes : List ℕ)
+    (failed : Bool) → IsFirstCopy old.area.records v set b slot → KeepsTable ghosts.size ghosts.lending old.area new.area → new.images ≡ old.images
+    → ghosts.told new.area.device ≡ ghosts.told old.area.device → ghosts.count old.area.device ≤ ghosts.count new.area.device → ghosts.count new.area.device ≡ ghosts.count old.area.device
+    → IsPut ghosts v b bytes devices after failed → failed ≡ true → IsNotPutBack ghosts (group_of devices old) (group_of after new) v set b Volume
+not_put_back ghosts devices after old new v set b slot bytes failed found table images same later unfailed put e = record {
   slot = slot;
   found = found;
-  quiet = quiet_further told size count lending (group_of devices old) (group_of devices new) (group_of after new) (quiet_area told size count lending devices old new table images same later)
-      (quiet_called told size count lending v devices after failed new put.call (put.kept e));
-  rose = volume_rose_if told size count lending v devices after failed old new put.call e unfailed;
+  quiet = quiet_further ghosts (group_of devices old) (group_of devices new) (group_of after new) (quiet_area ghosts devices old new table images same later)
+      (quiet_called ghosts v devices after failed new put.call (put.kept e));
+  rose = volume_rose_if ghosts v devices after failed old new put.call e unfailed;
 }
 
 pub at_most_one : (put : Bool) → from_bool put ≤ 1
@@ -286,23 +287,23 @@ at_most_one true = omega arith
 at_most_one false = omega arith
 
 -- one block more, which has a copy or has none
-pub restoring_one : {D : Type 0} (told : D → Option (List (List ℕ))) (size count : D → ℕ) (lending : D → Bool) (g now new : GroupValue D) (v set m restored : ℕ) (put : Bool) (more : ℕ)
+pub restoring_one : {D : Type 0} (ghosts : Ghosts D) (g now new : GroupValue D) (v set m restored : ℕ) (put : Bool) (more : ℕ)
     → v < length g.area.volumes → All (λ s. s ≤ set) (sets_at g v) → m < blocks_at g v → 0 < set → more ≡ from_bool put
-    → AreRestored told size count lending g now v set m restored → IsOneRestored told size count lending now new v set m (Ok put)
-    → AreRestored told size count lending g new v set (m + 1) (restored + more)
-restoring_one told size count lending g now new v set m restored true more inside newest l above e done one =
-    subst (λ (k : ℕ). AreRestored told size count lending g new v set (m + 1) (restored + k)) (sym e) (restoring_puts told size count lending g now new v set m restored inside newest l above done one)
-restoring_one {D = D} told size count lending g now new v set m restored false more inside newest l above e done one =
+    → AreRestored ghosts g now v set m restored → IsOneRestored ghosts now new v set m (Ok put)
+    → AreRestored ghosts g new v set (m + 1) (restored + more)
+restoring_one ghosts g now new v set m restored true more inside newest l above e done one =
+    subst (λ (k : ℕ). AreRestored ghosts g new v set (m + 1) (restored + k)) (sym e) (restoring_puts ghosts g now new v set m restored inside newest l above done one)
+restoring_one {D = D} ghosts g now new v set m restored false more inside newest l above e done one =
     let none : restored ≡ restored + more = omega arith in
-    subst (λ (k : ℕ). AreRestored told size count lending g new v set (m + 1) k) none
-    (subst (λ (x : GroupValue D). AreRestored told size count lending g x v set (m + 1) restored) (sym one.0)
-    (restoring_skips told size count lending g now v set m restored inside newest l done (λ slot at. one.1 slot set at (omega arith))))
+    subst (λ (k : ℕ). AreRestored ghosts g new v set (m + 1) k) none
+    (subst (λ (x : GroupValue D). AreRestored ghosts g x v set (m + 1) restored) (sym one.0)
+    (restoring_skips ghosts g now v set m restored inside newest l done (λ slot at. one.1 slot set at (omega arith))))
 
 -- no device failed
-pub one_unfailed : {D : Type 0} (told : D → Option (List (List ℕ))) (size count : D → ℕ) (lending : D → Bool) (now new : GroupValue D) (v set m : ℕ) (put : Bool)
-    → IsOneRestored told size count lending now new v set m (Ok put) → IsUnfailed count now new
-one_unfailed told size count lending now new v set m true one = one.unfailed
-one_unfailed told size count lending now new v set m false one = subst (λ (x : GroupValue _). IsUnfailed count now x) (sym one.0) (unfailed_itself count now)
+pub one_unfailed : {D : Type 0} (ghosts : Ghosts D) (now new : GroupValue D) (v set m : ℕ) (put : Bool)
+    → IsOneRestored ghosts now new v set m (Ok put) → IsUnfailed ghosts.count now new
+one_unfailed ghosts now new v set m true one = one.unfailed
+one_unfailed ghosts now new v set m false one = subst (λ (x : GroupValue _). IsUnfailed ghosts.count now x) (sym one.0) (unfailed_itself ghosts.count now)
 
 -- ## from the start to the end
 
@@ -342,98 +343,98 @@ images_same : {D : Type 0} (c d : CopiesValue D) (v : ℕ) → d.images ≡ c.im
 images_same c d v e = ap (λ (ss : List (List ℕ)). sets_in (slice_get ss v)) e
 
 -- all blocks are restored, and the copies of the set go
-pub reverted_all : {D : Type 0} (told : D → Option (List (List ℕ))) (size count : D → ℕ) (lending : D → Bool) (devices after : List D) (old mid now : CopiesValue D) (v set restored : ℕ)
-    → v < length old.area.volumes → is_among set (images_on old v) ≡ true → AreNewerGone told old mid v set
-    → AreRestored told size count lending (group_of devices mid) (group_of after now) v set (blocks_at (group_of devices mid) v) restored
-    → IsUnfailed count (group_of devices mid) (group_of after now) → IsReverted told size count lending (group_of devices old) (group_of after (after_clear now v set)) v set
-reverted_all {D = D} told size count lending devices after old mid now v set restored inside image gone done unfailed = record {
+pub reverted_all : {D : Type 0} (ghosts : Ghosts D) (devices after : List D) (old mid now : CopiesValue D) (v set restored : ℕ)
+    → v < length old.area.volumes → is_among set (images_on old v) ≡ true → AreNewerGone ghosts.told old mid v set
+    → AreRestored ghosts (group_of devices mid) (group_of after now) v set (blocks_at (group_of devices mid) v) restored
+    → IsUnfailed ghosts.count (group_of devices mid) (group_of after now) → IsReverted ghosts (group_of devices old) (group_of after (after_clear now v set)) v set
+reverted_all {D = D} ghosts devices after old mid now v set restored inside image gone done unfailed = record {
   image = image;
-  kept = kept_further told size count lending (group_of devices old) (group_of devices mid) (group_of after (after_clear now v set))
-      (kept_records told size count lending devices old mid gone.volumes gone.slots gone.device)
-      (kept_further told size count lending (group_of devices mid) (group_of after now) (group_of after (after_clear now v set)) done.kept
-      (kept_records told size count lending after now (after_clear now v set) refl (length-cleared v set now.area.records) refl));
+  kept = kept_further ghosts (group_of devices old) (group_of devices mid) (group_of after (after_clear now v set))
+      (kept_records ghosts devices old mid gone.volumes gone.slots gone.device)
+      (kept_further ghosts (group_of devices mid) (group_of after now) (group_of after (after_clear now v set)) done.kept
+      (kept_records ghosts after now (after_clear now v set) refl (length-cleared v set now.area.records) refl));
   stands = λ hs p stands point.
-      let newer = newer_of told devices old mid hs v set p inside gone stands point in
+      let newer = newer_of ghosts.told devices old mid hs v set p inside gone stands point in
       let mid_inside : v < length mid.area.volumes = subst (λ (ns : List ℕ). v < length ns) (sym gone.volumes) inside in
-      let start = at_start told (group_of devices mid) (changed_at v (with_up_to set) hs) v set p newer.stands mid_inside gone.most newer.point in
+      let start = at_start ghosts.told (group_of devices mid) (changed_at v (with_up_to set) hs) v set p newer.stands mid_inside gone.most newer.point in
       let n = blocks_at (group_of devices mid) v in
-      let all = subst (λ (xs : List History). StandsFor told (group_of after now) xs)
+      let all = subst (λ (xs : List History). StandsFor ghosts.told (group_of after now) xs)
       (below (changed_at v (with_up_to set) hs) v n set p n restored (done.number (changed_at v (with_up_to set) hs) p newer.stands newer.point))
       (done.stands (changed_at v (with_up_to set) hs) p newer.stands newer.point) in
       let within = slice_get_within devices v start.device start.device_is in
       let long = done.kept.devices in
       let d = slice_get_inside after v (omega arith) in
       let images = images_same mid now v done.images in
-      let end = restoring_all told (group_of after now) (group_of after (after_clear now v set)) (changed_at v (with_up_to set) hs) v n set p d.0 (sets_at (group_of devices mid) v)
+      let end = restoring_all ghosts.told (group_of after now) (group_of after (after_clear now v set)) (changed_at v (with_up_to set) hs) v n set p d.0 (sets_at (group_of devices mid) v)
       (history_at (changed_at v (with_up_to set) hs) v) all
       (ap (λ (ns : List ℕ). slice_get ns v) done.kept.volumes ∙ start.blocks_is) d.1
       (ap (λ (ss : List (List ℕ)). slice_get ss v) done.images ∙ start.sets_is) start.history_is newer.point start.point_past
       refl (clear_images now v set (ap (is_among set) images ∙ gone.among) (subst (λ (ss : List ℕ). All (λ s. s ≤ set) ss) (sym images) gone.most)) refl refl refl in
-      subst (λ (xs : List History). StandsFor told (group_of after (after_clear now v set)) xs)
+      subst (λ (xs : List History). StandsFor ghosts.told (group_of after (after_clear now v set)) xs)
       (changed_at-twice v (reverted set p) (with_up_to set) hs ∙ changed_at-agree v (λ h. reverted set p (with_up_to set h)) (reverted set p) hs (λ h at. reverted_from set p h))
       end;
-  unfailed = record { devices = unfailed.devices; area = unfailed.area ∙ ap count gone.device };
-  slots = done.slots ∙ ap told gone.device;
+  unfailed = record { devices = unfailed.devices; area = unfailed.area ∙ ap ghosts.count gone.device };
+  slots = done.slots ∙ ap ghosts.told gone.device;
 }
 
 -- a device failed
-pub reverted_some : {D : Type 0} (told : D → Option (List (List ℕ))) (size count : D → ℕ) (lending : D → Bool) (devices after : List D) (old mid now : CopiesValue D) (v set restored : ℕ)
-    (cause : Cause) → v < length old.area.volumes → is_among set (images_on old v) ≡ true → AreNewerGone told old mid v set
-    → IsStopped told size count lending (group_of devices mid) (group_of after now) v set restored cause
-    → IsRevertedInPart told size count lending (group_of devices old) (group_of after now) v set restored × DeviceRose count v (group_of devices old) (group_of after now) cause
-reverted_some {D = D} told size count lending devices after old mid now v set restored cause inside image gone stopped =
+pub reverted_some : {D : Type 0} (ghosts : Ghosts D) (devices after : List D) (old mid now : CopiesValue D) (v set restored : ℕ)
+    (cause : Cause) → v < length old.area.volumes → is_among set (images_on old v) ≡ true → AreNewerGone ghosts.told old mid v set
+    → IsStopped ghosts (group_of devices mid) (group_of after now) v set restored cause
+    → IsRevertedInPart ghosts (group_of devices old) (group_of after now) v set restored × DeviceRose ghosts.count v (group_of devices old) (group_of after now) cause
+reverted_some {D = D} ghosts devices after old mid now v set restored cause inside image gone stopped =
     let done = stopped.done in
-    let kept = kept_records told size count lending devices old mid gone.volumes gone.slots gone.device in
+    let kept = kept_records ghosts devices old mid gone.volumes gone.slots gone.device in
     let blocks : blocks_at (group_of devices mid) v ≡ blocks_at (group_of devices old) v = ap (λ (ns : List ℕ). blocks_in (slice_get ns v)) gone.volumes in (
       record {
         image = image;
-        kept = kept_further told size count lending (group_of devices old) (group_of devices mid) (group_of after now) kept done.kept;
+        kept = kept_further ghosts (group_of devices old) (group_of devices mid) (group_of after now) kept done.kept;
         fewer = λ hs p stands point.
-            let newer = newer_of told devices old mid hs v set p inside gone stands point in
+            let newer = newer_of ghosts.told devices old mid hs v set p inside gone stands point in
             subst (λ (n : ℕ). restored < length (to_restore n (history_at hs v).writes p)) blocks
             (subst (λ (h : History). restored < length (to_restore (blocks_at (group_of devices mid) v) h.writes p)) newer.same
             (stopped.fewer (changed_at v (with_up_to set) hs) p newer.stands newer.point));
         stands = λ hs p stands point.
-            let newer = newer_of told devices old mid hs v set p inside gone stands point in
-            subst (λ (n : ℕ). StandsFor told (group_of after now) (changed_at v (reverted_in_part n set p restored) hs)) blocks
-            (subst (λ (xs : List History). StandsFor told (group_of after now) xs)
+            let newer = newer_of ghosts.told devices old mid hs v set p inside gone stands point in
+            subst (λ (n : ℕ). StandsFor ghosts.told (group_of after now) (changed_at v (reverted_in_part n set p restored) hs)) blocks
+            (subst (λ (xs : List History). StandsFor ghosts.told (group_of after now) xs)
             (changed_at-twice v (reverted_in_part (blocks_at (group_of devices mid) v) set p restored) (with_up_to set) hs
             ∙ changed_at-agree v (λ h. reverted_in_part (blocks_at (group_of devices mid) v) set p restored (with_up_to set h))
             (reverted_in_part (blocks_at (group_of devices mid) v) set p restored) hs
             (λ h at. reverted_in_part_from (blocks_at (group_of devices mid) v) set p restored h))
             (done.stands (changed_at v (with_up_to set) hs) p newer.stands newer.point));
-        slots = done.slots ∙ ap told gone.device;
+        slots = done.slots ∙ ap ghosts.told gone.device;
       },
-      device_rose_further told size count lending (group_of devices old) (group_of devices mid) (group_of after now) v cause kept (record { devices = refl; area = ap count gone.device }) stopped.rose,
+      device_rose_further ghosts (group_of devices old) (group_of devices mid) (group_of after now) v cause kept (record { devices = refl; area = ap ghosts.count gone.device }) stopped.rose,
     )
 
-pub revert_done : {D : Type 0} (told : D → Option (List (List ℕ))) (size count : D → ℕ) (lending : D → Bool) (devices after : List D) (old mid now new : CopiesValue D) (v set : ℕ) (x : Unit)
-    → v < length old.area.volumes → is_among set (images_on old v) ≡ true → AreNewerGone told old mid v set
-    → IsRestoring told size count lending (group_of devices mid) (group_of after now) v set (Ok x) → new ≡ after_clear now v set
-    → IsReverted told size count lending (group_of devices old) (group_of after new) v set
-revert_done {D = D} told size count lending devices after old mid now new v set x inside image gone done is =
-    subst (λ (c : CopiesValue D). IsReverted told size count lending (group_of devices old) (group_of after c) v set) (sym is)
-    (reverted_all told size count lending devices after old mid now v set done.0 inside image gone done.1 done.2)
+pub revert_done : {D : Type 0} (ghosts : Ghosts D) (devices after : List D) (old mid now new : CopiesValue D) (v set : ℕ) (x : Unit)
+    → v < length old.area.volumes → is_among set (images_on old v) ≡ true → AreNewerGone ghosts.told old mid v set
+    → IsRestoring ghosts (group_of devices mid) (group_of after now) v set (Ok x) → new ≡ after_clear now v set
+    → IsReverted ghosts (group_of devices old) (group_of after new) v set
+revert_done {D = D} ghosts devices after old mid now new v set x inside image gone done is =
+    subst (λ (c : CopiesValue D). IsReverted ghosts (group_of devices old) (group_of after c) v set) (sym is)
+    (reverted_all ghosts devices after old mid now v set done.0 inside image gone done.1 done.2)
 
-pub revert_failed : {D : Type 0} (told : D → Option (List (List ℕ))) (size count : D → ℕ) (lending : D → Bool) (devices after : List D) (old mid now : CopiesValue D) (v set : ℕ) (fault : RevertFault)
-    → v < length old.area.volumes → is_among set (images_on old v) ≡ true → AreNewerGone told old mid v set
-    → IsRestoring told size count lending (group_of devices mid) (group_of after now) v set (Err fault) → IsRevert told size count lending (group_of devices old) (group_of after now) v set (Err fault)
-revert_failed told size count lending devices after old mid now v set NoSuchImage inside image gone failed = absurd failed
-revert_failed told size count lending devices after old mid now v set
-    (Fault restored cause) inside image gone failed = reverted_some told size count lending devices after old mid now v set restored cause inside image gone failed
+pub revert_failed : {D : Type 0} (ghosts : Ghosts D) (devices after : List D) (old mid now : CopiesValue D) (v set : ℕ) (fault : RevertFault)
+    → v < length old.area.volumes → is_among set (images_on old v) ≡ true → AreNewerGone ghosts.told old mid v set
+    → IsRestoring ghosts (group_of devices mid) (group_of after now) v set (Err fault) → IsRevert ghosts (group_of devices old) (group_of after now) v set (Err fault)
+revert_failed ghosts devices after old mid now v set NoSuchImage inside image gone failed = absurd failed
+revert_failed ghosts devices after old mid now v set
+    (Fault restored cause) inside image gone failed = reverted_some ghosts devices after old mid now v set restored cause inside image gone failed
 
 -- the image is still there
-pub image_left : {D : Type 0} (told : D → Option (List (List ℕ))) (size count : D → ℕ) (lending : D → Bool) (devices after : List D) (old mid now : CopiesValue D) (v set m restored : ℕ)
-    → AreNewerGone told old mid v set → AreRestored told size count lending (group_of devices mid) (group_of after now) v set m restored → Contains (images_on now v) set
-image_left told size count lending devices after old mid now v set m restored gone done = contains_of set (images_on now v) (ap (is_among set) (images_same mid now v done.images) ∙ gone.among)
+pub image_left : {D : Type 0} (ghosts : Ghosts D) (devices after : List D) (old mid now : CopiesValue D) (v set m restored : ℕ)
+    → AreNewerGone ghosts.told old mid v set → AreRestored ghosts (group_of devices mid) (group_of after now) v set m restored → Contains (images_on now v) set
+image_left ghosts devices after old mid now v set m restored gone done = contains_of set (images_on now v) (ap (is_among set) (images_same mid now v done.images) ∙ gone.among)
 
-pub inside_left : {D : Type 0} (told : D → Option (List (List ℕ))) (size count : D → ℕ) (lending : D → Bool) (devices after : List D) (old mid now : CopiesValue D) (v set m restored : ℕ)
-    → v < length old.area.volumes → AreNewerGone told old mid v set → AreRestored told size count lending (group_of devices mid) (group_of after now) v set m restored → v < length now.area.volumes
-inside_left told size count lending devices after old mid now v set m restored inside gone done = subst (λ (ns : List ℕ). v < length ns) (sym (done.kept.volumes ∙ gone.volumes)) inside
+pub inside_left : {D : Type 0} (ghosts : Ghosts D) (devices after : List D) (old mid now : CopiesValue D) (v set m restored : ℕ)
+    → v < length old.area.volumes → AreNewerGone ghosts.told old mid v set → AreRestored ghosts (group_of devices mid) (group_of after now) v set m restored → v < length now.area.volumes
+inside_left ghosts devices after old mid now v set m restored inside gone done = subst (λ (ns : List ℕ). v < length ns) (sym (done.kept.volumes ∙ gone.volumes)) inside
 
 -- each device still has as many blocks as its volume
-pub sizes_reverted : {D : Type 0} (told : D → Option (List (List ℕ))) (size count : D → ℕ) (lending : D → Bool) (old new : GroupValue D) (v set : ℕ) (r : Result Unit RevertFault)
-    → IsRevert told size count lending old new v set r → map size old.devices ≡ old.area.volumes → map size new.devices ≡ new.area.volumes
-sizes_reverted told size count lending old new v set (Ok done) is sizes = sizes_kept told size count lending old new is.kept sizes
-sizes_reverted told size count lending old new v set (Err NoSuchImage) is sizes = subst (λ (g : GroupValue _). map size g.devices ≡ g.area.volumes) (sym is.1) sizes
-sizes_reverted told size count lending old new v set (Err (Fault restored cause)) is sizes = sizes_kept told size count lending old new is.0.kept sizes
+pub sizes_reverted : {D : Type 0} (ghosts : Ghosts D) (old new : GroupValue D) (v set : ℕ) (r : Result Unit RevertFault)
+    → IsRevert ghosts old new v set r → map ghosts.size old.devices ≡ old.area.volumes → map ghosts.size new.devices ≡ new.area.volumes
+sizes_reverted ghosts old new v set (Ok done) is sizes = sizes_kept ghosts old new is.kept sizes
+sizes_reverted ghosts old new v set (Err NoSuchImage) is sizes = subst (λ (g : GroupValue _). map ghosts.size g.devices ≡ g.area.volumes) (sym is.1) sizes
+sizes_reverted ghosts old new v set (Err (Fault restored cause)) is sizes = sizes_kept ghosts old new is.0.kept sizes

@@ -22,6 +22,7 @@ use Rattle.cow_volume.specs.declared.cause.Cause.{Cause}
 use Rattle.cow_volume.proofs.Group.{told_in-slots, quiet_stands as group_stands}
 use Rattle.cow_volume.proofs.Stored.{held_copies}
 use Rattle.cow_volume.proofs.Kept.{kept_area, kept_further, sizes_kept, quiet_stands}
+use Rattle.volume_device.specs.declared.device.Device.{Ghosts}
 
 pub tells_written : (old new : Option (List (List ℕ))) (first : List (List ℕ)) → new ≡ option_map (with_first first) old → is_some new ≡ is_some old
 tells_written None new first e = ap is_some e
@@ -103,52 +104,52 @@ stood_first told size lending devices old new first hs table images l e stands =
       (subst (λ (rs : List Record). IsVolume (told_in (told new.area.device) (told d)) (told new.area.device) rs v n sets h) table.records volume));
 }
 
-synced_first : {D : Type 0} (told : D → Option (List (List ℕ))) (size count : D → ℕ) (lending : D → Bool) (devices : List D) (old new : CopiesValue D) (first : List (List ℕ))
-    → KeepsTable size lending old.area new.area → new.images ≡ old.images
-    → count old.area.device ≤ count new.area.device → length first ≤ table_for (length old.area.records) → told new.area.device ≡ option_map (with_first first) (told old.area.device)
-    → IsSynced told size count lending (group_of devices old) (group_of devices new)
-synced_first told size count lending devices old new first table images later l e = record {
-  kept = kept_area told size count lending devices old new table (tells_written (told old.area.device) (told new.area.device) first e) later;
+synced_first : {D : Type 0} (ghosts : Ghosts D) (devices : List D) (old new : CopiesValue D) (first : List (List ℕ))
+    → KeepsTable ghosts.size ghosts.lending old.area new.area → new.images ≡ old.images
+    → ghosts.count old.area.device ≤ ghosts.count new.area.device → length first ≤ table_for (length old.area.records) → ghosts.told new.area.device ≡ option_map (with_first first) (ghosts.told old.area.device)
+    → IsSynced ghosts (group_of devices old) (group_of devices new)
+synced_first ghosts devices old new first table images later l e = record {
+  kept = kept_area ghosts devices old new table (tells_written (ghosts.told old.area.device) (ghosts.told new.area.device) first e) later;
   devices = refl;
   records = table.records;
   images = images;
-  stands = λ hs stands. synced_stands told size lending devices old new first hs table images l e stands;
-  stood = λ hs stands. stood_first told size lending devices old new first hs table images l e stands;
+  stands = λ hs stands. synced_stands ghosts.told ghosts.size ghosts.lending devices old new first hs table images l e stands;
+  stood = λ hs stands. stood_first ghosts.told ghosts.size ghosts.lending devices old new first hs table images l e stands;
 }
 
 -- the table was written
-pub synced_all : {D : Type 0} (told : D → Option (List (List ℕ))) (size count : D → ℕ) (lending : D → Bool) (devices : List D) (old new : CopiesValue D) → KeepsTable size lending old.area new.area
-    → new.images ≡ old.images → count old.area.device ≤ count new.area.device
-    → told new.area.device ≡ option_map (with_first (table_blocks old.area.volumes old.area.records)) (told old.area.device)
-    → IsSynced told size count lending (group_of devices old) (group_of devices new)
-synced_all told size count lending devices old new table images later e =
+pub synced_all : {D : Type 0} (ghosts : Ghosts D) (devices : List D) (old new : CopiesValue D) → KeepsTable ghosts.size ghosts.lending old.area new.area
+    → new.images ≡ old.images → ghosts.count old.area.device ≤ ghosts.count new.area.device
+    → ghosts.told new.area.device ≡ option_map (with_first (table_blocks old.area.volumes old.area.records)) (ghosts.told old.area.device)
+    → IsSynced ghosts (group_of devices old) (group_of devices new)
+synced_all ghosts devices old new table images later e =
     let long : length (table_blocks old.area.volumes old.area.records) ≤ table_for (length old.area.records) = (let same = length-table old.area.volumes old.area.records in omega arith) in
-    synced_first told size count lending devices old new (table_blocks old.area.volumes old.area.records) table images later long e
+    synced_first ghosts devices old new (table_blocks old.area.volumes old.area.records) table images later long e
 
 -- a part of it was
-pub synced_part : {D : Type 0} (told : D → Option (List (List ℕ))) (size count : D → ℕ) (lending : D → Bool) (devices : List D) (old new : CopiesValue D) → KeepsTable size lending old.area new.area
-    → new.images ≡ old.images → count old.area.device ≤ count new.area.device
-    → AreInPart (table_blocks old.area.volumes old.area.records) (told old.area.device) (told new.area.device) → IsSynced told size count lending (group_of devices old) (group_of devices new)
-synced_part told size count lending devices old new table images later part =
+pub synced_part : {D : Type 0} (ghosts : Ghosts D) (devices : List D) (old new : CopiesValue D) → KeepsTable ghosts.size ghosts.lending old.area new.area
+    → new.images ≡ old.images → ghosts.count old.area.device ≤ ghosts.count new.area.device
+    → AreInPart (table_blocks old.area.volumes old.area.records) (ghosts.told old.area.device) (ghosts.told new.area.device) → IsSynced ghosts (group_of devices old) (group_of devices new)
+synced_part ghosts devices old new table images later part =
     let long : length (take part.count (table_blocks old.area.volumes old.area.records)) ≤ table_for (length old.area.records) = (
     let same = length-table old.area.volumes old.area.records in
     let short = length-take-le part.count (table_blocks old.area.volumes old.area.records) part.within in
     let within = part.within in
     omega arith) in
-    synced_first told size count lending devices old new (take part.count (table_blocks old.area.volumes old.area.records)) table images later long part.blocks
+    synced_first ghosts devices old new (take part.count (table_blocks old.area.volumes old.area.records)) table images later long part.blocks
 
 -- and then only a count may have changed
-pub synced_further : {D : Type 0} (told : D → Option (List (List ℕ))) (size count : D → ℕ) (lending : D → Bool) (devices : List D) (old mid new : CopiesValue D)
-    → IsSynced told size count lending (group_of devices old) (group_of devices mid)
-    → IsQuiet told size count lending (group_of devices mid) (group_of devices new) → IsSynced told size count lending (group_of devices old) (group_of devices new)
-synced_further told size count lending devices old mid new synced quiet = record {
-  kept = kept_further told size count lending (group_of devices old) (group_of devices mid) (group_of devices new) synced.kept quiet.kept;
+pub synced_further : {D : Type 0} (ghosts : Ghosts D) (devices : List D) (old mid new : CopiesValue D)
+    → IsSynced ghosts (group_of devices old) (group_of devices mid)
+    → IsQuiet ghosts (group_of devices mid) (group_of devices new) → IsSynced ghosts (group_of devices old) (group_of devices new)
+synced_further ghosts devices old mid new synced quiet = record {
+  kept = kept_further ghosts (group_of devices old) (group_of devices mid) (group_of devices new) synced.kept quiet.kept;
   devices = refl;
   records = quiet.records ∙ synced.records;
   images = quiet.images ∙ synced.images;
-  stands = λ hs stands. quiet_stands told size count lending (group_of devices mid) (group_of devices new) hs quiet (synced.stands hs stands);
+  stands = λ hs stands. quiet_stands ghosts (group_of devices mid) (group_of devices new) hs quiet (synced.stands hs stands);
   stood = λ hs stands. synced.stood hs
-      (group_stands told (group_of devices new) (group_of devices mid) hs stands (sym quiet.blocks) (sym quiet.images) (sym quiet.kept.volumes) (sym quiet.records) (sym quiet.slots));
+      (group_stands ghosts.told (group_of devices new) (group_of devices mid) hs stands (sym quiet.blocks) (sym quiet.images) (sym quiet.kept.volumes) (sym quiet.records) (sym quiet.slots));
 }
 
 -- the copies of the definitions stand on the area's device
@@ -161,7 +162,7 @@ stored_all told devices old mid new are same written hs stands tells =
     (written (copies (placed old.area.volumes) hs) (held_copies told (group_of devices old) hs stands are tells))
 
 -- each device still has as many blocks as its volume
-pub sizes_synced : {D : Type 0} (told : D → Option (List (List ℕ))) (size count : D → ℕ) (lending : D → Bool) (old new : GroupValue D) (r : Result Unit Cause)
-    → IsSync told size count lending old new r → map size old.devices ≡ old.area.volumes → map size new.devices ≡ new.area.volumes
-sizes_synced told size count lending old new (Ok done) is sizes = sizes_kept told size count lending old new is.0.kept sizes
-sizes_synced told size count lending old new (Err cause) is sizes = sizes_kept told size count lending old new is.0.kept sizes
+pub sizes_synced : {D : Type 0} (ghosts : Ghosts D) (old new : GroupValue D) (r : Result Unit Cause)
+    → IsSync ghosts old new r → map ghosts.size old.devices ≡ old.area.volumes → map ghosts.size new.devices ≡ new.area.volumes
+sizes_synced ghosts old new (Ok done) is sizes = sizes_kept ghosts old new is.0.kept sizes
+sizes_synced ghosts old new (Err cause) is sizes = sizes_kept ghosts old new is.0.kept sizes

@@ -3,12 +3,13 @@ use Rattle.std.proofs.Common.{◌≡◌, ◌<◌, ◌≤◌, ◌+◌, ℕ, zero,
 use Rattle.std.specs.Prelude.{slice_get, slice_set, Result, Ok, Err, is_some}
 use Rattle.std.specs.Int.{from_bool}
 use Rattle.vss_names.specs.Faults.{Rose, most}
+use Rattle.volume_device.specs.declared.device.Device.{Ghosts}
 use Rattle.write_history.specs.History.{History, point_in, to_restore}
 use Rattle.cow_volume.specs.GroupValue.{GroupValue}
 use Rattle.cow_volume.specs.Tied.{CopiesValue}
 use Rattle.cow_volume.specs.StandsFor.{StandsFor}
 use Rattle.cow_volume.specs.Changes.{IsFirstCopy, HasNoCopy}
-use Rattle.cow_volume.specs.Calls.{history_at, changed_at, blocks_in, blocks_at, IsSameDevice, IsKept, DeviceRose, uncounted, counted_by, NeverFails, StopsAfter}
+use Rattle.cow_volume.specs.Calls.{history_at, changed_at, blocks_in, blocks_at, IsSameDevice, IsKept, DeviceRose, uncounted, counted_as, NeverFails, StopsAfter}
 use Rattle.cow_volume.specs.Parts.{group_of}
 use Rattle.cow_volume.specs.Restoring.{AreNewerGone, AreRestored, IsOneRestored, with_up_to}
 use Rattle.cow_volume.specs.declared.cause.Cause.{Cause}
@@ -39,11 +40,11 @@ pub no_rise : (a b : ℕ) → b ≡ 0 → Rose a b → ⊥
 no_rise a b e (inl l) = omega arith
 no_rise a b e (inr m) = omega arith
 
-module _ {D : Type 0} (told : D → Option (List (List ℕ))) (size count : D → ℕ) (lending : D → Bool) where
-  same_uncounted : (d e : D) → IsSameDevice told size count lending d e → IsSameDevice told size uncounted lending d e
+module _ {D : Type 0} (ghosts : Ghosts D) where
+  same_uncounted : (d e : D) → IsSameDevice ghosts d e → IsSameDevice (counted_as ghosts true) d e
   same_uncounted d e same = record { tells = same.tells; size_is = same.size_is; lends = same.lends; later = omega arith }
 
-  pub kept_uncounted : (now new : GroupValue D) → IsKept told size count lending now new → IsKept told size uncounted lending now new
+  pub kept_uncounted : (now new : GroupValue D) → IsKept ghosts now new → IsKept (counted_as ghosts true) now new
   kept_uncounted now new kept = record {
     volumes = kept.volumes;
     slots = kept.slots;
@@ -52,15 +53,15 @@ module _ {D : Type 0} (told : D → Option (List (List ℕ))) (size count : D �
     each = λ v d e was is. same_uncounted d e (kept.each v d e was is);
   }
 
-  rose_uncounted : (v : ℕ) (now new : GroupValue D) (cause : Cause) → IsKept told size count lending now new → DeviceRose count v now new cause → DeviceRose uncounted v now new cause
+  rose_uncounted : (v : ℕ) (now new : GroupValue D) (cause : Cause) → IsKept ghosts now new → DeviceRose ghosts.count v now new cause → DeviceRose uncounted v now new cause
   rose_uncounted v now new NoSuchBlock kept rose = rose
   rose_uncounted v now new Volume kept rose =
       record { before = rose.before; now = rose.now; was = rose.was; is = rose.is; rose = inr refl; devices = counts_set now.devices new.devices v kept.devices; area = refl }
   rose_uncounted v now new Area kept rose = record { rose = inr refl; devices = same_counts now.devices new.devices kept.devices }
 
   -- one block, by the counts of a revert that is to stop or is not
-  pub one_counted : (now new : GroupValue D) (v set b : ℕ) (stop : Option ℕ) (r : Result Bool Cause) → IsOneRestored told size count lending now new v set b r
-      → IsOneRestored told size (counted_by count (is_some stop)) lending now new v set b r
+  pub one_counted : (now new : GroupValue D) (v set b : ℕ) (stop : Option ℕ) (r : Result Bool Cause) → IsOneRestored ghosts now new v set b r
+      → IsOneRestored (counted_as ghosts (is_some stop)) now new v set b r
   one_counted now new v set b None r one = one
   one_counted now new v set b (Some k) (Ok false) one = one
   one_counted now new v set b (Some k) (Ok true) one = record {
@@ -90,20 +91,20 @@ module _ {D : Type 0} (told : D → Option (List (List ℕ))) (size count : D �
 
   -- where it stops, a block has a slot and is not put back
   pub one_stopped : (now : GroupValue D) (v set b slot restored : ℕ) (stop : Option ℕ) → v < length now.devices → (stop ≡ Some restored) × IsFirstCopy now.area.records v set b slot
-      → IsOneRestored told size (counted_by count (is_some stop)) lending now now v set b (Err Volume)
+      → IsOneRestored (counted_as ghosts (is_some stop)) now now v set b (Err Volume)
   one_stopped now v set b slot restored None inside stopped = cc (stopped.0)
   one_stopped now v set b slot restored (Some k) inside stopped =
       let d = slice_get_inside now.devices v inside in
       record {
         slot = slot;
         found = stopped.1;
-        quiet = record { kept = kept_itself told size uncounted lending now; records = refl; images = refl; blocks = refl; slots = refl };
+        quiet = record { kept = kept_itself (counted_as ghosts true) now; records = refl; images = refl; blocks = refl; slots = refl };
         rose = record { before = d.0; now = d.0; was = d.1; is = d.1; rose = inr refl; devices = counts_set now.devices now.devices v refl; area = refl };
       }
 
   -- before it stops there are at most so many
   pub fits_more : (now new : GroupValue D) (v set b restored more k : ℕ) (put : Bool) → more ≡ from_bool put → restored ≤ k → (restored ≡ k → HasNoCopy now.area.records v set b)
-      → IsOneRestored told size count lending now new v set b (Ok put) → restored + more ≤ k
+      → IsOneRestored ghosts now new v set b (Ok put) → restored + more ≤ k
   fits_more now new v set b restored more k false e few none one = omega arith
   fits_more now new v set b restored more k true e few none one =
       let apart : restored ≡ k → ⊥ = λ same. none same one.slot one.found.image one.found.is_noted one.found.from_set in
@@ -113,14 +114,14 @@ module _ {D : Type 0} (told : D → Option (List (List ℕ))) (size count : D �
       below n m k e l apart = grind (arith, apart)
 
   -- no device fails where none ever does
-  pub never_rose : (now new : GroupValue D) (v : ℕ) (cause : Cause) → NeverFails count → DeviceRose count v now new cause → ⊥
+  pub never_rose : (now new : GroupValue D) (v : ℕ) (cause : Cause) → NeverFails ghosts.count → DeviceRose ghosts.count v now new cause → ⊥
   never_rose now new v NoSuchBlock never rose = rose
-  never_rose now new v Volume never rose = no_rise (count rose.before) (count rose.now) (never rose.now) rose.rose
-  never_rose now new v Area never rose = no_rise (count now.area.device) (count new.area.device) (never new.area.device) rose.rose
+  never_rose now new v Volume never rose = no_rise (ghosts.count rose.before) (ghosts.count rose.now) (never rose.now) rose.rose
+  never_rose now new v Area never rose = no_rise (ghosts.count now.area.device) (ghosts.count new.area.device) (never new.area.device) rose.rose
 
   -- all that there were to restore are few enough
-  pub few_restored : (old new : GroupValue D) (v set m restored k : ℕ) → m ≡ blocks_at old v → restored ≤ k → AreRestored told size count lending old new v set m restored
-      → (hs : List History) (p : ℕ) → StandsFor told old hs → point_in set (history_at hs v).images ≡ Some p → length (to_restore (blocks_at old v) (history_at hs v).writes p) ≤ k
+  pub few_restored : (old new : GroupValue D) (v set m restored k : ℕ) → m ≡ blocks_at old v → restored ≤ k → AreRestored ghosts old new v set m restored
+      → (hs : List History) (p : ℕ) → StandsFor ghosts.told old hs → point_in set (history_at hs v).images ≡ Some p → length (to_restore (blocks_at old v) (history_at hs v).writes p) ≤ k
   few_restored old new v set m restored k all few done hs p stands point =
       subst (λ (n : ℕ). n ≤ k) (done.number hs p stands point ∙ ap (λ (n : ℕ). length (to_restore n (history_at hs v).writes p)) all) few
 

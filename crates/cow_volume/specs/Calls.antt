@@ -2,6 +2,7 @@
 use Rattle.std.specs.Prelude.{ℕ, ◌≡◌, ◌<◌, ◌≤◌, Bool, true, false, zero, suc, List, [], ◌∷◌, length, map, Option, Some, None, is_some, slice_get, slice_set, ◌==◌, Result, Ok, Err}
 use Rattle.std.specs.List.{list_any}
 use Rattle.vss_names.specs.Faults.{Rose, most}
+use Rattle.volume_device.specs.declared.device.Device.{Ghosts}
 use Rattle.write_history.specs.History.{History, Write, content, point_in, fresh, written, dropped, reverted, reverted_in_part, to_restore}
 use Rattle.write_history.specs.Slots.{gone_up_to, evicted_up_to}
 use Rattle.cow_volume.specs.declared.cause.Cause.{Cause}
@@ -42,18 +43,18 @@ blocks_at g v = blocks_in (slice_get g.area.volumes v)
 -- ## what every call keeps
 
 -- a device keeps its size, whether it tells and whether it lends, and its count does not fall
-pub record IsSameDevice {D : Type 0} (told : D → Option (List (List ℕ))) (size count : D → ℕ) (lending : D → Bool) (old new : D) : Type 0 where
-  pub tells : is_some (told new) ≡ is_some (told old)
-  pub size_is : size new ≡ size old
-  pub lends : lending new ≡ lending old
-  pub later : count old ≤ count new
+pub record IsSameDevice {D : Type 0} (ghosts : Ghosts D) (old new : D) : Type 0 where
+  pub tells : is_some (ghosts.told new) ≡ is_some (ghosts.told old)
+  pub size_is : ghosts.size new ≡ ghosts.size old
+  pub lends : ghosts.lending new ≡ ghosts.lending old
+  pub later : ghosts.count old ≤ ghosts.count new
 
-pub record IsKept {D : Type 0} (told : D → Option (List (List ℕ))) (size count : D → ℕ) (lending : D → Bool) (old new : GroupValue D) : Type 0 where
+pub record IsKept {D : Type 0} (ghosts : Ghosts D) (old new : GroupValue D) : Type 0 where
   pub volumes : new.area.volumes ≡ old.area.volumes
   pub slots : length new.area.records ≡ length old.area.records
-  pub area : IsSameDevice told size count lending old.area.device new.area.device
+  pub area : IsSameDevice ghosts old.area.device new.area.device
   pub devices : length new.devices ≡ length old.devices
-  pub each : (v : ℕ) (d e : D) → slice_get old.devices v ≡ Some d → slice_get new.devices v ≡ Some e → IsSameDevice told size count lending d e
+  pub each : (v : ℕ) (d e : D) → slice_get old.devices v ≡ Some d → slice_get new.devices v ≡ Some e → IsSameDevice ghosts d e
 
 -- the count of the device of volume v rose, and each other count is as it was
 pub record VolumeRose {D : Type 0} (count : D → ℕ) (v : ℕ) (old new : GroupValue D) : Type 0 where
@@ -93,34 +94,34 @@ abbrev pub made_room : {D : Type 0} → GroupValue D → ℕ → List History �
 made_room g up_to hs = gone_up_to up_to (placed g.area.volumes) hs
 
 -- the block was written: images went as the definition has it, and there is one more effective write
-pub record IsWritten {D : Type 0} (told : D → Option (List (List ℕ))) (size count : D → ℕ) (lending : D → Bool) (old new : GroupValue D) (v : ℕ) (w : Write) (up_to : ℕ) : Type 0 where
+pub record IsWritten {D : Type 0} (ghosts : Ghosts D) (old new : GroupValue D) (v : ℕ) (w : Write) (up_to : ℕ) : Type 0 where
   pub in_range : w.block < blocks_at old v
-  pub kept : IsKept told size count lending old new
-  pub evicted : (hs : List History) → StandsFor told old hs → IsEvicted old v w.block hs up_to
-  pub stands : (hs : List History) → StandsFor told old hs → StandsFor told new (changed_at v (written w) (made_room old up_to hs))
-  pub unfailed : IsUnfailed count old new
+  pub kept : IsKept ghosts old new
+  pub evicted : (hs : List History) → StandsFor ghosts.told old hs → IsEvicted old v w.block hs up_to
+  pub stands : (hs : List History) → StandsFor ghosts.told old hs → StandsFor ghosts.told new (changed_at v (written w) (made_room old up_to hs))
+  pub unfailed : IsUnfailed ghosts.count old new
 
 -- it was not: the images that went are gone all the same, and nothing else changed
-pub record IsUnwritten {D : Type 0} (told : D → Option (List (List ℕ))) (size count : D → ℕ) (lending : D → Bool) (old new : GroupValue D) (v b : ℕ) (fault : WriteFault) : Type 0 where
-  pub cause : HasCauseAt count v b old new fault.cause
-  pub kept : IsKept told size count lending old new
-  pub evicted : b < blocks_at old v → (hs : List History) → StandsFor told old hs → IsEvicted old v b hs fault.evicted_up_to
+pub record IsUnwritten {D : Type 0} (ghosts : Ghosts D) (old new : GroupValue D) (v b : ℕ) (fault : WriteFault) : Type 0 where
+  pub cause : HasCauseAt ghosts.count v b old new fault.cause
+  pub kept : IsKept ghosts old new
+  pub evicted : b < blocks_at old v → (hs : List History) → StandsFor ghosts.told old hs → IsEvicted old v b hs fault.evicted_up_to
   pub none : blocks_at old v ≤ b → fault.evicted_up_to ≡ 0
-  pub stands : (hs : List History) → StandsFor told old hs → StandsFor told new (made_room old fault.evicted_up_to hs)
+  pub stands : (hs : List History) → StandsFor ghosts.told old hs → StandsFor ghosts.told new (made_room old fault.evicted_up_to hs)
 
-abbrev pub IsWrite : {D : Type 0} → (D → Option (List (List ℕ))) → (D → ℕ) → (D → ℕ) → (D → Bool) → GroupValue D → GroupValue D → ℕ → Write → Result Written WriteFault → Type 0
-IsWrite told size count lending old new v w (Ok done) = IsWritten told size count lending old new v w done.evicted_up_to
-IsWrite told size count lending old new v w (Err fault) = IsUnwritten told size count lending old new v w.block fault
+abbrev pub IsWrite : {D : Type 0} → Ghosts D → GroupValue D → GroupValue D → ℕ → Write → Result Written WriteFault → Type 0
+IsWrite ghosts old new v w (Ok done) = IsWritten ghosts old new v w done.evicted_up_to
+IsWrite ghosts old new v w (Err fault) = IsUnwritten ghosts old new v w.block fault
 
 -- ## reads
 
 -- only counts of devices may have changed: the group stands for what it stood for
-pub record IsQuiet {D : Type 0} (told : D → Option (List (List ℕ))) (size count : D → ℕ) (lending : D → Bool) (old new : GroupValue D) : Type 0 where
-  pub kept : IsKept told size count lending old new
+pub record IsQuiet {D : Type 0} (ghosts : Ghosts D) (old new : GroupValue D) : Type 0 where
+  pub kept : IsKept ghosts old new
   pub records : new.area.records ≡ old.area.records
   pub images : new.images ≡ old.images
-  pub blocks : map told new.devices ≡ map told old.devices
-  pub slots : told new.area.device ≡ told old.area.device
+  pub blocks : map ghosts.told new.devices ≡ map ghosts.told old.devices
+  pub slots : ghosts.told new.area.device ≡ ghosts.told old.area.device
 
 -- the bytes are those of block b of volume v now, where its device and the area's tell
 abbrev pub IsNow : {D : Type 0} → (D → Option (List (List ℕ))) → GroupValue D → ℕ → ℕ → List ℕ → Type 0
@@ -158,35 +159,35 @@ HasImageCause count v set b old new AreaFailed = (is_among set (sets_at old v) �
 -- ## images
 
 -- the images of volume v changed, and its history as f says; the devices are as they were
-pub record IsChanged {D : Type 0} (told : D → Option (List (List ℕ))) (size count : D → ℕ) (lending : D → Bool) (old new : GroupValue D) (v : ℕ) (f : History → History) : Type 0 where
-  pub kept : IsKept told size count lending old new
+pub record IsChanged {D : Type 0} (ghosts : Ghosts D) (old new : GroupValue D) (v : ℕ) (f : History → History) : Type 0 where
+  pub kept : IsKept ghosts old new
   pub devices : new.devices ≡ old.devices
   pub area : new.area.device ≡ old.area.device
-  pub stands : (hs : List History) → StandsFor told old hs → StandsFor told new (changed_at v f hs)
+  pub stands : (hs : List History) → StandsFor ghosts.told old hs → StandsFor ghosts.told new (changed_at v f hs)
 
 -- the image of a set went
-abbrev pub IsDropped : {D : Type 0} → (D → Option (List (List ℕ))) → (D → ℕ) → (D → ℕ) → (D → Bool) → GroupValue D → GroupValue D → ℕ → ℕ → Result Unit ImageFault → Type 0
-IsDropped told size count lending old new v set (Ok done) = (is_among set (sets_at old v) ≡ true) × IsChanged told size count lending old new v (dropped set)
-IsDropped told size count lending old new v set (Err fault) = (fault ≡ NoSuchImage) × (is_among set (sets_at old v) ≡ false) × (new ≡ old)
+abbrev pub IsDropped : {D : Type 0} → Ghosts D → GroupValue D → GroupValue D → ℕ → ℕ → Result Unit ImageFault → Type 0
+IsDropped ghosts old new v set (Ok done) = (is_among set (sets_at old v) ≡ true) × IsChanged ghosts old new v (dropped set)
+IsDropped ghosts old new v set (Err fault) = (fault ≡ NoSuchImage) × (is_among set (sets_at old v) ≡ false) × (new ≡ old)
 
 -- ## revert
 
 -- volume v was brought back to the image of a set; no slot's bytes changed
-pub record IsReverted {D : Type 0} (told : D → Option (List (List ℕ))) (size count : D → ℕ) (lending : D → Bool) (old new : GroupValue D) (v set : ℕ) : Type 0 where
+pub record IsReverted {D : Type 0} (ghosts : Ghosts D) (old new : GroupValue D) (v set : ℕ) : Type 0 where
   pub image : is_among set (sets_at old v) ≡ true
-  pub kept : IsKept told size count lending old new
-  pub stands : (hs : List History) (p : ℕ) → StandsFor told old hs → point_in set (history_at hs v).images ≡ Some p → StandsFor told new (changed_at v (reverted set p) hs)
-  pub unfailed : IsUnfailed count old new
-  pub slots : told new.area.device ≡ told old.area.device
+  pub kept : IsKept ghosts old new
+  pub stands : (hs : List History) (p : ℕ) → StandsFor ghosts.told old hs → point_in set (history_at hs v).images ≡ Some p → StandsFor ghosts.told new (changed_at v (reverted set p) hs)
+  pub unfailed : IsUnfailed ghosts.count old new
+  pub slots : ghosts.told new.area.device ≡ ghosts.told old.area.device
 
 -- a device failed after so many blocks were restored, in ascending order: fewer than there are to restore; no slot's bytes changed
-pub record IsRevertedInPart {D : Type 0} (told : D → Option (List (List ℕ))) (size count : D → ℕ) (lending : D → Bool) (old new : GroupValue D) (v set restored : ℕ) : Type 0 where
+pub record IsRevertedInPart {D : Type 0} (ghosts : Ghosts D) (old new : GroupValue D) (v set restored : ℕ) : Type 0 where
   pub image : is_among set (sets_at old v) ≡ true
-  pub kept : IsKept told size count lending old new
-  pub fewer : (hs : List History) (p : ℕ) → StandsFor told old hs → point_in set (history_at hs v).images ≡ Some p → restored < length (to_restore (blocks_at old v) (history_at hs v).writes p)
-  pub stands : (hs : List History) (p : ℕ) → StandsFor told old hs → point_in set (history_at hs v).images ≡ Some p
-      → StandsFor told new (changed_at v (reverted_in_part (blocks_at old v) set p restored) hs)
-  pub slots : told new.area.device ≡ told old.area.device
+  pub kept : IsKept ghosts old new
+  pub fewer : (hs : List History) (p : ℕ) → StandsFor ghosts.told old hs → point_in set (history_at hs v).images ≡ Some p → restored < length (to_restore (blocks_at old v) (history_at hs v).writes p)
+  pub stands : (hs : List History) (p : ℕ) → StandsFor ghosts.told old hs → point_in set (history_at hs v).images ≡ Some p
+      → StandsFor ghosts.told new (changed_at v (reverted_in_part (blocks_at old v) set p restored) hs)
+  pub slots : ghosts.told new.area.device ≡ ghosts.told old.area.device
 
 -- a device failed: the volume's, or the area's
 abbrev pub DeviceRose : {D : Type 0} → (D → ℕ) → ℕ → GroupValue D → GroupValue D → Cause → Type 0
@@ -194,10 +195,10 @@ DeviceRose count v old new NoSuchBlock = ⊥
 DeviceRose count v old new Volume = VolumeRose count v old new
 DeviceRose count v old new Area = AreaRose count old new
 
-abbrev pub IsRevert : {D : Type 0} → (D → Option (List (List ℕ))) → (D → ℕ) → (D → ℕ) → (D → Bool) → GroupValue D → GroupValue D → ℕ → ℕ → Result Unit RevertFault → Type 0
-IsRevert told size count lending old new v set (Ok done) = IsReverted told size count lending old new v set
-IsRevert told size count lending old new v set (Err NoImage) = (is_among set (sets_at old v) ≡ false) × (new ≡ old)
-IsRevert told size count lending old new v set (Err (Fault restored cause)) = IsRevertedInPart told size count lending old new v set restored × DeviceRose count v old new cause
+abbrev pub IsRevert : {D : Type 0} → Ghosts D → GroupValue D → GroupValue D → ℕ → ℕ → Result Unit RevertFault → Type 0
+IsRevert ghosts old new v set (Ok done) = IsReverted ghosts old new v set
+IsRevert ghosts old new v set (Err NoImage) = (is_among set (sets_at old v) ≡ false) × (new ≡ old)
+IsRevert ghosts old new v set (Err (Fault restored cause)) = IsRevertedInPart ghosts old new v set restored × DeviceRose ghosts.count v old new cause
 
 -- ## a revert that is to stop
 
@@ -209,6 +210,10 @@ uncounted d = most
 abbrev pub counted_by : {D : Type 0} → (D → ℕ) → Bool → D → ℕ
 counted_by count false = count
 counted_by count true = uncounted
+
+-- what is seen of a device, with the count by which a call is judged
+abbrev pub counted_as : {D : Type 0} → Ghosts D → Bool → Ghosts D
+counted_as ghosts stops = record ghosts { count = counted_by ghosts.count stops }
 
 -- no device counts a fault, so no call of one fails
 abbrev pub NeverFails : {D : Type 0} → (D → ℕ) → Type 0

@@ -9,24 +9,25 @@ use Rattle.cow_volume.specs.StandsFor.{StandsFor}
 use Rattle.cow_volume.specs.Calls.{IsKept, IsUnfailed, AreaRose}
 use Rattle.cow_volume.specs.declared.cause.Cause.{Cause}
 use Rattle.cow_volume.specs.declared.cause.Cause.TheVariants.{Area}
+use Rattle.volume_device.specs.declared.device.Device.{Ghosts}
 
 -- only what the area's device has before its slots may have changed: the group stands for what it stood for
-pub record IsSynced {D : Type 0} (told : D → Option (List (List ℕ))) (size count : D → ℕ) (lending : D → Bool) (old new : GroupValue D) : Type 0 where
-  pub kept : IsKept told size count lending old new
+pub record IsSynced {D : Type 0} (ghosts : Ghosts D) (old new : GroupValue D) : Type 0 where
+  pub kept : IsKept ghosts old new
   pub devices : new.devices ≡ old.devices
   pub records : new.area.records ≡ old.area.records
   pub images : new.images ≡ old.images
-  pub stands : (hs : List History) → StandsFor told old hs → StandsFor told new hs
+  pub stands : (hs : List History) → StandsFor ghosts.told old hs → StandsFor ghosts.told new hs
   -- and it stands for nothing else
-  pub stood : (hs : List History) → StandsFor told new hs → StandsFor told old hs
+  pub stood : (hs : List History) → StandsFor ghosts.told new hs → StandsFor ghosts.told old hs
 
 -- each device tells its blocks
 abbrev pub AllTell : {D : Type 0} → (D → Option (List (List ℕ))) → List D → Type 0
 AllTell told devices = (v : ℕ) (d : _) → slice_get devices v ≡ Some d → is_some (told d) ≡ true
 
 -- on the area's device stand the copies of the definitions, where all devices tell; or that device failed
-abbrev pub IsSync : {D : Type 0} → (D → Option (List (List ℕ))) → (D → ℕ) → (D → ℕ) → (D → Bool) → GroupValue D → GroupValue D → Result Unit Cause → Type 0
-IsSync told size count lending old new (Ok done) = IsSynced told size count lending old new
-    × ((hs : List History) → StandsFor told old hs → AllTell told old.devices → AreStored (told new.area.device) (copies (placed old.area.volumes) hs))
-    × IsUnfailed count old new
-IsSync told size count lending old new (Err cause) = IsSynced told size count lending old new × (cause ≡ Area) × AreaRose count old new
+abbrev pub IsSync : {D : Type 0} → Ghosts D → GroupValue D → GroupValue D → Result Unit Cause → Type 0
+IsSync ghosts old new (Ok done) = IsSynced ghosts old new
+    × ((hs : List History) → StandsFor ghosts.told old hs → AllTell ghosts.told old.devices → AreStored (ghosts.told new.area.device) (copies (placed old.area.volumes) hs))
+    × IsUnfailed ghosts.count old new
+IsSync ghosts old new (Err cause) = IsSynced ghosts old new × (cause ≡ Area) × AreaRose ghosts.count old new

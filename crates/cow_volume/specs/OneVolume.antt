@@ -19,6 +19,7 @@ use Rattle.cow_volume.specs.declared.image_fault.ImageFault.{ImageFault}
 use Rattle.cow_volume.specs.declared.image_fault.ImageFault.TheVariants.{NoSuchImage}
 use Rattle.cow_volume.specs.declared.revert_fault.RevertFault.{RevertFault}
 use Rattle.cow_volume.specs.declared.revert_fault.RevertFault.TheVariants.{NoSuchImage as NoImage, Fault}
+use Rattle.volume_device.specs.declared.device.Device.{Ghosts}
 
 -- ## the volume
 
@@ -50,24 +51,24 @@ IsEvictedOne volume b h up_to = (sets : ℕ) → ((n : ℕ) → is_some (point_i
     → up_to ≡ evicted_up_to sets (length volume.area.records) (placed volume.area.volumes) 0 b (h ∷ [])
 
 -- the block was written: images went as the definition has it, and there is one more effective write
-pub record IsOneWritten {D : Type 0} (told : D → Option (List (List ℕ))) (size count : D → ℕ) (lending : D → Bool) (old new : GroupValue D) (w : Write) (up_to : ℕ) : Type 0 where
+pub record IsOneWritten {D : Type 0} (ghosts : Ghosts D) (old new : GroupValue D) (w : Write) (up_to : ℕ) : Type 0 where
   pub in_range : w.block < blocks_of old
-  pub kept : IsKept told size count lending old new
-  pub evicted : (h : History) → StandsForOne told old h → IsEvictedOne old w.block h up_to
-  pub stands : (h : History) → StandsForOne told old h → StandsForOne told new (written w (without_up_to up_to h))
-  pub unfailed : IsUnfailed count old new
+  pub kept : IsKept ghosts old new
+  pub evicted : (h : History) → StandsForOne ghosts.told old h → IsEvictedOne old w.block h up_to
+  pub stands : (h : History) → StandsForOne ghosts.told old h → StandsForOne ghosts.told new (written w (without_up_to up_to h))
+  pub unfailed : IsUnfailed ghosts.count old new
 
 -- it was not: the images that went are gone all the same, and nothing else changed
-pub record IsOneUnwritten {D : Type 0} (told : D → Option (List (List ℕ))) (size count : D → ℕ) (lending : D → Bool) (old new : GroupValue D) (b : ℕ) (fault : WriteFault) : Type 0 where
-  pub cause : HasCauseAt count 0 b old new fault.cause
-  pub kept : IsKept told size count lending old new
-  pub evicted : b < blocks_of old → (h : History) → StandsForOne told old h → IsEvictedOne old b h fault.evicted_up_to
+pub record IsOneUnwritten {D : Type 0} (ghosts : Ghosts D) (old new : GroupValue D) (b : ℕ) (fault : WriteFault) : Type 0 where
+  pub cause : HasCauseAt ghosts.count 0 b old new fault.cause
+  pub kept : IsKept ghosts old new
+  pub evicted : b < blocks_of old → (h : History) → StandsForOne ghosts.told old h → IsEvictedOne old b h fault.evicted_up_to
   pub none : blocks_of old ≤ b → fault.evicted_up_to ≡ 0
-  pub stands : (h : History) → StandsForOne told old h → StandsForOne told new (without_up_to fault.evicted_up_to h)
+  pub stands : (h : History) → StandsForOne ghosts.told old h → StandsForOne ghosts.told new (without_up_to fault.evicted_up_to h)
 
-abbrev pub IsOneWrite : {D : Type 0} → (D → Option (List (List ℕ))) → (D → ℕ) → (D → ℕ) → (D → Bool) → GroupValue D → GroupValue D → Write → Result Written WriteFault → Type 0
-IsOneWrite told size count lending old new w (Ok done) = IsOneWritten told size count lending old new w done.evicted_up_to
-IsOneWrite told size count lending old new w (Err fault) = IsOneUnwritten told size count lending old new w.block fault
+abbrev pub IsOneWrite : {D : Type 0} → Ghosts D → GroupValue D → GroupValue D → Write → Result Written WriteFault → Type 0
+IsOneWrite ghosts old new w (Ok done) = IsOneWritten ghosts old new w done.evicted_up_to
+IsOneWrite ghosts old new w (Err fault) = IsOneUnwritten ghosts old new w.block fault
 
 -- no slot's bytes change, but those of one where the newest image lacked a copy of block b
 abbrev pub IsOneCopiedOnce : {D : Type 0} → (D → Option (List (List ℕ))) → GroupValue D → GroupValue D → ℕ → Type 0
@@ -99,39 +100,39 @@ IsOneLentBy lending volume set b lent = IsLentBy lending volume 0 set b lent
 -- ## images
 
 -- the images changed, and the history as f says; the devices are as they were
-pub record IsOneChanged {D : Type 0} (told : D → Option (List (List ℕ))) (size count : D → ℕ) (lending : D → Bool) (old new : GroupValue D) (f : History → History) : Type 0 where
-  pub kept : IsKept told size count lending old new
+pub record IsOneChanged {D : Type 0} (ghosts : Ghosts D) (old new : GroupValue D) (f : History → History) : Type 0 where
+  pub kept : IsKept ghosts old new
   pub devices : new.devices ≡ old.devices
   pub area : new.area.device ≡ old.area.device
-  pub stands : (h : History) → StandsForOne told old h → StandsForOne told new (f h)
+  pub stands : (h : History) → StandsForOne ghosts.told old h → StandsForOne ghosts.told new (f h)
 
 -- the image of a set went
-abbrev pub IsOneDropped : {D : Type 0} → (D → Option (List (List ℕ))) → (D → ℕ) → (D → ℕ) → (D → Bool) → GroupValue D → GroupValue D → ℕ → Result Unit ImageFault → Type 0
-IsOneDropped told size count lending old new set (Ok done) = (is_among set (image_sets old) ≡ true) × IsOneChanged told size count lending old new (dropped set)
-IsOneDropped told size count lending old new set (Err fault) = (fault ≡ NoSuchImage) × (is_among set (image_sets old) ≡ false) × (new ≡ old)
+abbrev pub IsOneDropped : {D : Type 0} → Ghosts D → GroupValue D → GroupValue D → ℕ → Result Unit ImageFault → Type 0
+IsOneDropped ghosts old new set (Ok done) = (is_among set (image_sets old) ≡ true) × IsOneChanged ghosts old new (dropped set)
+IsOneDropped ghosts old new set (Err fault) = (fault ≡ NoSuchImage) × (is_among set (image_sets old) ≡ false) × (new ≡ old)
 
 -- ## revert
 
 -- the volume was brought back to the image of a set; no slot's bytes changed
-pub record IsOneReverted {D : Type 0} (told : D → Option (List (List ℕ))) (size count : D → ℕ) (lending : D → Bool) (old new : GroupValue D) (set : ℕ) : Type 0 where
+pub record IsOneReverted {D : Type 0} (ghosts : Ghosts D) (old new : GroupValue D) (set : ℕ) : Type 0 where
   pub image : is_among set (image_sets old) ≡ true
-  pub kept : IsKept told size count lending old new
-  pub stands : (h : History) (p : ℕ) → StandsForOne told old h → point_in set h.images ≡ Some p → StandsForOne told new (reverted set p h)
-  pub unfailed : IsUnfailed count old new
-  pub slots : told new.area.device ≡ told old.area.device
+  pub kept : IsKept ghosts old new
+  pub stands : (h : History) (p : ℕ) → StandsForOne ghosts.told old h → point_in set h.images ≡ Some p → StandsForOne ghosts.told new (reverted set p h)
+  pub unfailed : IsUnfailed ghosts.count old new
+  pub slots : ghosts.told new.area.device ≡ ghosts.told old.area.device
 
 -- a device failed after so many blocks were restored, in ascending order: fewer than there are to restore; no slot's bytes changed
-pub record IsOneRevertedInPart {D : Type 0} (told : D → Option (List (List ℕ))) (size count : D → ℕ) (lending : D → Bool) (old new : GroupValue D) (set restored : ℕ) : Type 0 where
+pub record IsOneRevertedInPart {D : Type 0} (ghosts : Ghosts D) (old new : GroupValue D) (set restored : ℕ) : Type 0 where
   pub image : is_among set (image_sets old) ≡ true
-  pub kept : IsKept told size count lending old new
-  pub fewer : (h : History) (p : ℕ) → StandsForOne told old h → point_in set h.images ≡ Some p → restored < length (to_restore (blocks_of old) h.writes p)
-  pub stands : (h : History) (p : ℕ) → StandsForOne told old h → point_in set h.images ≡ Some p → StandsForOne told new (reverted_in_part (blocks_of old) set p restored h)
-  pub slots : told new.area.device ≡ told old.area.device
+  pub kept : IsKept ghosts old new
+  pub fewer : (h : History) (p : ℕ) → StandsForOne ghosts.told old h → point_in set h.images ≡ Some p → restored < length (to_restore (blocks_of old) h.writes p)
+  pub stands : (h : History) (p : ℕ) → StandsForOne ghosts.told old h → point_in set h.images ≡ Some p → StandsForOne ghosts.told new (reverted_in_part (blocks_of old) set p restored h)
+  pub slots : ghosts.told new.area.device ≡ ghosts.told old.area.device
 
-abbrev pub IsOneRevert : {D : Type 0} → (D → Option (List (List ℕ))) → (D → ℕ) → (D → ℕ) → (D → Bool) → GroupValue D → GroupValue D → ℕ → Result Unit RevertFault → Type 0
-IsOneRevert told size count lending old new set (Ok done) = IsOneReverted told size count lending old new set
-IsOneRevert told size count lending old new set (Err NoImage) = (is_among set (image_sets old) ≡ false) × (new ≡ old)
-IsOneRevert told size count lending old new set (Err (Fault restored cause)) = IsOneRevertedInPart told size count lending old new set restored × DeviceRose count 0 old new cause
+abbrev pub IsOneRevert : {D : Type 0} → Ghosts D → GroupValue D → GroupValue D → ℕ → Result Unit RevertFault → Type 0
+IsOneRevert ghosts old new set (Ok done) = IsOneReverted ghosts old new set
+IsOneRevert ghosts old new set (Err NoImage) = (is_among set (image_sets old) ≡ false) × (new ≡ old)
+IsOneRevert ghosts old new set (Err (Fault restored cause)) = IsOneRevertedInPart ghosts old new set restored × DeviceRose ghosts.count 0 old new cause
 
 -- ## what lasts
 
@@ -140,8 +141,8 @@ abbrev pub copies_in : ℕ → History → List Copy
 copies_in n h = copies_of 0 n h.writes h.images
 
 -- on the area's device stand the copies of the definitions, where the devices tell; or that device failed
-abbrev pub IsOneSync : {D : Type 0} → (D → Option (List (List ℕ))) → (D → ℕ) → (D → ℕ) → (D → Bool) → GroupValue D → GroupValue D → Result Unit Cause → Type 0
-IsOneSync told size count lending old new (Ok done) = IsSynced told size count lending old new
-    × ((h : History) → StandsForOne told old h → tells told old ≡ true → AreStored (told new.area.device) (copies_in (blocks_of old) h))
-    × IsUnfailed count old new
-IsOneSync told size count lending old new (Err cause) = IsSynced told size count lending old new × (cause ≡ Area) × AreaRose count old new
+abbrev pub IsOneSync : {D : Type 0} → Ghosts D → GroupValue D → GroupValue D → Result Unit Cause → Type 0
+IsOneSync ghosts old new (Ok done) = IsSynced ghosts old new
+    × ((h : History) → StandsForOne ghosts.told old h → tells ghosts.told old ≡ true → AreStored (ghosts.told new.area.device) (copies_in (blocks_of old) h))
+    × IsUnfailed ghosts.count old new
+IsOneSync ghosts old new (Err cause) = IsSynced ghosts old new × (cause ≡ Area) × AreaRose ghosts.count old new

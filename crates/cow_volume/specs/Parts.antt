@@ -2,6 +2,7 @@
 -- what a call on one of the devices leaves of them. (This project's own.)
 use Rattle.std.specs.Prelude.{ℕ, ◌≡◌, ◌≤◌, Bool, true, false, List, map, Option, Some, IfSome, slice_get, slice_set, option_map}
 use Rattle.vss_names.specs.Faults.{Rose}
+use Rattle.volume_device.specs.declared.device.Device.{Ghosts}
 use Rattle.cow_volume.specs.GroupValue.{GroupValue}
 use Rattle.cow_volume.specs.Tied.{CopiesValue}
 use Rattle.cow_volume.specs.Changes.{IsFirstCopy, HasNoCopy}
@@ -24,32 +25,32 @@ blocks_on copies v = blocks_in (slice_get copies.area.volumes v)
 -- ## a call on one device
 
 -- the device of volume v was called, and is in another state; its count rose where that failed, and else is as it was
-pub record IsCalled {D : Type 0} (told : D → Option (List (List ℕ))) (size count : D → ℕ) (lending : D → Bool) (v : ℕ) (old new : List D) (failed : Bool) : Type 0 where
+pub record IsCalled {D : Type 0} (ghosts : Ghosts D) (v : ℕ) (old new : List D) (failed : Bool) : Type 0 where
   pub before : D
   pub after : D
   pub was : slice_get old v ≡ Some before
   pub devices : new ≡ slice_set old v after
-  pub same : IsSameDevice told size count lending before after
-  pub rose : failed ≡ true → Rose (count before) (count after)
-  pub unfailed : failed ≡ false → count after ≡ count before
+  pub same : IsSameDevice ghosts before after
+  pub rose : failed ≡ true → Rose (ghosts.count before) (ghosts.count after)
+  pub unfailed : failed ≡ false → ghosts.count after ≡ ghosts.count before
 
 -- block b was read, where that did not fail
-pub record IsRead {D : Type 0} (told : D → Option (List (List ℕ))) (size count : D → ℕ) (lending : D → Bool) (v b : ℕ) (bytes : List ℕ) (old new : List D) (failed : Bool) : Type 0 where
-  pub call : IsCalled told size count lending v old new failed
-  pub told_is : told call.after ≡ told call.before
-  pub block : failed ≡ false → IfSome (told call.before) (λ blocks. slice_get blocks b ≡ Some bytes)
+pub record IsRead {D : Type 0} (ghosts : Ghosts D) (v b : ℕ) (bytes : List ℕ) (old new : List D) (failed : Bool) : Type 0 where
+  pub call : IsCalled ghosts v old new failed
+  pub told_is : ghosts.told call.after ≡ ghosts.told call.before
+  pub block : failed ≡ false → IfSome (ghosts.told call.before) (λ blocks. slice_get blocks b ≡ Some bytes)
 
 -- block b was written, where that did not fail
-pub record IsPut {D : Type 0} (told : D → Option (List (List ℕ))) (size count : D → ℕ) (lending : D → Bool) (v b : ℕ) (bytes : List ℕ) (old new : List D) (failed : Bool) : Type 0 where
-  pub call : IsCalled told size count lending v old new failed
-  pub written : failed ≡ false → told call.after ≡ option_map (λ blocks. slice_set blocks b bytes) (told call.before)
-  pub kept : failed ≡ true → told call.after ≡ told call.before
+pub record IsPut {D : Type 0} (ghosts : Ghosts D) (v b : ℕ) (bytes : List ℕ) (old new : List D) (failed : Bool) : Type 0 where
+  pub call : IsCalled ghosts v old new failed
+  pub written : failed ≡ false → ghosts.told call.after ≡ option_map (λ blocks. slice_set blocks b bytes) (ghosts.told call.before)
+  pub kept : failed ≡ true → ghosts.told call.after ≡ ghosts.told call.before
 
 -- it was flushed, where that did not fail
-pub record IsFlushed {D : Type 0} (told lasting : D → Option (List (List ℕ))) (size count : D → ℕ) (lending : D → Bool) (v : ℕ) (old new : List D) (failed : Bool) : Type 0 where
-  pub call : IsCalled told size count lending v old new failed
-  pub told_is : told call.after ≡ told call.before
-  pub lasts : failed ≡ false → lasting call.after ≡ told call.after
+pub record IsFlushed {D : Type 0} (ghosts : Ghosts D) (v : ℕ) (old new : List D) (failed : Bool) : Type 0 where
+  pub call : IsCalled ghosts v old new failed
+  pub told_is : ghosts.told call.after ≡ ghosts.told call.before
+  pub lasts : failed ≡ false → ghosts.lasting call.after ≡ ghosts.told call.after
 
 -- ## what is lent
 

@@ -13,6 +13,7 @@ use Rattle.cow_volume.specs.Calls.{history_at, changed_at, blocks_at, is_among, 
 use Rattle.cow_volume.specs.declared.cause.Cause.{Cause}
 use Rattle.cow_volume.specs.declared.revert_fault.RevertFault.{RevertFault}
 use Rattle.cow_volume.specs.declared.revert_fault.RevertFault.TheVariants.{NoSuchImage, Fault}
+use Rattle.volume_device.specs.declared.device.Device.{Ghosts}
 
 -- ## the newer images
 
@@ -46,62 +47,62 @@ merged_as mid now = record { area = with_records mid.area.records now.area; imag
 -- ## block after block
 
 -- the records, the images and what the area's device tells are as they were
-pub record KeepsCopies {D : Type 0} (told : D → Option (List (List ℕ))) (size count : D → ℕ) (lending : D → Bool) (old new : GroupValue D) : Type 0 where
-  pub kept : IsKept told size count lending old new
+pub record KeepsCopies {D : Type 0} (ghosts : Ghosts D) (old new : GroupValue D) : Type 0 where
+  pub kept : IsKept ghosts old new
   pub records : new.area.records ≡ old.area.records
   pub images : new.images ≡ old.images
-  pub slots : told new.area.device ≡ told old.area.device
+  pub slots : ghosts.told new.area.device ≡ ghosts.told old.area.device
 
 -- of the first m blocks of volume v, those that are to be restored to the image of a set, its newest, are; so many are they
-pub record AreRestored {D : Type 0} (told : D → Option (List (List ℕ))) (size count : D → ℕ) (lending : D → Bool) (old new : GroupValue D) (v set m restored : ℕ) : Type 0 where
-  pub kept : IsKept told size count lending old new
+pub record AreRestored {D : Type 0} (ghosts : Ghosts D) (old new : GroupValue D) (v set m restored : ℕ) : Type 0 where
+  pub kept : IsKept ghosts old new
   pub records : new.area.records ≡ old.area.records
   pub images : new.images ≡ old.images
-  pub slots : told new.area.device ≡ told old.area.device
-  pub number : (hs : List History) (p : ℕ) → StandsFor told old hs → point_in set (history_at hs v).images ≡ Some p → restored ≡ length (to_restore m (history_at hs v).writes p)
-  pub stands : (hs : List History) (p : ℕ) → StandsFor told old hs → point_in set (history_at hs v).images ≡ Some p
-      → StandsFor told new (changed_at v (reverted_in_part (blocks_at old v) set p restored) hs)
+  pub slots : ghosts.told new.area.device ≡ ghosts.told old.area.device
+  pub number : (hs : List History) (p : ℕ) → StandsFor ghosts.told old hs → point_in set (history_at hs v).images ≡ Some p → restored ≡ length (to_restore m (history_at hs v).writes p)
+  pub stands : (hs : List History) (p : ℕ) → StandsFor ghosts.told old hs → point_in set (history_at hs v).images ≡ Some p
+      → StandsFor ghosts.told new (changed_at v (reverted_in_part (blocks_at old v) set p restored) hs)
 
 -- block b of volume v got the bytes of the slot that was found for it
-pub record IsPutBack {D : Type 0} (told : D → Option (List (List ℕ))) (size count : D → ℕ) (lending : D → Bool) (old new : GroupValue D) (v set b : ℕ) : Type 0 where
+pub record IsPutBack {D : Type 0} (ghosts : Ghosts D) (old new : GroupValue D) (v set b : ℕ) : Type 0 where
   pub slot : ℕ
   pub bytes : List ℕ
   pub before : D
   pub after : D
   pub found : IsFirstCopy old.area.records v set b slot
-  pub held : IfSome (told old.area.device) (λ blocks. slice_get blocks (place_of_slot (length old.area.records) slot) ≡ Some bytes)
+  pub held : IfSome (ghosts.told old.area.device) (λ blocks. slice_get blocks (place_of_slot (length old.area.records) slot) ≡ Some bytes)
   pub was : slice_get old.devices v ≡ Some before
   pub devices : new.devices ≡ slice_set old.devices v after
-  pub written : told after ≡ option_map (λ blocks. slice_set blocks b bytes) (told before)
-  pub unfailed : IsUnfailed count old new
-  pub kept : IsKept told size count lending old new
+  pub written : ghosts.told after ≡ option_map (λ blocks. slice_set blocks b bytes) (ghosts.told before)
+  pub unfailed : IsUnfailed ghosts.count old new
+  pub kept : IsKept ghosts old new
   pub records : new.area.records ≡ old.area.records
   pub images : new.images ≡ old.images
-  pub slots : told new.area.device ≡ told old.area.device
+  pub slots : ghosts.told new.area.device ≡ ghosts.told old.area.device
 
 -- a slot was found for it, and then a device failed
-pub record IsNotPutBack {D : Type 0} (told : D → Option (List (List ℕ))) (size count : D → ℕ) (lending : D → Bool) (old new : GroupValue D) (v set b : ℕ) (cause : Cause) : Type 0 where
+pub record IsNotPutBack {D : Type 0} (ghosts : Ghosts D) (old new : GroupValue D) (v set b : ℕ) (cause : Cause) : Type 0 where
   pub slot : ℕ
   pub found : IsFirstCopy old.area.records v set b slot
-  pub quiet : IsQuiet told size count lending old new
-  pub rose : DeviceRose count v old new cause
+  pub quiet : IsQuiet ghosts old new
+  pub rose : DeviceRose ghosts.count v old new cause
 
 -- what became of block b: no image from the set on has a copy of it; or it was restored; or a device failed
-abbrev pub IsOneRestored : {D : Type 0} → (D → Option (List (List ℕ))) → (D → ℕ) → (D → ℕ) → (D → Bool) → GroupValue D → GroupValue D → ℕ → ℕ → ℕ → Result Bool Cause → Type 0
-IsOneRestored told size count lending old new v set b (Ok false) = (new ≡ old) × HasNoCopy old.area.records v set b
-IsOneRestored told size count lending old new v set b (Ok true) = IsPutBack told size count lending old new v set b
-IsOneRestored told size count lending old new v set b (Err cause) = IsNotPutBack told size count lending old new v set b cause
+abbrev pub IsOneRestored : {D : Type 0} → Ghosts D → GroupValue D → GroupValue D → ℕ → ℕ → ℕ → Result Bool Cause → Type 0
+IsOneRestored ghosts old new v set b (Ok false) = (new ≡ old) × HasNoCopy old.area.records v set b
+IsOneRestored ghosts old new v set b (Ok true) = IsPutBack ghosts old new v set b
+IsOneRestored ghosts old new v set b (Err cause) = IsNotPutBack ghosts old new v set b cause
 
 -- ## all blocks
 
 -- a device failed after so many blocks were restored: fewer than there are to restore
-pub record IsStopped {D : Type 0} (told : D → Option (List (List ℕ))) (size count : D → ℕ) (lending : D → Bool) (old new : GroupValue D) (v set restored : ℕ) (cause : Cause) : Type 0 where
+pub record IsStopped {D : Type 0} (ghosts : Ghosts D) (old new : GroupValue D) (v set restored : ℕ) (cause : Cause) : Type 0 where
   pub block : ℕ
-  pub done : AreRestored told size count lending old new v set block restored
-  pub fewer : (hs : List History) (p : ℕ) → StandsFor told old hs → point_in set (history_at hs v).images ≡ Some p → restored < length (to_restore (blocks_at old v) (history_at hs v).writes p)
-  pub rose : DeviceRose count v old new cause
+  pub done : AreRestored ghosts old new v set block restored
+  pub fewer : (hs : List History) (p : ℕ) → StandsFor ghosts.told old hs → point_in set (history_at hs v).images ≡ Some p → restored < length (to_restore (blocks_at old v) (history_at hs v).writes p)
+  pub rose : DeviceRose ghosts.count v old new cause
 
-abbrev pub IsRestoring : {D : Type 0} → (D → Option (List (List ℕ))) → (D → ℕ) → (D → ℕ) → (D → Bool) → GroupValue D → GroupValue D → ℕ → ℕ → Result Unit RevertFault → Type 0
-IsRestoring told size count lending old new v set (Ok done) = (restored : ℕ) × AreRestored told size count lending old new v set (blocks_at old v) restored × IsUnfailed count old new
-IsRestoring told size count lending old new v set (Err NoSuchImage) = ⊥
-IsRestoring told size count lending old new v set (Err (Fault restored cause)) = IsStopped told size count lending old new v set restored cause
+abbrev pub IsRestoring : {D : Type 0} → Ghosts D → GroupValue D → GroupValue D → ℕ → ℕ → Result Unit RevertFault → Type 0
+IsRestoring ghosts old new v set (Ok done) = (restored : ℕ) × AreRestored ghosts old new v set (blocks_at old v) restored × IsUnfailed ghosts.count old new
+IsRestoring ghosts old new v set (Err NoSuchImage) = ⊥
+IsRestoring ghosts old new v set (Err (Fault restored cause)) = IsStopped ghosts old new v set restored cause

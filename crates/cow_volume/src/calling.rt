@@ -16,7 +16,7 @@ pub(crate) fn read_device<D: Device>(
 ) -> Result<(), Failed>
     requires in_range { block < size_at D.size devices.old.items v }
     requires whole { length out.old ≡ BLOCK }
-    ensures { IsRead D.told D.size D.count D.lending v block out.new devices.old.items devices.new.items (is_err result) }
+    ensures { IsRead D.Device v block out.new devices.old.items devices.new.items (is_err result) }
 {
     devices[v as usize].read_into(block, out)
 }
@@ -30,7 +30,7 @@ pub(crate) fn write_device<D: Device>(
 ) -> Result<(), Failed>
     requires in_range { block < size_at D.size devices.old.items v }
     requires whole { length bytes.now ≡ BLOCK }
-    ensures { IsPut D.told D.size D.count D.lending v block bytes.now devices.old.items devices.new.items (is_err result) }
+    ensures { IsPut D.Device v block bytes.now devices.old.items devices.new.items (is_err result) }
 {
     devices[v as usize].write(block, bytes)
 }
@@ -38,7 +38,7 @@ pub(crate) fn write_device<D: Device>(
 /// Brings all accepted writes of a volume's device to where they last.
 pub(crate) fn flush_device<D: Device>(devices: &mut Vec<D>, v: u32) -> Result<(), Failed>
     requires { v < length devices.old.items }
-    ensures { IsFlushed D.told D.lasting D.size D.count D.lending v devices.old.items devices.new.items (is_err result) }
+    ensures { IsFlushed D.Device v devices.old.items devices.new.items (is_err result) }
 {
     devices[v as usize].flush()
 }

@@ -19,7 +19,7 @@ pub(crate) fn copy_block<D: Device>(
 ) -> Result<(), Cause>
     requires block { block < D.size device.old }
     requires slot { slot < length copies.old.area.records }
-    ensures { IsCopy D.told D.size D.count D.lending device.old device.new copies.old copies.new block slot result }
+    ensures { IsCopy D.Device device.old device.new copies.old copies.new block slot result }
 {
     if let Some(bytes) = device.lend(block) {
         return copy_bytes(copies, bytes, slot);
@@ -34,7 +34,7 @@ pub(crate) fn copy_block<D: Device>(
 fn copy_bytes<D: Device>(copies: &mut Copies<D>, bytes: &[u8], slot: u32) -> Result<(), Cause>
     requires whole { length bytes.now ≡ BLOCK }
     requires slot { slot < length copies.old.area.records }
-    ensures { IsSlotCopy D.told D.size D.count D.lending copies.old copies.new slot bytes.now result }
+    ensures { IsSlotCopy D.Device copies.old copies.new slot bytes.now result }
 {
     match copies.copy_in(slot, BlockView::new(bytes)) {
         Ok(()) => Ok(()),
@@ -50,7 +50,7 @@ pub(crate) fn put_block<D: Device>(
     payload: &Payload,
 ) -> Result<(), Cause>
     requires { block < D.size device.old }
-    ensures { IsPutOn D.told D.size D.count D.lending device.old device.new block (payload_bytes payload.now) result }
+    ensures { IsPutOn D.Device device.old device.new block (payload_bytes payload.now) result }
 {
     payload.fill_into(scratch.bytes_mut());
     match device.write(block, scratch.bytes()) {

@@ -7,7 +7,7 @@ ghost use Rattle.diff_area.specs.Records.{free, AreVolumes};
 ghost use Rattle.diff_map.specs.MapValue.{AreImages};
 ghost use Rattle.cow_volume.specs.GroupValue.{placed};
 ghost use Rattle.cow_volume.specs.StandsFor.{StandsFor};
-ghost use Rattle.cow_volume.specs.Calls.{HasCauseAt, HasImageCause, IsNow, IsSeen, IsShown, IsQuiet, IsUnfailed, IsWrite, IsDropped, IsRevert, StopsAfter, NeverFails, counted_by, IsEvicted, VolumeRose, history_at, changed_at, is_among, sets_at, blocks_at};
+ghost use Rattle.cow_volume.specs.Calls.{HasCauseAt, HasImageCause, IsNow, IsSeen, IsShown, IsQuiet, IsUnfailed, IsWrite, IsDropped, IsRevert, StopsAfter, NeverFails, counted_as, IsEvicted, VolumeRose, history_at, changed_at, is_among, sets_at, blocks_at};
 ghost use Rattle.cow_volume.specs.Parts.{IsLentBy, IsUnseen};
 ghost use Rattle.cow_volume.specs.Ending.{IsSync};
 ghost use Rattle.cow_volume.specs.Resuming.{AllHaveImages, IsResumeFault, AreKept, NoneTell};
@@ -204,7 +204,7 @@ impl<D: Device> CowGroup<D> {
         ensures now { OnOk result (IsNow D.told self.old v block out.new) }
         ensures same { OnOk result (IsUnfailed D.count self.old self.new) }
         ensures cause { IfErr result (HasCauseAt D.count v block self.old self.new) }
-        ensures quiet { IsQuiet D.told D.size D.count D.lending self.old self.new }
+        ensures quiet { IsQuiet D.Device self.old self.new }
     {
         read_now(&mut self.devices, &self.copies, v, block, out)
     }
@@ -224,7 +224,7 @@ impl<D: Device> CowGroup<D> {
         ensures in_range { OnOk result (block < blocks_at self.old v) }
         ensures same { OnOk result (IsUnfailed D.count self.old self.new) }
         ensures cause { IfErr result (HasImageCause D.count v set block self.old self.new) }
-        ensures quiet { IsQuiet D.told D.size D.count D.lending self.old self.new }
+        ensures quiet { IsQuiet D.Device self.old self.new }
     {
         read_shown(&mut self.devices, &mut self.copies, v, set, block, out)
     }
@@ -269,7 +269,7 @@ impl<D: Device> CowGroup<D> {
     /// either gives the slot back.
     pub fn write(&mut self, v: u32, block: u32, payload: &Payload) -> Result<Written, WriteFault>
         requires { v < length self.old.area.volumes }
-        ensures write { IsWrite D.told D.size D.count D.lending self.old self.new v (record { block = block; bytes = payload_bytes payload.now }) result }
+        ensures write { IsWrite D.Device self.old self.new v (record { block = block; bytes = payload_bytes payload.now }) result }
         ensures once { IsCopiedOnce D.told self.old self.new v block }
     {
         if block >= self.copies.blocks(v) {
@@ -314,7 +314,7 @@ impl<D: Device> CowGroup<D> {
         requires volume { v < length self.old.area.volumes }
         requires in_range { block < blocks_at self.old v }
         requires room { lacks_slot self.old.area.records v (sets_at self.old v) block ≡ false }
-        ensures put { IsPutOr D.told D.size D.count D.lending self.old self.new v (record { block = block; bytes = payload_bytes payload.now }) result }
+        ensures put { IsPutOr D.Device self.old self.new v (record { block = block; bytes = payload_bytes payload.now }) result }
         ensures once { IsCopiedOnce D.told self.old self.new v block }
     {
         if self.copies.lacks_copy(v, block) {
@@ -327,7 +327,7 @@ impl<D: Device> CowGroup<D> {
     /// The image of a set goes. Its copies go to the next older image, where that lacks them.
     pub fn drop_image(&mut self, v: u32, set: u32) -> Result<(), ImageFault>
         requires { v < length self.old.area.volumes }
-        ensures { IsDropped D.told D.size D.count D.lending self.old self.new v set result }
+        ensures { IsDropped D.Device self.old self.new v set result }
     {
         if !has_image(&self.copies, v, set) {
             return Err(ImageFault::NoSuchImage);
@@ -340,7 +340,7 @@ impl<D: Device> CowGroup<D> {
     /// restored in ascending order.
     pub fn revert(&mut self, v: u32, set: u32) -> Result<(), RevertFault>
         requires { v < length self.old.area.volumes }
-        ensures { IsRevert D.told D.size D.count D.lending self.old self.new v set result }
+        ensures { IsRevert D.Device self.old self.new v set result }
     {
         self.revert_some(v, set, None)
     }
@@ -349,7 +349,7 @@ impl<D: Device> CowGroup<D> {
     /// there are more it ends as if the volume's device had failed then.
     pub fn revert_some(&mut self, v: u32, set: u32, most: Option<u32>) -> Result<(), RevertFault>
         requires { v < length self.old.area.volumes }
-        ensures revert { IsRevert D.told D.size (counted_by D.count (is_some most)) D.lending self.old self.new v set result }
+        ensures revert { IsRevert (counted_as D.Device (is_some most)) self.old self.new v set result }
         ensures stops { NeverFails D.count → (k : ℕ) → most ≡ Some k → StopsAfter D.told self.old v set k result }
     {
         revert(
@@ -365,7 +365,7 @@ impl<D: Device> CowGroup<D> {
     /// Brings all accepted writes of a volume to where they last.
     pub fn flush(&mut self, v: u32) -> Result<(), Cause>
         requires { v < length self.old.area.volumes }
-        ensures quiet { IsQuiet D.told D.size D.count D.lending self.old self.new }
+        ensures quiet { IsQuiet D.Device self.old self.new }
         ensures same { OnOk result (IsUnfailed D.count self.old self.new) }
         ensures lasts { OnOk result ((d : D) → slice_get self.new.devices v ≡ Some d → D.lasting d ≡ D.told d) }
         ensures cause { IfErr result (λ cause. cause ≡ Cause.Volume) }
@@ -377,7 +377,7 @@ impl<D: Device> CowGroup<D> {
     /// Writes the records of the copies to the area's device, and brings all that was written to it to where it lasts.
     pub fn sync(&mut self) -> Result<(), Cause>
         ensures lasts { OnOk result (D.lasting self.new.area.device ≡ D.told self.new.area.device) }
-        ensures sync { IsSync D.told D.size D.count D.lending self.old self.new result }
+        ensures sync { IsSync D.Device self.old self.new result }
     {
         sync_all(&mut self.copies)
     }
@@ -414,7 +414,7 @@ impl<D: Device> CowGroup<D> {
         requires in_range { block < blocks_at self.old v }
         requires lacks { lacks_copy self.old.area.records v (sets_at self.old v) block ≡ true }
         requires room { is_full self.old.area.records ≡ false }
-        ensures put { IsPutOr D.told D.size D.count D.lending self.old self.new v (record { block = block; bytes = payload_bytes payload.now }) result }
+        ensures put { IsPutOr D.Device self.old self.new v (record { block = block; bytes = payload_bytes payload.now }) result }
         ensures once { IsCopiedOnce D.told self.old self.new v block }
     {
         let _facts = self.copies.slots();

@@ -154,7 +154,7 @@ impl<D: Device> CowVolume<D> {
         ensures now { OnOk result (IsOneNow D.told self.old block out.new) }
         ensures same { OnOk result (IsUnfailed D.count self.old self.new) }
         ensures cause { IfErr result (HasOneCause D.count block self.old self.new) }
-        ensures quiet { IsQuiet D.told D.size D.count D.lending self.old self.new }
+        ensures quiet { IsQuiet D.Device self.old self.new }
         ensures stands { (h : History) → StandsForOne D.told self.old h → StandsForOne D.told self.new h }
     {
         let _valid = self.group.volumes();
@@ -177,7 +177,7 @@ impl<D: Device> CowVolume<D> {
         ensures shown { OnOk result (IsOneShown D.told self.old set block out.new) }
         ensures same { OnOk result (IsUnfailed D.count self.old self.new) }
         ensures cause { IfErr result (HasOneImageCause D.count set block self.old self.new) }
-        ensures quiet { IsQuiet D.told D.size D.count D.lending self.old self.new }
+        ensures quiet { IsQuiet D.Device self.old self.new }
         ensures stands { (h : History) → StandsForOne D.told self.old h → StandsForOne D.told self.new h }
     {
         let _valid = self.group.volumes();
@@ -213,7 +213,7 @@ impl<D: Device> CowVolume<D> {
     /// Writes a block. Where its old bytes need a slot for a copy and none is free, the oldest images go first, until one is. The
     /// old bytes are copied into the lowest free slot, and then the block is overwritten; a fault in either gives the slot back.
     pub fn write(&mut self, block: u32, payload: &Payload) -> Result<Written, WriteFault>
-        ensures write { IsOneWrite D.told D.size D.count D.lending self.old self.new (record { block = block; bytes = payload_bytes payload.now }) result }
+        ensures write { IsOneWrite D.Device self.old self.new (record { block = block; bytes = payload_bytes payload.now }) result }
         ensures once { IsOneCopiedOnce D.told self.old self.new block }
     {
         self.group.write(0, block, payload)
@@ -221,7 +221,7 @@ impl<D: Device> CowVolume<D> {
 
     /// The image of a set goes. Its copies go to the next older image, where that lacks them.
     pub fn drop_image(&mut self, set: u32) -> Result<(), ImageFault>
-        ensures { IsOneDropped D.told D.size D.count D.lending self.old self.new set result }
+        ensures { IsOneDropped D.Device self.old self.new set result }
     {
         self.group.drop_image(0, set)
     }
@@ -229,14 +229,14 @@ impl<D: Device> CowVolume<D> {
     /// Brings the volume back to the image of a set, which stays; the newer images go. The blocks that were written since then
     /// are restored in ascending order.
     pub fn revert(&mut self, set: u32) -> Result<(), RevertFault>
-        ensures { IsOneRevert D.told D.size D.count D.lending self.old self.new set result }
+        ensures { IsOneRevert D.Device self.old self.new set result }
     {
         self.group.revert(0, set)
     }
 
     /// Brings all accepted writes of the volume to where they last.
     pub fn flush(&mut self) -> Result<(), Cause>
-        ensures quiet { IsQuiet D.told D.size D.count D.lending self.old self.new }
+        ensures quiet { IsQuiet D.Device self.old self.new }
         ensures stands { (h : History) → StandsForOne D.told self.old h → StandsForOne D.told self.new h }
         ensures same { OnOk result (IsUnfailed D.count self.old self.new) }
         ensures lasts { OnOk result ((d : D) → slice_get self.new.devices 0 ≡ Some d → D.lasting d ≡ D.told d) }
@@ -249,7 +249,7 @@ impl<D: Device> CowVolume<D> {
     /// Writes the records of the copies to the area's device, and brings all that was written to it to where it lasts.
     pub fn sync(&mut self) -> Result<(), Cause>
         ensures lasts { OnOk result (D.lasting self.new.area.device ≡ D.told self.new.area.device) }
-        ensures sync { IsOneSync D.told D.size D.count D.lending self.old self.new result }
+        ensures sync { IsOneSync D.Device self.old self.new result }
     {
         let _valid = self.group.volumes();
         self.group.sync()

@@ -15,7 +15,7 @@ use volume_device::Device;
 /// Writes the records of the copies to the area's device, and brings all that was written to it to where it lasts.
 pub(crate) fn sync_all<D: Device>(copies: &mut Copies<D>) -> Result<(), Cause>
     ensures lasts { OnOk result (D.lasting copies.new.area.device ≡ D.told copies.new.area.device) }
-    ensures sync { (devices : List D) → IsSync D.told D.size D.count D.lending (group_of devices copies.old) (group_of devices copies.new) result }
+    ensures sync { (devices : List D) → IsSync D.Device (group_of devices copies.old) (group_of devices copies.new) result }
 {
     let _facts = copies.slots();
     match copies.sync() {
@@ -30,7 +30,7 @@ pub(crate) fn sync_all<D: Device>(copies: &mut Copies<D>) -> Result<(), Cause>
 /// Brings all accepted writes of a volume's device to where they last.
 pub(crate) fn flush_one<D: Device>(devices: &mut Vec<D>, v: u32) -> Result<(), Cause>
     requires { v < length devices.old.items }
-    ensures quiet { (copies : CopiesValue D) → IsQuiet D.told D.size D.count D.lending (group_of devices.old.items copies) (group_of devices.new.items copies) }
+    ensures quiet { (copies : CopiesValue D) → IsQuiet D.Device (group_of devices.old.items copies) (group_of devices.new.items copies) }
     ensures same { OnOk result ((copies : CopiesValue D) → IsUnfailed D.count (group_of devices.old.items copies) (group_of devices.new.items copies)) }
     ensures lasts { OnOk result ((d : D) → slice_get devices.new.items v ≡ Some d → D.lasting d ≡ D.told d) }
     ensures cause { IfErr result (λ cause. cause ≡ Volume) }

@@ -34,7 +34,7 @@ pub fn what_is_taken_apart_is_taken_up<D: Device>(
 /// What a group leaves once a sync answered Ok stands for what the group stood for: its devices, the area that is loaded from its
 /// area's device, and the lists of its images. So `resume` gives a group that stands for that.
 pub fn what_is_synced_is_kept<D: Device>()
-    ensures { (old new : GroupValue D) (area : AreaValue D) (hs : List History) → IsSync D.told D.size D.count D.lending old new (Ok tt) → StandsFor D.told old hs → AllTell D.told old.devices → is_some (D.told old.area.device) ≡ true
+    ensures { (old new : GroupValue D) (area : AreaValue D) (hs : List History) → IsSync D.Device old new (Ok tt) → StandsFor D.told old hs → AllTell D.told old.devices → is_some (D.told old.area.device) ≡ true
         → area.volumes ≡ new.area.volumes → D.told area.device ≡ D.told new.area.device → ((copies : List Copy) → AreStored (D.told new.area.device) copies → AreHeld (D.told area.device) area.records copies)
         → AreKept D.told new.devices area new.images hs }
 {}

@@ -44,7 +44,7 @@ pub(crate) fn read_now<D: Device>(
     ensures in_range { OnOk result (block < blocks_on copies.now v) }
     ensures now { OnOk result (IsNow D.told (group_of devices.old.items copies.now) v block out.new) }
     ensures same { OnOk result (IsUnfailed D.count (group_of devices.old.items copies.now) (group_of devices.new.items copies.now)) }
-    ensures quiet { IsQuiet D.told D.size D.count D.lending (group_of devices.old.items copies.now) (group_of devices.new.items copies.now) }
+    ensures quiet { IsQuiet D.Device (group_of devices.old.items copies.now) (group_of devices.new.items copies.now) }
 {
     if block >= copies.blocks(v) {
         return Err(Cause::NoSuchBlock);
@@ -95,7 +95,7 @@ pub(crate) fn read_shown<D: Device>(
     ensures image { OnOk result (is_among set (images_on copies.old v) ≡ true) }
     ensures in_range { OnOk result (block < blocks_on copies.old v) }
     ensures same { OnOk result (IsUnfailed D.count (group_of devices.old.items copies.old) (group_of devices.new.items copies.new)) }
-    ensures quiet { IsQuiet D.told D.size D.count D.lending (group_of devices.old.items copies.old) (group_of devices.new.items copies.new) }
+    ensures quiet { IsQuiet D.Device (group_of devices.old.items copies.old) (group_of devices.new.items copies.new) }
 {
     match find_shown(copies, v, set, block)? {
         Some(slot) => match copies.read_slot(slot, out) {

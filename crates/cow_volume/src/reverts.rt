@@ -3,7 +3,7 @@
 ghost use Rattle.std.specs.Prelude.{ℕ, ◌≡◌, ◌<◌, ◌≤◌, true, false, List, Some, length, map, slice_get, All, Contains, IfSome, IsNone, is_some};
 ghost use Rattle.write_history.specs.History.{History, dropped};
 ghost use Rattle.cow_volume.specs.StandsFor.{StandsFor};
-ghost use Rattle.cow_volume.specs.Calls.{IsRevert, StopsAfter, NeverFails, counted_by, blocks_at, is_among, changed_at};
+ghost use Rattle.cow_volume.specs.Calls.{IsRevert, StopsAfter, NeverFails, counted_as, blocks_at, is_among, changed_at};
 ghost use Rattle.cow_volume.specs.CopiesAfter.{images_on, after_merge};
 ghost use Rattle.cow_volume.specs.Parts.{group_of, blocks_on};
 ghost use Rattle.cow_volume.specs.Tied.{CopiesValue};
@@ -69,7 +69,7 @@ fn restore_block<D: Device>(
     requires devices { map D.size devices.old.items ≡ copies.old.area.volumes }
     requires above_zero { 0 < set }
     requires in_range { block < blocks_on copies.old v }
-    ensures { IsOneRestored D.told D.size D.count D.lending (group_of devices.old.items copies.old) (group_of devices.new.items copies.new) v set block result }
+    ensures { IsOneRestored D.Device (group_of devices.old.items copies.old) (group_of devices.new.items copies.new) v set block result }
 {
     let Some(slot) = copies.find(v, set, block) else {
         return Ok(false);
@@ -117,8 +117,8 @@ fn restore_blocks<D: Device>(
     requires volume { v < length copies.old.area.volumes }
     requires devices { map D.size devices.old.items ≡ copies.old.area.volumes }
     requires above_zero { 0 < set }
-    ensures restored { (mid : CopiesValue D) → IsMergedTo D.told copies.old mid v set → IsRestoring D.told D.size (counted_by D.count (is_some stop)) D.lending (group_of devices.old.items (merged_as mid copies.old)) (group_of devices.new.items (merged_as mid copies.new)) v set result }
-    ensures keeps { KeepsCopies D.told D.size (counted_by D.count (is_some stop)) D.lending (group_of devices.old.items copies.old) (group_of devices.new.items copies.new) }
+    ensures restored { (mid : CopiesValue D) → IsMergedTo D.told copies.old mid v set → IsRestoring (counted_as D.Device (is_some stop)) (group_of devices.old.items (merged_as mid copies.old)) (group_of devices.new.items (merged_as mid copies.new)) v set result }
+    ensures keeps { KeepsCopies (counted_as D.Device (is_some stop)) (group_of devices.old.items copies.old) (group_of devices.new.items copies.new) }
     ensures stops { NeverFails D.count → (k : ℕ) → stop ≡ Some k → (mid : CopiesValue D) → IsMergedTo D.told copies.old mid v set → StopsAfter D.told (group_of devices.old.items (merged_as mid copies.old)) v set k result }
 {
     let mut restored = 0;
@@ -148,7 +148,7 @@ pub(crate) fn revert<D: Device>(
 ) -> Result<(), RevertFault>
     requires volume { v < length copies.old.area.volumes }
     requires devices { map D.size devices.old.items ≡ copies.old.area.volumes }
-    ensures revert { IsRevert D.told D.size (counted_by D.count (is_some stop)) D.lending (group_of devices.old.items copies.old) (group_of devices.new.items copies.new) v set result }
+    ensures revert { IsRevert (counted_as D.Device (is_some stop)) (group_of devices.old.items copies.old) (group_of devices.new.items copies.new) v set result }
     ensures stops { NeverFails D.count → (k : ℕ) → stop ≡ Some k → StopsAfter D.told (group_of devices.old.items copies.old) v set k result }
 {
     if !has_image(copies, v, set) {

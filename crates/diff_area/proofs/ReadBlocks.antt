@@ -3,6 +3,7 @@ use Rattle.std.proofs.Common.{ℕ, zero, suc, ◌≡◌, ◌+◌, List, [], ◌�
 use Rattle.std.specs.List.{concat}
 use Rattle.std.proofs.lemmas.List.{append-nil, append_assoc}
 use Rattle.diff_area.specs.ReadBlocks.{IsReadAlone, AreRead}
+use Rattle.volume_device.specs.declared.device.Device.{Ghosts}
 
 get-drop : {X : Type 0} (f k n : ℕ) (xs : List X) (x : X) → slice_get xs n ≡ Some x → n ≡ f + k → slice_get (drop f xs) k ≡ Some x
 get-drop zero k n xs x h e = let s : k ≡ n = omega arith in ap (slice_get xs) s ∙ h
@@ -29,8 +30,8 @@ read-more (Some bs) (Some cs) first k n m bytes new block page r e g f b p q =
     ∙ sym (concat-more (drop first bs) k page (get-drop first k n bs page here p))
     ∙ ap (λ j. concat (take j (drop first bs))) (sym q)
 
-pub read-on : {D : Type 0} (told : D → Option (List (List ℕ))) (size : D → ℕ) (lending : D → Bool) (count : D → ℕ) (a b c : D) → IsReadAlone told size lending count a b → IsReadAlone told size lending count b c → IsReadAlone told size lending count a c
-read-on told size lending count a b c h k = record {
+pub read-on : {D : Type 0} (ghosts : Ghosts D) (a b c : D) → IsReadAlone ghosts a b → IsReadAlone ghosts b c → IsReadAlone ghosts a c
+read-on ghosts a b c h k = record {
   told_is = k.told_is ∙ h.told_is;
   size_is = k.size_is ∙ h.size_is;
   lends = k.lends ∙ h.lends;

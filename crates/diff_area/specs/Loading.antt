@@ -3,6 +3,7 @@ use Rattle.std.specs.Prelude.{ℕ, ◌≡◌, ◌≤◌, Bool, true, List, lengt
 use Rattle.std.specs.List.{concat}
 use Rattle.block_data.specs.declared.block_buf.TheConstants.{BLOCK}
 use Rattle.volume_device.specs.Blocks.{AreBlocks}
+use Rattle.volume_device.specs.declared.device.Device.{Ghosts}
 use Rattle.diff_area.specs.AreaValue.{AreaValue}
 use Rattle.diff_area.specs.Format.{volumes_in, header_of, records_of, IsArea}
 use Rattle.diff_area.specs.Places.{pages_for, blocks_for}
@@ -20,10 +21,10 @@ pub record IsReadFrom (bytes : List ℕ) (volumes : List ℕ) (records : List Re
   pub records_are : records ≡ records_of bytes
 
 -- the area is that of the device, which was read alone, and none of whose calls failed
-pub record IsLoaded {D : Type 0} (told : D → Option (List (List ℕ))) (size : D → ℕ) (lending : D → Bool) (count : D → ℕ) (device : D) (area : AreaValue D) : Type 0 where
-  pub alone : IsReadAlone told size lending count device area.device
-  pub same : count area.device ≡ count device
-  pub read : IfSome (told device) (λ blocks. IsReadFrom (concat blocks) area.volumes area.records)
+pub record IsLoaded {D : Type 0} (ghosts : Ghosts D) (device : D) (area : AreaValue D) : Type 0 where
+  pub alone : IsReadAlone ghosts device area.device
+  pub same : ghosts.count area.device ≡ ghosts.count device
+  pub read : IfSome (ghosts.told device) (λ blocks. IsReadFrom (concat blocks) area.volumes area.records)
 
 -- the blocks of a device, where it tells them, are refused so, and the count rose just where the device failed
 pub record AreRefused (told : Option (List (List ℕ))) (before now : ℕ) (fault : AreaFault) : Type 0 where

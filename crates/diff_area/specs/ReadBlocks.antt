@@ -4,13 +4,14 @@ use Rattle.std.specs.List.{concat}
 use Rattle.vss_names.specs.Faults.{Rose}
 use Rattle.diff_area.specs.declared.area_fault.AreaFault.{AreaFault}
 use Rattle.diff_area.specs.declared.area_fault.AreaFault.TheVariants.{Device, BadHeader, BadRecord, OutOfMemory}
+use Rattle.volume_device.specs.declared.device.Device.{Ghosts}
 
 -- The device was read alone: what it tells is as it was, and its count did not fall.
-pub record IsReadAlone {D : Type 0} (told : D → Option (List (List ℕ))) (size : D → ℕ) (lending : D → Bool) (count : D → ℕ) (old new : D) : Type 0 where
-  pub told_is : told new ≡ told old
-  pub size_is : size new ≡ size old
-  pub lends : lending new ≡ lending old
-  pub later : count old ≤ count new
+pub record IsReadAlone {D : Type 0} (ghosts : Ghosts D) (old new : D) : Type 0 where
+  pub told_is : ghosts.told new ≡ ghosts.told old
+  pub size_is : ghosts.size new ≡ ghosts.size old
+  pub lends : ghosts.lending new ≡ ghosts.lending old
+  pub later : ghosts.count old ≤ ghosts.count new
 
 -- the count rose where a call failed for the device's sake, and is as it was where it failed for another
 abbrev pub RoseFor : ℕ → ℕ → AreaFault → Type 0

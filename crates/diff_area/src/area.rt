@@ -88,9 +88,9 @@ impl<D: Device> Area<D> {
     /// the next `sync`, for which every page counts as changed, and which brings an area of the first layout into the
     /// second. Equal records are found by an ordered set of those before.
     pub fn load(alloc: Global, device: D) -> Result<Area<D>, Unopened<D>>
-        ensures loaded { IfOk result (IsLoaded D.told D.size D.lending D.count device) }
+        ensures loaded { IfOk result (IsLoaded D.Device device) }
         ensures copies { IfOk result (λ area. (copies : List Copy) → AreStored (D.told device) copies → AreHeld (D.told area.device) area.records copies) }
-        ensures alone { IfErr result (λ unopened. IsReadAlone D.told D.size D.lending D.count device unopened.device) }
+        ensures alone { IfErr result (λ unopened. IsReadAlone D.Device device unopened.device) }
         ensures refused { IfErr result (λ unopened. AreRefused (D.told device) (D.count device) (D.count unopened.device) unopened.fault) }
     {
         let mut device = device;

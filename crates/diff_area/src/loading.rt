@@ -21,7 +21,7 @@ pub fn read_tables<D: Device>(alloc: Global, device: &mut D) -> Result<Tables, A
     ensures loaded { IfOk result (AreLoaded (D.told device.old) (D.size device.old)) }
     ensures same { OnOk result (D.count device.new ≡ D.count device.old) }
     ensures refused { IfErr result (AreRefused (D.told device.old) (D.count device.old) (D.count device.new)) }
-    ensures alone { IsReadAlone D.told D.size D.lending D.count device.old device.new }
+    ensures alone { IsReadAlone D.Device device.old device.new }
 {
     let blocks = device.blocks();
     let first = match read_blocks(alloc, device, 0, 1_u32.min(blocks)) {

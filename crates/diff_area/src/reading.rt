@@ -15,7 +15,7 @@ fn read_page<D: Device>(device: &mut D, index: u32, page: &mut Vec<u8>) -> Resul
     requires in_range { index < D.size device.old }
     requires whole { vec_len page.old ≡ BLOCK }
     ensures block { OnOk result (IfSome (D.told device.old) (λ blocks. slice_get blocks index ≡ Some page.new.items)) }
-    ensures alone { IsReadAlone D.told D.size D.lending D.count device.old device.new }
+    ensures alone { IsReadAlone D.Device device.old device.new }
     ensures len { vec_len page.new ≡ BLOCK }
     ensures cause { HasCause (D.count device.old) (D.count device.new) result }
 {
@@ -33,7 +33,7 @@ pub fn read_blocks<D: Device>(
     requires narrow { first + count < 2 ^ 32 }
     ensures read { IfOk result (λ bytes. AreRead (D.told device.old) first count bytes.items) }
     ensures len { IfOk result (λ bytes. length bytes.items ≡ BLOCK * count) }
-    ensures alone { IsReadAlone D.told D.size D.lending D.count device.old device.new }
+    ensures alone { IsReadAlone D.Device device.old device.new }
     ensures same { OnOk result (D.count device.new ≡ D.count device.old) }
     ensures fault { IfErr result (IsReadFault (D.count device.old) (D.count device.new)) }
 {

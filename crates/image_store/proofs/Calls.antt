@@ -20,6 +20,7 @@ use Rattle.image_store.specs.Steps.{AreMixed}
 use Rattle.image_store.specs.StoreValue.{HasPlains, KeepsPlains}
 use Rattle.image_store.proofs.Copies.{plain-cut, plain-dropped, plain-written, plain-reverted, plain-in_part, mixed-in_part, in_time-filter, image_of_point}
 use Rattle.image_store.proofs.Plains.{at_volume, volumes_changed, volumes_gone, has_changed, has_now, on_volume-same, point_there, quiet_kept, block_now}
+use Rattle.volume_device.specs.declared.device.Device.{Ghosts}
 
 -- ## cuts
 
@@ -69,10 +70,10 @@ cut_more told old now new vs set k v so at apart l devices area images stands =
 
 -- ## images that go
 
-pub dropped_plains : {D : Type 0} → (told : D → Option (List (List ℕ))) (size count : D → ℕ) (lending : D → Bool) (old new : GroupValue D) (ps : List Plain) (v set : ℕ) → v < length old.area.volumes
-    → IsChanged told size count lending old new v (dropped set) → HasPlains told old ps → HasPlains told new (on_volume v (dropped_on set) ps)
-dropped_plains told size count lending old new ps v set l is has =
-    has_changed told size count lending old new ps v (dropped set) (dropped_on set) has is.kept l (is.stands has.hs has.stands) (λ at. plain-dropped at.blocks set at.history)
+pub dropped_plains : {D : Type 0} → (ghosts : Ghosts D) (old new : GroupValue D) (ps : List Plain) (v set : ℕ) → v < length old.area.volumes
+    → IsChanged ghosts old new v (dropped set) → HasPlains ghosts.told old ps → HasPlains ghosts.told new (on_volume v (dropped_on set) ps)
+dropped_plains ghosts old new ps v set l is has =
+    has_changed ghosts old new ps v (dropped set) (dropped_on set) has is.kept l (is.stands has.hs has.stands) (λ at. plain-dropped at.blocks set at.history)
 
 -- the group without its images up to a set
 pub gone_plains : {D : Type 0} → (told : D → Option (List (List ℕ))) (old new : GroupValue D) (ps : List Plain) (v b up_to : ℕ) → HasRoom told old new v b up_to → HasPlains told old ps
@@ -116,63 +117,63 @@ room_volumes told old new v b up_to room = ap (λ (g : GroupValue _). g.area.vol
 abbrev pub put_on : ℕ → List ℕ → Plain → Plain
 put_on b bytes p = with_blocks (slice_set p.blocks b bytes) p
 
-pub put_plains : {D : Type 0} → (told : D → Option (List (List ℕ))) (size count : D → ℕ) (lending : D → Bool) (old new : GroupValue D) (ps : List Plain) (v b : ℕ) (bytes : List ℕ)
+pub put_plains : {D : Type 0} → (ghosts : Ghosts D) (old new : GroupValue D) (ps : List Plain) (v b : ℕ) (bytes : List ℕ)
     → v < length old.area.volumes
-    → b < blocks_at old v → IsPut told size count lending old new v (record { block = b; bytes = bytes }) → HasPlains told old ps → HasPlains told new (on_volume v (put_on b bytes) ps)
-put_plains told size count lending old new ps v b bytes l m is has =
-    has_changed told size count lending old new ps v (written (record { block = b; bytes = bytes })) (put_on b bytes) has is.kept l (is.stands has.hs has.stands)
+    → b < blocks_at old v → IsPut ghosts old new v (record { block = b; bytes = bytes }) → HasPlains ghosts.told old ps → HasPlains ghosts.told new (on_volume v (put_on b bytes) ps)
+put_plains ghosts old new ps v b bytes l m is has =
+    has_changed ghosts old new ps v (written (record { block = b; bytes = bytes })) (put_on b bytes) has is.kept l (is.stands has.hs has.stands)
     (λ at. plain-written at.blocks (record { block = b; bytes = bytes }) at.history (let n = at.blocks_at_is in omega arith) at.time)
 
-pub not_put_kept : {D : Type 0} → (told : D → Option (List (List ℕ))) (size count : D → ℕ) (lending : D → Bool) (old new : GroupValue D) (v : ℕ) (cause : Cause)
-    → IsNotPut told size count lending old new v cause
-    → KeepsPlains told old new
-not_put_kept told size count lending old new v cause is = record {
+pub not_put_kept : {D : Type 0} → (ghosts : Ghosts D) (old new : GroupValue D) (v : ℕ) (cause : Cause)
+    → IsNotPut ghosts old new v cause
+    → KeepsPlains ghosts.told old new
+not_put_kept ghosts old new v cause is = record {
   volumes = is.kept.volumes;
-  plains = λ ps has. has_now told size count lending old new ps ps has.hs has is.kept (is.stands has.hs has.stands) has.plains;
+  plains = λ ps has. has_now ghosts old new ps ps has.hs has is.kept (is.stands has.hs has.stands) has.plains;
 }
 
 -- a block's own bytes are put
-put_same : {D : Type 0} → (told : D → Option (List (List ℕ))) (size count : D → ℕ) (lending : D → Bool) (old new : GroupValue D) (ps : List Plain) (v b : ℕ) (bytes : List ℕ) (r : Result Unit Cause)
-    → v < length old.area.volumes → b < blocks_at old v → IsPutOr told size count lending old new v (record { block = b; bytes = bytes }) r → slice_get (volume_in ps v).blocks b ≡ Some bytes
-    → HasPlains told old ps → HasPlains told new ps
-put_same told size count lending old new ps v b bytes (Ok done) l m is own has = subst (λ (qs : List Plain). HasPlains told new qs)
+put_same : {D : Type 0} → (ghosts : Ghosts D) (old new : GroupValue D) (ps : List Plain) (v b : ℕ) (bytes : List ℕ) (r : Result Unit Cause)
+    → v < length old.area.volumes → b < blocks_at old v → IsPutOr ghosts old new v (record { block = b; bytes = bytes }) r → slice_get (volume_in ps v).blocks b ≡ Some bytes
+    → HasPlains ghosts.told old ps → HasPlains ghosts.told new ps
+put_same ghosts old new ps v b bytes (Ok done) l m is own has = subst (λ (qs : List Plain). HasPlains ghosts.told new qs)
     (on_volume-same ps v (put_on b bytes) (ap (λ blocks. with_blocks blocks (volume_in ps v)) (slice_set-same (volume_in ps v).blocks b bytes own)))
-    (put_plains told size count lending old new ps v b bytes l m is has)
-put_same told size count lending old new ps v b bytes (Err cause) l m is own has = (not_put_kept told size count lending old new v cause is).plains ps has
+    (put_plains ghosts old new ps v b bytes l m is has)
+put_same ghosts old new ps v b bytes (Err cause) l m is own has = (not_put_kept ghosts old new v cause is).plains ps has
 
-pub put_volumes : {D : Type 0} → (told : D → Option (List (List ℕ))) (size count : D → ℕ) (lending : D → Bool) (old new : GroupValue D) (v : ℕ) (w : Write) (r : Result Unit Cause)
-    → IsPutOr told size count lending old new v w r → new.area.volumes ≡ old.area.volumes
-put_volumes told size count lending old new v w (Ok done) is = is.kept.volumes
-put_volumes told size count lending old new v w (Err cause) is = is.kept.volumes
+pub put_volumes : {D : Type 0} → (ghosts : Ghosts D) (old new : GroupValue D) (v : ℕ) (w : Write) (r : Result Unit Cause)
+    → IsPutOr ghosts old new v w r → new.area.volumes ≡ old.area.volumes
+put_volumes ghosts old new v w (Ok done) is = is.kept.volumes
+put_volumes ghosts old new v w (Err cause) is = is.kept.volumes
 
 -- a block is read and its own bytes are put
-pub copy_kept : {D : Type 0} → (told : D → Option (List (List ℕ))) (size count : D → ℕ) (lending : D → Bool) (old mid new : GroupValue D) (v b : ℕ) (bytes : List ℕ) (r : Result Unit Cause)
-    → v < length old.area.volumes → b < blocks_at old v → IsQuiet told size count lending old mid → IsNow told old v b bytes
-    → IsPutOr told size count lending mid new v (record { block = b; bytes = bytes }) r → KeepsPlains told old new
-copy_kept told size count lending old mid new v b bytes r l m quiet now is =
+pub copy_kept : {D : Type 0} → (ghosts : Ghosts D) (old mid new : GroupValue D) (v b : ℕ) (bytes : List ℕ) (r : Result Unit Cause)
+    → v < length old.area.volumes → b < blocks_at old v → IsQuiet ghosts old mid → IsNow ghosts.told old v b bytes
+    → IsPutOr ghosts mid new v (record { block = b; bytes = bytes }) r → KeepsPlains ghosts.told old new
+copy_kept ghosts old mid new v b bytes r l m quiet now is =
     let volumes = ap length quiet.kept.volumes in
     let blocks = ap (λ (ns : List ℕ). blocks_in (slice_get ns v)) quiet.kept.volumes in
     record {
-      volumes = put_volumes told size count lending mid new v (record { block = b; bytes = bytes }) r is ∙ quiet.kept.volumes;
-      plains = λ ps has. put_same told size count lending mid new ps v b bytes r (omega arith) (omega arith) is (block_now told old ps v b bytes has l m now)
-          ((quiet_kept told size count lending old mid quiet).plains ps has);
+      volumes = put_volumes ghosts mid new v (record { block = b; bytes = bytes }) r is ∙ quiet.kept.volumes;
+      plains = λ ps has. put_same ghosts mid new ps v b bytes r (omega arith) (omega arith) is (block_now ghosts.told old ps v b bytes has l m now)
+          ((quiet_kept ghosts old mid quiet).plains ps has);
     }
 
 -- a read leaves the room for a write
-pub room_left : {D : Type 0} → (told : D → Option (List (List ℕ))) (size count : D → ℕ) (lending : D → Bool) (old new : GroupValue D) (v b : ℕ) → IsQuiet told size count lending old new
+pub room_left : {D : Type 0} → (ghosts : Ghosts D) (old new : GroupValue D) (v b : ℕ) → IsQuiet ghosts old new
     → lacks_slot old.area.records v (sets_at old v) b ≡ false → lacks_slot new.area.records v (sets_at new v) b ≡ false
-room_left told size count lending old new v b quiet room =
+room_left ghosts old new v b quiet room =
     ap (λ records. lacks_slot records v (sets_at new v) b) quiet.records ∙ ap (λ (images : List (List ℕ)). lacks_slot old.area.records v (sets_in (slice_get images v)) b) quiet.images ∙ room
 
 -- ## reverts
 
-pub reverted_plains : {D : Type 0} → (told : D → Option (List (List ℕ))) (size count : D → ℕ) (lending : D → Bool) (old new : GroupValue D) (ps : List Plain) (v set : ℕ) → v < length old.area.volumes
-    → IsReverted told size count lending old new v set → HasPlains told old ps → HasPlains told new (on_volume v (reverted_on set) ps)
-reverted_plains told size count lending old new ps v set l is has =
-    let at = at_volume told old ps v has l in
+pub reverted_plains : {D : Type 0} → (ghosts : Ghosts D) (old new : GroupValue D) (ps : List Plain) (v set : ℕ) → v < length old.area.volumes
+    → IsReverted ghosts old new v set → HasPlains ghosts.told old ps → HasPlains ghosts.told new (on_volume v (reverted_on set) ps)
+reverted_plains ghosts old new ps v set l is has =
+    let at = at_volume ghosts.told old ps v has l in
     let p = point_there (length at.history.writes) set at.history.images at.time (ap (is_among set) (sym at.sets_are) ∙ is.image) in
     let point : point_in set (history_at has.hs v).images ≡ Some p.0 = ap (λ (h : History). point_in set h.images) at.history_at_is ∙ p.1 in
-    has_changed told size count lending old new ps v (reverted set p.0) (reverted_on set) has is.kept l (is.stands has.hs p.0 has.stands point)
+    has_changed ghosts old new ps v (reverted set p.0) (reverted_on set) has is.kept l (is.stands has.hs p.0 has.stands point)
     (λ here. plain-reverted here.blocks set p.0 here.history (in_time-filter (λ i. not (nat_lt set i.set)) (length here.history.writes) here.history.images here.time)
     (ap (λ (h : History). point_in set h.images) (sym here.history_at_is) ∙ point))
 
@@ -184,11 +185,11 @@ pub record IsMixedTo {D : Type 0} (told : D → Option (List (List ℕ))) (new :
   pub mixed : AreMixed (volume_in ps v).blocks image now
   pub plains : HasPlains told new (on_volume v (λ p. with_blocks now (older_on set p)) ps)
 
-pub in_part_plains : {D : Type 0} → (told : D → Option (List (List ℕ))) (size count : D → ℕ) (lending : D → Bool) (old new : GroupValue D) (ps : List Plain) (v set restored : ℕ)
+pub in_part_plains : {D : Type 0} → (ghosts : Ghosts D) (old new : GroupValue D) (ps : List Plain) (v set restored : ℕ)
     → v < length old.area.volumes
-    → IsRevertedInPart told size count lending old new v set restored → HasPlains told old ps → IsMixedTo told new ps v set
-in_part_plains told size count lending old new ps v set restored l is has =
-    let at = at_volume told old ps v has l in
+    → IsRevertedInPart ghosts old new v set restored → HasPlains ghosts.told old ps → IsMixedTo ghosts.told new ps v set
+in_part_plains ghosts old new ps v set restored l is has =
+    let at = at_volume ghosts.told old ps v has l in
     let p = point_there (length at.history.writes) set at.history.images at.time (ap (is_among set) (sym at.sets_are) ∙ is.image) in
     let point : point_in set (history_at has.hs v).images ≡ Some p.0 = ap (λ (h : History). point_in set h.images) at.history_at_is ∙ p.1 in
     let now = (plain_of at.blocks (reverted_in_part at.blocks set p.0 restored at.history)).blocks in
@@ -197,7 +198,7 @@ in_part_plains told size count lending old new ps v set restored l is has =
       image_is = ap (λ (q : Plain). image_in set q.images) at.plain ∙ image_of_point set at.blocks at.history.writes at.history.images ∙ ap (option_map (contents at.blocks at.history.writes)) p.1;
       now = now;
       mixed = subst (λ (q : Plain). AreMixed q.blocks (contents at.blocks at.history.writes p.0) now) (sym at.plain) (mixed-in_part at.blocks set p.0 restored at.history);
-      plains = has_now told size count lending old new ps (on_volume v (λ q. with_blocks now (older_on set q)) ps)
+      plains = has_now ghosts old new ps (on_volume v (λ q. with_blocks now (older_on set q)) ps)
           (changed_at v (reverted_in_part (blocks_at old v) set p.0 restored) has.hs) has is.kept
           (is.stands has.hs p.0 has.stands point)
           (ap (on_volume v (λ q. with_blocks now (older_on set q))) has.plains

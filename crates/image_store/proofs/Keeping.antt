@@ -22,6 +22,7 @@ use Rattle.cow_volume.specs.declared.cause.Cause.TheVariants.{Volume}
 use Rattle.cow_volume.proofs.Group.{slice_get-set_same, slice_get-set_other, slice_get_inside, slice_get_map, same_number, other_number}
 use Rattle.cow_volume.proofs.Kept.{map_set_told}
 use Rattle.vss_names.specs.Faults.{Rose}
+use Rattle.volume_device.specs.declared.device.Device.{Ghosts}
 use Rattle.image_store.specs.Closing.{IsCloseFault, OneRose}
 use Rattle.image_store.specs.Head.{HeadValue, said_of}
 use Rattle.image_store.specs.Keeping.{IsKeptAs, blocks_of}
@@ -102,15 +103,15 @@ told_blocks None told want a t is = cc
 told_blocks (Some slots) None want a t is = cc
 told_blocks (Some slots) (Some blocks) want a t is = ap Some is
 
-pub closed_kept : {D : Type 0} (told lasting : D → Option (List (List ℕ))) (size count : D → ℕ) (lending : D → Bool) (old new : GroupValue D) (names : List TextValue) (last : ℕ) (devices : List D)
+pub closed_kept : {D : Type 0} (ghosts : Ghosts D) (old new : GroupValue D) (names : List TextValue) (last : ℕ) (devices : List D)
     (done : Unit {0}) (p : PlainStore)
-    → IsSync told size count lending old new (Ok done) → lasting new.area.device ≡ told new.area.device → map lasting devices ≡ map told new.devices → StandsAs told (store_of old names last) p
-    → IsKeptAs lasting devices new.area.device (said_of (store_of old names last)) p
-closed_kept {D = D} told lasting size count lending old new names last devices done p sync area lasts stands =
+    → IsSync ghosts old new (Ok done) → ghosts.lasting new.area.device ≡ ghosts.told new.area.device → map ghosts.lasting devices ≡ map ghosts.told new.devices → StandsAs ghosts.told (store_of old names last) p
+    → IsKeptAs ghosts.lasting devices new.area.device (said_of (store_of old names last)) p
+closed_kept {D = D} ghosts old new names last devices done p sync area lasts stands =
     let hs = stands.group.hs in
     let all = stands.group.stands in
     let entries = entries_of old names in
-    let long : length devices ≡ length new.devices = sym (length-map devices lasting) ∙ ap length lasts ∙ length-map new.devices told in
+    let long : length devices ≡ length new.devices = sym (length-map devices ghosts.lasting) ∙ ap length lasts ∙ length-map new.devices ghosts.told in
     let many = as_many_entries old names in
     record {
       hs = hs;
@@ -127,10 +128,10 @@ closed_kept {D = D} told lasting size count lending old new names last devices d
           let x = slice_get_inside old.devices v (omega arith) in
           let sets = slice_get_inside old.images v (omega arith) in
           let here : slice_get new.devices v ≡ Some x.0 = ap (λ (ds : List D). slice_get ds v) sync.0.devices ∙ x.1 in
-          let held : lasting d ≡ told x.0 = same_Some (lasting d) (told x.0)
-          (sym (slice_get_map lasting devices v d at) ∙ ap (λ (ts : List (Option (List (List ℕ)))). slice_get ts v) lasts ∙ slice_get_map told new.devices v x.0 here) in
+          let held : ghosts.lasting d ≡ ghosts.told x.0 = same_Some (ghosts.lasting d) (ghosts.told x.0)
+          (sym (slice_get_map ghosts.lasting devices v d at) ∙ ap (λ (ts : List (Option (List (List ℕ)))). slice_get ts v) lasts ∙ slice_get_map ghosts.told new.devices v x.0 here) in
           let volume = all.each v n.0 x.0 sets.0 h n.1 x.1 sets.1 of in
-          let blocks = told_blocks (told old.area.device) (told x.0) (contents n.0 h.writes (length h.writes)) stands.group.area (stands.group.devices v x.0 x.1) volume.blocks in
+          let blocks = told_blocks (ghosts.told old.area.device) (ghosts.told x.0) (contents n.0 h.writes (length h.writes)) stands.group.area (stands.group.devices v x.0 x.1) volume.blocks in
           let entry : entry_at old names v ≡ e = same_Some (entry_at old names v) e (sym (entry_there old names v within) ∙ is) in
           let size_is : n.0 ≡ e.blocks = sym (ap blocks_in n.1) ∙ ap (λ (f : EntryValue). f.blocks) entry in
           let sets_is : e.images ≡ sets.0 = sym (ap (λ (f : EntryValue). f.images) entry) ∙ ap sets_in sets.1 in
@@ -141,7 +142,7 @@ closed_kept {D = D} told lasting size count lending old new names last devices d
           };
       tells = ap is_some area ∙ sync.0.kept.area.tells ∙ stands.group.area;
       stored = subst (λ (t : Option (List (List ℕ))). AreStored t (copies (placed (blocks_of entries)) hs)) (sym area)
-          (subst (λ (ns : List ℕ). AreStored (told new.area.device) (copies (placed ns) hs)) (sym (own_blocks old names)) (sync.1 hs all stands.group.devices));
+          (subst (λ (ns : List ℕ). AreStored (ghosts.told new.area.device) (copies (placed ns) hs)) (sym (own_blocks old names)) (sync.1 hs all stands.group.devices));
       given = stands.given;
       volumes = stands.group.plains ∙ ap (λ (ns : List ℕ). plains_of ns hs) (sym (own_blocks old names));
     }
@@ -150,18 +151,18 @@ closed_kept {D = D} told lasting size count lending old new names last devices d
 whole_again : {X : Type 0} (n : ℕ) (xs ys : List X) → length ys ≡ n → length xs ≡ length ys → take n (xs ++ drop (length xs) ys) ≡ xs
 whole_again n xs ys all same = take-append-le n xs (drop (length xs) ys) (omega arith) ∙ take_all n xs (omega arith)
 
-pub closed_outcome : {D : Type 0} (told lasting : D → Option (List (List ℕ))) (size count : D → ℕ) (lending : D → Bool) (old new : GroupValue D) (names : List TextValue) (last : ℕ)
+pub closed_outcome : {D : Type 0} (ghosts : Ghosts D) (old new : GroupValue D) (names : List TextValue) (last : ℕ)
     (items before flushed : List D) (len : ℕ)
-    (area : D) (done : Unit {0}) (r : Result Unit Cause) → IsSync told size count lending old new (Ok done) → lasting new.area.device ≡ told new.area.device → items ≡ new.devices → length items ≡ len
+    (area : D) (done : Unit {0}) (r : Result Unit Cause) → IsSync ghosts old new (Ok done) → ghosts.lasting new.area.device ≡ ghosts.told new.area.device → items ≡ new.devices → length items ≡ len
     → before ≡ items
-    → area ≡ new.area.device → OnOk r (map lasting flushed ≡ map told before) → map told flushed ≡ map told before
-    → OnOk r ((p : PlainStore) → StandsAs told (store_of old names last) p → IsKeptAs lasting (take len (flushed ++ drop (length flushed) items)) area (said_of (store_of old names last)) p)
-closed_outcome told lasting size count lending old new names last items before flushed len area done (Err cause) sync lasts devices_are many same area_is flushes tells = tt
-closed_outcome {D = D} told lasting size count lending old new names last items before flushed len area done (Ok all) sync lasts devices_are many same area_is flushes tells = λ p stands.
-    let as_many : length flushed ≡ length items = sym (length-map flushed told) ∙ ap length tells ∙ length-map before told ∙ ap length same in
-    subst (λ (a : D). IsKeptAs lasting (take len (flushed ++ drop (length flushed) items)) a (said_of (store_of old names last)) p) (sym area_is)
-    (subst (λ (ds : List D). IsKeptAs lasting ds new.area.device (said_of (store_of old names last)) p) (sym (whole_again len flushed items many as_many))
-    (closed_kept told lasting size count lending old new names last flushed done p sync lasts (flushes ∙ ap (map told) (same ∙ devices_are)) stands))
+    → area ≡ new.area.device → OnOk r (map ghosts.lasting flushed ≡ map ghosts.told before) → map ghosts.told flushed ≡ map ghosts.told before
+    → OnOk r ((p : PlainStore) → StandsAs ghosts.told (store_of old names last) p → IsKeptAs ghosts.lasting (take len (flushed ++ drop (length flushed) items)) area (said_of (store_of old names last)) p)
+closed_outcome ghosts old new names last items before flushed len area done (Err cause) sync lasts devices_are many same area_is flushes tells = tt
+closed_outcome {D = D} ghosts old new names last items before flushed len area done (Ok all) sync lasts devices_are many same area_is flushes tells = λ p stands.
+    let as_many : length flushed ≡ length items = sym (length-map flushed ghosts.told) ∙ ap length tells ∙ length-map before ghosts.told ∙ ap length same in
+    subst (λ (a : D). IsKeptAs ghosts.lasting (take len (flushed ++ drop (length flushed) items)) a (said_of (store_of old names last)) p) (sym area_is)
+    (subst (λ (ds : List D). IsKeptAs ghosts.lasting ds new.area.device (said_of (store_of old names last)) p) (sym (whole_again len flushed items many as_many))
+    (closed_kept ghosts old new names last flushed done p sync lasts (flushes ∙ ap (map ghosts.told) (same ∙ devices_are)) stands))
 
 -- the devices that are given back tell what they told
 pub closed_told : {D : Type 0} (told : D → Option (List (List ℕ))) (old new : GroupValue D) (items before flushed : List D) (len : ℕ) → new.devices ≡ old.devices → items ≡ new.devices

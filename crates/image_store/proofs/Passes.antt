@@ -2,6 +2,7 @@
 use Rattle.std.proofs.Common.{◌≡◌, ◌≢◌, ℕ, zero, suc, ◌+◌, ◌<◌, ◌≤◌, List, length, refl, ap, sym, subst, ◌∙◌, arith, Bool, true, false, Option, Some, inl, inr}
 use Rattle.std.specs.Prelude.{◌⊎◌, IfSome, not, slice_get, slice_set}
 use Rattle.volume_device.specs.Blocks.{AreBlocks}
+use Rattle.volume_device.specs.declared.device.Device.{Ghosts}
 use Rattle.std.proofs.lemmas.Option.{slice_get_within}
 use Rattle.write_history.specs.declared.evicted.Evicted.{Evicted}
 use Rattle.cow_volume.specs.GroupValue.{GroupValue}
@@ -224,31 +225,31 @@ set_mixed old wanted now k bytes l at mixed = (length-slice_set now k bytes ∙ 
     shifted e (inl f) = inl (e ∙ f)
     shifted e (inr f) = inr (e ∙ f)
 
-pub written_more : {D I : Type 0} (told : D → Option (List (List ℕ))) (size count : D → ℕ) (lending : D → Bool) (has : I → Option (List (List ℕ))) (measure : I → ℕ) (old now room new : GroupValue D)
+pub written_more : {D I : Type 0} (ghosts : Ghosts D) (has : I → Option (List (List ℕ))) (measure : I → ℕ) (old now room new : GroupValue D)
     (input input_now input_new : I) (v : ℕ)
-    (differs : List Bool) (from k : ℕ) (bytes : List ℕ) → v < length old.area.volumes → k < blocks_at old v → IsWrittenTo told has measure old now input input_now v differs from k
-    → KeepsPlains told now room
+    (differs : List Bool) (from k : ℕ) (bytes : List ℕ) → v < length old.area.volumes → k < blocks_at old v → IsWrittenTo ghosts.told has measure old now input input_now v differs from k
+    → KeepsPlains ghosts.told now room
     → has input_new ≡ has input_now → measure input_new ≡ measure input_now → ((wanted : List (List ℕ)) → has input_now ≡ Some wanted → slice_get wanted k ≡ Some bytes)
-    → IsPut told size count lending room new v (record { block = k; bytes = bytes }) → IsWrittenTo told has measure old new input input_new v differs from (k + 1)
-written_more told size count lending has measure old now room new input input_now input_new v differs from k bytes l m so kept told_is size_is read put = record {
+    → IsPut ghosts room new v (record { block = k; bytes = bytes }) → IsWrittenTo ghosts.told has measure old new input input_new v differs from (k + 1)
+written_more ghosts has measure old now room new input input_now input_new v differs from k bytes l m so kept told_is size_is read put = record {
   volumes = put.kept.volumes ∙ kept.volumes ∙ so.volumes;
   told_is = told_is ∙ so.told_is;
   size_is = size_is ∙ so.size_is;
   written = λ wanted ps is plains ready.
       let some = so.written wanted ps is plains ready in
       let at : slice_get wanted k ≡ Some bytes = read wanted (so.told_is ∙ is) in
-      let many = as_many_blocks told old ps v plains l in
+      let many = as_many_blocks ghosts.told old ps v plains l in
       let long = some.mixed.0 in
       let volumes = ap length (kept.volumes ∙ so.volumes) in
       let blocks = ap (λ (ns : List ℕ). blocks_of ns) (kept.volumes ∙ so.volumes) in
-      let many_ps = as_many_plains told old ps plains in
+      let many_ps = as_many_plains ghosts.told old ps plains in
       let before = kept.plains (on_volume v (with_blocks some.now) ps) some.plains in
-      let after = put_plains told size count lending room new (on_volume v (with_blocks some.now) ps) v k bytes (omega arith) (omega arith) put before in
+      let after = put_plains ghosts room new (on_volume v (with_blocks some.now) ps) v k bytes (omega arith) (omega arith) put before in
       record {
         now = slice_set some.now k bytes;
         mixed = set_mixed (volume_in ps v).blocks wanted some.now k bytes (omega arith) at some.mixed;
         ready = set_ready differs wanted some.now k bytes (omega arith) at some.ready;
-        plains = subst (λ (qs : List Plain). HasPlains told new qs) (on_volume-twice ps v (put_on k bytes) (with_blocks some.now) (with_blocks (slice_set some.now k bytes)) (λ p. refl)) after;
+        plains = subst (λ (qs : List Plain). HasPlains ghosts.told new qs) (on_volume-twice ps v (put_on k bytes) (with_blocks some.now) (with_blocks (slice_set some.now k bytes)) (λ p. refl)) after;
       };
 } where
   blocks_of : List ℕ → ℕ

@@ -14,6 +14,7 @@ use Rattle.cow_volume.proofs.Named.{of_set, point_of}
 use Rattle.image_store.specs.Plain.{Plain, volume_in, plain_in, plain_of, plains_of, on_volume, sets_on, image_in, gone_on}
 use Rattle.image_store.specs.StoreValue.{HasPlains, KeepsPlains}
 use Rattle.image_store.proofs.Copies.{image_of_point, sets_of_kept, length_contents, plain-gone}
+use Rattle.volume_device.specs.declared.device.Device.{Ghosts}
 
 -- ## lists of volumes
 
@@ -148,49 +149,49 @@ kept_refl told g = record { volumes = refl; plains = λ ps has. has }
 pub kept_then : {D : Type 0} → (told : D → Option (List (List ℕ))) (a b c : GroupValue D) → KeepsPlains told a b → KeepsPlains told b c → KeepsPlains told a c
 kept_then told a b c first second = record { volumes = second.volumes ∙ first.volumes; plains = λ ps has. second.plains ps (first.plains ps has) }
 
-pub kept_tells : {D : Type 0} → (told : D → Option (List (List ℕ))) (size count : D → ℕ) (lending : D → Bool) (old new : GroupValue D) → IsKept told size count lending old new
-    → AllTell told old.devices
-    → AllTell told new.devices
-kept_tells told size count lending old new kept tell = λ v d at.
+pub kept_tells : {D : Type 0} → (ghosts : Ghosts D) (old new : GroupValue D) → IsKept ghosts old new
+    → AllTell ghosts.told old.devices
+    → AllTell ghosts.told new.devices
+kept_tells ghosts old new kept tell = λ v d at.
     let within = slice_get_within new.devices v d at in
     let long = kept.devices in
     let before = slice_get_inside old.devices v (omega arith) in
     (kept.each v before.0 d before.1 at).tells ∙ tell v before.0 before.1
 
 -- it stands for other histories
-pub has_now : {D : Type 0} → (told : D → Option (List (List ℕ))) (size count : D → ℕ) (lending : D → Bool) (old new : GroupValue D) (ps qs : List Plain) (hs : List History) → HasPlains told old ps
-    → IsKept told size count lending old new → StandsFor told new hs → qs ≡ plains_of old.area.volumes hs → HasPlains told new qs
-has_now told size count lending old new ps qs hs has kept stands are = record {
+pub has_now : {D : Type 0} → (ghosts : Ghosts D) (old new : GroupValue D) (ps qs : List Plain) (hs : List History) → HasPlains ghosts.told old ps
+    → IsKept ghosts old new → StandsFor ghosts.told new hs → qs ≡ plains_of old.area.volumes hs → HasPlains ghosts.told new qs
+has_now ghosts old new ps qs hs has kept stands are = record {
   hs = hs;
   stands = stands;
-  devices = kept_tells told size count lending old new kept has.devices;
+  devices = kept_tells ghosts old new kept has.devices;
   area = kept.area.tells ∙ has.area;
   plains = are ∙ ap (λ ns. plains_of ns hs) (sym kept.volumes);
 }
 
-pub quiet_kept : {D : Type 0} → (told : D → Option (List (List ℕ))) (size count : D → ℕ) (lending : D → Bool) (old new : GroupValue D) → IsQuiet told size count lending old new
-    → KeepsPlains told old new
-quiet_kept told size count lending old new quiet = record {
+pub quiet_kept : {D : Type 0} → (ghosts : Ghosts D) (old new : GroupValue D) → IsQuiet ghosts old new
+    → KeepsPlains ghosts.told old new
+quiet_kept ghosts old new quiet = record {
   volumes = quiet.kept.volumes;
-  plains = λ ps has. has_now told size count lending old new ps ps has.hs has quiet.kept
-      (quiet_stands told old new has.hs has.stands quiet.blocks quiet.images quiet.kept.volumes quiet.records quiet.slots) has.plains;
+  plains = λ ps has. has_now ghosts old new ps ps has.hs has quiet.kept
+      (quiet_stands ghosts.told old new has.hs has.stands quiet.blocks quiet.images quiet.kept.volumes quiet.records quiet.slots) has.plains;
 }
 
-pub synced_kept : {D : Type 0} → (told : D → Option (List (List ℕ))) (size count : D → ℕ) (lending : D → Bool) (old new : GroupValue D) → IsSynced told size count lending old new
-    → KeepsPlains told old new
-synced_kept told size count lending old new synced = record {
+pub synced_kept : {D : Type 0} → (ghosts : Ghosts D) (old new : GroupValue D) → IsSynced ghosts old new
+    → KeepsPlains ghosts.told old new
+synced_kept ghosts old new synced = record {
   volumes = synced.kept.volumes;
-  plains = λ ps has. has_now told size count lending old new ps ps has.hs has synced.kept (synced.stands has.hs has.stands) has.plains;
+  plains = λ ps has. has_now ghosts old new ps ps has.hs has synced.kept (synced.stands has.hs has.stands) has.plains;
 }
 
 -- one volume's history changes
 pub has_changed : {D : Type 0}
-    → (told : D → Option (List (List ℕ))) (size count : D → ℕ) (lending : D → Bool) (old new : GroupValue D) (ps : List Plain) (v : ℕ) (F : History → History) (f : Plain → Plain)
-    (has : HasPlains told old ps) → IsKept told size count lending old new → v < length old.area.volumes → StandsFor told new (changed_at v F has.hs)
-    → ((at : At told old ps has.hs v) → plain_of at.blocks (F at.history) ≡ f (plain_of at.blocks at.history)) → HasPlains told new (on_volume v f ps)
-has_changed told size count lending old new ps v F f has kept l stands e =
-    let at = at_volume told old ps v has l in
-    has_now told size count lending old new ps (on_volume v f ps) (changed_at v F has.hs) has kept stands
+    → (ghosts : Ghosts D) (old new : GroupValue D) (ps : List Plain) (v : ℕ) (F : History → History) (f : Plain → Plain)
+    (has : HasPlains ghosts.told old ps) → IsKept ghosts old new → v < length old.area.volumes → StandsFor ghosts.told new (changed_at v F has.hs)
+    → ((at : At ghosts.told old ps has.hs v) → plain_of at.blocks (F at.history) ≡ f (plain_of at.blocks at.history)) → HasPlains ghosts.told new (on_volume v f ps)
+has_changed ghosts old new ps v F f has kept l stands e =
+    let at = at_volume ghosts.told old ps v has l in
+    has_now ghosts old new ps (on_volume v f ps) (changed_at v F has.hs) has kept stands
     (ap (on_volume v f) has.plains ∙ sym (volumes_changed old.area.volumes has.hs v at.blocks at.history F f at.blocks_are at.history_is (e at)))
 
 -- ## blocks that are read

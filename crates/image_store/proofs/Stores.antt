@@ -7,6 +7,7 @@ use Rattle.vss_catalog.specs.Group.{are_names_for}
 use Rattle.vss_catalog.specs.Names.{are_names, bytes_in}
 use Rattle.write_history.specs.declared.evicted.Evicted.{Evicted}
 use Rattle.block_data.specs.Runs.{zeros}
+use Rattle.volume_device.specs.declared.device.Device.{Ghosts}
 use Rattle.write_history.specs.History.{fresh}
 use Rattle.cow_volume.specs.GroupValue.{GroupValue}
 use Rattle.cow_volume.specs.StandsFor.{StandsFor}
@@ -47,10 +48,10 @@ head_still old new names last volumes images =
     ∙ ap (λ (is : List (List ℕ)). head_bytes last (map (λ v. record { name = bytes_in (slice_get names v); blocks = blocks_in (slice_get old.area.volumes v); images = sets_in (slice_get is v) })
     (range_with_len 0 (length old.area.volumes)))) images
 
-pub synced : {D : Type 0} (told : D → Option (List (List ℕ))) (size count : D → ℕ) (lending : D → Bool) (old new : GroupValue D) (r : Result Unit Cause) → IsSync told size count lending old new r
-    → IsSynced told size count lending old new
-synced told size count lending old new (Ok done) is = is.0
-synced told size count lending old new (Err cause) is = is.0
+pub synced : {D : Type 0} (ghosts : Ghosts D) (old new : GroupValue D) (r : Result Unit Cause) → IsSync ghosts old new r
+    → IsSynced ghosts old new
+synced ghosts old new (Ok done) is = is.0
+synced ghosts old new (Err cause) is = is.0
 
 pub still : {D : Type 0} (told : D → Option (List (List ℕ))) (old new : StoreValue D) → KeepsPlains told old.group new.group → new.last ≡ old.last → StandsStill told old new
 still told old new kept last = λ p stands. record { group = kept.plains p.volumes stands.group; last = stands.last ∙ sym last; given = stands.given }
@@ -63,22 +64,22 @@ cut_step told old new set vs later last cut = λ p stands.
       record { group = cut p.volumes stands.group; last = sym last; given = given-cut p.last set vs p.volumes (omega arith) stands.given },
     )
 
-pub dropped_step : {D : Type 0} (told : D → Option (List (List ℕ))) (size count : D → ℕ) (lending : D → Bool) (old new : StoreValue D) (set v : ℕ) (r : Result Unit ImageFault) → new.last ≡ old.last
-    → v < length old.group.area.volumes → IsDropped told size count lending old.group new.group v set r → OnOk r (IsStep told old new (Dropped set v))
-dropped_step told size count lending old new set v (Ok done) last l is = λ p stands. (
-  image_there told old.group p.volumes v set stands.group l is.0,
+pub dropped_step : {D : Type 0} (ghosts : Ghosts D) (old new : StoreValue D) (set v : ℕ) (r : Result Unit ImageFault) → new.last ≡ old.last
+    → v < length old.group.area.volumes → IsDropped ghosts old.group new.group v set r → OnOk r (IsStep ghosts.told old new (Dropped set v))
+dropped_step ghosts old new set v (Ok done) last l is = λ p stands. (
+  image_there ghosts.told old.group p.volumes v set stands.group l is.0,
   record {
-    group = dropped_plains told size count lending old.group new.group p.volumes v set l is.1 stands.group;
+    group = dropped_plains ghosts old.group new.group p.volumes v set l is.1 stands.group;
     last = stands.last ∙ sym last;
     given = given-on p.last v (dropped_on set) p.volumes (λ q given. given-filter (λ k. not (k.set == set)) p.last q.images given) stands.given;
   },
 )
-dropped_step told size count lending old new set v (Err fault) last l is = tt
+dropped_step ghosts old new set v (Err fault) last l is = tt
 
-pub dropped_volumes : {D : Type 0} (told : D → Option (List (List ℕ))) (size count : D → ℕ) (lending : D → Bool) (old new : GroupValue D) (set v : ℕ) (r : Result Unit ImageFault)
-    → IsDropped told size count lending old new v set r → new.area.volumes ≡ old.area.volumes
-dropped_volumes told size count lending old new set v (Ok done) is = is.1.kept.volumes
-dropped_volumes told size count lending old new set v (Err fault) is = ap (λ (g : GroupValue _). g.area.volumes) is.2
+pub dropped_volumes : {D : Type 0} (ghosts : Ghosts D) (old new : GroupValue D) (set v : ℕ) (r : Result Unit ImageFault)
+    → IsDropped ghosts old new v set r → new.area.volumes ≡ old.area.volumes
+dropped_volumes ghosts old new set v (Ok done) is = is.1.kept.volumes
+dropped_volumes ghosts old new set v (Err fault) is = ap (λ (g : GroupValue _). g.area.volumes) is.2
 
 -- ## reverts
 
@@ -90,22 +91,22 @@ unseen : (set : ℕ) (ks : List Kept) → is_among set (map (λ (k : Kept). k.se
 unseen set [] e = refl
 unseen set (k ∷ ks) e = unseen-if (k.set == set) (is_among set (map (λ (j : Kept). j.set) ks)) k.blocks (image_in set ks) e (unseen set ks)
 
-pub revert_is : {D : Type 0} (told : D → Option (List (List ℕ))) (size count : D → ℕ) (lending : D → Bool) (old new : StoreValue D) (set v : ℕ) (r : Result Unit RevertFault) → new.last ≡ old.last
-    → v < length old.group.area.volumes → IsGroupRevert told size count lending old.group new.group v set r → (p : PlainStore) → StandsAs told old p → IsRevert told new p set v r
-revert_is told size count lending old new set v (Ok done) last l is p stands = (
-  image_there told old.group p.volumes v set stands.group l is.image,
+pub revert_is : {D : Type 0} (ghosts : Ghosts D) (old new : StoreValue D) (set v : ℕ) (r : Result Unit RevertFault) → new.last ≡ old.last
+    → v < length old.group.area.volumes → IsGroupRevert ghosts old.group new.group v set r → (p : PlainStore) → StandsAs ghosts.told old p → IsRevert ghosts.told new p set v r
+revert_is ghosts old new set v (Ok done) last l is p stands = (
+  image_there ghosts.told old.group p.volumes v set stands.group l is.image,
   record {
-    group = reverted_plains told size count lending old.group new.group p.volumes v set l is stands.group;
+    group = reverted_plains ghosts old.group new.group p.volumes v set l is stands.group;
     last = stands.last ∙ sym last;
     given = given-on p.last v (reverted_on set) p.volumes (λ q given. given-filter (λ k. not (nat_lt set k.set)) p.last q.images given) stands.given;
   },
 )
-revert_is told size count lending old new set v (Err NoSuchImage) last l is p stands = (
-  unseen set (plain_at p v).images (ap (is_among set) (sym (sets_of_volume told old.group p.volumes v stands.group l)) ∙ is.0),
-  record { group = subst (λ (g : GroupValue _). HasPlains told g p.volumes) (sym is.1) stands.group; last = stands.last ∙ sym last; given = stands.given },
+revert_is ghosts old new set v (Err NoSuchImage) last l is p stands = (
+  unseen set (plain_at p v).images (ap (is_among set) (sym (sets_of_volume ghosts.told old.group p.volumes v stands.group l)) ∙ is.0),
+  record { group = subst (λ (g : GroupValue _). HasPlains ghosts.told g p.volumes) (sym is.1) stands.group; last = stands.last ∙ sym last; given = stands.given },
 )
-revert_is told size count lending old new set v (Err (Fault restored cause)) last l is p stands =
-    let mixed = in_part_plains told size count lending old.group new.group p.volumes v set restored l is.0 stands.group in (
+revert_is ghosts old new set v (Err (Fault restored cause)) last l is p stands =
+    let mixed = in_part_plains ghosts old.group new.group p.volumes v set restored l is.0 stands.group in (
       mixed.now,
       (mixed.image, mixed.image_is, mixed.mixed),
       record {
@@ -115,11 +116,11 @@ revert_is told size count lending old new set v (Err (Fault restored cause)) las
       },
     )
 
-pub revert_volumes : {D : Type 0} (told : D → Option (List (List ℕ))) (size count : D → ℕ) (lending : D → Bool) (old new : GroupValue D) (set v : ℕ) (r : Result Unit RevertFault)
-    → IsGroupRevert told size count lending old new v set r → new.area.volumes ≡ old.area.volumes
-revert_volumes told size count lending old new set v (Ok done) is = is.kept.volumes
-revert_volumes told size count lending old new set v (Err NoSuchImage) is = ap (λ (g : GroupValue _). g.area.volumes) is.1
-revert_volumes told size count lending old new set v (Err (Fault restored cause)) is = is.0.kept.volumes
+pub revert_volumes : {D : Type 0} (ghosts : Ghosts D) (old new : GroupValue D) (set v : ℕ) (r : Result Unit RevertFault)
+    → IsGroupRevert ghosts old new v set r → new.area.volumes ≡ old.area.volumes
+revert_volumes ghosts old new set v (Ok done) is = is.kept.volumes
+revert_volumes ghosts old new set v (Err NoSuchImage) is = ap (λ (g : GroupValue _). g.area.volumes) is.1
+revert_volumes ghosts old new set v (Err (Fault restored cause)) is = is.0.kept.volumes
 
 -- ## updates
 

@@ -21,6 +21,7 @@ use Rattle.image_store.specs.StoreValue.{StoreValue}
 use Rattle.vss_names.specs.TextValue.{TextValue}
 use Rattle.image_store.specs.declared.open_fault.OpenFault.{OpenFault}
 use Rattle.image_store.specs.declared.open_fault.OpenFault.TheVariants.{Length, Letters, Catalog, Devices, DoubleName, Set, Area, Volumes, Blocks, Image, OutOfMemory}
+use Rattle.volume_device.specs.declared.device.Device.{Ghosts}
 
 -- ## a head
 
@@ -109,32 +110,32 @@ IsNoHeadFor devices head (Devices found) = (found ≡ length devices) × (found 
 IsNoHeadFor devices head fault = (length devices ≡ length head.entries) × IsEntryFault head.last head.entries fault
 
 -- the area's device has no area, and is given back
-pub record IsNoArea {D : Type 0} (told : D → Option (List (List ℕ))) (size : D → ℕ) (lending : D → Bool) (count : D → ℕ) (device : D) (back : Option D) (fault : OpenFault) : Type 0 where
+pub record IsNoArea {D : Type 0} (ghosts : Ghosts D) (device : D) (back : Option D) (fault : OpenFault) : Type 0 where
   pub given_back : D
   pub is : back ≡ Some given_back
-  pub alone : IsReadAlone told size lending count device given_back
+  pub alone : IsReadAlone ghosts device given_back
   pub why : AreaFault
   pub fault_is : fault ≡ of_area why
-  pub refused : AreRefused (told device) (count device) (count given_back) why
+  pub refused : AreRefused (ghosts.told device) (ghosts.count device) (ghosts.count given_back) why
 
 -- it has one, which does not go with the devices and the entries
-pub record IsOtherArea {D : Type 0} (told : D → Option (List (List ℕ))) (size : D → ℕ) (lending : D → Bool) (count : D → ℕ) (devices : List D) (device : D) (es : List EntryValue)
+pub record IsOtherArea {D : Type 0} (ghosts : Ghosts D) (devices : List D) (device : D) (es : List EntryValue)
     (fault : OpenFault) : Type 0 where
   pub area : AreaValue D
-  pub loaded : IsLoaded told size lending count device area
-  pub parts : IsPartsFault size devices area es fault
+  pub loaded : IsLoaded ghosts device area
+  pub parts : IsPartsFault ghosts.size devices area es fault
 
 -- why there is no store of these devices, this area's device and this head
-abbrev pub IsOpenFault : {D : Type 0} → (D → Option (List (List ℕ))) → (D → ℕ) → (D → Bool) → (D → ℕ) → List D → D → HeadValue → Option D → OpenFault → Type 0
-IsOpenFault told size lending count devices device head back fault =
-    IsNoHeadFor devices head fault ⊎ (IsHeadFor devices head × (IsNoArea told size lending count device back fault ⊎ IsOtherArea told size lending count devices device head.entries fault))
+abbrev pub IsOpenFault : {D : Type 0} → Ghosts D → List D → D → HeadValue → Option D → OpenFault → Type 0
+IsOpenFault ghosts devices device head back fault =
+    IsNoHeadFor devices head fault ⊎ (IsHeadFor devices head × (IsNoArea ghosts device back fault ⊎ IsOtherArea ghosts devices device head.entries fault))
 
 -- the store of them
-pub record IsOpened {D : Type 0} (told : D → Option (List (List ℕ))) (size : D → ℕ) (lending : D → Bool) (count : D → ℕ) (devices : List D) (device : D) (head : HeadValue)
+pub record IsOpened {D : Type 0} (ghosts : Ghosts D) (devices : List D) (device : D) (head : HeadValue)
     (s : StoreValue D) : Type 0 where
   pub head_for : IsHeadFor devices head
-  pub loaded : IsLoaded told size lending count device s.group.area
-  pub parts : AreParts size devices s.group.area head.entries
+  pub loaded : IsLoaded ghosts device s.group.area
+  pub parts : AreParts ghosts.size devices s.group.area head.entries
   pub devices_are : s.group.devices ≡ devices
   pub images_are : s.group.images ≡ lists_of head.entries
   pub names_are : map (λ (name : TextValue). name.bytes) s.names ≡ names_of head.entries

@@ -64,7 +64,7 @@ impl Piece {
         ensures now { OnOk result (IsNow D.told group.old v b self.new) }
         ensures same { OnOk result (IsUnfailed D.count group.old group.new) }
         ensures cause { IfErr result (HasCauseAt D.count v b group.old group.new) }
-        ensures quiet { IsQuiet D.told D.size D.count D.lending group.old group.new }
+        ensures quiet { IsQuiet D.Device group.old group.new }
     {
         match &mut self.payload {
             Payload::Bytes(block) => group.read_into(v, b, block.bytes_mut()),
@@ -86,7 +86,7 @@ impl Piece {
         ensures same { OnOk result (IsUnfailed D.count group.old group.new) }
         ensures cause { IfErr result (HasImageCause D.count v set b group.old group.new) }
         ensures unseen { IsErrOf result ImageFault.NoSuchImage → is_among set (sets_at group.old v) ≡ false }
-        ensures quiet { IsQuiet D.told D.size D.count D.lending group.old group.new }
+        ensures quiet { IsQuiet D.Device group.old group.new }
     {
         match &mut self.payload {
             Payload::Bytes(block) => group.read_image_into(v, set, b, block.bytes_mut()),

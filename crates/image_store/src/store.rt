@@ -129,8 +129,8 @@ impl<D: Device> Store<D> {
     ) -> Result<Store<D>, Refused<D>>
         ensures kept { IfOk result (λ store. (p : PlainStore) → IsKeptAs D.told devices.items area head.now p → StandsAs D.told store p) }
         ensures untold { IfOk result (λ store. NoneTell D.told devices.items area → (hs : List History) × StandsFor D.told store.group hs) }
-        ensures opened { IfOk result (IsOpened D.told D.size D.lending D.count devices.items area head.now) }
-        ensures refused { IfErr result (λ refused. IsOpenFault D.told D.size D.lending D.count devices.items area head.now refused.area refused.fault) }
+        ensures opened { IfOk result (IsOpened D.Device devices.items area head.now) }
+        ensures refused { IfErr result (λ refused. IsOpenFault D.Device devices.items area head.now refused.area refused.fault) }
     {
         if let Err(fault) = check_devices(head, &devices) {
             return Err(Refused { fault, area: None });

@@ -4,6 +4,7 @@ use Rattle.std.specs.Prelude.{slice_get, ◌&&◌, map, is_some, Result, Ok, Err
 use Rattle.std.specs.List.{list_all}
 use Rattle.std.proofs.lemmas.Option.{same_Some}
 use Rattle.vss_names.specs.Faults.{Rose}
+use Rattle.volume_device.specs.declared.device.Device.{Ghosts}
 use Rattle.write_history.specs.History.{History, Write}
 use Rattle.write_history.specs.Slots.{evicted_up_to}
 use Rattle.cow_volume.specs.GroupValue.{GroupValue, placed}
@@ -52,42 +53,42 @@ one_listed [] one = absurd (omega arith)
 one_listed (n ∷ []) one = refl
 one_listed (n ∷ m ∷ ns) one = absurd (omega arith)
 
-module _ {D : Type 0} (told : D → Option (List (List ℕ))) (size count : D → ℕ) (lending : D → Bool) where
-  later : (old new : GroupValue D) → IsKept told size count lending old new → AllLater (map count old.devices) (map count new.devices)
-  later old new kept = each_later count old.devices new.devices kept.devices (λ v d e at also. (kept.each v d e at also).later)
+module _ {D : Type 0} (ghosts : Ghosts D) where
+  later : (old new : GroupValue D) → IsKept ghosts old new → AllLater (map ghosts.count old.devices) (map ghosts.count new.devices)
+  later old new kept = each_later ghosts.count old.devices new.devices kept.devices (λ v d e at also. (kept.each v d e at also).later)
 
-  pub kept_same : (old new : GroupValue D) → IsKept told size count lending old new → contract.IsSame (λ v. tells told v) (λ v. blocks_of v) (λ v. slots_of v) (λ v. faults_of count v) old new
+  pub kept_same : (old new : GroupValue D) → IsKept ghosts old new → contract.IsSame (λ v. tells ghosts.told v) (λ v. blocks_of v) (λ v. slots_of v) (λ v. faults_of ghosts.count v) old new
   kept_same old new kept = record {
-    tells_is = ap (λ (t : Bool). t && is_some (told new.area.device)) (each_tells (λ d. is_some (told d)) old.devices new.devices kept.devices (λ v d e at also. (kept.each v d e at also).tells))
-        ∙ ap (λ (t : Bool). list_all (λ d. is_some (told d)) old.devices && t) kept.area.tells;
+    tells_is = ap (λ (t : Bool). t && is_some (ghosts.told new.area.device)) (each_tells (λ d. is_some (ghosts.told d)) old.devices new.devices kept.devices (λ v d e at also. (kept.each v d e at also).tells))
+        ∙ ap (λ (t : Bool). list_all (λ d. is_some (ghosts.told d)) old.devices && t) kept.area.tells;
     size_is = ap (λ (ns : List ℕ). blocks_in (slice_get ns 0)) kept.volumes;
     slots_is = ap (λ (n : ℕ). Some n) kept.slots;
-    later = all_later (count old.area.device) (count new.area.device) (map count old.devices) (map count new.devices) kept.area.later (later old new kept);
+    later = all_later (ghosts.count old.area.device) (ghosts.count new.area.device) (map ghosts.count old.devices) (map ghosts.count new.devices) kept.area.later (later old new kept);
   }
 
-  volume_rose : (old new : GroupValue D) → IsKept told size count lending old new → VolumeRose count 0 old new → Rose (faults_of count old) (faults_of count new)
+  volume_rose : (old new : GroupValue D) → IsKept ghosts old new → VolumeRose ghosts.count 0 old new → Rose (faults_of ghosts.count old) (faults_of ghosts.count new)
   volume_rose old new kept rose =
-      all_rose (count old.area.device) (count new.area.device) (map count old.devices) (map count new.devices) kept.area.later (later old new kept)
-      (inr (one_rose count old.devices new.devices 0 rose.before rose.now rose.was rose.is rose.rose))
+      all_rose (ghosts.count old.area.device) (ghosts.count new.area.device) (map ghosts.count old.devices) (map ghosts.count new.devices) kept.area.later (later old new kept)
+      (inr (one_rose ghosts.count old.devices new.devices 0 rose.before rose.now rose.was rose.is rose.rose))
 
-  area_rose : (old new : GroupValue D) → IsKept told size count lending old new → AreaRose count old new → Rose (faults_of count old) (faults_of count new)
-  area_rose old new kept rose = all_rose (count old.area.device) (count new.area.device) (map count old.devices) (map count new.devices) kept.area.later (later old new kept) (inl rose.rose)
+  area_rose : (old new : GroupValue D) → IsKept ghosts old new → AreaRose ghosts.count old new → Rose (faults_of ghosts.count old) (faults_of ghosts.count new)
+  area_rose old new kept rose = all_rose (ghosts.count old.area.device) (ghosts.count new.area.device) (map ghosts.count old.devices) (map ghosts.count new.devices) kept.area.later (later old new kept) (inl rose.rose)
 
-  block_cause : (old new : GroupValue D) (b : ℕ) (cause : Cause) → IsKept told size count lending old new → HasCauseAt count 0 b old new cause
-      → contract.HasBlockCause (λ v. blocks_of v) (λ v. faults_of count v) b old new cause
+  block_cause : (old new : GroupValue D) (b : ℕ) (cause : Cause) → IsKept ghosts old new → HasCauseAt ghosts.count 0 b old new cause
+      → contract.HasBlockCause (λ v. blocks_of v) (λ v. faults_of ghosts.count v) b old new cause
   block_cause old new b NoSuchBlock kept is = is.0
   block_cause old new b Volume kept is = (is.0, volume_rose old new kept is.1)
   block_cause old new b Area kept is = (is.0, area_rose old new kept is.1)
 
   -- ## the calls
 
-  evicted_is : (old : GroupValue D) (b up_to : ℕ) → ((h : History) → StandsForOne told old h → IsEvictedOne old b h up_to)
-      → contract.IsEvicted (λ v h. StandsForOne told v h) (λ v. blocks_of v) (λ v. slots_of v) old b up_to
+  evicted_is : (old : GroupValue D) (b up_to : ℕ) → ((h : History) → StandsForOne ghosts.told old h → IsEvictedOne old b h up_to)
+      → contract.IsEvicted (λ v h. StandsForOne ghosts.told v h) (λ v. blocks_of v) (λ v. slots_of v) old b up_to
   evicted_is old b up_to is = λ h stood sets most.
       is h stood sets most ∙ ap (λ (ns : List ℕ). evicted_up_to sets (length old.area.records) (placed ns) 0 b (h ∷ [])) (one_listed old.area.volumes (sym stood.histories))
 
-  pub write_is : (old new : GroupValue D) (w : Write) (result : Result Written WriteFault) → IsOneWrite told size count lending old new w result
-      → contract.IsWrite (λ v h. StandsForOne told v h) (λ v. blocks_of v) (λ v. slots_of v) (λ v. faults_of count v) old new w result
+  pub write_is : (old new : GroupValue D) (w : Write) (result : Result Written WriteFault) → IsOneWrite ghosts old new w result
+      → contract.IsWrite (λ v h. StandsForOne ghosts.told v h) (λ v. blocks_of v) (λ v. slots_of v) (λ v. faults_of ghosts.count v) old new w result
   write_is old new w (Ok done) is = record { in_range = is.in_range; evicted = evicted_is old w.block done.evicted_up_to is.evicted; stands_for = is.stands }
   write_is old new w (Err fault) is = record {
     cause = block_cause old new w.block fault.cause is.kept is.cause;
@@ -97,38 +98,38 @@ module _ {D : Type 0} (told : D → Option (List (List ℕ))) (size count : D �
     stands_for = is.stands;
   }
 
-  pub write_same : (old new : GroupValue D) (w : Write) (result : Result Written WriteFault) → IsOneWrite told size count lending old new w result
-      → contract.IsSame (λ v. tells told v) (λ v. blocks_of v) (λ v. slots_of v) (λ v. faults_of count v) old new
+  pub write_same : (old new : GroupValue D) (w : Write) (result : Result Written WriteFault) → IsOneWrite ghosts old new w result
+      → contract.IsSame (λ v. tells ghosts.told v) (λ v. blocks_of v) (λ v. slots_of v) (λ v. faults_of ghosts.count v) old new
   write_same old new w (Ok done) is = kept_same old new is.kept
   write_same old new w (Err fault) is = kept_same old new is.kept
 
-  pub read_is : (old new : GroupValue D) (b : ℕ) (bytes : List ℕ) (result : Result Unit Cause) → IsQuiet told size count lending old new → OnOk result (b < blocks_of old)
-      → OnOk result (IsOneNow told old b bytes) → IfErr result (HasOneCause count b old new)
-      → contract.IsRead (λ v h. StandsForOne told v h) (λ v. tells told v) (λ v. blocks_of v) (λ v. faults_of count v) old new b bytes result
+  pub read_is : (old new : GroupValue D) (b : ℕ) (bytes : List ℕ) (result : Result Unit Cause) → IsQuiet ghosts old new → OnOk result (b < blocks_of old)
+      → OnOk result (IsOneNow ghosts.told old b bytes) → IfErr result (HasOneCause ghosts.count b old new)
+      → contract.IsRead (λ v h. StandsForOne ghosts.told v h) (λ v. tells ghosts.told v) (λ v. blocks_of v) (λ v. faults_of ghosts.count v) old new b bytes result
   read_is old new b bytes (Ok done) quiet low now cause = (low, now)
   read_is old new b bytes (Err fault) quiet low now cause = block_cause old new b fault quiet.kept cause
 
-  pub image_is : (old new : GroupValue D) (set b : ℕ) (bytes : List ℕ) (result : Result Unit ImageFault) → IsQuiet told size count lending old new → OnOk result (is_among set (image_sets old) ≡ true)
+  pub image_is : (old new : GroupValue D) (set b : ℕ) (bytes : List ℕ) (result : Result Unit ImageFault) → IsQuiet ghosts old new → OnOk result (is_among set (image_sets old) ≡ true)
       → OnOk result (b < blocks_of old)
-      → OnOk result (IsOneShown told old set b bytes) → IfErr result (HasOneImageCause count set b old new)
-      → contract.IsImageRead (λ v h. StandsForOne told v h) (λ v. tells told v) (λ v. blocks_of v) (λ v. image_sets v) (λ v. faults_of count v) old new set b bytes result
+      → OnOk result (IsOneShown ghosts.told old set b bytes) → IfErr result (HasOneImageCause ghosts.count set b old new)
+      → contract.IsImageRead (λ v h. StandsForOne ghosts.told v h) (λ v. tells ghosts.told v) (λ v. blocks_of v) (λ v. image_sets v) (λ v. faults_of ghosts.count v) old new set b bytes result
   image_is old new set b bytes (Ok done) quiet among low shown cause = (among, low, shown)
   image_is old new set b bytes (Err NoSuchImage) quiet among low shown cause = cause.0
   image_is old new set b bytes (Err NoBlock) quiet among low shown cause = (cause.0, cause.1)
   image_is old new set b bytes (Err VolumeFailed) quiet among low shown cause = (cause.0, cause.1, volume_rose old new quiet.kept cause.2)
   image_is old new set b bytes (Err AreaFailed) quiet among low shown cause = (cause.0, cause.1, area_rose old new quiet.kept cause.2)
 
-  pub drop_is : (old new : GroupValue D) (set : ℕ) (result : Result Unit ImageFault) → IsOneDropped told size count lending old new set result
-      → contract.IsDropped (λ v h. StandsForOne told v h) (λ v. image_sets v) old new set result
+  pub drop_is : (old new : GroupValue D) (set : ℕ) (result : Result Unit ImageFault) → IsOneDropped ghosts old new set result
+      → contract.IsDropped (λ v h. StandsForOne ghosts.told v h) (λ v. image_sets v) old new set result
   drop_is old new set (Ok done) is = (is.0, is.1.stands)
   drop_is old new set (Err fault) is = is
 
-  pub drop_same : (old new : GroupValue D) (set : ℕ) (result : Result Unit ImageFault) → IsOneDropped told size count lending old new set result
-      → contract.IsSame (λ v. tells told v) (λ v. blocks_of v) (λ v. slots_of v) (λ v. faults_of count v) old new
+  pub drop_same : (old new : GroupValue D) (set : ℕ) (result : Result Unit ImageFault) → IsOneDropped ghosts old new set result
+      → contract.IsSame (λ v. tells ghosts.told v) (λ v. blocks_of v) (λ v. slots_of v) (λ v. faults_of ghosts.count v) old new
   drop_same old new set (Ok done) is = kept_same old new is.1.kept
   drop_same old new set (Err fault) is = record {
-    tells_is = ap (tells told) is.2;
+    tells_is = ap (tells ghosts.told) is.2;
     size_is = ap (λ (v : GroupValue D). blocks_of v) is.2;
     slots_is = ap (λ (v : GroupValue D). slots_of v) is.2;
-    later = (let e = ap (faults_of count) is.2 in omega arith);
+    later = (let e = ap (faults_of ghosts.count) is.2 in omega arith);
   }

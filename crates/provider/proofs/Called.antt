@@ -72,7 +72,7 @@ same_kept {D = D} device x y devices area =
     record {
       volumes = ap (λ (a : _). a.volumes) area;
       slots = ap (λ (a : _). length a.records) area;
-      area = subst (λ (d : D). IsSameDevice device.told device.size device.count device.lending x.area.device d) (sym (ap (λ (a : _). a.device) area)) same.area;
+      area = subst (λ (d : D). IsSameDevice device x.area.device d) (sym (ap (λ (a : _). a.device) area)) same.area;
       devices = ap length devices;
       each = λ v d e at there. same.each v d e at (sym (ap (λ (ds : List D). slice_get ds v) devices) ∙ there);
     }
@@ -138,7 +138,7 @@ module _ {D : Type 0} (device : Ghosts D) {s : Plan} {old new : List (GroupValue
     λ hs are. changed (dropped set) hs h.1.kept are (h.1.stands (own c.found hs) (stands_here device.told c.found hs are)),
   )
 
-  pub put_of : (w : Write) (result : Result Unit Cause) → IsPutOr device.told device.size device.count device.lending c.found.here c.after c.found.within w result → IsPut device s old new v w result
+  pub put_of : (w : Write) (result : Result Unit Cause) → IsPutOr device c.found.here c.after c.found.within w result → IsPut device s old new v w result
   put_of w (Ok done) h = record {
     call = call_of h.kept;
     stands = λ hs are. changed (written w) hs h.kept are (h.stands (own c.found hs) (stands_here device.told c.found hs are));
@@ -150,7 +150,7 @@ module _ {D : Type 0} (device : Ghosts D) {s : Plan} {old new : List (GroupValue
     cause = rose_of device.count c cause h.rose;
   }
 
-  pub revert_of : (set : ℕ) (result : Result Unit RevertFault) → IsGroupRevert device.told device.size device.count device.lending c.found.here c.after c.found.within set result
+  pub revert_of : (set : ℕ) (result : Result Unit RevertFault) → IsGroupRevert device c.found.here c.after c.found.within set result
       → IsRevert device s old new v set result
   revert_of set (Ok done) h = (
     image_of device.told c.found set true h.image,
@@ -178,7 +178,7 @@ module _ {D : Type 0} (device : Ghosts D) {s : Plan} {old new : List (GroupValue
             ),
       )
 
-  pub revert_kept : (set : ℕ) (result : Result Unit RevertFault) → IsGroupRevert device.told device.size device.count device.lending c.found.here c.after c.found.within set result
+  pub revert_kept : (set : ℕ) (result : Result Unit RevertFault) → IsGroupRevert device c.found.here c.after c.found.within set result
       → AreKept device old new
   revert_kept set (Ok done) h = all_kept h.kept
   revert_kept set (Err NoImage) h = all_kept (subst (λ (y : GroupValue D). IsKeptGroup device c.found.here y) (sym h.1) (kept_itself device c.found.here))

@@ -30,7 +30,7 @@ module _ {D : Type 0} (device : Ghosts D) (old : List (GroupValue D)) (g : ℕ) 
   abbrev new : List (GroupValue D)
   new = slice_set old g y
 
-  synced : IsGroupSynced device.told device.size device.count device.lending x y → IsSynced device old new g
+  synced : IsGroupSynced device x y → IsSynced device old new g
   synced h = record {
     kept = kept_one device old new g x y was refl h.kept;
     elsewhere = λ k apart. slice_get-set_other old g k y (λ e. apart (sym e));
@@ -43,11 +43,11 @@ module _ {D : Type 0} (device : Ghosts D) (old : List (GroupValue D)) (g : ℕ) 
     stands = λ s hs are. stays device.told s old new g x y hs was refl h.kept.volumes h.kept.slots are (h.stands (of_group g s.volumes hs) (are.each g x was).stands);
   }
 
-  pub sync_of : (result : Result Unit Cause) → IsSync device.told device.size device.count device.lending x y result → IsSynced device old new g
+  pub sync_of : (result : Result Unit Cause) → IsSync device x y result → IsSynced device old new g
   sync_of (Ok done) h = synced h.0
   sync_of (Err cause) h = synced h.0
 
-  pub sync_lasts : (result : Result Unit Cause) → OnOk result (device.lasting y.area.device ≡ device.told y.area.device) → IsSync device.told device.size device.count device.lending x y result
+  pub sync_lasts : (result : Result Unit Cause) → OnOk result (device.lasting y.area.device ≡ device.told y.area.device) → IsSync device x y result
       → OnOk result ((s : Plan) → AreLasting device.told device.lasting s old new g)
   sync_lasts (Err cause) lasts h = tt
   sync_lasts (Ok done) lasts h = λ s p q at there.
@@ -66,6 +66,6 @@ module _ {D : Type 0} (device : Ghosts D) (old : List (GroupValue D)) (g : ℕ) 
             (subst (λ (cs : List Copy). AreStored (device.told y.area.device) cs) (sym (copies_in_group g 0 s.volumes hs)) here),
       )
 
-  pub sync_cause : (result : Result Unit Cause) → IsSync device.told device.size device.count device.lending x y result → (s : Plan) → HasGroups s old → HasSyncCause device.count s g result old new
+  pub sync_cause : (result : Result Unit Cause) → IsSync device x y result → (s : Plan) → HasGroups s old → HasSyncCause device.count s g result old new
   sync_cause (Ok done) h s has = counts_same device.count old g x y was h.2
   sync_cause (Err cause) h s has = (h.1, rose_area device.count s old new g x y has was refl h.2)

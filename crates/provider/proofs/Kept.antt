@@ -39,7 +39,7 @@ later_same xs ys e = subst (λ (zs : List ℕ). AreLater xs zs) (sym e) (itself 
 
 -- a device is another state of the same one
 abbrev IsSame : {D : Type 0} → Ghosts D → D → D → Type 0
-IsSame device d e = IsSameDevice device.told device.size device.count device.lending d e
+IsSame device d e = IsSameDevice device d e
 
 abbrev pub AllKept : {D : Type 0} (device : Ghosts D) (old new : List (GroupValue D)) → Type 0
 AllKept {D = D} device old new = (g : ℕ) (x y : GroupValue D) → slice_get old g ≡ Some x → slice_get new g ≡ Some y → IsKeptGroup device x y

@@ -128,10 +128,6 @@ IsRevert device s old new v set (Err (Fault restored failed)) = HasImage device.
     × IfStandFor device.told s old (λ hs. (p : ℕ) → point_in set (history_at hs v).images ≡ Some p
     → (restored < length (to_restore (blocks_of s v) (history_at hs v).writes p)) × AreGroups device.told s new (change_at v (reverted_in_part (blocks_of s v) set p restored) hs))
 
--- the devices, with the counts by which a call is judged
-abbrev pub counted_as : {D : Type 0} → Ghosts D → Bool → Ghosts D
-counted_as device told = record device { count = counted_by device.count told }
-
 -- a revert that is to stop after k blocks: there are no more to restore, no such image stands, or it stopped there
 abbrev pub StopsAfter : {D : Type 0} → (D → Option (List (List ℕ))) → Plan → List (GroupValue D) → ℕ → ℕ → ℕ → Result Unit RevertFault → Type 0
 StopsAfter told s old v set k (Ok done) = IfStandFor told s old (λ hs. (p : ℕ) → point_in set (history_at hs v).images ≡ Some p → length (to_restore (blocks_of s v) (history_at hs v).writes p) ≤ k)

@@ -71,7 +71,7 @@ AreLater _ _ = ⊥
 
 -- a group is another state of the same one
 abbrev pub IsKeptGroup : {D : Type 0} → Ghosts D → GroupValue D → GroupValue D → Type 0
-IsKeptGroup device x y = IsKept device.told device.size device.count device.lending x y
+IsKeptGroup device x y = IsKept device x y
 
 -- The groups are other states of the same ones: each keeps its volumes and slots, and of its devices the sizes, whether they tell
 -- and whether they lend; no count falls.

@@ -14,7 +14,7 @@ use Rattle.provider.specs.Devices.{IsKeptGroup}
 abbrev pub IsGroupDrop : {D : Type 0} → Ghosts D → GroupValue D → GroupValue D → ℕ → ℕ → Bool → Type 0
 IsGroupDrop device old new u set false = (is_among set (sets_at old u) ≡ false) × (new ≡ old)
 IsGroupDrop device old new u set true = (is_among set (sets_at old u) ≡ true)
-    × IsChanged device.told device.size device.count device.lending old new u (dropped set)
+    × IsChanged device old new u (dropped set)
 
 -- the images of a set went from a group, of which so many stood; the devices are as they were
 pub record IsWithout {D : Type 0} (device : Ghosts D) (old new : GroupValue D) (set stood : ℕ) : Type 0 where
@@ -45,7 +45,7 @@ IsDigestAt told g u set digest = AtPoint told g u set (λ ws p. digest ≡ sha25
 
 -- only counts of devices of the group may have changed
 abbrev pub IsQuietGroup : {D : Type 0} → Ghosts D → GroupValue D → GroupValue D → Type 0
-IsQuietGroup device old new = IsQuiet device.told device.size device.count device.lending old new
+IsQuietGroup device old new = IsQuiet device old new
 
 pub record IsGroupDigest {D : Type 0} (device : Ghosts D) (old new : GroupValue D) (u : ℕ) (result : Result (List ℕ) Cause) : Type 0 where
   pub digest : IfOk result (IsDigestAt device.told old u None)

@@ -12,8 +12,8 @@ ghost use Rattle.cow_volume.specs.GroupValue.{GroupValue};
 ghost use Rattle.cow_volume.specs.Parts.{IsLentBy};
 ghost use Rattle.provider.specs.Groups.{AreFresh, AreGroups, AreWhole, HasGroups, IfStandFor, history_at};
 ghost use Rattle.provider.specs.Devices.{AreKept, AreLasting, HasCause, HasSyncCause, IsSynced, LastsAt, devices_of, fault_of, volume_place};
-ghost use Rattle.provider.specs.Calls.{AreWithout, HasImage, HasImageCause, HasRoom, IsDigestedAt, IsDigestShown, IsDropped, IsPut, IsQuiet, IsRevert, IsRoomMade, IsShown, StopsAfter, counted_as};
-ghost use Rattle.provider.specs.Words.{NeverFails};
+ghost use Rattle.provider.specs.Calls.{AreWithout, HasImage, HasImageCause, HasRoom, IsDigestedAt, IsDigestShown, IsDropped, IsPut, IsQuiet, IsRevert, IsRoomMade, IsShown, StopsAfter};
+ghost use Rattle.provider.specs.Words.{counted_as, NeverFails};
 ghost use Rattle.provider.specs.Preparing.{CanCutOn, HasJoined, HasStepCause, IsCutOn, refusal, step_taken};
 
 use crate::digested::Digested;

@@ -26,6 +26,7 @@ use Rattle.vss_recover.specs.declared.recover_revert.RecoverRevert.TheVariants.{
 use Rattle.vss_recover.specs.OverlayCalls.{count_in}
 use Rattle.vss_recover.specs.Calls.{IsRevertStep}
 use Rattle.volume_device.specs.Blocks.{AreBlocks}
+use Rattle.volume_device.specs.declared.device.Device.{Ghosts}
 use Rattle.diff_area.specs.Places.{blocks_for}
 use Rattle.diff_area.specs.Records.{AreRecords}
 use Rattle.vss_recover.specs.declared.recover_fault.RecoverFault.{RecoverFault}
@@ -120,21 +121,21 @@ long_one_more xs x i l = let same = length-append xs (x ∷ []) in omega arith
 
 -- ## a recovery write
 
-pub recovered_if_ok : {D : Type 0} (told : D → Option (List (List ℕ))) (size count : D → ℕ) (lending : D → Bool) (old : RecoverValue D) (overlay : AreaValue D) (r : Recovery) (bytes : List ℕ)
+pub recovered_if_ok : {D : Type 0} (ghosts : Ghosts D) (old : RecoverValue D) (overlay : AreaValue D) (r : Recovery) (bytes : List ℕ)
     (result : Result Unit RecoverFault) → bytes ≡ r.write.bytes → old.overlay.volumes ≡ blocks_of old.volume ∷ [] → AreRecords old.overlay.volumes old.overlay.records
-    → size old.overlay.device ≡ blocks_for (length old.overlay.records) → IfSome (told old.overlay.device) (AreBlocks (size old.overlay.device)) → old.window ≡ Some r.set
+    → ghosts.size old.overlay.device ≡ blocks_for (length old.overlay.records) → IfSome (ghosts.told old.overlay.device) (AreBlocks (ghosts.size old.overlay.device)) → old.window ≡ Some r.set
     → r.write.block < blocks_of old.volume → owner_of old.claims r.write.block ≡ Some r.writer
-    → IsPut told size count lending old.overlay overlay r.set r.write.block bytes result → OnOk result (IsStep told old (value_of old.volume overlay old.window old.claims old.final) (Recovered r))
-recovered_if_ok told size count lending old overlay r bytes (Ok done) same fits are sized whole window low owner is =
-    recovered_step told size count lending old overlay r fits are sized whole window low owner
-    (subst (λ (x : List ℕ). IsPutIn told size count lending old.overlay overlay r.set r.write.block x) same is.1)
-recovered_if_ok told size count lending old overlay r bytes (Err fault) same fits are sized whole window low owner is = tt
+    → IsPut ghosts old.overlay overlay r.set r.write.block bytes result → OnOk result (IsStep ghosts.told old (value_of old.volume overlay old.window old.claims old.final) (Recovered r))
+recovered_if_ok ghosts old overlay r bytes (Ok done) same fits are sized whole window low owner is =
+    recovered_step ghosts old overlay r fits are sized whole window low owner
+    (subst (λ (x : List ℕ). IsPutIn ghosts old.overlay overlay r.set r.write.block x) same is.1)
+recovered_if_ok ghosts old overlay r bytes (Err fault) same fits are sized whole window low owner is = tt
 
 -- ## a revert that a device broke off
 
-pub revert_fault_step : {D : Type 0} (told : D → Option (List (List ℕ))) (size count : D → ℕ) (lending : D → Bool) (old new : RecoverValue D) (set : ℕ) (fault : RevertFault)
+pub revert_fault_step : {D : Type 0} (ghosts : Ghosts D) (old new : RecoverValue D) (set : ℕ) (fault : RevertFault)
     → old.overlay.volumes ≡ blocks_of old.volume ∷ [] → AreRecords old.overlay.volumes old.overlay.records
-    → count_in set old.overlay.records ≡ 0 → IsSettled old new → IsOneRevert told size count lending old.volume new.volume set (Err fault) → IsRevertStep told old new set (Err (Other fault))
-revert_fault_step told size count lending old new set NoSuchImage fits are none settled is = tt
-revert_fault_step told size count lending old new set
-    (Fault k cause) fits are none settled is = λ h p stood point. in_part_step told size count lending old new set fits are none settled h p stood point k is.0
+    → count_in set old.overlay.records ≡ 0 → IsSettled old new → IsOneRevert ghosts old.volume new.volume set (Err fault) → IsRevertStep ghosts.told old new set (Err (Other fault))
+revert_fault_step ghosts old new set NoSuchImage fits are none settled is = tt
+revert_fault_step ghosts old new set
+    (Fault k cause) fits are none settled is = λ h p stood point. in_part_step ghosts old new set fits are none settled h p stood point k is.0

@@ -18,6 +18,7 @@ use Rattle.cow_volume.proofs.Merging.{has_found}
 use Rattle.cow_volume.proofs.Ties.{some_free, not_full_if}
 use Rattle.vss_recover.specs.declared.recover_fault.RecoverFault.{RecoverFault}
 use Rattle.vss_recover.specs.OverlayCalls.{IsChosen, IsPut, IsWrittenIn, IsWrittenTo, KeepsRecords, lacks_room}
+use Rattle.volume_device.specs.declared.device.Device.{Ghosts}
 
 -- ## there is room
 
@@ -44,15 +45,15 @@ tells_mapped : (o : Option (List (List ℕ))) (f : List (List ℕ) → List (Lis
 tells_mapped None f = refl
 tells_mapped (Some x) f = refl
 
-module _ {D : Type 0} (told : D → Option (List (List ℕ))) (size count : D → ℕ) (lending : D → Bool) (old mid : AreaValue D) where
-  pub written_to : (slot : ℕ) (bytes : List ℕ) → KeepsTable size lending old mid → told mid.device ≡ put (place_of_slot (length old.records) slot) bytes (told old.device)
-      → count mid.device ≡ count old.device → count old.device ≤ count mid.device
-      → IsWrittenTo told size count lending old mid slot bytes
+module _ {D : Type 0} (ghosts : Ghosts D) (old mid : AreaValue D) where
+  pub written_to : (slot : ℕ) (bytes : List ℕ) → KeepsTable ghosts.size ghosts.lending old mid → ghosts.told mid.device ≡ put (place_of_slot (length old.records) slot) bytes (ghosts.told old.device)
+      → ghosts.count mid.device ≡ ghosts.count old.device → ghosts.count old.device ≤ ghosts.count mid.device
+      → IsWrittenTo ghosts old mid slot bytes
   written_to slot bytes table told_is same later = record {
     volumes = table.volumes;
     records = table.records;
     device = record {
-      tells = ap is_some told_is ∙ tells_mapped (told old.device) (λ blocks. slice_set blocks (place_of_slot (length old.records) slot) bytes);
+      tells = ap is_some told_is ∙ tells_mapped (ghosts.told old.device) (λ blocks. slice_set blocks (place_of_slot (length old.records) slot) bytes);
       size_is = table.size_is;
       lends = table.lends;
       later = later;
@@ -61,7 +62,7 @@ module _ {D : Type 0} (told : D → Option (List (List ℕ))) (size count : D �
     unfailed = same;
   }
 
-  pub not_written : KeepsTable size lending old mid → count old.device ≤ count mid.device → told mid.device ≡ told old.device → KeepsRecords told size count lending old mid
+  pub not_written : KeepsTable ghosts.size ghosts.lending old mid → ghosts.count old.device ≤ ghosts.count mid.device → ghosts.told mid.device ≡ ghosts.told old.device → KeepsRecords ghosts old mid
   not_written table later told_is = record {
     volumes = table.volumes;
     records = table.records;
@@ -70,13 +71,13 @@ module _ {D : Type 0} (told : D → Option (List (List ℕ))) (size count : D �
   }
 
   -- where a fault is told, nothing was put
-  pub not_put : (set b slot : ℕ) (bytes : List ℕ) (fault : RecoverFault) → lacks_room old.records set b ≡ false → IsWrittenIn told size count lending old mid slot bytes (Err fault)
-      → IsPut told size count lending old mid set b bytes (Err fault)
-  not_put set b slot bytes fault room is = subst (λ (f : RecoverFault). IsPut told size count lending old mid set b bytes (Err f)) (sym is.0) (room, is.1, is.2)
+  pub not_put : (set b slot : ℕ) (bytes : List ℕ) (fault : RecoverFault) → lacks_room old.records set b ≡ false → IsWrittenIn ghosts old mid slot bytes (Err fault)
+      → IsPut ghosts old mid set b bytes (Err fault)
+  not_put set b slot bytes fault room is = subst (λ (f : RecoverFault). IsPut ghosts old mid set b bytes (Err f)) (sym is.0) (room, is.1, is.2)
 
   -- the block's own slot was written
   pub put_over : (set b slot : ℕ) (bytes : List ℕ) (result : Result Unit RecoverFault) → slice_get old.records slot ≡ Some (record_of 0 set b)
-      → IsWrittenIn told size count lending old mid slot bytes result → IsPut told size count lending old mid set b bytes result
+      → IsWrittenIn ghosts old mid slot bytes result → IsPut ghosts old mid set b bytes result
   put_over set b slot bytes (Ok done) own is = (
     room_if_chosen old.records set b slot (inl own),
     record {
@@ -93,8 +94,8 @@ module _ {D : Type 0} (told : D → Option (List (List ℕ))) (size count : D �
 
   -- a free slot was written and noted
   pub put_first : (new : AreaValue D) (set b slot : ℕ) (bytes : List ℕ) → slice_get old.records slot ≡ Some free → has_record old.records (record_of 0 set b) ≡ false
-      → IsWrittenTo told size count lending old mid slot bytes
-      → new ≡ with_records (slice_set mid.records slot (record_of 0 set b)) mid → IsPut told size count lending old new set b bytes (Ok tt)
+      → IsWrittenTo ghosts old mid slot bytes
+      → new ≡ with_records (slice_set mid.records slot (record_of 0 set b)) mid → IsPut ghosts old new set b bytes (Ok tt)
   put_first new set b slot bytes empty none is new_is =
       let device : new.device ≡ mid.device = ap (λ (a : AreaValue D). a.device) new_is in (
         room_if_chosen old.records set b slot (inr (empty, none)),
@@ -103,8 +104,8 @@ module _ {D : Type 0} (told : D → Option (List (List ℕ))) (size count : D �
           was = inr (empty, none);
           volumes = ap (λ (a : AreaValue D). a.volumes) new_is ∙ is.volumes;
           records = ap (λ (a : AreaValue D). a.records) new_is ∙ ap (λ (rs : List Record). slice_set rs slot (record_of 0 set b)) is.records;
-          device = subst (λ (d : D). IsSameDevice told size count lending old.device d) (sym device) is.device;
-          slots = ap told device ∙ is.slots;
-          unfailed = ap count device ∙ is.unfailed;
+          device = subst (λ (d : D). IsSameDevice ghosts old.device d) (sym device) is.device;
+          slots = ap ghosts.told device ∙ is.slots;
+          unfailed = ap ghosts.count device ∙ is.unfailed;
         },
       )

@@ -21,33 +21,34 @@ use Rattle.vss_recover.specs.RecoverValue.{RecoverValue, StandsFor, IsOverlay}
 use Rattle.vss_recover.specs.Syncing.{KeepsSlots, KeepsSaid}
 use Rattle.vss_recover.specs.declared.claim.Claim.{Claim}
 use Rattle.vss_recover.proofs.Glue.{blocks_kept, keeps_volume}
+use Rattle.volume_device.specs.declared.device.Device.{Ghosts}
 
 below : (a b c : ℕ) → a ≤ b → a ≤ b + c
 below a b c l = omega arith
 
 -- ## the overlay
 
-module _ {D : Type 0} (told : D → Option (List (List ℕ))) (size count : D → ℕ) (lending : D → Bool) where
-  slots_first : (old new : AreaValue D) (first : List (List ℕ)) → KeepsTable size lending old new → count old.device ≤ count new.device
-      → length first ≤ table_for (length old.records) → told new.device ≡ option_map (with_first first) (told old.device) → KeepsSlots told size count lending old new
+module _ {D : Type 0} (ghosts : Ghosts D) where
+  slots_first : (old new : AreaValue D) (first : List (List ℕ)) → KeepsTable ghosts.size ghosts.lending old new → ghosts.count old.device ≤ ghosts.count new.device
+      → length first ≤ table_for (length old.records) → ghosts.told new.device ≡ option_map (with_first first) (ghosts.told old.device) → KeepsSlots ghosts old new
   slots_first old new first table later short e = record {
     volumes = table.volumes;
     records = table.records;
-    device = record { tells = tells_written (told old.device) (told new.device) first e; size_is = table.size_is; lends = table.lends; later = later };
-    slots = λ slot bytes has. past_first (told old.device) (told new.device) first (place_of_slot (length old.records) slot) bytes
+    device = record { tells = tells_written (ghosts.told old.device) (ghosts.told new.device) first e; size_is = table.size_is; lends = table.lends; later = later };
+    slots = λ slot bytes has. past_first (ghosts.told old.device) (ghosts.told new.device) first (place_of_slot (length old.records) slot) bytes
         (below (length first) (table_for (length old.records)) slot short) e has;
   }
 
   -- the table was written
-  pub slots_all : (old new : AreaValue D) → KeepsTable size lending old new → count old.device ≤ count new.device
-      → told new.device ≡ option_map (with_first (table_blocks old.volumes old.records)) (told old.device) → KeepsSlots told size count lending old new
+  pub slots_all : (old new : AreaValue D) → KeepsTable ghosts.size ghosts.lending old new → ghosts.count old.device ≤ ghosts.count new.device
+      → ghosts.told new.device ≡ option_map (with_first (table_blocks old.volumes old.records)) (ghosts.told old.device) → KeepsSlots ghosts old new
   slots_all old new table later e =
       let same = length-table old.volumes old.records in
       slots_first old new (table_blocks old.volumes old.records) table later (omega arith) e
 
   -- a part of it was
-  pub slots_part : (old new : AreaValue D) → KeepsTable size lending old new → count old.device ≤ count new.device
-      → AreInPart (table_blocks old.volumes old.records) (told old.device) (told new.device) → KeepsSlots told size count lending old new
+  pub slots_part : (old new : AreaValue D) → KeepsTable ghosts.size ghosts.lending old new → ghosts.count old.device ≤ ghosts.count new.device
+      → AreInPart (table_blocks old.volumes old.records) (ghosts.told old.device) (ghosts.told new.device) → KeepsSlots ghosts old new
   slots_part old new table later part =
       let same = length-table old.volumes old.records in
       let short = length-take-le part.count (table_blocks old.volumes old.records) part.within in
@@ -55,8 +56,8 @@ module _ {D : Type 0} (told : D → Option (List (List ℕ))) (size count : D �
       slots_first old new (take part.count (table_blocks old.volumes old.records)) table later (omega arith) part.blocks
 
   -- and then only a count may have changed
-  pub slots_further : (old mid new : AreaValue D) → KeepsSlots told size count lending old mid → KeepsTable size lending mid new → told new.device ≡ told mid.device
-      → count mid.device ≤ count new.device → KeepsSlots told size count lending old new
+  pub slots_further : (old mid new : AreaValue D) → KeepsSlots ghosts old mid → KeepsTable ghosts.size ghosts.lending mid new → ghosts.told new.device ≡ ghosts.told mid.device
+      → ghosts.count mid.device ≤ ghosts.count new.device → KeepsSlots ghosts old new
   slots_further old mid new kept table same later = record {
     volumes = table.volumes ∙ kept.volumes;
     records = table.records ∙ kept.records;
@@ -72,21 +73,21 @@ module _ {D : Type 0} (told : D → Option (List (List ℕ))) (size count : D �
 
   -- ## the volume
 
-  kept_overlay : (old new : AreaValue D) (n : ℕ) (rs : List Recovery) → KeepsSlots told size count lending old new
-      → IsOverlay (told old.device) old.records n rs → IsOverlay (told new.device) new.records n rs
+  kept_overlay : (old new : AreaValue D) (n : ℕ) (rs : List Recovery) → KeepsSlots ghosts old new
+      → IsOverlay (ghosts.told old.device) old.records n rs → IsOverlay (ghosts.told new.device) new.records n rs
   kept_overlay old new n rs kept is =
-      subst (λ (rows : List Record). IsOverlay (told new.device) rows n rs) (sym kept.records) (record {
+      subst (λ (rows : List Record). IsOverlay (ghosts.told new.device) rows n rs) (sym kept.records) (record {
         named = is.named;
         recorded = is.recorded;
         copied = λ slot set b above row. kept.slots slot (last_bytes b [] (recovered set rs)) (is.copied slot set b above row);
       })
 
-  pub synced_stands : (old new : RecoverValue D) (h : Recovering) → IsSynced told size count lending old.volume new.volume → KeepsSlots told size count lending old.overlay new.overlay
+  pub synced_stands : (old new : RecoverValue D) (h : Recovering) → IsSynced ghosts old.volume new.volume → KeepsSlots ghosts old.overlay new.overlay
       → KeepsSaid old new
-      → StandsFor told old h → StandsFor told new h
+      → StandsFor ghosts.told old h → StandsFor ghosts.told new h
   synced_stands old new h synced kept said stood = record {
     volume = synced.stands (h.volume ∷ []) stood.volume;
-    overlay = subst (λ (n : ℕ). IsOverlay (told new.overlay.device) new.overlay.records n h.recoveries) (sym (blocks_kept old.volume new.volume synced.kept.volumes))
+    overlay = subst (λ (n : ℕ). IsOverlay (ghosts.told new.overlay.device) new.overlay.records n h.recoveries) (sym (blocks_kept old.volume new.volume synced.kept.volumes))
         (kept_overlay old.overlay new.overlay (blocks_of old.volume) h.recoveries kept stood.overlay);
     of_images = subst (λ (sets : List ℕ). IsOfImages sets h) (sym (ap (λ (ss : List (List ℕ)). sets_in (slice_get ss 0)) synced.images)) stood.of_images;
     window = said.window ∙ stood.window;
@@ -94,7 +95,7 @@ module _ {D : Type 0} (told : D → Option (List (List ℕ))) (size count : D �
     final = said.final ∙ stood.final;
   }
 
-  pub same_slots : (area : AreaValue D) → KeepsSlots told size count lending area area
+  pub same_slots : (area : AreaValue D) → KeepsSlots ghosts area area
   same_slots area = record {
     volumes = refl;
     records = refl;
@@ -103,12 +104,12 @@ module _ {D : Type 0} (told : D → Option (List (List ℕ))) (size count : D �
   }
 
   -- what the fields keep
-  pub keeps_synced : (volume new : GroupValue D) (overlay now : AreaValue D) (window : Option ℕ) (claims : Vec Claim Global) (finals next : Vec ℕ Global) → IsSynced told size count lending volume new
-      → KeepsSlots told size count lending overlay now → KeepsWindow volume overlay window claims finals next → KeepsWindow new now window claims finals next
+  pub keeps_synced : (volume new : GroupValue D) (overlay now : AreaValue D) (window : Option ℕ) (claims : Vec Claim Global) (finals next : Vec ℕ Global) → IsSynced ghosts volume new
+      → KeepsSlots ghosts overlay now → KeepsWindow volume overlay window claims finals next → KeepsWindow new now window claims finals next
   keeps_synced volume new overlay now window claims finals next synced kept keeps =
       let mid = keeps_volume volume new overlay window claims finals next synced.kept.volumes keeps in
       record { fits = kept.volumes ∙ mid.fits; above_zero = mid.above_zero; claim_room = mid.claim_room; final_room = mid.final_room; next_room = mid.next_room }
 
-  pub synced_of : (old new : GroupValue D) (result : Result Unit Cause) → IsOneSync told size count lending old new result → IsSynced told size count lending old new
+  pub synced_of : (old new : GroupValue D) (result : Result Unit Cause) → IsOneSync ghosts old new result → IsSynced ghosts old new
   synced_of old new (Ok done) is = is.0
   synced_of old new (Err cause) is = is.0

@@ -4,6 +4,7 @@ use Rattle.std.specs.Prelude.{slice_get, slice_set, IfSome, is_some, if◌then�
 use Rattle.std.proofs.lemmas.List.Elements.{All-head, All-tail}
 use Rattle.std.proofs.lemmas.Option.{slice_get_within}
 use Rattle.volume_device.specs.Blocks.{AreBlocks}
+use Rattle.volume_device.specs.declared.device.Device.{Ghosts}
 use Rattle.write_history.specs.History.{History, Write, Image, content, last_bytes, names, sets_of, point_in, written, cut, dropped, reverted, reverted_in_part}
 use Rattle.diff_area.specs.AreaValue.{AreaValue}
 use Rattle.diff_area.specs.Places.{place_of_slot, blocks_for}
@@ -151,18 +152,18 @@ shown_below told v set b bytes none low is = λ h p stood all point. (
 blocks_same : {D : Type 0} (old new : GroupValue D) → new.area.volumes ≡ old.area.volumes → blocks_of new ≡ blocks_of old
 blocks_same old new e = ap (λ (ns : List ℕ). blocks_in (slice_get ns 0)) e
 
-pub wrote_step : {D : Type 0} (told : D → Option (List (List ℕ))) (size count : D → ℕ) (lending : D → Bool) (old new : RecoverValue D) (w : Write) (up_to : ℕ)
-    → IsOneWritten told size count lending old.volume new.volume w up_to → IsSettledUpTo up_to old new → IsStep told old new (Wrote w up_to)
-wrote_step told size count lending old new w up_to is settled = λ h stood. (
+pub wrote_step : {D : Type 0} (ghosts : Ghosts D) (old new : RecoverValue D) (w : Write) (up_to : ℕ)
+    → IsOneWritten ghosts old.volume new.volume w up_to → IsSettledUpTo up_to old new → IsStep ghosts.told old new (Wrote w up_to)
+wrote_step ghosts old new w up_to is settled = λ h stood. (
   is.in_range,
-  settled_up_to_stands told old new up_to (written w) h stood (is.stands h.volume stood.volume) (λ x. refl) (blocks_same old.volume new.volume is.kept.volumes) settled,
+  settled_up_to_stands ghosts.told old new up_to (written w) h stood (is.stands h.volume stood.volume) (λ x. refl) (blocks_same old.volume new.volume is.kept.volumes) settled,
 )
 
-pub evicted_step : {D : Type 0} (told : D → Option (List (List ℕ))) (size count : D → ℕ) (lending : D → Bool) (old new : RecoverValue D) (b : ℕ) (fault : _)
-    → IsOneUnwritten told size count lending old.volume new.volume b fault → IsSettledUpTo fault.evicted_up_to old new → IsStep told old new (Evicted fault.evicted_up_to)
-evicted_step told size count lending old new b fault is settled = λ h stood. (
+pub evicted_step : {D : Type 0} (ghosts : Ghosts D) (old new : RecoverValue D) (b : ℕ) (fault : _)
+    → IsOneUnwritten ghosts old.volume new.volume b fault → IsSettledUpTo fault.evicted_up_to old new → IsStep ghosts.told old new (Evicted fault.evicted_up_to)
+evicted_step ghosts old new b fault is settled = λ h stood. (
   tt,
-  settled_up_to_stands told old new fault.evicted_up_to (λ x. x) h stood (is.stands h.volume stood.volume) (λ x. refl) (blocks_same old.volume new.volume is.kept.volumes) settled,
+  settled_up_to_stands ghosts.told old new fault.evicted_up_to (λ x. x) h stood (is.stands h.volume stood.volume) (λ x. refl) (blocks_same old.volume new.volume is.kept.volumes) settled,
 )
 
 not_below : (sets : List ℕ) (set : ℕ) → All (λ s. s < set) sets → is_among set sets ≡ false
@@ -185,32 +186,32 @@ cut_step told old new set area images beside stands newest none = λ h stood. (
           (ap (λ (a : AreaValue _). a.records) beside.overlay) (ap (λ (a : AreaValue _). told a.device) beside.overlay) beside.window beside.claims beside.final,
     ))
 
-pub dropped_step : {D : Type 0} (told : D → Option (List (List ℕ))) (size count : D → ℕ) (lending : D → Bool) (old new : RecoverValue D) (set : ℕ)
-    → IsOneDropped told size count lending old.volume new.volume set (Ok tt) → IsSettled old new → IsStep told old new (Dropped set)
-dropped_step told size count lending old new set is settled = λ h stood. (
-  ap (is_among set) (sym (sets_are told old.volume h.volume stood.volume)) ∙ is.0,
-  settled_stands told old new (dropped set h.volume) h stood (is.1.stands h.volume stood.volume) (blocks_same old.volume new.volume is.1.kept.volumes) settled,
+pub dropped_step : {D : Type 0} (ghosts : Ghosts D) (old new : RecoverValue D) (set : ℕ)
+    → IsOneDropped ghosts old.volume new.volume set (Ok tt) → IsSettled old new → IsStep ghosts.told old new (Dropped set)
+dropped_step ghosts old new set is settled = λ h stood. (
+  ap (is_among set) (sym (sets_are ghosts.told old.volume h.volume stood.volume)) ∙ is.0,
+  settled_stands ghosts.told old new (dropped set h.volume) h stood (is.1.stands h.volume stood.volume) (blocks_same old.volume new.volume is.1.kept.volumes) settled,
 )
 
-module _ {D : Type 0} (told : D → Option (List (List ℕ))) (size count : D → ℕ) (lending : D → Bool) (old new : RecoverValue D) (set : ℕ) (fits : old.overlay.volumes ≡ blocks_of old.volume ∷ [])
+module _ {D : Type 0} (ghosts : Ghosts D) (old new : RecoverValue D) (set : ℕ) (fits : old.overlay.volumes ≡ blocks_of old.volume ∷ [])
     (are : AreRecords old.overlay.volumes old.overlay.records)
-    (none : count_in set old.overlay.records ≡ 0) (settled : IsSettled old new) (h : Recovering) (p : ℕ) (stood : StandsFor told old h) (point : point_in set h.volume.images ≡ Some p) where
+    (none : count_in set old.overlay.records ≡ 0) (settled : IsSettled old new) (h : Recovering) (p : ℕ) (stood : StandsFor ghosts.told old h) (point : point_in set h.volume.images ≡ Some p) where
   unrecovered_there : blocks_recovered (blocks_of old.volume) h.recoveries set ≡ 0
-  unrecovered_there = sym (blocks_counted told old h set stood fits are (image_of_point told old.volume h.volume set p stood.volume point)) ∙ none
+  unrecovered_there = sym (blocks_counted ghosts.told old h set stood fits are (image_of_point ghosts.told old.volume h.volume set p stood.volume point)) ∙ none
 
-  pub reverted_step : IsOneReverted told size count lending old.volume new.volume set
-      → IsAllowed (blocks_of old.volume) h (Reverted set p) × StandsFor told new (after (blocks_of old.volume) h (Reverted set p))
+  pub reverted_step : IsOneReverted ghosts old.volume new.volume set
+      → IsAllowed (blocks_of old.volume) h (Reverted set p) × StandsFor ghosts.told new (after (blocks_of old.volume) h (Reverted set p))
   reverted_step is = (
     (point, unrecovered_there),
-    settled_stands told old new (reverted set p h.volume) h stood (is.stands h.volume p stood.volume point)
+    settled_stands ghosts.told old new (reverted set p h.volume) h stood (is.stands h.volume p stood.volume point)
         (blocks_same old.volume new.volume is.kept.volumes) settled,
   )
 
-  pub in_part_step : (k : ℕ) → IsOneRevertedInPart told size count lending old.volume new.volume set k
-      → IsAllowed (blocks_of old.volume) h (RevertedInPart set p k) × StandsFor told new (after (blocks_of old.volume) h (RevertedInPart set p k))
+  pub in_part_step : (k : ℕ) → IsOneRevertedInPart ghosts old.volume new.volume set k
+      → IsAllowed (blocks_of old.volume) h (RevertedInPart set p k) × StandsFor ghosts.told new (after (blocks_of old.volume) h (RevertedInPart set p k))
   in_part_step k is = (
     (point, unrecovered_there),
-    settled_stands told old new (reverted_in_part (blocks_of old.volume) set p k h.volume) h stood (is.stands h.volume p stood.volume point)
+    settled_stands ghosts.told old new (reverted_in_part (blocks_of old.volume) set p k h.volume) h stood (is.stands h.volume p stood.volume point)
         (blocks_same old.volume new.volume is.kept.volumes) settled,
   )
 
@@ -251,28 +252,28 @@ closed_step told old set window = λ h stood. (
 
 -- ## a recovery write
 
-pub recovered_step : {D : Type 0} (told : D → Option (List (List ℕ))) (size count : D → ℕ) (lending : D → Bool) (old : RecoverValue D) (overlay : AreaValue D) (r : Recovery)
+pub recovered_step : {D : Type 0} (ghosts : Ghosts D) (old : RecoverValue D) (overlay : AreaValue D) (r : Recovery)
     → old.overlay.volumes ≡ blocks_of old.volume ∷ [] → AreRecords old.overlay.volumes old.overlay.records
-    → size old.overlay.device ≡ blocks_for (length old.overlay.records) → IfSome (told old.overlay.device) (AreBlocks (size old.overlay.device)) → old.window ≡ Some r.set
+    → ghosts.size old.overlay.device ≡ blocks_for (length old.overlay.records) → IfSome (ghosts.told old.overlay.device) (AreBlocks (ghosts.size old.overlay.device)) → old.window ≡ Some r.set
     → r.write.block < blocks_of old.volume → owner_of old.claims r.write.block ≡ Some r.writer
-    → IsPutIn told size count lending old.overlay overlay r.set r.write.block r.write.bytes
-    → IsStep told old (record { volume = old.volume; overlay = overlay; window = old.window; claims = old.claims; final = old.final }) (Recovered r)
-recovered_step told size count lending old overlay r fits are sized whole window low owner is = λ h stood. (
+    → IsPutIn ghosts old.overlay overlay r.set r.write.block r.write.bytes
+    → IsStep ghosts.told old (record { volume = old.volume; overlay = overlay; window = old.window; claims = old.claims; final = old.final }) (Recovered r)
+recovered_step ghosts old overlay r fits are sized whole window low owner is = λ h stood. (
     let n = blocks_of old.volume in
     let among = stood.of_images.window r.set (sym stood.window ∙ window) in
-    let above = above_zero told old.volume h.volume r.set stood.volume among in
+    let above = above_zero ghosts.told old.volume h.volume r.set stood.volume among in
     let mine = sym stood.window ∙ window in
     let one = set_one old.overlay.volumes old.overlay.records is.slot (record_of 0 r.set r.write.block) are
     (λ e. (let none : r.set ≡ 0 = ap (λ (x : Record). x.set) e in absurd (omega arith))) is.was in
     let within = slice_get_within (slice_set old.overlay.records is.slot (record_of 0 r.set r.write.block)) is.slot (record_of 0 r.set r.write.block) one.at in
     let long = one.long in
-    let room = slot_room (told old.overlay.device) (length old.overlay.records) is.slot (subst (λ (k : ℕ). IfSome (told old.overlay.device) (AreBlocks k)) sized whole) (omega arith) in (
+    let room = slot_room (ghosts.told old.overlay.device) (length old.overlay.records) is.slot (subst (λ (k : ℕ). IfSome (ghosts.told old.overlay.device) (AreBlocks k)) sized whole) (omega arith) in (
       (mine, low, ap (λ (cs : List Claim). owner_of cs r.write.block) (sym stood.claims) ∙ owner),
       record {
         volume = stood.volume;
-        overlay = subst (λ (rows : List Record). IsOverlay (told overlay.device) rows n (h.recoveries ++ r ∷ [])) (sym is.records)
+        overlay = subst (λ (rows : List Record). IsOverlay (ghosts.told overlay.device) rows n (h.recoveries ++ r ∷ [])) (sym is.records)
             (subst (λ (o : Option (List (List ℕ))). IsOverlay o (slice_set old.overlay.records is.slot (record_of 0 r.set r.write.block)) n (h.recoveries ++ r ∷ [])) (sym is.slots)
-            (put_overlay (told old.overlay.device) old.overlay.records
+            (put_overlay (ghosts.told old.overlay.device) old.overlay.records
             (slice_set old.overlay.records is.slot (record_of 0 r.set r.write.block)) n is.slot h.recoveries r stood.overlay above one room));
         of_images = (let of = of_recovered (image_sets old.volume) r h mine stood.of_images in record { recoveries = of.recoveries; window = of.window; final = of.final });
         window = stood.window;

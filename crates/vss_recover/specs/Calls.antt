@@ -2,6 +2,7 @@
 -- the window and the final sets what stays and what goes. (This project's own.)
 use Rattle.std.specs.Prelude.{ℕ, ◌≡◌, ◌<◌, ◌≤◌, ◌⊎◌, zero, suc, Bool, true, false, List, length, Option, Some, None, Result, Ok, Err}
 use Rattle.vss_names.specs.Faults.{Rose}
+use Rattle.volume_device.specs.declared.device.Device.{Ghosts}
 use Rattle.write_history.specs.History.{point_in}
 use Rattle.cow_volume.specs.Calls.{IsQuiet, IsUnfailed, VolumeRose, AreaRose, IsSameDevice, is_among}
 use Rattle.cow_volume.specs.OneVolume.{blocks_of, image_sets, IsOneRevert}
@@ -60,9 +61,9 @@ IsDropped old new (Err fault) = new ≡ old
 -- ## reads of an image
 
 -- nothing changed but counts of devices
-pub record IsReadAlone {D : Type 0} (told : D → Option (List (List ℕ))) (size count : D → ℕ) (lending : D → Bool) (old new : RecoverValue D) : Type 0 where
-  pub volume : IsQuiet told size count lending old.volume new.volume
-  pub overlay : KeepsRecords told size count lending old.overlay new.overlay
+pub record IsReadAlone {D : Type 0} (ghosts : Ghosts D) (old new : RecoverValue D) : Type 0 where
+  pub volume : IsQuiet ghosts old.volume new.volume
+  pub overlay : KeepsRecords ghosts old.overlay new.overlay
   pub window : new.window ≡ old.window
   pub claims : new.claims ≡ old.claims
   pub final : new.final ≡ old.final
@@ -133,9 +134,9 @@ pub record IsClaimed {D : Type 0} (v : RecoverValue D) (set writer b : ℕ) : Ty
   pub owner : owner_of v.claims b ≡ Some writer
 
 -- only the overlay may have changed, and only its device's blocks and records
-pub record IsOverlayAlone {D : Type 0} (told : D → Option (List (List ℕ))) (size count : D → ℕ) (lending : D → Bool) (old new : RecoverValue D) : Type 0 where
+pub record IsOverlayAlone {D : Type 0} (ghosts : Ghosts D) (old new : RecoverValue D) : Type 0 where
   pub volume : new.volume ≡ old.volume
-  pub device : IsSameDevice told size count lending old.overlay.device new.overlay.device
+  pub device : IsSameDevice ghosts old.overlay.device new.overlay.device
   pub volumes : new.overlay.volumes ≡ old.overlay.volumes
   pub slots : length new.overlay.records ≡ length old.overlay.records
   pub window : new.window ≡ old.window
@@ -143,27 +144,27 @@ pub record IsOverlayAlone {D : Type 0} (told : D → Option (List (List ℕ))) (
   pub final : new.final ≡ old.final
 
 -- a recovery write was made, or the first cause that stands is told
-abbrev pub IsRecoverWrite : {D : Type 0} → (D → Option (List (List ℕ))) → (D → ℕ) → (D → ℕ) → (D → Bool) → RecoverValue D → RecoverValue D → ℕ → ℕ → ℕ → Result Unit RecoverFault → Type 0
-IsRecoverWrite told size count lending old new set writer b (Ok done) = IsClaimed old set writer b × (lacks_room old.overlay.records set b ≡ false) × IsOverlayAlone told size count lending old new
-    × (count new.overlay.device ≡ count old.overlay.device)
-IsRecoverWrite told size count lending old new set writer b (Err NotOpen) = (old.window ≡ Some set → ⊥) × (new ≡ old)
-IsRecoverWrite told size count lending old new set writer b (Err NoBlock) = (old.window ≡ Some set) × (blocks_of old.volume ≤ b) × (new ≡ old)
-IsRecoverWrite told size count lending old new set writer b (Err (NotOwner owner)) = (old.window ≡ Some set) × (b < blocks_of old.volume) × (owner ≡ owner_of old.claims b)
+abbrev pub IsRecoverWrite : {D : Type 0} → Ghosts D → RecoverValue D → RecoverValue D → ℕ → ℕ → ℕ → Result Unit RecoverFault → Type 0
+IsRecoverWrite ghosts old new set writer b (Ok done) = IsClaimed old set writer b × (lacks_room old.overlay.records set b ≡ false) × IsOverlayAlone ghosts old new
+    × (ghosts.count new.overlay.device ≡ ghosts.count old.overlay.device)
+IsRecoverWrite ghosts old new set writer b (Err NotOpen) = (old.window ≡ Some set → ⊥) × (new ≡ old)
+IsRecoverWrite ghosts old new set writer b (Err NoBlock) = (old.window ≡ Some set) × (blocks_of old.volume ≤ b) × (new ≡ old)
+IsRecoverWrite ghosts old new set writer b (Err (NotOwner owner)) = (old.window ≡ Some set) × (b < blocks_of old.volume) × (owner ≡ owner_of old.claims b)
     × (owner ≡ Some writer → ⊥) × (new ≡ old)
-IsRecoverWrite told size count lending old new set writer b (Err Full) = IsClaimed old set writer b × (lacks_room old.overlay.records set b ≡ true) × (new ≡ old)
-IsRecoverWrite told size count lending old new set writer b (Err OverlayFailed) = IsClaimed old set writer b × (lacks_room old.overlay.records set b ≡ false)
-    × (new.volume ≡ old.volume) × KeepsRecords told size count lending old.overlay new.overlay × Rose (count old.overlay.device) (count new.overlay.device)
+IsRecoverWrite ghosts old new set writer b (Err Full) = IsClaimed old set writer b × (lacks_room old.overlay.records set b ≡ true) × (new ≡ old)
+IsRecoverWrite ghosts old new set writer b (Err OverlayFailed) = IsClaimed old set writer b × (lacks_room old.overlay.records set b ≡ false)
+    × (new.volume ≡ old.volume) × KeepsRecords ghosts old.overlay new.overlay × Rose (ghosts.count old.overlay.device) (ghosts.count new.overlay.device)
     × (new.window ≡ old.window) × (new.claims ≡ old.claims) × (new.final ≡ old.final)
 
 -- ## revert
 
 -- the volume was brought back to the image of a set, or not; an image that has recovered blocks is never
-abbrev pub IsReverted : {D : Type 0} → (D → Option (List (List ℕ))) → (D → ℕ) → (D → ℕ) → (D → Bool) → RecoverValue D → RecoverValue D → ℕ → Result Unit RecoverRevert → Type 0
-IsReverted told size count lending old new set (Ok done) = (count_in set old.overlay.records ≡ 0) × IsOneRevert told size count lending old.volume new.volume set (Ok done) × IsSettled old new
-IsReverted told size count lending old new set (Err (Recovered blocks)) = (is_among set (image_sets old.volume) ≡ true) × (0 < blocks) × (blocks ≡ count_in set old.overlay.records) × (new ≡ old)
-IsReverted told size count lending old new set (Err (Other NoImage)) = (is_among set (image_sets old.volume) ≡ false) × (new ≡ old)
-IsReverted told size count lending old new set (Err (Other (Fault restored cause))) = (count_in set old.overlay.records ≡ 0)
-    × IsOneRevert told size count lending old.volume new.volume set (Err (Fault restored cause)) × IsSettled old new
+abbrev pub IsReverted : {D : Type 0} → Ghosts D → RecoverValue D → RecoverValue D → ℕ → Result Unit RecoverRevert → Type 0
+IsReverted ghosts old new set (Ok done) = (count_in set old.overlay.records ≡ 0) × IsOneRevert ghosts old.volume new.volume set (Ok done) × IsSettled old new
+IsReverted ghosts old new set (Err (Recovered blocks)) = (is_among set (image_sets old.volume) ≡ true) × (0 < blocks) × (blocks ≡ count_in set old.overlay.records) × (new ≡ old)
+IsReverted ghosts old new set (Err (Other NoImage)) = (is_among set (image_sets old.volume) ≡ false) × (new ≡ old)
+IsReverted ghosts old new set (Err (Other (Fault restored cause))) = (count_in set old.overlay.records ≡ 0)
+    × IsOneRevert ghosts old.volume new.volume set (Err (Fault restored cause)) × IsSettled old new
 
 -- and what the step was, of an image with its point
 abbrev pub IsRevertStep : {D : Type 0} → (D → Option (List (List ℕ))) → RecoverValue D → RecoverValue D → ℕ → Result Unit RecoverRevert → Type 0

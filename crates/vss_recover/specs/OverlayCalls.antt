@@ -2,6 +2,7 @@
 use Rattle.std.specs.Prelude.{ℕ, ◌≡◌, ◌<◌, ◌≤◌, ◌^◌, ◌⊎◌, Bool, true, false, List, length, map, Option, Some, slice_get, slice_set, count_by, nat_lt, ◌==◌, ◌&&◌, not, if◌then◌else◌, Result, Ok, Err}
 use Rattle.std.specs.List.{AllWithin, insert}
 use Rattle.vss_names.specs.Faults.{Rose}
+use Rattle.volume_device.specs.declared.device.Device.{Ghosts}
 use Rattle.diff_area.specs.AreaValue.{AreaValue}
 use Rattle.diff_area.specs.Places.{place_of_slot}
 use Rattle.diff_area.specs.Records.{free}
@@ -45,43 +46,43 @@ pub record IsNotedIn (old new : List Entry) (slot : ℕ) (r : Record) : Type 0 w
   pub items : new ≡ insert old at (record { block = r.block; set = r.set; slot = slot })
 
 -- the device was called, and the records are as they were
-pub record KeepsRecords {D : Type 0} (told : D → Option (List (List ℕ))) (size count : D → ℕ) (lending : D → Bool) (old new : AreaValue D) : Type 0 where
+pub record KeepsRecords {D : Type 0} (ghosts : Ghosts D) (old new : AreaValue D) : Type 0 where
   pub volumes : new.volumes ≡ old.volumes
   pub records : new.records ≡ old.records
-  pub device : IsSameDevice told size count lending old.device new.device
-  pub slots : told new.device ≡ told old.device
+  pub device : IsSameDevice ghosts old.device new.device
+  pub slots : ghosts.told new.device ≡ ghosts.told old.device
 
 -- bytes were written into a slot
-pub record IsWrittenTo {D : Type 0} (told : D → Option (List (List ℕ))) (size count : D → ℕ) (lending : D → Bool) (old new : AreaValue D) (slot : ℕ) (bytes : List ℕ) : Type 0 where
+pub record IsWrittenTo {D : Type 0} (ghosts : Ghosts D) (old new : AreaValue D) (slot : ℕ) (bytes : List ℕ) : Type 0 where
   pub volumes : new.volumes ≡ old.volumes
   pub records : new.records ≡ old.records
-  pub device : IsSameDevice told size count lending old.device new.device
-  pub slots : told new.device ≡ put (place_of_slot (length old.records) slot) bytes (told old.device)
-  pub unfailed : count new.device ≡ count old.device
+  pub device : IsSameDevice ghosts old.device new.device
+  pub slots : ghosts.told new.device ≡ put (place_of_slot (length old.records) slot) bytes (ghosts.told old.device)
+  pub unfailed : ghosts.count new.device ≡ ghosts.count old.device
 
 -- or the device failed
-abbrev pub IsWrittenIn : {D : Type 0} → (D → Option (List (List ℕ))) → (D → ℕ) → (D → ℕ) → (D → Bool) → AreaValue D → AreaValue D → ℕ → List ℕ → Result Unit RecoverFault → Type 0
-IsWrittenIn told size count lending old new slot bytes (Ok done) = IsWrittenTo told size count lending old new slot bytes
-IsWrittenIn told size count lending old new slot bytes (Err fault) = (fault ≡ Area) × KeepsRecords told size count lending old new × Rose (count old.device) (count new.device)
+abbrev pub IsWrittenIn : {D : Type 0} → Ghosts D → AreaValue D → AreaValue D → ℕ → List ℕ → Result Unit RecoverFault → Type 0
+IsWrittenIn ghosts old new slot bytes (Ok done) = IsWrittenTo ghosts old new slot bytes
+IsWrittenIn ghosts old new slot bytes (Err fault) = (fault ≡ Area) × KeepsRecords ghosts old new × Rose (ghosts.count old.device) (ghosts.count new.device)
 
 -- the slot has this record, or it is free and none has
 abbrev pub IsChosen : List Record → Record → ℕ → Type 0
 IsChosen records r slot = (slice_get records slot ≡ Some r) ⊎ ((slice_get records slot ≡ Some free) × (has_record records r ≡ false))
 
 -- the slot that block b of the image of a set has, or one that was free and is the block's now, has these bytes
-pub record IsPutIn {D : Type 0} (told : D → Option (List (List ℕ))) (size count : D → ℕ) (lending : D → Bool) (old new : AreaValue D) (set b : ℕ) (bytes : List ℕ) : Type 0 where
+pub record IsPutIn {D : Type 0} (ghosts : Ghosts D) (old new : AreaValue D) (set b : ℕ) (bytes : List ℕ) : Type 0 where
   pub slot : ℕ
   pub was : IsChosen old.records (record_of 0 set b) slot
   pub volumes : new.volumes ≡ old.volumes
   pub records : new.records ≡ slice_set old.records slot (record_of 0 set b)
-  pub device : IsSameDevice told size count lending old.device new.device
-  pub slots : told new.device ≡ put (place_of_slot (length old.records) slot) bytes (told old.device)
-  pub unfailed : count new.device ≡ count old.device
+  pub device : IsSameDevice ghosts old.device new.device
+  pub slots : ghosts.told new.device ≡ put (place_of_slot (length old.records) slot) bytes (ghosts.told old.device)
+  pub unfailed : ghosts.count new.device ≡ ghosts.count old.device
 
-abbrev pub IsPut : {D : Type 0} → (D → Option (List (List ℕ))) → (D → ℕ) → (D → ℕ) → (D → Bool) → AreaValue D → AreaValue D → ℕ → ℕ → List ℕ → Result Unit RecoverFault → Type 0
-IsPut told size count lending old new set b bytes (Ok done) = (lacks_room old.records set b ≡ false) × IsPutIn told size count lending old new set b bytes
-IsPut told size count lending old new set b bytes (Err NotOpen) = ⊥
-IsPut told size count lending old new set b bytes (Err NoSuchBlock) = ⊥
-IsPut told size count lending old new set b bytes (Err (NotOwner owner)) = ⊥
-IsPut told size count lending old new set b bytes (Err Full) = (lacks_room old.records set b ≡ true) × (new ≡ old)
-IsPut told size count lending old new set b bytes (Err Area) = (lacks_room old.records set b ≡ false) × KeepsRecords told size count lending old new × Rose (count old.device) (count new.device)
+abbrev pub IsPut : {D : Type 0} → Ghosts D → AreaValue D → AreaValue D → ℕ → ℕ → List ℕ → Result Unit RecoverFault → Type 0
+IsPut ghosts old new set b bytes (Ok done) = (lacks_room old.records set b ≡ false) × IsPutIn ghosts old new set b bytes
+IsPut ghosts old new set b bytes (Err NotOpen) = ⊥
+IsPut ghosts old new set b bytes (Err NoSuchBlock) = ⊥
+IsPut ghosts old new set b bytes (Err (NotOwner owner)) = ⊥
+IsPut ghosts old new set b bytes (Err Full) = (lacks_room old.records set b ≡ true) × (new ≡ old)
+IsPut ghosts old new set b bytes (Err Area) = (lacks_room old.records set b ≡ false) × KeepsRecords ghosts old new × Rose (ghosts.count old.device) (ghosts.count new.device)

@@ -2,6 +2,7 @@
 -- and brought to where they last. (This project's own.)
 use Rattle.std.specs.Prelude.{ℕ, ◌≡◌, ◌⊎◌, Bool, List, Option, Some, IfSome, slice_get, length, Result, Ok, Err}
 use Rattle.vss_names.specs.Faults.{Rose}
+use Rattle.volume_device.specs.declared.device.Device.{Ghosts}
 use Rattle.diff_area.specs.AreaValue.{AreaValue}
 use Rattle.diff_area.specs.Places.{place_of_slot}
 use Rattle.cow_volume.specs.Calls.{IsSameDevice}
@@ -11,12 +12,12 @@ use Rattle.cow_volume.specs.declared.cause.Cause.TheVariants.{Area}
 use Rattle.vss_recover.specs.RecoverValue.{RecoverValue}
 
 -- only what an area's device has before its slots may have changed
-pub record KeepsSlots {D : Type 0} (told : D → Option (List (List ℕ))) (size count : D → ℕ) (lending : D → Bool) (old new : AreaValue D) : Type 0 where
+pub record KeepsSlots {D : Type 0} (ghosts : Ghosts D) (old new : AreaValue D) : Type 0 where
   pub volumes : new.volumes ≡ old.volumes
   pub records : new.records ≡ old.records
-  pub device : IsSameDevice told size count lending old.device new.device
-  pub slots : (slot : ℕ) (bytes : List ℕ) → IfSome (told old.device) (λ blocks. slice_get blocks (place_of_slot (length old.records) slot) ≡ Some bytes)
-      → IfSome (told new.device) (λ blocks. slice_get blocks (place_of_slot (length old.records) slot) ≡ Some bytes)
+  pub device : IsSameDevice ghosts old.device new.device
+  pub slots : (slot : ℕ) (bytes : List ℕ) → IfSome (ghosts.told old.device) (λ blocks. slice_get blocks (place_of_slot (length old.records) slot) ≡ Some bytes)
+      → IfSome (ghosts.told new.device) (λ blocks. slice_get blocks (place_of_slot (length old.records) slot) ≡ Some bytes)
 
 -- the window, its claims and the final sets are as they were
 pub record KeepsSaid {D : Type 0} (old new : RecoverValue D) : Type 0 where
@@ -26,9 +27,9 @@ pub record KeepsSaid {D : Type 0} (old new : RecoverValue D) : Type 0 where
 
 -- the volume was synced, and then the overlay; or a device failed: that of the volume's area, and the overlay is as it was; or the
 -- overlay's
-abbrev pub IsRecoverSync : {D : Type 0} → (D → Option (List (List ℕ))) → (D → ℕ) → (D → ℕ) → (D → Bool) → RecoverValue D → RecoverValue D → Result Unit Cause → Type 0
-IsRecoverSync told size count lending old new (Ok done) = IsOneSync told size count lending old.volume new.volume (Ok done)
-    × KeepsSlots told size count lending old.overlay new.overlay × (count new.overlay.device ≡ count old.overlay.device)
-IsRecoverSync told size count lending old new (Err cause) = (cause ≡ Area)
-    × ((IsOneSync told size count lending old.volume new.volume (Err cause) × (new.overlay ≡ old.overlay))
-    ⊎ (IsOneSync told size count lending old.volume new.volume (Ok tt) × KeepsSlots told size count lending old.overlay new.overlay × Rose (count old.overlay.device) (count new.overlay.device)))
+abbrev pub IsRecoverSync : {D : Type 0} → Ghosts D → RecoverValue D → RecoverValue D → Result Unit Cause → Type 0
+IsRecoverSync ghosts old new (Ok done) = IsOneSync ghosts old.volume new.volume (Ok done)
+    × KeepsSlots ghosts old.overlay new.overlay × (ghosts.count new.overlay.device ≡ ghosts.count old.overlay.device)
+IsRecoverSync ghosts old new (Err cause) = (cause ≡ Area)
+    × ((IsOneSync ghosts old.volume new.volume (Err cause) × (new.overlay ≡ old.overlay))
+    ⊎ (IsOneSync ghosts old.volume new.volume (Ok tt) × KeepsSlots ghosts old.overlay new.overlay × Rose (ghosts.count old.overlay.device) (ghosts.count new.overlay.device)))

@@ -85,7 +85,7 @@ impl<D: Device> Overlay<D> {
     pub(crate) fn sync(&mut self) -> Result<(), AreaFault>
         ensures stored { OnOk result ((copies : List Copy) → AreHeld (D.told self.old.device) self.old.records copies → AreStored (D.told self.new.device) copies) }
         ensures lasts { OnOk result (D.lasting self.new.device ≡ D.told self.new.device) }
-        ensures kept { KeepsSlots D.told D.size D.count D.lending self.old self.new }
+        ensures kept { KeepsSlots D.Device self.old self.new }
         ensures cause { HasCause (D.count self.old.device) (D.count self.new.device) result }
     {
         let _facts = self.area.slots();
@@ -158,7 +158,7 @@ impl<D: Device> Overlay<D> {
     pub(crate) fn put(&mut self, set: u32, block: u32, bytes: &[u8]) -> Result<(), RecoverFault>
         requires used { IsUsed self.old.volumes (record_of 0 set block) }
         requires whole { length bytes.now ≡ BLOCK }
-        ensures { IsPut D.told D.size D.count D.lending self.old self.new set block bytes.now result }
+        ensures { IsPut D.Device self.old self.new set block bytes.now result }
     {
         match self.find(set, block) {
             Some(slot) => self.write_slot(slot, bytes),
@@ -171,7 +171,7 @@ impl<D: Device> Overlay<D> {
         requires used { IsUsed self.old.volumes (record_of 0 set block) }
         requires lacks { has_record self.old.records (record_of 0 set block) ≡ false }
         requires whole { length bytes.now ≡ BLOCK }
-        ensures { IsPut D.told D.size D.count D.lending self.old self.new set block bytes.now result }
+        ensures { IsPut D.Device self.old self.new set block bytes.now result }
     {
         let Some(slot) = self.pool.lowest() else {
             return Err(RecoverFault::Full);
@@ -189,7 +189,7 @@ impl<D: Device> Overlay<D> {
     fn write_slot(&mut self, slot: u32, bytes: &[u8]) -> Result<(), RecoverFault>
         requires slot { slot < length self.old.records }
         requires whole { length bytes.now ≡ BLOCK }
-        ensures { IsWrittenIn D.told D.size D.count D.lending self.old self.new slot bytes.now result }
+        ensures { IsWrittenIn D.Device self.old self.new slot bytes.now result }
     {
         match self.area.copy_in(slot, BlockView::new(bytes)) {
             Ok(()) => Ok(()),
@@ -234,7 +234,7 @@ pub(crate) fn put_payload<D: Device>(
     payload: &Payload,
 ) -> Result<(), RecoverFault>
     requires { IsUsed overlay.old.volumes (record_of 0 set block) }
-    ensures { IsPut D.told D.size D.count D.lending overlay.old overlay.new set block (payload_bytes payload.now) result }
+    ensures { IsPut D.Device overlay.old overlay.new set block (payload_bytes payload.now) result }
 {
     payload.fill_into(scratch.bytes_mut());
     overlay.put(set, block, scratch.bytes())

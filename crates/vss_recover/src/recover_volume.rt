@@ -171,7 +171,7 @@ impl<D: Device> RecoverVolume<D> {
         ensures now { OnOk result (IsOneNow D.told self.old.volume block out.new) }
         ensures same { OnOk result (IsUnfailed D.count self.old.volume self.new.volume) }
         ensures cause { IfErr result (HasOneCause D.count block self.old.volume self.new.volume) }
-        ensures quiet { IsQuiet D.told D.size D.count D.lending self.old.volume self.new.volume }
+        ensures quiet { IsQuiet D.Device self.old.volume self.new.volume }
         ensures beside { IsBeside self.old self.new }
         ensures stands { (h : Recovering) → StandsFor D.told self.old h → StandsFor D.told self.new h }
     {
@@ -191,7 +191,7 @@ impl<D: Device> RecoverVolume<D> {
         ensures shown { OnOk result (IsShown D.told self.old set block out.new) }
         ensures same { OnOk result (AreUnfailed D.count self.old self.new) }
         ensures cause { IfErr result (HasReadCause D.count set block self.old self.new) }
-        ensures alone { IsReadAlone D.told D.size D.count D.lending self.old self.new }
+        ensures alone { IsReadAlone D.Device self.old self.new }
         ensures stands { (h : Recovering) → StandsFor D.told self.old h → StandsFor D.told self.new h }
     {
         if !self.has_image(set) {
@@ -212,7 +212,7 @@ impl<D: Device> RecoverVolume<D> {
     /// Writes a block of the volume. No image shows anything else for it; the oldest may go, as a copy-on-write volume has it, and give
     /// their overlay slots back.
     pub fn write(&mut self, block: u32, payload: &Payload) -> Result<Written, WriteFault>
-        ensures write { IsOneWrite D.told D.size D.count D.lending self.old.volume self.new.volume (record { block = block; bytes = payload_bytes payload.now }) result }
+        ensures write { IsOneWrite D.Device self.old.volume self.new.volume (record { block = block; bytes = payload_bytes payload.now }) result }
         ensures once { IsOneCopiedOnce D.told self.old.volume self.new.volume block }
         ensures settled { IfOk result (λ done. IsSettledUpTo done.evicted_up_to self.old self.new) }
         ensures settled_too { IfErr result (λ fault. IsSettledUpTo fault.evicted_up_to self.old self.new) }
@@ -233,7 +233,7 @@ impl<D: Device> RecoverVolume<D> {
 
     /// The image of a set goes, gives its overlay slots back, and closes its window.
     pub fn drop_image(&mut self, set: u32) -> Result<(), ImageFault>
-        ensures dropped { IsOneDropped D.told D.size D.count D.lending self.old.volume self.new.volume set result }
+        ensures dropped { IsOneDropped D.Device self.old.volume self.new.volume set result }
         ensures settled { IsDropped self.old self.new result }
         ensures step { OnOk result (IsStep D.told self.old self.new (Step.Dropped set)) }
     {
@@ -269,7 +269,7 @@ impl<D: Device> RecoverVolume<D> {
         block: u32,
         payload: &Payload,
     ) -> Result<(), RecoverFault>
-        ensures recovered { IsRecoverWrite D.told D.size D.count D.lending self.old self.new set writer block result }
+        ensures recovered { IsRecoverWrite D.Device self.old self.new set writer block result }
         ensures full { (h : Recovering) → StandsFor D.told self.old h → self.old.window ≡ Some set → block < blocks_of self.old.volume
             → lacks_room self.old.overlay.records set block ≡ (not (names (recovered set h.recoveries) block) && (all_recovered (blocks_of self.old.volume) h.recoveries (image_sets self.old.volume) == length self.old.overlay.records)) }
         ensures step { OnOk result (IsStep D.told self.old self.new (Step.Recovered (record { set = set; writer = writer; write = record { block = block; bytes = payload_bytes payload.now } }))) }
@@ -302,7 +302,7 @@ impl<D: Device> RecoverVolume<D> {
 
     /// Brings the volume back to the image of a set, where no writer changed it; the newer images go.
     pub fn revert(&mut self, set: u32) -> Result<(), RecoverRevert>
-        ensures reverted { IsReverted D.told D.size D.count D.lending self.old self.new set result }
+        ensures reverted { IsReverted D.Device self.old self.new set result }
         ensures number { (h : Recovering) → StandsFor D.told self.old h → is_among set (image_sets self.old.volume) ≡ true → count_in set self.old.overlay.records ≡ blocks_recovered (blocks_of self.old.volume) h.recoveries set }
         ensures step { IsRevertStep D.told self.old self.new set result }
     {
@@ -328,7 +328,7 @@ impl<D: Device> RecoverVolume<D> {
         ensures same { OnOk result (IsUnfailed D.count self.old.volume self.new.volume) }
         ensures cause { IfErr result (λ cause. cause ≡ Cause.Volume) }
         ensures rose { IfErr result (λ cause. VolumeRose D.count 0 self.old.volume self.new.volume) }
-        ensures quiet { IsQuiet D.told D.size D.count D.lending self.old.volume self.new.volume }
+        ensures quiet { IsQuiet D.Device self.old.volume self.new.volume }
         ensures beside { IsBeside self.old self.new }
         ensures stands { (h : Recovering) → StandsFor D.told self.old h → StandsFor D.told self.new h }
     {
@@ -338,7 +338,7 @@ impl<D: Device> RecoverVolume<D> {
     /// Writes the records of the copies and of the recovered blocks to the devices of their areas, and brings all that was written to
     /// these to where it lasts. The volume's area comes first.
     pub fn sync(&mut self) -> Result<(), Cause>
-        ensures sync { IsRecoverSync D.told D.size D.count D.lending self.old self.new result }
+        ensures sync { IsRecoverSync D.Device self.old self.new result }
         ensures stored { OnOk result ((copies : List Copy) → AreHeld (D.told self.old.overlay.device) self.old.overlay.records copies → AreStored (D.told self.new.overlay.device) copies) }
         ensures lasts { OnOk result (D.lasting self.new.volume.area.device ≡ D.told self.new.volume.area.device) }
         ensures overlay_lasts { OnOk result (D.lasting self.new.overlay.device ≡ D.told self.new.overlay.device) }

@@ -24,6 +24,7 @@ use Rattle.vss_shards.specs.Calls.{IsAllowed, IsPut, IsPutIn, IsRecorded, IsWrit
 use Rattle.vss_shards.specs.declared.shard_fault.ShardFault.{ShardFault}
 use Rattle.vss_shards.specs.declared.shard_fault.ShardFault.TheVariants.{Held as HeldNow, NoSuchBlock as NoBlock, Full as FullNow, OutOfMemory as NoMemory, Volume as VolumeFailed, Area as AreaFailed}
 use Rattle.vss_shards.specs.Gathered.{IsFree, IsPart, IsGathered, IsOffIn, DifferFirst}
+use Rattle.volume_device.specs.declared.device.Device.{Ghosts}
 
 -- ## record_cut
 
@@ -67,22 +68,22 @@ off_is_told shards journal place s (DiffersAt w at own other) free before here o
 
 -- ## write_on
 
-pub fault_is_told : {D : Type 0} → (told : D → Option (List (List ℕ))) (size count : D → ℕ) (lending : D → Bool) (old new : ShardValue D) (block : ℕ) (payload : Small) (fault : WriteFault)
-    → MayBeWritten old block → IsOneUnwritten told size count lending old.volume new.volume block fault → new ≡ after_write old new.volume fault.evicted_up_to old.entries
-    → IsPut told size count lending old new block payload (Err (fault_from fault.cause))
-fault_is_told told size count lending old new block payload fault may unwritten is = by_cause fault.cause refl unwritten.cause where
-  by_cause : (c : Cause) → fault.cause ≡ c → HasCauseAt count 0 block old.volume new.volume c → IsPut told size count lending old new block payload (Err (fault_from c))
+pub fault_is_told : {D : Type 0} → (ghosts : Ghosts D) (old new : ShardValue D) (block : ℕ) (payload : Small) (fault : WriteFault)
+    → MayBeWritten old block → IsOneUnwritten ghosts old.volume new.volume block fault → new ≡ after_write old new.volume fault.evicted_up_to old.entries
+    → IsPut ghosts old new block payload (Err (fault_from fault.cause))
+fault_is_told ghosts old new block payload fault may unwritten is = by_cause fault.cause refl unwritten.cause where
+  by_cause : (c : Cause) → fault.cause ≡ c → HasCauseAt ghosts.count 0 block old.volume new.volume c → IsPut ghosts old new block payload (Err (fault_from c))
   by_cause NoBlockCause e cause = (let low = may.in_range in let high = cause.0 in absurd (omega arith))
   by_cause VolumeCause e cause = record { fault = fault; because = e; unwritten = unwritten; shard = is }
   by_cause AreaCause e cause = record { fault = fault; because = e; unwritten = unwritten; shard = is }
 
 -- ## write, under locks
 
-pub refused_under_lock : {D : Type 0} → (told : D → Option (List (List ℕ))) (size count : D → ℕ) (lending : D → Bool)
+pub refused_under_lock : {D : Type 0} → (ghosts : Ghosts D)
     (s : ShardValue D) (v block : ℕ) (payload : Small) (f : ShardFault)
-    → IsShard told s → s.number ≡ v → IsAllowed s block (Err f) → IsWriteUnderLock told size count lending v block payload (Err f)
-refused_under_lock told size count lending s v block payload f is number allowed = record { found = s; left = s; is = is; number = number; said = by_fault f allowed } where
-  by_fault : (g : ShardFault) → IsAllowed s block (Err g) → IsWriteSaid told size count lending s s block payload (Err g)
+    → IsShard ghosts.told s → s.number ≡ v → IsAllowed s block (Err f) → IsWriteUnderLock ghosts v block payload (Err f)
+refused_under_lock ghosts s v block payload f is number allowed = record { found = s; left = s; is = is; number = number; said = by_fault f allowed } where
+  by_fault : (g : ShardFault) → IsAllowed s block (Err g) → IsWriteSaid ghosts s s block payload (Err g)
   by_fault HeldNow a = (a, refl)
   by_fault NoBlock a = (a, refl)
   by_fault FullNow a = (a.0, refl)
@@ -91,19 +92,19 @@ refused_under_lock told size count lending s v block payload f is number allowed
   by_fault AreaFailed a = absurd a
 
 -- the journal has no place
-pub unplaced_under_lock : {D : Type 0} → (told : D → Option (List (List ℕ))) (size count : D → ℕ) (lending : D → Bool)
+pub unplaced_under_lock : {D : Type 0} → (ghosts : Ghosts D)
     (s : ShardValue D) (v block : ℕ) (payload : Small) (f : ShardFault)
-    → IsShard told s → s.number ≡ v → MayBeWritten s block → (f ≡ FullNow) ⊎ (f ≡ NoMemory) → IsWriteUnderLock told size count lending v block payload (Err f)
-unplaced_under_lock told size count lending s v block payload f is number may cause = record { found = s; left = s; is = is; number = number; said = by_cause cause } where
-  by_cause : (f ≡ FullNow) ⊎ (f ≡ NoMemory) → IsWriteSaid told size count lending s s block payload (Err f)
-  by_cause (inl e) = subst (λ (g : ShardFault). IsWriteSaid told size count lending s s block payload (Err g)) (sym e) (may, refl)
-  by_cause (inr e) = subst (λ (g : ShardFault). IsWriteSaid told size count lending s s block payload (Err g)) (sym e) (may, refl)
+    → IsShard ghosts.told s → s.number ≡ v → MayBeWritten s block → (f ≡ FullNow) ⊎ (f ≡ NoMemory) → IsWriteUnderLock ghosts v block payload (Err f)
+unplaced_under_lock ghosts s v block payload f is number may cause = record { found = s; left = s; is = is; number = number; said = by_cause cause } where
+  by_cause : (f ≡ FullNow) ⊎ (f ≡ NoMemory) → IsWriteSaid ghosts s s block payload (Err f)
+  by_cause (inl e) = subst (λ (g : ShardFault). IsWriteSaid ghosts s s block payload (Err g)) (sym e) (may, refl)
+  by_cause (inr e) = subst (λ (g : ShardFault). IsWriteSaid ghosts s s block payload (Err g)) (sym e) (may, refl)
 
-pub unput_under_lock : {D : Type 0} → (told : D → Option (List (List ℕ))) (size count : D → ℕ) (lending : D → Bool)
+pub unput_under_lock : {D : Type 0} → (ghosts : Ghosts D)
     (s new : ShardValue D) (v block : ℕ) (payload : Small) (f : ShardFault)
-    → IsShard told s → s.number ≡ v → MayBeWritten s block → IsPut told size count lending s new block payload (Err f) → IsWriteUnderLock told size count lending v block payload (Err f)
-unput_under_lock told size count lending s new v block payload f is number may put = record { found = s; left = new; is = is; number = number; said = by_fault f put } where
-  by_fault : (g : ShardFault) → IsPut told size count lending s new block payload (Err g) → IsWriteSaid told size count lending s new block payload (Err g)
+    → IsShard ghosts.told s → s.number ≡ v → MayBeWritten s block → IsPut ghosts s new block payload (Err f) → IsWriteUnderLock ghosts v block payload (Err f)
+unput_under_lock ghosts s new v block payload f is number may put = record { found = s; left = new; is = is; number = number; said = by_fault f put } where
+  by_fault : (g : ShardFault) → IsPut ghosts s new block payload (Err g) → IsWriteSaid ghosts s new block payload (Err g)
   by_fault HeldNow p = absurd p
   by_fault NoBlock p = absurd p
   by_fault FullNow p = absurd p
@@ -111,16 +112,16 @@ unput_under_lock told size count lending s new v block payload f is number may p
   by_fault VolumeFailed p = (may, p)
   by_fault AreaFailed p = (may, p)
 
-pub put_under_lock : {D : Type 0} → (told : D → Option (List (List ℕ))) (size count : D → ℕ) (lending : D → Bool)
+pub put_under_lock : {D : Type 0} → (ghosts : Ghosts D)
     (s new : ShardValue D) (v block : ℕ) (payload : Small) (e : Entry) (answer : ℕ)
-    → IsShard told s → s.number ≡ v → MayBeWritten s block → IsPut told size count lending s new block payload (Ok e) → answer ≤ most_entries
-    → IsWriteUnderLock told size count lending v block payload (Ok answer)
-put_under_lock told size count lending s new v block payload e answer is number may put few = record {
+    → IsShard ghosts.told s → s.number ≡ v → MayBeWritten s block → IsPut ghosts s new block payload (Ok e) → answer ≤ most_entries
+    → IsWriteUnderLock ghosts v block payload (Ok answer)
+put_under_lock ghosts s new v block payload e answer is number may put few = record {
   found = s;
   left = new;
   is = is;
   number = number;
-  said = (may, subst (λ (x : Entry). IsPutIn told size count lending s new x) put.0 put.1, few);
+  said = (may, subst (λ (x : Entry). IsPutIn ghosts s new x) put.0 put.1, few);
 }
 
 -- ## images that go

@@ -19,6 +19,7 @@ use Rattle.vss_shards.specs.Entries.{write_of, most_entries}
 use Rattle.vss_shards.specs.Shards.{IsShard, ShardValue, shard_value, most_images}
 use Rattle.vss_shards.specs.Journals.{JournalValue, Cut, appended, first_off, journal_value, most_cuts}
 use Rattle.vss_shards.specs.Drafts.{DraftValue, IsTakenOut}
+use Rattle.volume_device.specs.declared.device.Device.{Ghosts}
 
 -- ## write_on
 
@@ -56,73 +57,73 @@ abbrev pub after_write : {D : Type 0} → ShardValue D → GroupValue D → ℕ 
 after_write s volume up_to entries = shard_value s.number volume entries (after_set up_to s.images) s.last s.held
 
 -- the entry was written, and is the last one of the shard's list
-pub record IsPutIn {D : Type 0} (told : D → Option (List (List ℕ))) (size count : D → ℕ) (lending : D → Bool) (old new : ShardValue D) (e : Entry) : Type 0 where
+pub record IsPutIn {D : Type 0} (ghosts : Ghosts D) (old new : ShardValue D) (e : Entry) : Type 0 where
   -- up to which number images went, which the definition of slots decides
   pub up_to : ℕ
-  pub written : IsOneWritten told size count lending old.volume new.volume (write_of e) up_to
+  pub written : IsOneWritten ghosts old.volume new.volume (write_of e) up_to
   pub shard : new ≡ after_write old new.volume up_to (old.entries ++ e ∷ [])
 
 -- a device failed: images went all the same, and nothing else changed
-pub record IsNotPut {D : Type 0} (told : D → Option (List (List ℕ))) (size count : D → ℕ) (lending : D → Bool) (old new : ShardValue D) (block : ℕ) (cause : Cause) : Type 0 where
+pub record IsNotPut {D : Type 0} (ghosts : Ghosts D) (old new : ShardValue D) (block : ℕ) (cause : Cause) : Type 0 where
   pub fault : WriteFault
   pub because : fault.cause ≡ cause
-  pub unwritten : IsOneUnwritten told size count lending old.volume new.volume block fault
+  pub unwritten : IsOneUnwritten ghosts old.volume new.volume block fault
   pub shard : new ≡ after_write old new.volume fault.evicted_up_to old.entries
 
 -- the shard's part of a write
-abbrev pub IsPut : {D : Type 0} → (D → Option (List (List ℕ))) → (D → ℕ) → (D → ℕ) → (D → Bool) → ShardValue D → ShardValue D → ℕ → Small → Result Entry ShardFault → Type 0
-IsPut told size count lending old new block payload (Ok e) = (e ≡ entry_of old block payload) × IsPutIn told size count lending old new e
-IsPut told size count lending old new block payload (Err Held) = ⊥
-IsPut told size count lending old new block payload (Err NoSuchBlock) = ⊥
-IsPut told size count lending old new block payload (Err Full) = ⊥
-IsPut told size count lending old new block payload (Err OutOfMemory) = new ≡ old
-IsPut told size count lending old new block payload (Err Volume) = IsNotPut told size count lending old new block VolumeCause
-IsPut told size count lending old new block payload (Err Area) = IsNotPut told size count lending old new block AreaCause
+abbrev pub IsPut : {D : Type 0} → Ghosts D → ShardValue D → ShardValue D → ℕ → Small → Result Entry ShardFault → Type 0
+IsPut ghosts old new block payload (Ok e) = (e ≡ entry_of old block payload) × IsPutIn ghosts old new e
+IsPut ghosts old new block payload (Err Held) = ⊥
+IsPut ghosts old new block payload (Err NoSuchBlock) = ⊥
+IsPut ghosts old new block payload (Err Full) = ⊥
+IsPut ghosts old new block payload (Err OutOfMemory) = new ≡ old
+IsPut ghosts old new block payload (Err Volume) = IsNotPut ghosts old new block VolumeCause
+IsPut ghosts old new block payload (Err Area) = IsNotPut ghosts old new block AreaCause
 
 -- the entry was written, and is the last one of the list and of the journal
-pub record IsEntered {D : Type 0} (told : D → Option (List (List ℕ))) (size count : D → ℕ) (lending : D → Bool) (old new : ShardValue D) (journal_old journal_new : JournalValue) (e : Entry) (answer : ℕ) : Type 0 where
+pub record IsEntered {D : Type 0} (ghosts : Ghosts D) (old new : ShardValue D) (journal_old journal_new : JournalValue) (e : Entry) (answer : ℕ) : Type 0 where
   pub may : MayBeWritten old e.block
   pub room : HaveRoom old journal_old
-  pub put : IsPutIn told size count lending old new e
+  pub put : IsPutIn ghosts old new e
   pub journal : journal_new ≡ appended e journal_old
   pub answered : answer ≡ length journal_old.entries + 1
 
 -- a device failed
-pub record IsNotEntered {D : Type 0} (told : D → Option (List (List ℕ))) (size count : D → ℕ) (lending : D → Bool) (old new : ShardValue D) (journal_old journal_new : JournalValue) (block : ℕ) (cause : Cause) : Type 0 where
+pub record IsNotEntered {D : Type 0} (ghosts : Ghosts D) (old new : ShardValue D) (journal_old journal_new : JournalValue) (block : ℕ) (cause : Cause) : Type 0 where
   pub may : MayBeWritten old block
   pub room : HaveRoom old journal_old
-  pub unput : IsNotPut told size count lending old new block cause
+  pub unput : IsNotPut ghosts old new block cause
   pub journal : journal_new ≡ journal_old
 
-abbrev pub IsWriteOn : {D : Type 0} → (D → Option (List (List ℕ))) → (D → ℕ) → (D → ℕ) → (D → Bool) → ShardValue D → ShardValue D → JournalValue → JournalValue → ℕ → Small → Result ℕ ShardFault → Type 0
-IsWriteOn told size count lending old new jold jnew block payload (Ok answer) = IsEntered told size count lending old new jold jnew (entry_of old block payload) answer
-IsWriteOn told size count lending old new jold jnew block payload (Err Held) = IsAllowed old block (Err Held) × (new ≡ old) × (jnew ≡ jold)
-IsWriteOn told size count lending old new jold jnew block payload (Err NoSuchBlock) = IsAllowed old block (Err NoSuchBlock) × (new ≡ old) × (jnew ≡ jold)
-IsWriteOn told size count lending old new jold jnew block payload (Err Full) = MayBeWritten old block
+abbrev pub IsWriteOn : {D : Type 0} → Ghosts D → ShardValue D → ShardValue D → JournalValue → JournalValue → ℕ → Small → Result ℕ ShardFault → Type 0
+IsWriteOn ghosts old new jold jnew block payload (Ok answer) = IsEntered ghosts old new jold jnew (entry_of old block payload) answer
+IsWriteOn ghosts old new jold jnew block payload (Err Held) = IsAllowed old block (Err Held) × (new ≡ old) × (jnew ≡ jold)
+IsWriteOn ghosts old new jold jnew block payload (Err NoSuchBlock) = IsAllowed old block (Err NoSuchBlock) × (new ≡ old) × (jnew ≡ jold)
+IsWriteOn ghosts old new jold jnew block payload (Err Full) = MayBeWritten old block
     × ((length old.entries ≡ most_entries) ⊎ (length jold.entries + jold.places ≡ most_entries)) × (new ≡ old) × (jnew ≡ jold)
-IsWriteOn told size count lending old new jold jnew block payload (Err OutOfMemory) = MayBeWritten old block × HaveRoom old jold × (new ≡ old) × (jnew ≡ jold)
-IsWriteOn told size count lending old new jold jnew block payload (Err Volume) = IsNotEntered told size count lending old new jold jnew block VolumeCause
-IsWriteOn told size count lending old new jold jnew block payload (Err Area) = IsNotEntered told size count lending old new jold jnew block AreaCause
+IsWriteOn ghosts old new jold jnew block payload (Err OutOfMemory) = MayBeWritten old block × HaveRoom old jold × (new ≡ old) × (jnew ≡ jold)
+IsWriteOn ghosts old new jold jnew block payload (Err Volume) = IsNotEntered ghosts old new jold jnew block VolumeCause
+IsWriteOn ghosts old new jold jnew block payload (Err Area) = IsNotEntered ghosts old new jold jnew block AreaCause
 
 -- ## write, under locks
 
 -- what a write of a shard says, between whatever else was done to the shard
-abbrev pub IsWriteSaid : {D : Type 0} → (D → Option (List (List ℕ))) → (D → ℕ) → (D → ℕ) → (D → Bool) → ShardValue D → ShardValue D → ℕ → Small → Result ℕ ShardFault → Type 0
-IsWriteSaid told size count lending old new block payload (Ok answer) = MayBeWritten old block × IsPutIn told size count lending old new (entry_of old block payload) × (answer ≤ most_entries)
-IsWriteSaid told size count lending old new block payload (Err Held) = IsAllowed old block (Err Held) × (new ≡ old)
-IsWriteSaid told size count lending old new block payload (Err NoSuchBlock) = IsAllowed old block (Err NoSuchBlock) × (new ≡ old)
-IsWriteSaid told size count lending old new block payload (Err Full) = MayBeWritten old block × (new ≡ old)
-IsWriteSaid told size count lending old new block payload (Err OutOfMemory) = MayBeWritten old block × (new ≡ old)
-IsWriteSaid told size count lending old new block payload (Err Volume) = MayBeWritten old block × IsNotPut told size count lending old new block VolumeCause
-IsWriteSaid told size count lending old new block payload (Err Area) = MayBeWritten old block × IsNotPut told size count lending old new block AreaCause
+abbrev pub IsWriteSaid : {D : Type 0} → Ghosts D → ShardValue D → ShardValue D → ℕ → Small → Result ℕ ShardFault → Type 0
+IsWriteSaid ghosts old new block payload (Ok answer) = MayBeWritten old block × IsPutIn ghosts old new (entry_of old block payload) × (answer ≤ most_entries)
+IsWriteSaid ghosts old new block payload (Err Held) = IsAllowed old block (Err Held) × (new ≡ old)
+IsWriteSaid ghosts old new block payload (Err NoSuchBlock) = IsAllowed old block (Err NoSuchBlock) × (new ≡ old)
+IsWriteSaid ghosts old new block payload (Err Full) = MayBeWritten old block × (new ≡ old)
+IsWriteSaid ghosts old new block payload (Err OutOfMemory) = MayBeWritten old block × (new ≡ old)
+IsWriteSaid ghosts old new block payload (Err Volume) = MayBeWritten old block × IsNotPut ghosts old new block VolumeCause
+IsWriteSaid ghosts old new block payload (Err Area) = MayBeWritten old block × IsNotPut ghosts old new block AreaCause
 
 -- shard v was found under its lock, and left there as the call says
-pub record IsWriteUnderLock {D : Type 0} (told : D → Option (List (List ℕ))) (size count : D → ℕ) (lending : D → Bool) (v block : ℕ) (payload : Small) (result : Result ℕ ShardFault) : Type 0 where
+pub record IsWriteUnderLock {D : Type 0} (ghosts : Ghosts D) (v block : ℕ) (payload : Small) (result : Result ℕ ShardFault) : Type 0 where
   pub found : ShardValue D
   pub left : ShardValue D
-  pub is : IsShard told found
+  pub is : IsShard ghosts.told found
   pub number : found.number ≡ v
-  pub said : IsWriteSaid told size count lending found left block payload result
+  pub said : IsWriteSaid ghosts found left block payload result
 
 -- ## collect
 

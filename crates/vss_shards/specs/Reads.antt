@@ -6,6 +6,7 @@ use Rattle.cow_volume.specs.Calls.{IsQuiet}
 use Rattle.cow_volume.specs.OneVolume.{tells}
 use Rattle.vss_shards.specs.Entries.{writes_of}
 use Rattle.vss_shards.specs.Shards.{ShardValue, shard_value}
+use Rattle.volume_device.specs.declared.device.Device.{Ghosts}
 
 -- the bytes are those of block b after all entries, where the devices tell
 abbrev pub IsAfterAll : {D : Type 0} → (D → Option (List (List ℕ))) → ShardValue D → ℕ → List ℕ → Type 0
@@ -16,6 +17,6 @@ abbrev pub IsAtPoint : {D : Type 0} → (D → Option (List (List ℕ))) → Sha
 IsAtPoint told s image b bytes = (point : ℕ) → point_in image s.images ≡ Some point → tells told s.volume ≡ true → bytes ≡ content (writes_of s.entries) point b
 
 -- only the volume's devices may have changed, and of them only the counts of faults
-pub record IsRead {D : Type 0} (told : D → Option (List (List ℕ))) (size count : D → ℕ) (lending : D → Bool) (old new : ShardValue D) : Type 0 where
+pub record IsRead {D : Type 0} (ghosts : Ghosts D) (old new : ShardValue D) : Type 0 where
   pub shard : new ≡ shard_value old.number new.volume old.entries old.images old.last old.held
-  pub quiet : IsQuiet told size count lending old.volume new.volume
+  pub quiet : IsQuiet ghosts old.volume new.volume

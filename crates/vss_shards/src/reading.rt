@@ -16,7 +16,7 @@ pub fn read_on<D: Device>(shard: &mut Shard<D>, block: u32, out: &mut [u8]) -> R
     ensures now { OnOk result (IsAfterAll D.told shard.old block out.new) }
     ensures same { OnOk result (IsUnfailed D.count shard.old.volume shard.new.volume) }
     ensures cause { IfErr result (HasOneCause D.count block shard.old.volume shard.new.volume) }
-    ensures read { IsRead D.told D.size D.count D.lending shard.old shard.new }
+    ensures read { IsRead D.Device shard.old shard.new }
     ensures goes_on { GoesOn shard.old shard.new }
 {
     shard.volume.read_into(block, out)
@@ -35,7 +35,7 @@ pub fn read_image_on<D: Device>(
     ensures shown { OnOk result (IsAtPoint D.told shard.old image block out.new) }
     ensures same { OnOk result (IsUnfailed D.count shard.old.volume shard.new.volume) }
     ensures cause { IfErr result (HasOneImageCause D.count image block shard.old.volume shard.new.volume) }
-    ensures read { IsRead D.told D.size D.count D.lending shard.old shard.new }
+    ensures read { IsRead D.Device shard.old shard.new }
     ensures goes_on { GoesOn shard.old shard.new }
 {
     shard.volume.read_image_into(image, block, out)

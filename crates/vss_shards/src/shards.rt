@@ -107,7 +107,7 @@ impl<D: Device> Shards<D> {
         payload: Small,
     ) -> Result<u32, ShardFault>
         requires { v < self.now }
-        ensures { IsWriteUnderLock D.told D.size D.count D.lending v block payload result }
+        ensures { IsWriteUnderLock D.Device v block payload result }
     {
         let own = &self.shards[v as usize];
         let mut shard = self.lock(rt, v);

@@ -24,7 +24,7 @@ pub fn write_on<D: Device>(
     block: u32,
     payload: Small,
 ) -> Result<u32, ShardFault>
-    ensures write { IsWriteOn D.told D.size D.count D.lending shard.old shard.new journal.old journal.new block payload result }
+    ensures write { IsWriteOn D.Device shard.old shard.new journal.old journal.new block payload result }
     ensures goes_on { GoesOn shard.old shard.new }
 {
     may_write(shard, block)?;
@@ -61,7 +61,7 @@ pub(crate) fn put<D: Device>(
 ) -> Result<Entry, ShardFault>
     requires may { MayBeWritten shard.old block }
     requires room { length shard.old.entries < most_entries }
-    ensures put { IsPut D.told D.size D.count D.lending shard.old shard.new block payload result }
+    ensures put { IsPut D.Device shard.old shard.new block payload result }
     ensures volume { IfOk result (λ entry. entry.volume < most_volumes) }
     ensures goes_on { GoesOn shard.old shard.new }
 {

@@ -7,7 +7,7 @@ use Rattle.vss_world.proofs.Words.{devices_of, is_fault, later_same, mark_of}
 use Rattle.vss_names.specs.declared.out_of_memory.OutOfMemory.{OutOfMemory}
 use Rattle.provider.specs.Words.{NeverFails, uncounted}
 use Rattle.cow_volume.proofs.Uncounted.{same_counts, kept_uncounted, no_rise}
-use Rattle.provider.specs.Calls.{counted_as}
+use Rattle.provider.specs.Words.{counted_as}
 use Rattle.provider.proofs.Kept.{same_length}
 use Rattle.provider.proofs.Uncounted.{as_many, rose_unsaid}
 use Rattle.vss_world.specs.Moves.{HasMark}
@@ -23,7 +23,7 @@ module _ {D : Type 0} (device : Ghosts D) where
   kept_unsaid old new kept =
       record {
         number = kept.number;
-        each = λ g x y at there. kept_uncounted device.told device.size device.count device.lending x y (kept.each g x y at there);
+        each = λ g x y at there. kept_uncounted device x y (kept.each g x y at there);
         has = kept.has;
         tells = kept.tells;
         sizes = kept.sizes;

@@ -5,7 +5,7 @@ use Rattle.cow_volume.proofs.calling.flush_device.Goals as goal
 
 pub returns : goal.returns
 returns g c = record {
-  call = called g.D.Device.told g.D.Device.size g.D.Device.count g.D.Device.lending c.args.v c.args.devices.now.items c.index_mut.result.now c.flush.new.self c.flush.result
+  call = called g.D.Device c.args.v c.args.devices.now.items c.index_mut.result.now c.flush.new.self c.flush.result
       (device_read c.args.devices.now.items c.args.v c.index_mut.result.now c.requires c.index_mut.ensures.value)
       (ap is_some c.flush.ensures.told) c.flush.ensures.size c.flush.ensures.lending c.flush.ensures.cause;
   told_is = c.flush.ensures.told;

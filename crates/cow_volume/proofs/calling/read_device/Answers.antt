@@ -5,7 +5,7 @@ use Rattle.cow_volume.proofs.calling.read_device.Goals as goal
 
 pub returns : goal.returns
 returns g c = record {
-  call = called g.D.Device.told g.D.Device.size g.D.Device.count g.D.Device.lending c.args.v c.args.devices.now.items c.index_mut.result.now c.read_into.new.self c.read_into.result
+  call = called g.D.Device c.args.v c.args.devices.now.items c.index_mut.result.now c.read_into.new.self c.read_into.result
       (device_read c.args.devices.now.items c.args.v c.index_mut.result.now (size_within g.D.Device.size c.args.devices.now.items c.args.v c.args.block c.requires.in_range) c.index_mut.ensures.value)
       (ap is_some c.read_into.ensures.told) c.read_into.ensures.size c.read_into.ensures.lending c.read_into.ensures.cause;
   told_is = c.read_into.ensures.told;

@@ -4,24 +4,24 @@ use Rattle.cow_volume.proofs.ending.flush_one.Goals as goal
 
 pub returns-in-Ok-clause-quiet : goal.returns-in-Ok-clause-quiet
 returns-in-Ok-clause-quiet g c = λ copies.
-    quiet_called g.D.Device.told g.D.Device.size g.D.Device.count g.D.Device.lending c.args.v c.args.devices.now.items c.flush_device.new.devices.items false copies c.in-Ok.ensures.call
+    quiet_called g.D.Device c.args.v c.args.devices.now.items c.flush_device.new.devices.items false copies c.in-Ok.ensures.call
     c.in-Ok.ensures.told_is
 
 pub returns-in-Err-clause-quiet : goal.returns-in-Err-clause-quiet
 returns-in-Err-clause-quiet g c = λ copies.
-    quiet_called g.D.Device.told g.D.Device.size g.D.Device.count g.D.Device.lending c.args.v c.args.devices.now.items c.flush_device.new.devices.items true copies c.in-Err.ensures.call
+    quiet_called g.D.Device c.args.v c.args.devices.now.items c.flush_device.new.devices.items true copies c.in-Err.ensures.call
     c.in-Err.ensures.told_is
 
 pub returns-in-Err-clause-rose : goal.returns-in-Err-clause-rose
 returns-in-Err-clause-rose g c = λ copies.
-    volume_rose g.D.Device.told g.D.Device.size g.D.Device.count g.D.Device.lending c.args.v c.args.devices.now.items c.flush_device.new.devices.items copies copies c.in-Err.ensures.call refl
+    volume_rose g.D.Device c.args.v c.args.devices.now.items c.flush_device.new.devices.items copies copies c.in-Err.ensures.call refl
 
 pub returns-in-Ok-clause-same : goal.returns-in-Ok-clause-same
 returns-in-Ok-clause-same g c = λ copies.
-    unfailed_called g.D.Device.told g.D.Device.size g.D.Device.count g.D.Device.lending c.args.v c.args.devices.now.items c.flush_device.new.devices.items false copies copies c.in-Ok.ensures.call
+    unfailed_called g.D.Device c.args.v c.args.devices.now.items c.flush_device.new.devices.items false copies copies c.in-Ok.ensures.call
     refl refl
 
 pub returns-in-Ok-clause-lasts : goal.returns-in-Ok-clause-lasts
 returns-in-Ok-clause-lasts g c = λ d is.
-    let own = called_is g.D.Device.told g.D.Device.size g.D.Device.count g.D.Device.lending c.args.v c.args.devices.now.items c.flush_device.new.devices.items false d c.in-Ok.ensures.call is in
+    let own = called_is g.D.Device c.args.v c.args.devices.now.items c.flush_device.new.devices.items false d c.in-Ok.ensures.call is in
     subst (λ x. g.D.Device.lasting x ≡ g.D.Device.told x) own (c.in-Ok.ensures.lasts refl)

@@ -6,7 +6,7 @@ use Rattle.cow_volume.proofs.ending.sync_all.Goals as goal
 
 pub returns-in-Err-clause-sync : goal.returns-in-Err-clause-sync
 returns-in-Err-clause-sync g c = λ devices. (
-  synced_part g.D.Device.told g.D.Device.size g.D.Device.count g.D.Device.lending devices c.args.copies.now c.sync.new.self c.in-Err.ensures.table c.in-Err.ensures.images c.in-Err.ensures.cause.later
+  synced_part g.D.Device devices c.args.copies.now c.sync.new.self c.in-Err.ensures.table c.in-Err.ensures.images c.in-Err.ensures.cause.later
       c.in-Err.ensures.in_part,
   refl,
   record { rose = c.in-Err.ensures.cause.rose refl; devices = refl },
@@ -14,10 +14,10 @@ returns-in-Err-clause-sync g c = λ devices. (
 
 pub returns-in-Err-flush-clause-sync : goal.returns-in-Err-flush-clause-sync
 returns-in-Err-flush-clause-sync g c = λ devices. (
-  synced_further g.D.Device.told g.D.Device.size g.D.Device.count g.D.Device.lending devices c.args.copies.now c.sync.new.self c.flush.new.self
-      (synced_all g.D.Device.told g.D.Device.size g.D.Device.count g.D.Device.lending devices c.args.copies.now c.sync.new.self c.in-Ok.ensures.table c.in-Ok.ensures.images
+  synced_further g.D.Device devices c.args.copies.now c.sync.new.self c.flush.new.self
+      (synced_all g.D.Device devices c.args.copies.now c.sync.new.self c.in-Ok.ensures.table c.in-Ok.ensures.images
       c.in-Ok.ensures.cause.later c.in-Ok.ensures.written)
-      (quiet_area g.D.Device.told g.D.Device.size g.D.Device.count g.D.Device.lending devices c.sync.new.self c.flush.new.self c.in-Err-flush.ensures.table c.in-Err-flush.ensures.images
+      (quiet_area g.D.Device devices c.sync.new.self c.flush.new.self c.in-Err-flush.ensures.table c.in-Err-flush.ensures.images
       c.in-Err-flush.ensures.told c.in-Err-flush.ensures.cause.later),
   refl,
   record {
@@ -29,10 +29,10 @@ returns-in-Err-flush-clause-sync g c = λ devices. (
 
 pub returns-in-Ok-flush-clause-sync : goal.returns-in-Ok-flush-clause-sync
 returns-in-Ok-flush-clause-sync g c = λ devices. (
-  synced_further g.D.Device.told g.D.Device.size g.D.Device.count g.D.Device.lending devices c.args.copies.now c.sync.new.self c.flush.new.self
-      (synced_all g.D.Device.told g.D.Device.size g.D.Device.count g.D.Device.lending devices c.args.copies.now c.sync.new.self c.in-Ok.ensures.table c.in-Ok.ensures.images
+  synced_further g.D.Device devices c.args.copies.now c.sync.new.self c.flush.new.self
+      (synced_all g.D.Device devices c.args.copies.now c.sync.new.self c.in-Ok.ensures.table c.in-Ok.ensures.images
       c.in-Ok.ensures.cause.later c.in-Ok.ensures.written)
-      (quiet_area g.D.Device.told g.D.Device.size g.D.Device.count g.D.Device.lending devices c.sync.new.self c.flush.new.self c.in-Ok-flush.ensures.table c.in-Ok-flush.ensures.images
+      (quiet_area g.D.Device devices c.sync.new.self c.flush.new.self c.in-Ok-flush.ensures.table c.in-Ok-flush.ensures.images
       c.in-Ok-flush.ensures.told c.in-Ok-flush.ensures.cause.later),
   stored_all g.D.Device.told devices c.args.copies.now c.sync.new.self c.flush.new.self c.slots-facts.ensures.valid c.in-Ok-flush.ensures.told c.in-Ok.ensures.stands,
   record { devices = refl; area = c.in-Ok-flush.ensures.cause.same ∙ c.in-Ok.ensures.cause.same },

@@ -12,26 +12,26 @@ returns-in-Ok-clause-shown g c =
 
 pub returns-in-Ok-read_device-clause-shown : goal.returns-in-Ok-read_device-clause-shown
 returns-in-Ok-read_device-clause-shown g c =
-    read_is_shown g.D.Device.told g.D.Device.size g.D.Device.count g.D.Device.lending c.args.devices.now.items c.read_device.new.devices.items c.args.copies.now c.args.v c.args.set c.args.block
+    read_is_shown g.D.Device c.args.devices.now.items c.read_device.new.devices.items c.args.copies.now c.args.v c.args.set c.args.block
     c.read_device.new.out c.in_ok-slot.ensures.in_range
     c.in-Ok-read_device.ensures (c.in_ok-slot.ensures.none (is_none c.in_ok-slot.field-0 c.in-None.is))
 
 pub returns-in-Ok-read_device-clause-quiet : goal.returns-in-Ok-read_device-clause-quiet
 returns-in-Ok-read_device-clause-quiet g c =
-    quiet_called g.D.Device.told g.D.Device.size g.D.Device.count g.D.Device.lending c.args.v c.args.devices.now.items c.read_device.new.devices.items false c.args.copies.now
+    quiet_called g.D.Device c.args.v c.args.devices.now.items c.read_device.new.devices.items false c.args.copies.now
     c.in-Ok-read_device.ensures.call c.in-Ok-read_device.ensures.told_is
 
 pub returns-in-Err-read_device-clause-cause : goal.returns-in-Err-read_device-clause-cause
 returns-in-Err-read_device-clause-cause g c = (
   c.in_ok-slot.ensures.image,
   c.in_ok-slot.ensures.in_range,
-  volume_rose g.D.Device.told g.D.Device.size g.D.Device.count g.D.Device.lending c.args.v c.args.devices.now.items c.read_device.new.devices.items c.args.copies.now c.args.copies.now
+  volume_rose g.D.Device c.args.v c.args.devices.now.items c.read_device.new.devices.items c.args.copies.now c.args.copies.now
       c.in-Err-read_device.ensures.call refl,
 )
 
 pub returns-in-Err-read_device-clause-quiet : goal.returns-in-Err-read_device-clause-quiet
 returns-in-Err-read_device-clause-quiet g c =
-    quiet_called g.D.Device.told g.D.Device.size g.D.Device.count g.D.Device.lending c.args.v c.args.devices.now.items c.read_device.new.devices.items true c.args.copies.now
+    quiet_called g.D.Device c.args.v c.args.devices.now.items c.read_device.new.devices.items true c.args.copies.now
     c.in-Err-read_device.ensures.call c.in-Err-read_device.ensures.told_is
 
 pub returns-in-Ok-clause-same : goal.returns-in-Ok-clause-same
@@ -39,5 +39,5 @@ returns-in-Ok-clause-same g c = record { devices = refl; area = c.in-Ok.ensures.
 
 pub returns-in-Ok-read_device-clause-same : goal.returns-in-Ok-read_device-clause-same
 returns-in-Ok-read_device-clause-same g c =
-    unfailed_called g.D.Device.told g.D.Device.size g.D.Device.count g.D.Device.lending c.args.v c.args.devices.now.items c.read_device.new.devices.items false c.args.copies.now c.args.copies.now
+    unfailed_called g.D.Device c.args.v c.args.devices.now.items c.read_device.new.devices.items false c.args.copies.now c.args.copies.now
     c.in-Ok-read_device.ensures.call refl refl

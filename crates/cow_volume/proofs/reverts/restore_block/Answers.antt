@@ -9,7 +9,7 @@ pub returns-then-is_err-2 : goal.returns-then-is_err-2
 returns-then-is_err-2 g c =
     let read : is_err c.read_slot.result ≡ false = cc (c.is_err.ensures.value, c.if-is_err.false) in
     let failed : is_err c.write_device.result ≡ true = cc (c.is_err-2.ensures.value, c.if-is_err-2.true) in
-    not_put_back g.D.Device.told g.D.Device.size g.D.Device.count g.D.Device.lending c.args.devices.now.items c.write_device.new.devices.items c.args.copies.now c.read_slot.new.self c.args.v
+    not_put_back g.D.Device c.args.devices.now.items c.write_device.new.devices.items c.args.copies.now c.read_slot.new.self c.args.v
     c.args.set c.args.block c.in-Some.slot c.bytes.result.now (is_err c.write_device.result)
     c.in-Some.ensures.found c.read_slot.ensures.table c.read_slot.ensures.images c.read_slot.ensures.told c.read_slot.ensures.cause.later
     (on_ok c.read_slot.result _ c.read_slot.ensures.cause.same read) c.write_device.ensures failed
@@ -21,7 +21,7 @@ returns g c =
     let same = ap length c.bytes_mut.ensures.bytes in
     let long : length c.read_slot.new.out ≡ length c.args.buffer.now = omega arith in
     let held = on_ok c.read_slot.result _ c.read_slot.ensures.block read in
-    put_back g.D.Device.told g.D.Device.size g.D.Device.count g.D.Device.lending c.args.devices.now.items c.write_device.new.devices.items c.args.copies.now c.read_slot.new.self c.args.v c.args.set
+    put_back g.D.Device c.args.devices.now.items c.write_device.new.devices.items c.args.copies.now c.read_slot.new.self c.args.v c.args.set
     c.args.block c.in-Some.slot c.bytes.result.now (is_err c.write_device.result)
     c.in-Some.ensures.found c.read_slot.ensures.table c.read_slot.ensures.images c.read_slot.ensures.told c.read_slot.ensures.cause.later
     (on_ok c.read_slot.result _ c.read_slot.ensures.cause.same read)

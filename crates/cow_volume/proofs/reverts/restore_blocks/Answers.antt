@@ -1,6 +1,6 @@
 use Rattle.std.proofs.Common.{◌<◌, ◌∙◌, ℕ, List, Some, length, refl, ap, sym, subst, arith}
 use Rattle.std.specs.Prelude.{slice_get, Ok, Err, is_some}
-use Rattle.cow_volume.specs.Calls.{blocks_in, counted_by}
+use Rattle.cow_volume.specs.Calls.{blocks_in, counted_by, counted_as}
 use Rattle.std.proofs.lemmas.List.{length-map}
 use Rattle.cow_volume.specs.declared.cause.Cause.TheVariants.{Volume}
 use Rattle.cow_volume.specs.Parts.{group_of}
@@ -17,7 +17,7 @@ restore_block-requires-clause-volume g c = subst (λ (ns : List ℕ). c.args.v <
 
 pub restore_block-requires-clause-devices : goal.restore_block-requires-clause-devices
 restore_block-requires-clause-devices g c =
-    sizes_kept g.D.Device.told g.D.Device.size (counted_by g.D.Device.count (is_some c.args.stop)) g.D.Device.lending (group_of c.args.devices.now.items c.args.copies.now)
+    sizes_kept (counted_as g.D.Device (is_some c.args.stop)) (group_of c.args.devices.now.items c.args.copies.now)
     (group_of c.loop-block.devices.items c.loop-block.copies) c.loop-block.invariant.keeps.kept c.requires.devices
 
 pub restore_block-requires-clause-in_range : goal.restore_block-requires-clause-in_range
@@ -28,9 +28,9 @@ restore_block-requires-clause-in_range g c =
 
 pub loop-block-init : goal.loop-block-init
 loop-block-init g c = record {
-  done = λ mid m. restoring_start g.D.Device.told g.D.Device.size (counted_by g.D.Device.count (is_some c.args.stop)) g.D.Device.lending
+  done = λ mid m. restoring_start (counted_as g.D.Device (is_some c.args.stop))
       (group_of c.args.devices.now.items (merged_as mid c.args.copies.now)) c.args.v c.args.set c.requires.volume m.gone.most;
-  keeps = keeps_itself g.D.Device.told g.D.Device.size (counted_by g.D.Device.count (is_some c.args.stop)) g.D.Device.lending (group_of c.args.devices.now.items c.args.copies.now);
+  keeps = keeps_itself (counted_as g.D.Device (is_some c.args.stop)) (group_of c.args.devices.now.items c.args.copies.now);
   unfailed = unfailed_itself (counted_by g.D.Device.count (is_some c.args.stop)) (group_of c.args.devices.now.items c.args.copies.now);
   few = omega arith;
   fits = λ k is. omega arith;
@@ -43,25 +43,25 @@ loop-block-preserved g c =
     let one = at_most_one c.in-Ok.has_copy in
     let more = c.from-restored.ensures in
     let few = c.loop-block.invariant.few in
-    let counted = one_counted g.D.Device.told g.D.Device.size g.D.Device.count g.D.Device.lending (group_of c.loop-block.devices.items c.loop-block.copies)
+    let counted = one_counted g.D.Device (group_of c.loop-block.devices.items c.loop-block.copies)
     (group_of c.restore_block.new.devices.items c.restore_block.new.copies) c.args.v c.args.set c.loop-block.block c.args.stop (Ok c.in-Ok.has_copy) c.in-Ok.ensures in
     record {
-      done = λ mid m. restoring_one g.D.Device.told g.D.Device.size (counted_by g.D.Device.count (is_some c.args.stop)) g.D.Device.lending
+      done = λ mid m. restoring_one (counted_as g.D.Device (is_some c.args.stop))
           (group_of c.args.devices.now.items (merged_as mid c.args.copies.now))
           (group_of c.loop-block.devices.items (merged_as mid c.loop-block.copies)) (group_of c.restore_block.new.devices.items (merged_as mid c.restore_block.new.copies))
           c.args.v c.args.set c.loop-block.block c.loop-block.restored c.in-Ok.has_copy c.from-restored.result c.requires.volume m.gone.most here c.requires.above_zero c.from-restored.ensures
           (c.loop-block.invariant.done mid m)
-          (one_merged g.D.Device.told g.D.Device.size (counted_by g.D.Device.count (is_some c.args.stop)) g.D.Device.lending c.loop-block.devices.items c.restore_block.new.devices.items
+          (one_merged (counted_as g.D.Device (is_some c.args.stop)) c.loop-block.devices.items c.restore_block.new.devices.items
           c.args.copies.now mid c.loop-block.copies c.restore_block.new.copies c.args.v c.args.set c.loop-block.block (Ok c.in-Ok.has_copy) m c.loop-block.invariant.keeps.records counted);
-      keeps = keeps_one g.D.Device.told g.D.Device.size (counted_by g.D.Device.count (is_some c.args.stop)) g.D.Device.lending (group_of c.args.devices.now.items c.args.copies.now)
+      keeps = keeps_one (counted_as g.D.Device (is_some c.args.stop)) (group_of c.args.devices.now.items c.args.copies.now)
           (group_of c.loop-block.devices.items c.loop-block.copies) (group_of c.restore_block.new.devices.items c.restore_block.new.copies)
           c.args.v c.args.set c.loop-block.block (Ok c.in-Ok.has_copy) c.loop-block.invariant.keeps counted;
       unfailed = unfailed_further (counted_by g.D.Device.count (is_some c.args.stop)) (group_of c.args.devices.now.items c.args.copies.now) (group_of c.loop-block.devices.items c.loop-block.copies)
           (group_of c.restore_block.new.devices.items c.restore_block.new.copies) c.loop-block.invariant.unfailed
-          (one_unfailed g.D.Device.told g.D.Device.size (counted_by g.D.Device.count (is_some c.args.stop)) g.D.Device.lending (group_of c.loop-block.devices.items c.loop-block.copies)
+          (one_unfailed (counted_as g.D.Device (is_some c.args.stop)) (group_of c.loop-block.devices.items c.loop-block.copies)
           (group_of c.restore_block.new.devices.items c.restore_block.new.copies) c.args.v c.args.set c.loop-block.block c.in-Ok.has_copy counted);
       few = omega arith;
-      fits = λ k is. fits_more g.D.Device.told g.D.Device.size g.D.Device.count g.D.Device.lending (group_of c.loop-block.devices.items c.loop-block.copies)
+      fits = λ k is. fits_more g.D.Device (group_of c.loop-block.devices.items c.loop-block.copies)
           (group_of c.restore_block.new.devices.items c.restore_block.new.copies) c.args.v c.args.set c.loop-block.block c.loop-block.restored c.from-restored.result k c.in-Ok.has_copy
           c.from-restored.ensures (c.loop-block.invariant.fits k is) (λ same. c.in_default.ensures.goes_on refl (is ∙ ap Some (sym same))) c.in-Ok.ensures;
     }
@@ -69,28 +69,28 @@ loop-block-preserved g c =
 pub returns-in-Err-clause-restored : goal.returns-in-Err-clause-restored
 returns-in-Err-clause-restored g c = λ mid m.
     let l = c.loop-block-test.true in
-    let counted = one_counted g.D.Device.told g.D.Device.size g.D.Device.count g.D.Device.lending (group_of c.loop-block.devices.items c.loop-block.copies)
+    let counted = one_counted g.D.Device (group_of c.loop-block.devices.items c.loop-block.copies)
     (group_of c.restore_block.new.devices.items c.restore_block.new.copies) c.args.v c.args.set c.loop-block.block c.args.stop (Err c.in-Err.cause) c.in-Err.ensures in
     let here = in_range_of c.args.copies.now.area.volumes c.args.v c.loop-block.block c.blocks-block-end.result c.blocks-block-end.ensures (omega arith) in
-    restoring_stops g.D.Device.told g.D.Device.size (counted_by g.D.Device.count (is_some c.args.stop)) g.D.Device.lending (group_of c.args.devices.now.items (merged_as mid c.args.copies.now))
+    restoring_stops (counted_as g.D.Device (is_some c.args.stop)) (group_of c.args.devices.now.items (merged_as mid c.args.copies.now))
     (group_of c.loop-block.devices.items (merged_as mid c.loop-block.copies)) (group_of c.restore_block.new.devices.items (merged_as mid c.restore_block.new.copies))
     c.args.v c.args.set c.loop-block.block c.loop-block.restored c.in-Err.cause c.requires.volume m.gone.most here c.requires.above_zero (c.loop-block.invariant.done mid m)
     (record { devices = c.loop-block.invariant.unfailed.devices; area = c.loop-block.invariant.unfailed.area })
-    (one_merged g.D.Device.told g.D.Device.size (counted_by g.D.Device.count (is_some c.args.stop)) g.D.Device.lending c.loop-block.devices.items c.restore_block.new.devices.items
+    (one_merged (counted_as g.D.Device (is_some c.args.stop)) c.loop-block.devices.items c.restore_block.new.devices.items
     c.args.copies.now mid c.loop-block.copies c.restore_block.new.copies c.args.v c.args.set c.loop-block.block (Err c.in-Err.cause) m c.loop-block.invariant.keeps.records counted)
 
 pub returns-in-Err-clause-keeps : goal.returns-in-Err-clause-keeps
 returns-in-Err-clause-keeps g c =
-    let counted = one_counted g.D.Device.told g.D.Device.size g.D.Device.count g.D.Device.lending (group_of c.loop-block.devices.items c.loop-block.copies)
+    let counted = one_counted g.D.Device (group_of c.loop-block.devices.items c.loop-block.copies)
     (group_of c.restore_block.new.devices.items c.restore_block.new.copies) c.args.v c.args.set c.loop-block.block c.args.stop (Err c.in-Err.cause) c.in-Err.ensures in
-    keeps_one g.D.Device.told g.D.Device.size (counted_by g.D.Device.count (is_some c.args.stop)) g.D.Device.lending (group_of c.args.devices.now.items c.args.copies.now)
+    keeps_one (counted_as g.D.Device (is_some c.args.stop)) (group_of c.args.devices.now.items c.args.copies.now)
     (group_of c.loop-block.devices.items c.loop-block.copies)
     (group_of c.restore_block.new.devices.items c.restore_block.new.copies)
     c.args.v c.args.set c.loop-block.block (Err c.in-Err.cause) c.loop-block.invariant.keeps counted
 
 pub returns-in-Err-clause-stops : goal.returns-in-Err-clause-stops
 returns-in-Err-clause-stops g c = λ never k is mid m.
-    absurd (never_rose g.D.Device.told g.D.Device.size g.D.Device.count g.D.Device.lending (group_of c.loop-block.devices.items c.loop-block.copies)
+    absurd (never_rose g.D.Device (group_of c.loop-block.devices.items c.loop-block.copies)
     (group_of c.restore_block.new.devices.items c.restore_block.new.copies) c.args.v c.in-Err.cause never c.in-Err.ensures.rose)
 
 pub returns-in-Some-clause-restored : goal.returns-in-Some-clause-restored
@@ -100,11 +100,11 @@ returns-in-Some-clause-restored g c = λ mid m.
     let inside = c.requires.volume in
     let many = c.loop-block.invariant.keeps.kept.devices in
     let sizes = sym (length-map c.args.devices.now.items g.D.Device.size) ∙ ap length c.requires.devices in
-    let counted = one_stopped g.D.Device.told g.D.Device.size g.D.Device.count g.D.Device.lending (group_of c.loop-block.devices.items c.loop-block.copies) c.args.v c.args.set c.loop-block.block _
+    let counted = one_stopped g.D.Device (group_of c.loop-block.devices.items c.loop-block.copies) c.args.v c.args.set c.loop-block.block _
     c.loop-block.restored c.args.stop (omega (arith, inside, many, sizes)) c.in-Some.ensures.stops in
-    restoring_stops g.D.Device.told g.D.Device.size (counted_by g.D.Device.count (is_some c.args.stop)) g.D.Device.lending (group_of c.args.devices.now.items (merged_as mid c.args.copies.now))
+    restoring_stops (counted_as g.D.Device (is_some c.args.stop)) (group_of c.args.devices.now.items (merged_as mid c.args.copies.now))
     (group_of c.loop-block.devices.items (merged_as mid c.loop-block.copies)) (group_of c.loop-block.devices.items (merged_as mid c.loop-block.copies))
     c.args.v c.args.set c.loop-block.block c.loop-block.restored Volume c.requires.volume m.gone.most here c.requires.above_zero (c.loop-block.invariant.done mid m)
     (record { devices = c.loop-block.invariant.unfailed.devices; area = c.loop-block.invariant.unfailed.area })
-    (one_merged g.D.Device.told g.D.Device.size (counted_by g.D.Device.count (is_some c.args.stop)) g.D.Device.lending c.loop-block.devices.items c.loop-block.devices.items c.args.copies.now mid
+    (one_merged (counted_as g.D.Device (is_some c.args.stop)) c.loop-block.devices.items c.loop-block.devices.items c.args.copies.now mid
     c.loop-block.copies c.loop-block.copies c.args.v c.args.set c.loop-block.block (Err Volume) m c.loop-block.invariant.keeps.records counted)

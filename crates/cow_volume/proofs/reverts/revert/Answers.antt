@@ -1,5 +1,5 @@
 use Rattle.std.proofs.Common.{◌<◌, ℕ, List, length, sym, ◌∙◌, subst, ap}
-use Rattle.cow_volume.specs.Calls.{is_among, sets_in, counted_by}
+use Rattle.cow_volume.specs.Calls.{is_among, sets_in, counted_as}
 use Rattle.cow_volume.specs.CopiesAfter.{images_on}
 use Rattle.std.specs.Prelude.{Ok, Err, slice_get, is_some}
 use Rattle.cow_volume.specs.Restoring.{merged_as}
@@ -30,14 +30,14 @@ returns-in-Ok-clause-revert g c =
     let image = sym c.has_image.ensures.among ∙ c.if-not-has_image.false in
     let mid = mergeable g.D.Device.told c.args.copies.now c.args.v c.args.set c.requires.volume image
     (c.has_image.ensures.above c.if-not-has_image.false) c.volumes-facts.ensures.of_images c.slots-facts.ensures.valid in
-    restored_then_cleared g.D.Device.told g.D.Device.size (counted_by g.D.Device.count (is_some c.args.stop)) g.D.Device.lending c.args.devices.now.items c.restore_blocks.new.devices.items
+    restored_then_cleared (counted_as g.D.Device (is_some c.args.stop)) c.args.devices.now.items c.restore_blocks.new.devices.items
     c.args.copies.now mid.mid c.restore_blocks.new.copies c.clear_from.new.self c.args.v c.args.set tt
     c.requires.volume image mid.merged_to (c.in-Ok.ensures.restored mid.mid mid.merged_to) c.in-Ok.ensures.keeps c.clear_from.ensures
 
 pub returns-in-Err-clause-revert : goal.returns-in-Err-clause-revert
 returns-in-Err-clause-revert g c =
     let image = sym c.has_image.ensures.among ∙ c.if-not-has_image.false in
-    stopped_then_merged g.D.Device.told g.D.Device.size (counted_by g.D.Device.count (is_some c.args.stop)) g.D.Device.lending c.args.devices.now.items c.restore_blocks.new.devices.items
+    stopped_then_merged (counted_as g.D.Device (is_some c.args.stop)) c.args.devices.now.items c.restore_blocks.new.devices.items
     c.args.copies.now c.restore_blocks.new.copies c.drop_newer.new.copies c.args.v c.args.set c.in-Err.fault
     c.requires.volume image c.in-Err.ensures.restored c.in-Err.ensures.keeps c.drop_newer.ensures
 

@@ -16,6 +16,6 @@ loop-k-preserved g c =
       read = read-more (d.told c.args.device.now) (d.told l.device) c.args.first l.k (c.args.first + l.k) (l.k + 1) l.bytes.items c.extend_from_slice.new.self.items c.deref.result.now page.items l.invariant.read l.invariant.alone.told_is c.in-Ok-read_page.ensures.block c.in-Ok-extend_from_slice.ensures.items c.deref.ensures.value refl (omega arith);
       len = omega arith;
       same = c.in-Ok-read_page.ensures.cause.same ∙ l.invariant.same;
-      alone = read-on d.told d.size d.lending d.count c.args.device.now l.device c.read_page.new.device l.invariant.alone c.read_page.ensures.alone;
+      alone = read-on d c.args.device.now l.device c.read_page.new.device l.invariant.alone c.read_page.ensures.alone;
       page = c.read_page.ensures.len;
     }

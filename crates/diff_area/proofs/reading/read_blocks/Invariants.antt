@@ -10,6 +10,6 @@ invariant-loop-k g l =
       read : AreRead (d.told l.fn.device) l.first l.k l.bytes.items;
       len : length l.bytes.items ≡ BLOCK * l.k;
       same : d.count l.device ≡ d.count l.fn.device;
-      alone : IsReadAlone d.told d.size d.lending d.count l.fn.device l.device;
+      alone : IsReadAlone d l.fn.device l.device;
       page : vec_len l.page ≡ BLOCK;
     }

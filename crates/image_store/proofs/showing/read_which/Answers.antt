@@ -10,22 +10,22 @@ returns-in-Ok-read_image-clause-read g c = rw c.in-Of.is (image_read g.D.Device.
     c.in-Ok-read_image.ensures.image c.in-Ok-read_image.ensures.shown)
 
 pub returns-in-Err-clause-kept : goal.returns-in-Err-clause-kept
-returns-in-Err-clause-kept g c = quiet_kept g.D.Device.told g.D.Device.size g.D.Device.count g.D.Device.lending c.args.group.now c.read_volume.new.group c.read_volume.ensures.quiet
+returns-in-Err-clause-kept g c = quiet_kept g.D.Device c.args.group.now c.read_volume.new.group c.read_volume.ensures.quiet
 
 pub returns-in-Ok-clause-kept : goal.returns-in-Ok-clause-kept
-returns-in-Ok-clause-kept g c = quiet_kept g.D.Device.told g.D.Device.size g.D.Device.count g.D.Device.lending c.args.group.now c.read_volume.new.group c.read_volume.ensures.quiet
+returns-in-Ok-clause-kept g c = quiet_kept g.D.Device c.args.group.now c.read_volume.new.group c.read_volume.ensures.quiet
 
 pub returns-in-Err-Area-clause-kept : goal.returns-in-Err-Area-clause-kept
-returns-in-Err-Area-clause-kept g c = quiet_kept g.D.Device.told g.D.Device.size g.D.Device.count g.D.Device.lending c.args.group.now c.read_volume.new.group c.read_volume.ensures.quiet
+returns-in-Err-Area-clause-kept g c = quiet_kept g.D.Device c.args.group.now c.read_volume.new.group c.read_volume.ensures.quiet
 
 pub returns-in-Ok-read_image-clause-kept : goal.returns-in-Ok-read_image-clause-kept
-returns-in-Ok-read_image-clause-kept g c = quiet_kept g.D.Device.told g.D.Device.size g.D.Device.count g.D.Device.lending c.args.group.now c.read_image.new.group c.read_image.ensures.quiet
+returns-in-Ok-read_image-clause-kept g c = quiet_kept g.D.Device c.args.group.now c.read_image.new.group c.read_image.ensures.quiet
 
 pub returns-in-Err-NoSuchImage-clause-kept : goal.returns-in-Err-NoSuchImage-clause-kept
-returns-in-Err-NoSuchImage-clause-kept g c = quiet_kept g.D.Device.told g.D.Device.size g.D.Device.count g.D.Device.lending c.args.group.now c.read_image.new.group c.read_image.ensures.quiet
+returns-in-Err-NoSuchImage-clause-kept g c = quiet_kept g.D.Device c.args.group.now c.read_image.new.group c.read_image.ensures.quiet
 
 pub returns-in-Err-Area-read_image-clause-kept : goal.returns-in-Err-Area-read_image-clause-kept
-returns-in-Err-Area-read_image-clause-kept g c = quiet_kept g.D.Device.told g.D.Device.size g.D.Device.count g.D.Device.lending c.args.group.now c.read_image.new.group c.read_image.ensures.quiet
+returns-in-Err-Area-read_image-clause-kept g c = quiet_kept g.D.Device c.args.group.now c.read_image.new.group c.read_image.ensures.quiet
 
 pub returns-in-Err-read_image-clause-kept : goal.returns-in-Err-read_image-clause-kept
-returns-in-Err-read_image-clause-kept g c = quiet_kept g.D.Device.told g.D.Device.size g.D.Device.count g.D.Device.lending c.args.group.now c.read_image.new.group c.read_image.ensures.quiet
+returns-in-Err-read_image-clause-kept g c = quiet_kept g.D.Device c.args.group.now c.read_image.new.group c.read_image.ensures.quiet

@@ -10,7 +10,7 @@ use Rattle.image_store.proofs.updating.compare_blocks.Goals as goal
 pub returns-in_err-read_volume-clause-kept : goal.returns-in_err-read_volume-clause-kept
 returns-in_err-read_volume-clause-kept g c =
     kept_then g.D.Device.told c.args.group.now c.loop-b.group c.read_volume.new.group c.loop-b.invariant.marked.kept
-    (quiet_kept g.D.Device.told g.D.Device.size g.D.Device.count g.D.Device.lending c.loop-b.group c.read_volume.new.group c.read_volume.ensures.quiet)
+    (quiet_kept g.D.Device c.loop-b.group c.read_volume.new.group c.read_volume.ensures.quiet)
 
 pub loop-b-preserved : goal.loop-b-preserved
 loop-b-preserved g c =
@@ -26,7 +26,7 @@ loop-b-preserved g c =
       marked = marked_more g.D.Device.told g.I.Device.told g.I.Device.size c.args.group.now c.loop-b.group c.read_volume.new.group c.args.input.now c.loop-b.input c.read_device.new.device c.args.v
           c.args.differs.now
           c.loop-b.differs c.loop-b.b (not c.are_same.result) inv
-          (quiet_kept g.D.Device.told g.D.Device.size g.D.Device.count g.D.Device.lending c.loop-b.group c.read_volume.new.group c.read_volume.ensures.quiet)
+          (quiet_kept g.D.Device c.loop-b.group c.read_volume.new.group c.read_volume.ensures.quiet)
           c.read_device.ensures.told c.read_device.ensures.size (omega arith)
           (λ wanted ps is has none. compared g.D.Device.told c.loop-b.group ps c.args.v c.loop-b.b c.read_volume.new.self c.read_device.new.self c.bytes.result.now c.bytes-in-loop-b.result.now
           c.are_same.result

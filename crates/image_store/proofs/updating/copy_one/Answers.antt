@@ -7,7 +7,7 @@ use Rattle.image_store.proofs.updating.copy_one.Goals as goal
 
 pub returns-in_err-read_volume-clause-kept : goal.returns-in_err-read_volume-clause-kept
 returns-in_err-read_volume-clause-kept g c =
-    quiet_kept g.D.Device.told g.D.Device.size g.D.Device.count g.D.Device.lending c.args.group.now c.read_volume.new.group c.read_volume.ensures.quiet
+    quiet_kept g.D.Device c.args.group.now c.read_volume.new.group c.read_volume.ensures.quiet
 
 pub returns-in_err-read_volume-clause-failed : goal.returns-in_err-read_volume-clause-failed
 returns-in_err-read_volume-clause-failed g c =
@@ -16,7 +16,7 @@ returns-in_err-read_volume-clause-failed g c =
 
 pub returns-in_err-put-clause-kept : goal.returns-in_err-put-clause-kept
 returns-in_err-put-clause-kept g c =
-    copy_kept g.D.Device.told g.D.Device.size g.D.Device.count g.D.Device.lending c.args.group.now c.read_volume.new.group c.put.new.self c.args.v c.args.b (payload_bytes c.payload.result.now)
+    copy_kept g.D.Device c.args.group.now c.read_volume.new.group c.put.new.self c.args.v c.args.b (payload_bytes c.payload.result.now)
     c.put.result c.requires.volume c.requires.in_range c.read_volume.ensures.quiet (rw c.payload.ensures c.in_ok-read_volume.ensures.now) c.put.ensures.put
 
 pub returns-in_err-put-clause-failed : goal.returns-in_err-put-clause-failed
@@ -26,7 +26,7 @@ returns-in_err-put-clause-failed g c =
 
 pub returns-clause-kept : goal.returns-clause-kept
 returns-clause-kept g c =
-    copy_kept g.D.Device.told g.D.Device.size g.D.Device.count g.D.Device.lending c.args.group.now c.read_volume.new.group c.put.new.self c.args.v c.args.b (payload_bytes c.payload.result.now)
+    copy_kept g.D.Device c.args.group.now c.read_volume.new.group c.put.new.self c.args.v c.args.b (payload_bytes c.payload.result.now)
     c.put.result c.requires.volume c.requires.in_range c.read_volume.ensures.quiet (rw c.payload.ensures c.in_ok-read_volume.ensures.now) c.put.ensures.put
 
 pub returns-clause-same : goal.returns-clause-same

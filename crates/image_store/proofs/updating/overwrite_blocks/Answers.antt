@@ -48,7 +48,7 @@ returns-in_err-put-clause-writing g c =
     c.args.differs.now c.args.from
     c.loop-b.b wanted ps c.loop-b.invariant.written
     (kept_then g.D.Device.told c.loop-b.group c.make_room-up_to.new.self c.put.new.self made
-    (not_put_kept g.D.Device.told g.D.Device.size g.D.Device.count g.D.Device.lending c.make_room-up_to.new.self c.put.new.self c.args.v _ c.in_err-put.ensures.put))
+    (not_put_kept g.D.Device c.make_room-up_to.new.self c.put.new.self c.args.v _ c.in_err-put.ensures.put))
     is has ready)
 
 pub returns-in_err-put-clause-failed : goal.returns-in_err-put-clause-failed
@@ -70,7 +70,7 @@ loop-b-preserved g c =
     let within : c.loop-b.b < length c.args.differs.now = omega arith in
     elim c.if-differs-b.branch [
       | then-differs-b+else-up_to-gt0+in-Ok+in_ok-put w ↦ rw (w.group-is, w.input-is, w.gone-is) (record {
-        written = written_more g.D.Device.told g.D.Device.size g.D.Device.count g.D.Device.lending g.I.Device.told g.I.Device.size c.args.group.now c.loop-b.group w.make_room-up_to.new.self
+        written = written_more g.D.Device g.I.Device.told g.I.Device.size c.args.group.now c.loop-b.group w.make_room-up_to.new.self
             w.put.new.self c.args.input.now c.loop-b.input w.read_device.new.device c.args.v
             c.args.differs.now c.args.from c.loop-b.b (payload_bytes w.payload.result.now) c.requires.volume (omega arith) inv.written
             (room_plains g.D.Device.told c.loop-b.group w.make_room-up_to.new.self c.args.v c.loop-b.b w.make_room-up_to.result

@@ -10,6 +10,6 @@ merge_image-requires-clause-image g c = contains_of c.args.set (images_on c.self
 pub returns : goal.returns
 returns g c =
     let among : is_among c.args.set (images_on c.self.inside.copies c.args.v) ≡ true = sym c.has_image.ensures.among ∙ c.if-not-has_image.false in
-    let gone = image_gone g.D.Device.told g.D.Device.size g.D.Device.count g.D.Device.lending c.self.inside.devices.items c.self.inside.copies c.merge_image.new.copies c.args.v c.args.set among
+    let gone = image_gone g.D.Device c.self.inside.devices.items c.self.inside.copies c.merge_image.new.copies c.args.v c.args.set among
     c.merge_image.ensures.merged (c.merge_image.ensures.stands c.self.inside.devices.items) in
     rw (← c.self.view_is) gone

@@ -48,7 +48,7 @@ invariant_of-self g c =
     let d = c.index_mut-device.result.now in
     let at = device_at g.D.Device.size devices copies.area.volumes c.args.v d c.self.invariant within c.index_mut-device.ensures.value in
     fits_set g.D.Device.size devices copies.area.volumes c.args.v d c.put_block.new.device c.self.invariant at
-    (put_size g.D.Device.told g.D.Device.size g.D.Device.count g.D.Device.lending d c.put_block.new.device c.args.block (payload_bytes c.args.payload.now) c.put_block.result c.put_block.ensures)
+    (put_size g.D.Device d c.put_block.new.device c.args.block (payload_bytes c.args.payload.now) c.put_block.result c.put_block.ensures)
 
 pub returns-clause-put : goal.returns-clause-put
 returns-clause-put g c =
@@ -59,7 +59,7 @@ returns-clause-put g c =
     let d = c.index_mut-device.result.now in
     let at = device_at g.D.Device.size devices copies.area.volumes c.args.v d c.self.invariant within c.index_mut-device.ensures.value in
     let has : lacks_copy copies.area.records c.args.v (sets_at (group_of devices copies) c.args.v) c.args.block ≡ false = sym c.lacks_copy.ensures ∙ c.if-lacks_copy.false in
-    let is = put_again g.D.Device.told g.D.Device.size g.D.Device.count g.D.Device.lending devices copies c.args.v d
+    let is = put_again g.D.Device devices copies c.args.v d
     (record { block = c.args.block; bytes = payload_bytes c.args.payload.now }) low at c.put_block.new.device c.put_block.result has c.put_block.ensures in
     rw (← c.self.view_is) is
 

@@ -4,5 +4,5 @@ use Rattle.cow_volume.proofs.cow_group.CowGroup.read_image_into.Goals as goal
 
 pub invariant_of-self : goal.invariant_of-self
 invariant_of-self g c =
-    sizes_kept g.D.Device.told g.D.Device.size g.D.Device.count g.D.Device.lending (group_of c.self.inside.devices.items c.self.inside.copies)
+    sizes_kept g.D.Device (group_of c.self.inside.devices.items c.self.inside.copies)
     (group_of c.read_shown.new.devices.items c.read_shown.new.copies) c.read_shown.ensures.quiet.kept c.self.invariant

@@ -4,7 +4,7 @@ use Rattle.cow_volume.proofs.cow_group.CowGroup.sync.Goals as goal
 
 pub invariant_of-self : goal.invariant_of-self
 invariant_of-self g c =
-    sizes_synced g.D.Device.told g.D.Device.size g.D.Device.count g.D.Device.lending (group_of c.self.inside.devices.items c.self.inside.copies)
+    sizes_synced g.D.Device (group_of c.self.inside.devices.items c.self.inside.copies)
     (group_of c.self.inside.devices.items c.sync_all.new.copies) c.sync_all.result (c.sync_all.ensures.sync c.self.inside.devices.items) c.self.invariant
 
 pub returns-clause-sync : goal.returns-clause-sync

@@ -9,7 +9,7 @@ use Rattle.cow_volume.proofs.cow_group.CowGroup.write.Goals as goal
 pub returns-then-block-blocks-clause-write : goal.returns-then-block-blocks-clause-write
 returns-then-block-blocks-clause-write g c =
     let past = past_blocks c.self.inside.devices.items c.self.inside.copies c.args.v c.args.block c.blocks-2.result c.blocks-2.ensures c.if-block-blocks.true in
-    no_block g.D.Device.told g.D.Device.size g.D.Device.count g.D.Device.lending c.args.self.now c.args.v c.args.block (rw (← c.self.view_is) past)
+    no_block g.D.Device c.args.self.now c.args.v c.args.block (rw (← c.self.view_is) past)
 
 pub drop_for-evicted_up_to-requires-clause-in_range : goal.drop_for-evicted_up_to-requires-clause-in_range
 drop_for-evicted_up_to-requires-clause-in_range g c =
@@ -35,7 +35,7 @@ pub returns-in-Ok-clause-write : goal.returns-in-Ok-clause-write
 returns-in-Ok-clause-write g c =
     let low = within_blocks c.self.inside.devices.items c.self.inside.copies c.args.v c.args.block c.blocks-2.result c.blocks-2.ensures c.if-block-blocks.false in
     let now : c.args.block < blocks_at c.args.self.now c.args.v = rw (← c.self.view_is) low in
-    is_written g.D.Device.told g.D.Device.size g.D.Device.count g.D.Device.lending c.args.self.now c.drop_for-evicted_up_to.new.self c.put.new.self c.args.v
+    is_written g.D.Device c.args.self.now c.drop_for-evicted_up_to.new.self c.put.new.self c.args.v
     (record { block = c.args.block; bytes = payload_bytes c.args.payload.now }) c.drop_for-evicted_up_to.result now c.drop_for-evicted_up_to.ensures.left c.drop_for-evicted_up_to.ensures.evicted
     c.drop_for-evicted_up_to.ensures.stands c.in-Ok.ensures.put
 
@@ -43,7 +43,7 @@ pub returns-in-Err-clause-write : goal.returns-in-Err-clause-write
 returns-in-Err-clause-write g c =
     let low = within_blocks c.self.inside.devices.items c.self.inside.copies c.args.v c.args.block c.blocks-2.result c.blocks-2.ensures c.if-block-blocks.false in
     let now : c.args.block < blocks_at c.args.self.now c.args.v = rw (← c.self.view_is) low in
-    is_unwritten g.D.Device.told g.D.Device.size g.D.Device.count g.D.Device.lending c.args.self.now c.drop_for-evicted_up_to.new.self c.put.new.self c.args.v
+    is_unwritten g.D.Device c.args.self.now c.drop_for-evicted_up_to.new.self c.put.new.self c.args.v
     (record { block = c.args.block; bytes = payload_bytes c.args.payload.now }) c.drop_for-evicted_up_to.result now c.drop_for-evicted_up_to.ensures.left c.drop_for-evicted_up_to.ensures.evicted
     c.drop_for-evicted_up_to.ensures.stands c.in-Err.cause c.in-Err.ensures.put
 

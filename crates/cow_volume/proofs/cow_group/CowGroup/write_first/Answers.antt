@@ -53,7 +53,7 @@ returns-in_err-copy_block-clause-put g c =
     let d = c.index_mut-device.result.now in
     let at = device_at g.D.Device.size devices copies.area.volumes c.args.v d c.self.invariant within c.index_mut-device.ensures.value in
     let p = err_from_is_err_and c.from_residual.result c.from_residual.ensures.1 in
-    let is = not_copied g.D.Device.told g.D.Device.size g.D.Device.count g.D.Device.lending devices copies c.args.v d
+    let is = not_copied g.D.Device devices copies c.args.v d
     (record { block = c.args.block; bytes = payload_bytes c.args.payload.now }) low at c.copy_block.new.device c.copy_block.new.copies _ c.in_err-copy_block.ensures in
     rw (p.1, p.2, ← c.self.view_is) is
 
@@ -91,7 +91,7 @@ returns-in_err-put_block-clause-put g c =
     let at = device_at g.D.Device.size devices copies.area.volumes c.args.v d c.self.invariant within c.index_mut-device.ensures.value in
     let p = err_from_is_err_and c.from_residual-in_err-put_block.result c.from_residual-in_err-put_block.ensures.1 in
     let failed = c.in_err-put_block.ensures in
-    let is = not_overwritten g.D.Device.told g.D.Device.size g.D.Device.count g.D.Device.lending devices copies c.args.v d
+    let is = not_overwritten g.D.Device devices copies c.args.v d
     (record { block = c.args.block; bytes = payload_bytes c.args.payload.now }) low at c.in-Some.slot c.in-Some.ensures.lowest c.slots-facts.ensures.fits c.slots-facts.ensures.whole
     c.copy_block.new.device c.put_block.new.device c.copy_block.new.copies c.in_ok-copy_block.ensures _ failed.0 failed.1 failed.2 in
     rw (p.1, p.2, ← c.self.view_is) is
@@ -134,7 +134,7 @@ returns-clause-put g c =
     let d = c.index_mut-device.result.now in
     let at = device_at g.D.Device.size devices copies.area.volumes c.args.v d c.self.invariant within c.index_mut-device.ensures.value in
     let lacks = rw (← c.self.view_is) at c.requires.lacks in
-    let is = put_first g.D.Device.told g.D.Device.size g.D.Device.count g.D.Device.lending devices copies c.args.v d
+    let is = put_first g.D.Device devices copies c.args.v d
     (record { block = c.args.block; bytes = payload_bytes c.args.payload.now }) low at c.in-Some.slot c.in-Some.ensures.lowest c.slots-facts.ensures.fits c.slots-facts.ensures.whole
     c.copy_block.new.device c.put_block.new.device c.copy_block.new.copies c.in_ok-copy_block.ensures c.note.new.self lacks c.in_ok-put_block.ensures.0 c.in_ok-put_block.ensures.1 c.note.ensures in
     rw (← c.self.view_is) is

@@ -4,10 +4,10 @@ use Rattle.cow_volume.proofs.cow_volume.CowVolume.drop_image.Goals as goal
 
 pub invariant_of-self : goal.invariant_of-self
 invariant_of-self g c = ap length
-    (dropped_volumes g.D.Device.told g.D.Device.size g.D.Device.count g.D.Device.lending c.self.inside.group c.drop_image.new.self c.args.set c.drop_image.result c.drop_image.ensures)
+    (dropped_volumes g.D.Device c.self.inside.group c.drop_image.new.self c.args.set c.drop_image.result c.drop_image.ensures)
     ∙ c.self.invariant
 
 pub returns : goal.returns
 returns g c =
-    let is = one_dropped g.D.Device.told g.D.Device.size g.D.Device.count g.D.Device.lending c.self.inside.group c.drop_image.new.self c.args.set c.drop_image.result c.drop_image.ensures in
+    let is = one_dropped g.D.Device c.self.inside.group c.drop_image.new.self c.args.set c.drop_image.result c.drop_image.ensures in
     rw (← c.self.view_is) is

@@ -10,5 +10,5 @@ returns-clause-shown g c =
 
 pub returns-clause-stands : goal.returns-clause-stands
 returns-clause-stands g c =
-    let is = one_quiet g.D.Device.told g.D.Device.size g.D.Device.count g.D.Device.lending c.self.inside.group c.read_image_into.new.self c.read_image_into.ensures.quiet in
+    let is = one_quiet g.D.Device c.self.inside.group c.read_image_into.new.self c.read_image_into.ensures.quiet in
     rw (← c.self.view_is) is

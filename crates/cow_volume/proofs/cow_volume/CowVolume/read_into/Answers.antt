@@ -9,5 +9,5 @@ returns-clause-now g c =
 
 pub returns-clause-stands : goal.returns-clause-stands
 returns-clause-stands g c =
-    let is = one_quiet g.D.Device.told g.D.Device.size g.D.Device.count g.D.Device.lending c.self.inside.group c.read_into.new.self c.read_into.ensures.quiet in
+    let is = one_quiet g.D.Device c.self.inside.group c.read_into.new.self c.read_into.ensures.quiet in
     rw (← c.self.view_is) is

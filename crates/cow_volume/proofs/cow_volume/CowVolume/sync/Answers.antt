@@ -3,10 +3,10 @@ use Rattle.cow_volume.proofs.OneVolume.{one_sync, sync_volumes}
 use Rattle.cow_volume.proofs.cow_volume.CowVolume.sync.Goals as goal
 
 pub invariant_of-self : goal.invariant_of-self
-invariant_of-self g c = ap length (sync_volumes g.D.Device.told g.D.Device.size g.D.Device.count g.D.Device.lending c.self.inside.group c.sync.new.self c.sync.result c.sync.ensures.sync)
+invariant_of-self g c = ap length (sync_volumes g.D.Device c.self.inside.group c.sync.new.self c.sync.result c.sync.ensures.sync)
     ∙ c.self.invariant
 
 pub returns-clause-sync : goal.returns-clause-sync
 returns-clause-sync g c =
-    let is = one_sync g.D.Device.told g.D.Device.size g.D.Device.count g.D.Device.lending c.self.inside.group c.sync.new.self c.sync.result c.self.invariant c.sync.ensures.sync in
+    let is = one_sync g.D.Device c.self.inside.group c.sync.new.self c.sync.result c.self.invariant c.sync.ensures.sync in
     rw (← c.self.view_is) is

@@ -5,11 +5,11 @@ use Rattle.cow_volume.proofs.cow_volume.CowVolume.write.Goals as goal
 
 pub invariant_of-self : goal.invariant_of-self
 invariant_of-self g c =
-    ap length (write_volumes g.D.Device.told g.D.Device.size g.D.Device.count g.D.Device.lending c.self.inside.group c.write.new.self
+    ap length (write_volumes g.D.Device c.self.inside.group c.write.new.self
     (record { block = c.args.block; bytes = payload_bytes c.args.payload.now }) c.write.result c.write.ensures.write) ∙ c.self.invariant
 
 pub returns-clause-write : goal.returns-clause-write
 returns-clause-write g c =
-    let is = one_write g.D.Device.told g.D.Device.size g.D.Device.count g.D.Device.lending c.self.inside.group c.write.new.self
+    let is = one_write g.D.Device c.self.inside.group c.write.new.self
     (record { block = c.args.block; bytes = payload_bytes c.args.payload.now }) c.write.result c.self.invariant c.write.ensures.write in
     rw (← c.self.view_is) is

@@ -17,7 +17,7 @@ returns g c =
           (c.into_device-area.ensures
           ∙ ap (λ (a : AreaValue _). a.device) c.into_parts-devices.ensures.area) c.flush_each-outcome.ensures.told c.flush_each-outcome.ensures.volume c.flush_each-outcome.ensures.rose);
       kept = rw (← c.self.view_is)
-          (closed_outcome g.D.Device.told g.D.Device.lasting g.D.Device.size g.D.Device.count g.D.Device.lending c.self.inside.group c.sync-synced.new.self c.self.inside.names.items c.self.inside.last
+          (closed_outcome g.D.Device c.self.inside.group c.sync-synced.new.self c.self.inside.names.items c.self.inside.last
           c.into_parts-devices.result.0.items c.deref_mut.result.now c.flush_each-outcome.new.devices c.into_parts-devices.result.0.len c.into_device-area.result c.in-Ok.field-0
           c.flush_each-outcome.result
           c.in-Ok.ensures.sync c.in-Ok.ensures.lasts c.into_parts-devices.ensures.devices many same

@@ -4,11 +4,11 @@ use Rattle.image_store.proofs.store.Store.drop_image.Goals as goal
 
 pub invariant_of-self : goal.invariant_of-self
 invariant_of-self g c = named_still c.self.inside.group c.drop_image.new.self c.self.inside.names.items
-    (dropped_volumes g.D.Device.told g.D.Device.size g.D.Device.count g.D.Device.lending c.self.inside.group c.drop_image.new.self c.args.set c.args.v c.drop_image.result c.drop_image.ensures)
+    (dropped_volumes g.D.Device c.self.inside.group c.drop_image.new.self c.args.set c.args.v c.drop_image.result c.drop_image.ensures)
     c.self.invariant
 
 pub returns-clause-dropped : goal.returns-clause-dropped
 returns-clause-dropped g c =
-    let is = dropped_step g.D.Device.told g.D.Device.size g.D.Device.count g.D.Device.lending (store_of c.self.inside.group c.self.inside.names.items c.self.inside.last)
+    let is = dropped_step g.D.Device (store_of c.self.inside.group c.self.inside.names.items c.self.inside.last)
     (store_of c.drop_image.new.self c.self.inside.names.items c.self.inside.last) c.args.set c.args.v c.drop_image.result refl (rw (← c.self.view_is) at c.requires) c.drop_image.ensures in
     rw (← c.self.view_is) is

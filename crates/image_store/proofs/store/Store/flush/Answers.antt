@@ -9,7 +9,7 @@ invariant_of-self g c = named_still c.self.inside.group c.flush.new.self c.self.
 pub returns-clause-still : goal.returns-clause-still
 returns-clause-still g c =
     let is = still g.D.Device.told (store_of c.self.inside.group c.self.inside.names.items c.self.inside.last) (store_of c.flush.new.self c.self.inside.names.items c.self.inside.last)
-    (quiet_kept g.D.Device.told g.D.Device.size g.D.Device.count g.D.Device.lending c.self.inside.group c.flush.new.self c.flush.ensures.quiet) refl in
+    (quiet_kept g.D.Device c.self.inside.group c.flush.new.self c.flush.ensures.quiet) refl in
     rw (← c.self.view_is) is
 
 pub returns-clause-head : goal.returns-clause-head

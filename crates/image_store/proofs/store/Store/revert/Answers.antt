@@ -4,10 +4,10 @@ use Rattle.image_store.proofs.store.Store.revert.Goals as goal
 
 pub invariant_of-self : goal.invariant_of-self
 invariant_of-self g c = named_still c.self.inside.group c.revert.new.self c.self.inside.names.items
-    (revert_volumes g.D.Device.told g.D.Device.size g.D.Device.count g.D.Device.lending c.self.inside.group c.revert.new.self c.args.set c.args.v c.revert.result c.revert.ensures) c.self.invariant
+    (revert_volumes g.D.Device c.self.inside.group c.revert.new.self c.args.set c.args.v c.revert.result c.revert.ensures) c.self.invariant
 
 pub returns-clause-revert : goal.returns-clause-revert
 returns-clause-revert g c =
-    let is = revert_is g.D.Device.told g.D.Device.size g.D.Device.count g.D.Device.lending (store_of c.self.inside.group c.self.inside.names.items c.self.inside.last)
+    let is = revert_is g.D.Device (store_of c.self.inside.group c.self.inside.names.items c.self.inside.last)
     (store_of c.revert.new.self c.self.inside.names.items c.self.inside.last) c.args.set c.args.v c.revert.result refl (rw (← c.self.view_is) at c.requires) c.revert.ensures in
     rw (← c.self.view_is) is

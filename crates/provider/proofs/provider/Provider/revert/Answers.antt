@@ -1,5 +1,5 @@
 use Rattle.std.proofs.Common.{arith, is_some}
-use Rattle.provider.specs.Calls.{counted_as}
+use Rattle.provider.specs.Words.{counted_as}
 use Rattle.provider.proofs.Found.{found_by, group_low, inside}
 use Rattle.provider.proofs.Called.{called, revert_kept, revert_of}
 use Rattle.provider.proofs.Uncounted.{stops_of}

@@ -11,5 +11,5 @@ pub put_new-requires-clause-lacks : goal.put_new-requires-clause-lacks
 put_new-requires-clause-lacks g c = c.in-None.ensures.none refl c.requires.used.set
 
 pub returns-in-Some : goal.returns-in-Some
-returns-in-Some g c = put_over g.D.Device.told g.D.Device.size g.D.Device.count g.D.Device.lending c.args.self.now c.write_slot.new.self c.args.set c.args.block c.in-Some.slot c.args.bytes.now
+returns-in-Some g c = put_over g.D.Device c.args.self.now c.write_slot.new.self c.args.set c.args.block c.in-Some.slot c.args.bytes.now
     c.write_slot.result c.in-Some.ensures.found c.write_slot.ensures

@@ -28,14 +28,14 @@ pub returns-in-Ok : goal.returns-in-Ok
 returns-in-Ok g c =
     let low = rw c.self.invariant.pool_is at c.in-Some.ensures.lowest in
     let empty : slice_get c.args.self.now.records c.in-Some.slot ≡ Some free = rw (← c.self.view_is) (free_slot_is c.self.inside.area.records c.in-Some.slot low) in
-    put_first g.D.Device.told g.D.Device.size g.D.Device.count g.D.Device.lending c.args.self.now c.write_slot.new.self c.note.new.self c.args.set c.args.block c.in-Some.slot c.args.bytes.now empty
+    put_first g.D.Device c.args.self.now c.write_slot.new.self c.note.new.self c.args.set c.args.block c.in-Some.slot c.args.bytes.now empty
     c.requires.lacks c.in-Ok.ensures c.note.ensures
 
 pub returns-in-Err : goal.returns-in-Err
 returns-in-Err g c =
     let low = rw c.self.invariant.pool_is at c.in-Some.ensures.lowest in
     let empty : slice_get c.args.self.now.records c.in-Some.slot ≡ Some free = rw (← c.self.view_is) (free_slot_is c.self.inside.area.records c.in-Some.slot low) in
-    not_put g.D.Device.told g.D.Device.size g.D.Device.count g.D.Device.lending c.args.self.now c.write_slot.new.self c.args.set c.args.block c.in-Some.slot c.args.bytes.now c.in-Err.fault
+    not_put g.D.Device c.args.self.now c.write_slot.new.self c.args.set c.args.block c.in-Some.slot c.args.bytes.now c.in-Err.fault
     (room_if_free c.args.self.now.records c.args.set c.args.block c.in-Some.slot empty c.requires.lacks) c.in-Err.ensures
 
 pub returns-in_default : goal.returns-in_default

@@ -3,12 +3,12 @@ use Rattle.vss_recover.proofs.overlay.Overlay.sync.Goals as goal
 
 pub returns-in_err-sync-clause-kept : goal.returns-in_err-sync-clause-kept
 returns-in_err-sync-clause-kept g c =
-    rw (← c.self.view_is) (slots_part g.D.Device.told g.D.Device.size g.D.Device.count g.D.Device.lending c.self.inside.area c.sync.new.self
+    rw (← c.self.view_is) (slots_part g.D.Device c.self.inside.area c.sync.new.self
     c.in_err-sync.ensures.table c.in_err-sync.ensures.cause.later c.in_err-sync.ensures.in_part)
 
 pub returns-clause-kept : goal.returns-clause-kept
 returns-clause-kept g c =
-    rw (← c.self.view_is) (slots_further g.D.Device.told g.D.Device.size g.D.Device.count g.D.Device.lending c.self.inside.area c.sync.new.self c.flush.new.self
-    (slots_all g.D.Device.told g.D.Device.size g.D.Device.count g.D.Device.lending c.self.inside.area c.sync.new.self
+    rw (← c.self.view_is) (slots_further g.D.Device c.self.inside.area c.sync.new.self c.flush.new.self
+    (slots_all g.D.Device c.self.inside.area c.sync.new.self
     c.in_ok-sync.ensures.table c.in_ok-sync.ensures.cause.later c.in_ok-sync.ensures.written)
     c.flush.ensures.table c.flush.ensures.told c.flush.ensures.cause.later)

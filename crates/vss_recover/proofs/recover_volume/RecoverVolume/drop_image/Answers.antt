@@ -9,9 +9,9 @@ use Rattle.vss_recover.proofs.recover_volume.RecoverVolume.drop_image.Goals as g
 pub returns-clause-step : goal.returns-clause-step
 returns-clause-step g c =
     rw (← c.self.view_is)
-    (dropped_step g.D.Device.told g.D.Device.size g.D.Device.count g.D.Device.lending
+    (dropped_step g.D.Device
     (value_of c.self.inside.volume c.self.inside.overlay c.self.inside.window c.self.inside.claims.items c.self.inside.finals.items) c.settle.new.self c.args.set
-    (subst (λ (v : GroupValue _). IsOneDropped g.D.Device.told g.D.Device.size g.D.Device.count g.D.Device.lending c.self.inside.volume v c.args.set (Ok tt))
+    (subst (λ (v : GroupValue _). IsOneDropped g.D.Device c.self.inside.volume v c.args.set (Ok tt))
     (sym c.settle.ensures.volume) c.in_ok-drop_image.ensures)
     (settled_in_all c.self.inside.volume c.drop_image.new.self c.self.inside.overlay c.self.inside.window c.self.inside.claims.items c.self.inside.finals.items c.settle.new.self
     c.settle.ensures.settled))

@@ -27,7 +27,7 @@ returns-clause-step g c =
     let owner : owner_of c.self.inside.claims.items c.args.block ≡ Some c.args.writer = search rules in
     let low : c.args.block < blocks_of c.self.inside.volume = (let l = c.if-block-blocks.false in let n = c.blocks-2.ensures in omega arith) in
     rw (← c.self.view_is)
-    (recovered_if_ok g.D.Device.told g.D.Device.size g.D.Device.count g.D.Device.lending
+    (recovered_if_ok g.D.Device
     (value_of c.self.inside.volume c.self.inside.overlay c.self.inside.window c.self.inside.claims.items c.self.inside.finals.items) c.put_payload.new.overlay
     (record { set = c.args.set; writer = c.args.writer; write = record { block = c.args.block; bytes = payload_bytes c.args.payload.now } })
     (payload_bytes c.args.payload.now) c.put_payload.result refl c.self.invariant.fits c.slots-facts.ensures.valid c.slots-facts.ensures.fits c.slots-facts.ensures.whole window low owner

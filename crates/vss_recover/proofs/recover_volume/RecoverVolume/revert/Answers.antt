@@ -18,10 +18,10 @@ returns-in-Ok-clause-step g c =
     let settled = settled_in_all c.self.inside.volume c.revert-reverted.new.self c.self.inside.overlay c.self.inside.window c.self.inside.claims.items c.self.inside.finals.items c.settle.new.self
     c.settle.ensures.settled in
     rw (← c.self.view_is)
-    (λ h p stood point. reverted_step g.D.Device.told g.D.Device.size g.D.Device.count g.D.Device.lending
+    (λ h p stood point. reverted_step g.D.Device
     (value_of c.self.inside.volume c.self.inside.overlay c.self.inside.window c.self.inside.claims.items c.self.inside.finals.items) c.settle.new.self c.args.set c.self.invariant.fits
     c.slots-valid.ensures.valid none settled h p stood point
-    (subst (λ (v : GroupValue _). IsOneReverted g.D.Device.told g.D.Device.size g.D.Device.count g.D.Device.lending c.self.inside.volume v c.args.set) (sym c.settle.ensures.volume) is))
+    (subst (λ (v : GroupValue _). IsOneReverted g.D.Device c.self.inside.volume v c.args.set) (sym c.settle.ensures.volume) is))
 
 pub returns-then-blocks-gt0-clause-number : goal.returns-then-blocks-gt0-clause-number
 returns-then-blocks-gt0-clause-number g c = rw (← c.self.view_is)
@@ -48,8 +48,8 @@ returns-in-Err-clause-step g c =
     let settled = settled_in_all c.self.inside.volume c.revert-reverted.new.self c.self.inside.overlay c.self.inside.window c.self.inside.claims.items c.self.inside.finals.items c.settle.new.self
     c.settle.ensures.settled in
     subst (λ (v : RecoverValue _). IsRevertStep g.D.Device.told v c.settle.new.self c.args.set (Err (Other c.in-Err.fault))) c.self.view_is
-    (revert_fault_step g.D.Device.told g.D.Device.size g.D.Device.count g.D.Device.lending
+    (revert_fault_step g.D.Device
     (value_of c.self.inside.volume c.self.inside.overlay c.self.inside.window c.self.inside.claims.items c.self.inside.finals.items) c.settle.new.self c.args.set c.in-Err.fault c.self.invariant.fits
     c.slots-valid.ensures.valid none settled
-    (subst (λ (v : GroupValue _). IsOneRevert g.D.Device.told g.D.Device.size g.D.Device.count g.D.Device.lending c.self.inside.volume v c.args.set (Err c.in-Err.fault))
+    (subst (λ (v : GroupValue _). IsOneRevert g.D.Device c.self.inside.volume v c.args.set (Err c.in-Err.fault))
     (sym c.settle.ensures.volume) is))

@@ -1,6 +1,6 @@
 use Rattle.std.proofs.Common.{◌∙◌, sym, refl, true, false, is_some}
 use Rattle.vss_names.specs.declared.vss_result.VssResult.TheVariants.{UnsupportedContext, SnapshotSetInProgress}
-use Rattle.provider.specs.Calls.{counted_as}
+use Rattle.provider.specs.Words.{counted_as}
 use Rattle.vss_world.proofs.Looking.{without_facts, not_kept_moves, absent_moves}
 use Rattle.vss_world.proofs.Removed.{revert_line, same_provider, revert_refused, revert_done, revert_stopped}
 use Rattle.vss_world.proofs.ToldMarks.{stops_in_world}
