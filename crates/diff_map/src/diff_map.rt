@@ -7,6 +7,7 @@ ghost use Rattle.diff_map.specs.Leaving.{rule_of};
 ghost use Rattle.diff_map.specs.Rules.{renewed, dropped, cleared, gone, merged, next_older, GivesBack};
 
 use crate::copied::Copied;
+use crate::counts::place_from;
 use crate::entry::Entry;
 use crate::going::Going;
 use crate::group_map::GroupMap;
@@ -123,7 +124,8 @@ impl DiffMap {
         ensures some { IfSome result (IsPopped self.old self.new set) }
         ensures none { IsNone result → (self.new ≡ self.old) × (used_for self.old.copies set ≡ 0) }
     {
-        self.group.pop(0, set)
+        let at = place_from(self.images(), set);
+        self.group.pop_at(0, at)
     }
 
     /// The same for the image at a place among the images.

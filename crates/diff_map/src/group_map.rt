@@ -5,7 +5,7 @@ ghost use Rattle.diff_map.specs.Chains.{IsFound, IsAbsent};
 ghost use Rattle.diff_map.specs.Copies.{HasCopy, copied_at, copy_of, noted_in};
 ghost use Rattle.diff_map.specs.Counts.{IsOldestUsed, IsPopped, used_for};
 ghost use Rattle.diff_map.specs.Groups.{IsGivenDown, IsHandedDown, IsOnlyAt, IsUnnoted, map_at, new_map, with_images, with_row};
-ghost use Rattle.diff_map.specs.MapValue.{AreImages, IsMap, newest};
+ghost use Rattle.diff_map.specs.MapValue.{IsMap, newest};
 
 use crate::copied::Copied;
 use crate::counts::{drop_first, first_used, place_after, place_from};
@@ -177,18 +177,6 @@ impl GroupMap {
         });
     }
 
-    /// Adds the images of these sets, the oldest first, to a volume that has none.
-    pub fn add_images(&mut self, v: u32, sets: &[u32])
-        requires volume { v < length self.old }
-        requires none { (map_at self.old v).images ≡ [] }
-        requires rise { AreImages sets.now }
-        ensures { self.new ≡ slice_set self.old v (with_images sets.now (map_at self.old v)) }
-    {
-        for set in sets {
-            self.add_image(v, *set);
-        }
-    }
-
     /// Notes the slot for this block of the newest image of the volume.
     pub fn note(&mut self, v: u32, block: u32, slot: u32)
         requires volume { v < length self.old }
@@ -226,19 +214,7 @@ impl GroupMap {
         volume.used += 1;
     }
 
-    /// Takes a copy of the volume's image of `set` out, and answers what it was. Its slot is not given back.
-    pub fn pop(&mut self, v: u32, set: u32) -> Option<Entry>
-        requires volume { v < length self.old }
-        requires image { Contains (map_at self.old v).images set }
-        ensures others { IsOnlyAt v self.old self.new }
-        ensures some { IfSome result (IsPopped (map_at self.old v) (map_at self.new v) set) }
-        ensures none { IsNone result → (self.new ≡ self.old) × (used_for (map_at self.old v).copies set ≡ 0) }
-    {
-        let at = place_from(&self.volumes[v as usize].images, set);
-        self.pop_at(v, at)
-    }
-
-    /// The same for the image at a place among the images of the volume.
+    /// Takes a copy of the image at a place among the images of the volume out, and answers what it was. Its slot is not given back.
     pub fn pop_at(&mut self, v: u32, at: usize) -> Option<Entry>
         requires volume { v < length self.old }
         requires image { at < length (map_at self.old v).images }

@@ -17,6 +17,8 @@ pub struct Links {
     /// For each block, the slot of its newest copy; the number of slots where it has none.
     newest: Vec<u32>,
     rows: Vec<Row>,
+    /// For each slot, a copy of its block that stands some way down the chain, or any number.
+    far: Vec<u32>,
 }
 
 impl Model for Links {
@@ -50,7 +52,7 @@ fn reach(rows: &[Row], link: u32, block: u32, low: u32, high: u64) -> Option<u32
 }
 
 /// The copy of a block with the least set above `low`. It walks the copies, the newest first.
-fn next_above(newest: &[u32], rows: &[Row], block: u32, low: u32) -> Option<u32>
+fn next_above(newest: &[u32], rows: &[Row], far: &[u32], block: u32, low: u32) -> Option<u32>
     requires keeps { KeepsLinks newest.now rows.now }
     requires in_range { block < length newest.now }
     ensures { IsNextAbove rows.now block low result }
@@ -59,20 +61,61 @@ fn next_above(newest: &[u32], rows: &[Row], block: u32, low: u32) -> Option<u32>
         return None;
     };
     let mut at = first;
-    'chain: while let Some(older) = older_above(rows, block, at, low) {
+    'chain: while let Some(older) = older_above(rows, far, block, at, low) {
         at = older;
     }
     Some(at)
 }
 
-/// The next older copy of a block than this one, where it is above `low`.
-fn older_above(rows: &[Row], block: u32, at: u32, low: u32) -> Option<u32>
+/// An older copy of a block than this one, where one is above `low`: that of the far link, or the next one.
+fn older_above(rows: &[Row], far: &[u32], block: u32, at: u32, low: u32) -> Option<u32>
     requires { at < length rows.now }
     ensures on { IfSome result (IsBetween rows.now block low (row_at rows.now at).set) }
     ensures none { IsNone result → IsBelow rows.now (row_at rows.now at).older block (row_at rows.now at).set → NoneBetween rows.now block low (row_at rows.now at).set }
 {
     let row = rows[at as usize];
-    reach(rows, row.older, block, low, u64::from(row.set))
+    let high = u64::from(row.set);
+    if (at as usize) < far.len() {
+        if let Some(older) = reach(rows, far[at as usize], block, low, high) {
+            return Some(older);
+        }
+    }
+    reach(rows, row.older, block, low, high)
+}
+
+/// The set of the copy of a slot; 0 past the last.
+fn set_at(rows: &[Row], slot: u32) -> u32 {
+    match rows.get(slot as usize) {
+        Some(row) => row.set,
+        None => 0,
+    }
+}
+
+/// The far link of a slot; any number past the last.
+fn far_at(far: &[u32], slot: u32) -> u32 {
+    match far.get(slot as usize) {
+        Some(link) => *link,
+        None => u32::MAX,
+    }
+}
+
+/// Where a copy's far link leads that stands above this one: twice as far as before where the last two far links are about as long, else
+/// to this one.
+fn far_from(rows: &[Row], far: &[u32], older: u32) -> u32 {
+    let next = far_at(far, older);
+    let last = far_at(far, next);
+    let (top, middle, bottom) = (set_at(rows, older), set_at(rows, next), set_at(rows, last));
+    if bottom > 0 && top.saturating_sub(middle) >= middle.saturating_sub(bottom) {
+        return last;
+    }
+    older
+}
+
+/// That far link leads elsewhere now.
+fn lead_far(far: &mut Vec<u32>, slot: u32, to: u32) {
+    if (slot as usize) < far.len() {
+        far[slot as usize] = to;
+    }
 }
 
 /// The link of a block from this copy, or from the block itself.
@@ -116,6 +159,7 @@ impl Links {
         Ok(Links {
             newest: vec![in alloc; slots; blocks as usize]?,
             rows: vec![in alloc; empty; slots as usize]?,
+            far: vec![in alloc; slots; slots as usize]?,
         })
     }
 
@@ -165,7 +209,13 @@ impl Links {
         if (block as usize) >= self.newest.len() {
             return None;
         }
-        next_above(&self.newest, &self.rows, block, set.saturating_sub(1))
+        next_above(
+            &self.newest,
+            &self.rows,
+            &self.far,
+            block,
+            set.saturating_sub(1),
+        )
     }
 
     /// Whether a set has a copy of a block.
@@ -186,8 +236,10 @@ impl Links {
         requires unnoted { slice_get self.old.copies slot ≡ Some None }
         ensures { self.new ≡ record self.old { copies = slice_set self.old.copies slot (Some (copy_of set block)) } }
     {
-        let above = next_above(&self.newest, &self.rows, block, set);
+        let above = next_above(&self.newest, &self.rows, &self.far, block, set);
         let older = link_from(&self.newest, &self.rows, block, above);
+        let far = far_from(&self.rows, &self.far, older);
+        lead_far(&mut self.far, slot, far);
         self.rows[slot as usize] = Row { block, set, older };
         lead(&mut self.newest, &mut self.rows, block, above, slot);
     }
@@ -200,11 +252,11 @@ impl Links {
         ensures block { (copied : Copied) → copied_at self.old.copies slot ≡ Some copied → copied.block ≡ result }
     {
         let row = self.rows[slot as usize];
-        if older_above(&self.rows, row.block, slot, 0).is_none() {
+        if older_above(&self.rows, &self.far, row.block, slot, 0).is_none() {
             self.rows[slot as usize] = Row { set: 0, ..row };
             return row.block;
         }
-        let above = next_above(&self.newest, &self.rows, row.block, row.set);
+        let above = next_above(&self.newest, &self.rows, &self.far, row.block, row.set);
         self.rows[slot as usize] = Row { set: 0, ..row };
         lead(
             &mut self.newest,
@@ -225,7 +277,7 @@ impl Links {
         ensures none { IsNone result → self.new ≡ self.old }
     {
         let row = self.rows[slot as usize];
-        if older_above(&self.rows, row.block, slot, set - 1).is_some() {
+        if older_above(&self.rows, &self.far, row.block, slot, set - 1).is_some() {
             return None;
         }
         self.rows[slot as usize] = Row { set, ..row };

@@ -17,7 +17,7 @@ invariant_of-self c =
     let next = rw c.deref-2.ensures.value at c.next_above-above.ensures in
     let unused = unused_from rows c.args.slot unnoted in
     let narrow = c.ranges.set.fits in
-    rw (c.lead.ensures.newest, c.lead.ensures.rows, c.link_from-older.ensures, c.deref-3.ensures.value, c.deref-4.ensures.value)
+    rw (c.lead.ensures.newest, c.lead.ensures.rows, c.link_from-older.ensures, c.deref-4.ensures.value, c.deref-5.ensures.value)
     (KeepsLinks-noted newest _ rows _ c.args.block c.args.set c.args.slot c.next_above-above.result c.self.invariant
     (are_relinked newest rows c.args.block c.args.slot c.args.set
     (record { block = c.args.block; set = c.args.set; older = link_from newest rows c.args.block c.next_above-above.result }) c.next_above-above.result c.args.slot

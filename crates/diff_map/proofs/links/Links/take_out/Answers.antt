@@ -10,7 +10,7 @@ pub next_above-above-requires-clause-in_range : goal.next_above-above-requires-c
 next_above-above-requires-clause-in_range c =
     let had = subst (λ (l : LinksValue). (copied : Copied) × (copied_at l.copies c.args.slot ≡ Some copied)) (sym c.self.view_is) c.requires in
     let low = (OutRow c.self.inside.newest.items c.self.inside.rows.items c.args.slot c.index-row.result.now had.0 c.self.invariant had.1 c.index-row.ensures).1 in
-    rw c.deref-2.ensures.value low
+    rw c.deref-3.ensures.value low
 
 pub lead-requires-clause-in_range : goal.lead-requires-clause-in_range
 lead-requires-clause-in_range c =
@@ -27,7 +27,7 @@ invariant_of-self c =
 pub invariant_of-self-2 : goal.invariant_of-self-2
 invariant_of-self-2 c =
     let had = subst (λ (l : LinksValue). (copied : Copied) × (copied_at l.copies c.args.slot ≡ Some copied)) (sym c.self.view_is) c.requires in
-    let next = rw c.deref-3.ensures.value at c.next_above-above.ensures in
+    let next = rw c.deref-4.ensures.value at c.next_above-above.ensures in
     rw (c.lead.ensures.newest, c.lead.ensures.rows)
     (KeepsLinks-taken c.self.inside.newest.items c.self.inside.rows.items c.args.slot c.index-row.result.now had.0 c.self.invariant had.1 c.index-row.ensures c.next_above-above.result next)
 
