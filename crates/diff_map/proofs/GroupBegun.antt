@@ -2,7 +2,7 @@
 use Rattle.std.proofs.Common.{ℕ, zero, suc, ◌≡◌, ◌+◌, ◌<◌, ◌≤◌, ◌^◌, ◌++◌, inl, inr, List, [], ◌∷◌, length, get_or, map, replicate, take, Option, Some, None, refl, ap, sym, ◌∙◌, subst}
 use Rattle.std.proofs.Common.{arith, All}
 use Rattle.std.proofs.lemmas.Bool.{cases_lt}
-use Rattle.std.proofs.lemmas.List.{map-append, length-append, length-map, length-replicate, take_more}
+use Rattle.std.proofs.lemmas.List.{map-append, length-append, length-replicate, take_more}
 use Rattle.std.proofs.lemmas.List.Elements.{All-append, All-cons, All-nil}
 use Rattle.std.proofs.lemmas.List.Quantifiers.{all_pairs_push}
 use Rattle.std.proofs.lemmas.Option.{none-some}
@@ -13,7 +13,7 @@ use Rattle.diff_map.specs.Copies.{copied_at, noted_in}
 use Rattle.diff_map.specs.Counts.{IsCounted, KeepsCounts}
 use Rattle.diff_map.specs.Groups.{new_map}
 use Rattle.diff_map.specs.MapValue.{MapValue, AreImages, KeepsImages}
-use Rattle.diff_map.specs.Parts.{Part, part_of, own_copies, map_of, AreParts, KeepsVolume, KeepsGroup, IsEmpty}
+use Rattle.diff_map.specs.Parts.{Part, part_of, map_of, AreParts, KeepsVolume, KeepsGroup, IsEmpty}
 use Rattle.diff_map.proofs.Parts.{own_none}
 
 abbrev none_of : ℕ → List (Option Copied)
@@ -102,7 +102,8 @@ AreBegun-none slots = record {
 pub AreBegun-one : (base count slots k : ℕ) (blocks : List ℕ) (volumes later : List OfVolume) (volume : OfVolume) → AreBegun base slots (take k blocks) volumes → IsEmpty base count volume
     → base + count < 2 ^ 32 → k < length blocks → get_or blocks k 0 ≡ count → later ≡ volumes ++ volume ∷ [] → AreBegun (base + count) slots (take (k + 1) blocks) later
 AreBegun-one base count slots k blocks volumes later volume begun empty narrow inside is more = subst (AreBegun (base + count) slots (take (k + 1) blocks)) (sym more) (record {
-  parts = subst (AreParts (base + count)) (sym (map-append part_of volumes (volume ∷ []) ∙ ap (λ (p : Part). map part_of volumes ++ p ∷ []) empty.part)) (AreParts-push base count (map part_of volumes) begun.parts narrow);
+  parts = subst (AreParts (base + count)) (sym (map-append part_of volumes (volume ∷ []) ∙ ap (λ (p : Part). map part_of volumes ++ p ∷ []) empty.part))
+      (AreParts-push base count (map part_of volumes) begun.parts narrow);
   each = All-append (KeepsVolume (replicate slots 0) (none_of slots)) volumes (volume ∷ []) begun.each
       (All-cons (KeepsVolume (replicate slots 0) (none_of slots)) volume [] (KeepsVolume-empty slots base count volume empty) (All-nil (KeepsVolume (replicate slots 0) (none_of slots))));
   view =

@@ -41,7 +41,7 @@ map_at_set old new v m is inside = ap (λ (ms : List MapValue). map_at ms v) is 
 pub only_at : (old new : List MapValue) (v : ℕ) (m : MapValue) → new ≡ set old v m → v < length old → IsOnlyAt v old new
 only_at old new v m is inside = is ∙ ap (λ (x : MapValue). set old v x) (sym (map_at_set old new v m is inside))
 
-no_row : (copies : List (Option Copied)) (slot : ℕ) → slot < length copies → copied_at copies slot ≡ None → slice_get copies slot ≡ Some None
+pub no_row : (copies : List (Option Copied)) (slot : ℕ) → slot < length copies → copied_at copies slot ≡ None → slice_get copies slot ≡ Some None
 no_row copies slot inside is = slice_get_read copies (length copies) slot None refl inside (sym is)
 
 pub only_twice : (old mid new : List MapValue) (v : ℕ) (m : MapValue) → IsOnlyAt v old mid → new ≡ set mid v m → v < length old → IsOnlyAt v old new
@@ -50,8 +50,9 @@ only_twice old mid new v m first is inside = only_at old new v m (is ∙ ap (λ 
 pub only_still : (old new : List MapValue) (v : ℕ) → new ≡ old → IsOnlyAt v old new
 only_still old new v is = is ∙ sym (set-get_or old v _) ∙ ap (λ (ms : List MapValue). set old v (map_at ms v)) (sym is)
 
-module _ {blocks : ℕ} {volumes : List OfVolume} {next : List ℕ} {copies : List (Option Copied)} {maps : List MapValue} {v : ℕ} {volume : OfVolume} (at : IsAt blocks volumes next copies maps v volume) where
-  within : v < length volumes
+module _ {blocks : ℕ} {volumes : List OfVolume} {next : List ℕ} {copies : List (Option Copied)} {maps : List MapValue} {v : ℕ} {volume : OfVolume}
+    (at : IsAt blocks volumes next copies maps v volume) where
+  pub within : v < length volumes
   within = volume_within copies volumes maps v at.view at.inside
 
   pub here : map_at maps v ≡ map_of copies volume
@@ -133,7 +134,8 @@ module _ {blocks : ℕ} {volumes : List OfVolume} {next : List ℕ} {copies : Li
     not_after u d differ inside = own_apart (part_of volume) (part_of (get_or volumes u d)) image block (apart u d differ inside) low
 
     pub KeepsGroup-noted : (n : ℕ) (count : ImageCount) (newer : Vec ImageCount Global) → Contains volume.images.items image → n < length volume.images.items
-        → ((d : ℕ) → get_or volume.images.items n d ≡ image) → count ≡ get_or volume.counts.items n count → newer.items ≡ set volume.counts.items n (record { set = image; used = count.used + 1; first = slot })
+        → ((d : ℕ) → get_or volume.images.items n d ≡ image) → count ≡ get_or volume.counts.items n count
+        → newer.items ≡ set volume.counts.items n (record { set = image; used = count.used + 1; first = slot })
         → vec_capacity volume.counts ≤ vec_capacity newer
         → KeepsGroup blocks (set volumes v (with_lists volume (volume.used + 1) volume.images newer)) (set next slot count.first) (set copies slot row)
     KeepsGroup-noted n count newer contains inside is read items cap =

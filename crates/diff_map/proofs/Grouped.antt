@@ -1,10 +1,10 @@
 -- What the maps of a group keep where one volume changes, and the slot of one copy with it.
-use Rattle.std.proofs.Common.{ℕ, zero, suc, ◌≡◌, ◌≢◌, ◌+◌, ◌-◌, ◌<◌, ◌≤◌, ◌^◌, inl, inr, List, [], ◌∷◌, length, get_or, set, map, Option, Some, None, refl, ap, sym, ◌∙◌, subst}
-use Rattle.std.proofs.Common.{arith, All, slice_get}
+use Rattle.std.proofs.Common.{ℕ, zero, suc, ◌≡◌, ◌≢◌, ◌+◌, ◌-◌, ◌<◌, ◌≤◌, inl, inr, List, [], ◌∷◌, length, get_or, set, map, Option, Some, None, refl, ap, sym, ◌∙◌, subst}
+use Rattle.std.proofs.Common.{arith, slice_get}
 use Rattle.std.proofs.Math.Seq.{map-set_same}
 use Rattle.std.proofs.lemmas.Bool.{cases_eq, cases_lt}
 use Rattle.std.proofs.lemmas.Option.{none-some, slice_get_read, slice_get_within, get_or_from_slice_get}
-use Rattle.std.proofs.lemmas.List.{get_or-map, get_or-set_same, get_or-set_other, length-map, length-set, set-get_or, get_or_default}
+use Rattle.std.proofs.lemmas.List.{get_or-map, get_or-set_same, get_or-set_other, length-map, length-set, set-get_or}
 use Rattle.diff_map.specs.declared.copied.Copied.{Copied}
 use Rattle.diff_map.specs.declared.image_count.ImageCount.{ImageCount}
 use Rattle.diff_map.specs.declared.of_volume.OfVolume.{OfVolume}
@@ -32,7 +32,8 @@ long_of copies [] v inside = absurd (omega arith)
 long_of copies (x ∷ xs) zero inside = length-map copies (own (part_of x))
 long_of copies (x ∷ xs) (suc v) inside = long_of copies xs v (omega arith)
 
-pub long_at : (copies : List (Option Copied)) (volumes : List OfVolume) (maps : List MapValue) (v : ℕ) → map (map_of copies) volumes ≡ maps → v < length maps → length (map_at maps v).copies ≡ length copies
+pub long_at : (copies : List (Option Copied)) (volumes : List OfVolume) (maps : List MapValue) (v : ℕ) → map (map_of copies) volumes ≡ maps → v < length maps
+    → length (map_at maps v).copies ≡ length copies
 long_at copies volumes maps v view inside =
     subst (λ (ms : List MapValue). length (map_at ms v).copies ≡ length copies) view (long_of copies volumes v (volume_within copies volumes maps v view inside))
 
@@ -120,7 +121,8 @@ unnoted_from blocks volumes next copies maps v slot volume keeps linked view ins
 -- ## the other volumes where a slot gets or loses a copy
 
 -- a slot that holds no copy of the volume leads nowhere in its chains
-IsCounted-other : (next : List ℕ) (copies : List (Option Copied)) (slot value : ℕ) (count : ImageCount) → copied_at copies slot ≡ None → IsCounted next copies count → IsCounted (set next slot value) copies count
+IsCounted-other : (next : List ℕ) (copies : List (Option Copied)) (slot value : ℕ) (count : ImageCount) → copied_at copies slot ≡ None → IsCounted next copies count
+    → IsCounted (set next slot value) copies count
 IsCounted-other next copies slot value count none is = record {
   used = is.used;
   chain = record {
@@ -171,7 +173,8 @@ set_others f g (x ∷ xs) (suc v) new m is same =
     ∙ ap (λ ys. g x ∷ ys) (set_others f g xs v new m is (λ u d differ within. same (suc u) d (λ e. differ (omega arith)) (omega arith)))
 
 -- the maps, where one volume changes and the copies of the others do not
-pub maps_after : (copies after : List (Option Copied)) (volumes : List OfVolume) (maps : List MapValue) (v : ℕ) (new : OfVolume) (m : MapValue) → map (map_of copies) volumes ≡ maps → map_of after new ≡ m
+pub maps_after : (copies after : List (Option Copied)) (volumes : List OfVolume) (maps : List MapValue) (v : ℕ) (new : OfVolume) (m : MapValue) → map (map_of copies) volumes ≡ maps
+    → map_of after new ≡ m
     → ((u : ℕ) (d : OfVolume) → u ≢ v → u < length volumes → own_copies (get_or volumes u d) after ≡ own_copies (get_or volumes u d) copies) → map (map_of after) (set volumes v new) ≡ set maps v m
 maps_after copies after volumes maps v new m view is same =
     set_others (map_of after) (map_of copies) volumes v new m is (λ u d differ within. ap (λ (cs : List (Option Copied)). map_with (get_or volumes u d) cs) (same u d differ within))

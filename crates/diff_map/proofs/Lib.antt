@@ -2,11 +2,13 @@ pub mod Chained
 pub mod Counted
 pub mod Counting
 pub mod Finds
+pub mod GivenDown
 pub mod GroupBegun
 pub mod GroupChanges
 pub mod Grouped
 pub mod ImagePlaces
 pub mod Images
+pub mod ImagesLeft
 pub mod Kept
 pub mod Leaving
 pub mod Linked

@@ -1,9 +1,9 @@
 -- What the links of the rows of copies lead to.
-use Rattle.std.proofs.Common.{ℕ, ◌≡◌, ◌≢◌, ◌<◌, ◌≤◌, ◌^◌, ◌∙◌, inl, inr, List, Option, Some, None, length, get_or, refl, ap, subst, sym, arith}
+use Rattle.std.proofs.Common.{ℕ, ◌≡◌, ◌≢◌, ◌<◌, ◌^◌, ◌∙◌, inl, inr, List, Option, Some, None, length, get_or, refl, ap, subst, sym, arith}
 use Rattle.std.proofs.lemmas.Bool.{cases_lt, cases_eq}
 use Rattle.std.proofs.lemmas.List.{get_or_past}
 use Rattle.diff_map.specs.declared.row.Row.{Row}
-use Rattle.diff_map.specs.Links.{row_at, HasBlock, NoneBetween, IsBetween, LeadsBelow, IsBelow, IsFrom, IsNextAbove, KeepsLinks, set_of}
+use Rattle.diff_map.specs.Links.{row_at, HasBlock, NoneBetween, IsBetween, IsBelow, IsFrom, IsNextAbove, KeepsLinks, set_of}
 
 -- a slot with a copy is one of the rows
 pub used_within : (rows : List Row) (slot : ℕ) → 0 < (row_at rows slot).set → slot < length rows

@@ -1,10 +1,13 @@
 -- A copy gets a lesser set, and none of its block has a set between: what the rows keep holds on, and no link changes.
-use Rattle.std.proofs.Common.{ℕ, ◌≡◌, ◌≢◌, ◌<◌, ◌≤◌, ◌^◌, ◌⊎◌, ◌∙◌, inl, inr, List, Option, Some, None, length, set, map, refl, ap, sym, subst, arith}
+use Rattle.std.proofs.Common.{ℕ, ◌≡◌, ◌≢◌, ◌<◌, ◌≤◌, ◌-◌, get_or, ◌⊎◌, ◌∙◌, inl, inr, List, Option, Some, None, length, set, map, refl, ap, sym, subst, arith}
 use Rattle.std.proofs.lemmas.Bool.{cases_eq, cases_lt}
-use Rattle.std.proofs.lemmas.List.{get_or-set_same, get_or-set_other, length-set}
+use Rattle.std.proofs.lemmas.List.{get_or-set_same, get_or-set_other, get_or_read, length-set}
 use Rattle.diff_map.specs.declared.row.Row.{Row}
-use Rattle.diff_map.specs.Links.{row_at, HasBlock, LeadsBelow, IsBelow, IsFrom, KeepsLinks, link_from, set_of}
+use Rattle.diff_map.specs.declared.copied.Copied.{Copied}
+use Rattle.diff_map.specs.Copies.{copied_at, copy_of}
+use Rattle.diff_map.specs.Links.{row_at, copy_in, IsLowered, NoneBetween, HasBlock, LeadsBelow, IsBelow, IsFrom, KeepsLinks, link_from, set_of}
 use Rattle.diff_map.proofs.Linked.{used_within}
+use Rattle.diff_map.proofs.LinkedCopies.{copy_in_used, has_from_copy, value_at}
 
 module _ (newest : List ℕ) (rows : List Row) (slot low : ℕ) (keeps : KeepsLinks newest rows) (used : 0 < (row_at rows slot).set) (above_zero : 0 < low) (below : low < (row_at rows slot).set)
     (free : (other : ℕ) → HasBlock rows (row_at rows slot).block other → other ≢ slot → ((row_at rows other).set < low) ⊎ ((row_at rows slot).set < (row_at rows other).set)) where
@@ -159,4 +162,51 @@ module _ (newest : List ℕ) (rows : List Row) (slot low : ℕ) (keeps : KeepsLi
     ];
     narrow = let l = length-set rows slot lowered in let n = keeps.narrow in omega arith;
     narrow_blocks = keeps.narrow_blocks;
+  }
+
+-- ## the row that is read, where no copy of its block has a set between
+
+module _ (newest : List ℕ) (rows : List Row) (slot low : ℕ) (row : Row) (copied : Copied) (keeps : KeepsLinks newest rows) (had : copied_at (map copy_in rows) slot ≡ Some copied)
+    (is : row ≡ get_or rows slot row) (above_zero : 0 < low) (below : low < copied.set)
+    (none : IsBelow rows (row_at rows slot).older row.block (row_at rows slot).set → NoneBetween rows row.block (low - 1) (row_at rows slot).set) where
+  used_here : 0 < (row_at rows slot).set
+  used_here = (has_from_copy rows slot copied.set copied.block had).used
+
+  row_is : row ≡ row_at rows slot
+  row_is = get_or_read rows slot row (used_within rows slot used_here) is (record { block = 0; set = 0; older = 0 })
+
+  between : NoneBetween rows (row_at rows slot).block (low - 1) (row_at rows slot).set
+  between =
+      let none_here = subst (λ (r : Row). IsBelow rows (row_at rows slot).older r.block (row_at rows slot).set → NoneBetween rows r.block (low - 1) (row_at rows slot).set) row_is none in
+      none_here (keeps.links (row_at rows slot).block (Some slot) (used_here, refl))
+
+  below_row : low < (row_at rows slot).set
+  below_row = let e = (has_from_copy rows slot copied.set copied.block had).set_is in omega arith
+
+  free_here : (other : ℕ) → HasBlock rows (row_at rows slot).block other → other ≢ slot → ((row_at rows other).set < low) ⊎ ((row_at rows slot).set < (row_at rows other).set)
+  free_here other has apart = elim (cases_lt (row_at rows other).set low) [
+    | inl under ↦ inl under
+    | inr from ↦ elim (cases_lt (row_at rows slot).set (row_at rows other).set) [
+      | inl over ↦ inr over
+      | inr le ↦ absurd (let high = between other has (omega arith) in apart (sym (keeps.once slot other used_here has (omega arith))))
+    ]
+  ]
+
+  pub KeepsLinks-lower : KeepsLinks newest (set rows slot (record { block = row.block; set = low; older = row.older }))
+  KeepsLinks-lower = subst (λ (r : Row). KeepsLinks newest (set rows slot (record { block = r.block; set = low; older = r.older }))) (sym row_is)
+      (KeepsLinks-lowered newest rows slot low keeps used_here above_zero below_row free_here)
+
+  pub lowered_is : IsLowered (record { blocks = length newest; copies = map copy_in rows })
+      (record { blocks = length newest; copies = map copy_in (set rows slot (record { block = row.block; set = low; older = row.older })) }) slot low row.block
+  lowered_is = record {
+    block_is = λ other is_other. sym (has_from_copy rows slot other.set other.block is_other).block_is ∙ ap (λ (r : Row). r.block) (sym row_is);
+    lacked = λ has.
+        let it = has_from_copy rows has.0 low row.block has.1 in
+        let set_is = it.set_is in
+        let u = it.used in
+        let high = between has.0 (u, it.block_is ∙ ap (λ (r : Row). r.block) row_is) (omega arith) in
+        let under = below_row in
+        omega arith;
+    lowered = value_at (length newest) rows slot (record { block = row.block; set = low; older = row.older }) (Some (copy_of low row.block))
+        (copy_in_used (record { block = row.block; set = low; older = row.older }) above_zero);
   }

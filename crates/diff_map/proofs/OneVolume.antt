@@ -1,5 +1,5 @@
 -- A group of one volume.
-use Rattle.std.proofs.Common.{ℕ, zero, suc, ◌≡◌, List, [], ◌∷◌, length, set, Option, Some, None, refl, sym, subst, arith, slice_get}
+use Rattle.std.proofs.Common.{ℕ, zero, suc, ◌≡◌, List, [], ◌∷◌, length, set, Some, None, refl, subst, arith, slice_get}
 use Rattle.std.proofs.lemmas.Option.{none-some, same_Some}
 use Rattle.diff_map.specs.Groups.{map_at, IsUnnoted}
 use Rattle.diff_map.specs.MapValue.{MapValue}

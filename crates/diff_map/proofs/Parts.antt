@@ -1,20 +1,15 @@
 -- The arena of a group: what a copy is to the volume that it is of, and to the others.
-use Rattle.std.proofs.Common.{ℕ, zero, suc, ◌≡◌, ◌≢◌, ◌+◌, ◌-◌, ◌<◌, ◌≤◌, ◌^◌, ◌⊎◌, inl, inr, Bool, true, false, cond, leb, ltb, ◌&&◌, List, [], ◌∷◌, length, get_or, set, map, replicate, Option, Some, None, refl, ap, sym, ◌∙◌, subst}
-use Rattle.std.proofs.Common.{arith, All}
+use Rattle.std.proofs.Common.{ℕ, zero, suc, ◌≡◌, ◌+◌, ◌-◌, ◌<◌, ◌≤◌, ◌⊎◌, inl, inr, Bool, true, false, cond, leb, ltb, ◌&&◌, List, [], ◌∷◌, set, map, replicate, Option, Some, None, refl, ap, sym, ◌∙◌}
+use Rattle.std.proofs.Common.{arith}
 use Rattle.std.specs.Prelude.{IfSome, IsNone, IsTrue, ◌↔◌}
-use Rattle.std.specs.List.{slice_get, AllPairs}
-use Rattle.std.proofs.Math.Seq.{map-set_same}
-use Rattle.std.proofs.lemmas.Bool.{cases_eq, cases_lt}
+use Rattle.std.specs.List.{slice_get}
 use Rattle.std.proofs.lemmas.Bool.Decides.{nat_tests}
-use Rattle.std.proofs.lemmas.List.{get_or-map, get_or-set_same, get_or-set_other, length-map, length-set, map-set, set-get_or, get_or_default}
+use Rattle.std.proofs.lemmas.List.{map-set, set-get_or}
 use Rattle.std.proofs.lemmas.Option.{none-some, same_Some}
 use Rattle.diff_map.specs.declared.copied.Copied.{Copied}
-use Rattle.diff_map.specs.declared.of_volume.OfVolume.{OfVolume}
 use Rattle.diff_map.specs.Chains.{IsFound, IsAbsent}
 use Rattle.diff_map.specs.Copies.{copied_at, copy_of, HasCopy}
-use Rattle.diff_map.specs.Groups.{map_at}
-use Rattle.diff_map.specs.MapValue.{MapValue}
-use Rattle.diff_map.specs.Parts.{Part, part_of, own, own_copies, map_of, AreParts, KeepsVolume, KeepsGroup}
+use Rattle.diff_map.specs.Parts.{Part, own}
 
 -- ## a copy
 
@@ -120,7 +115,8 @@ pub none_if : (o : Option ℕ) (p : Part) (copies : List (Option Copied)) (asked
     → IsNone o ↔ IsAbsent (map (own p) copies) asked block
 none_if o p copies asked block low none = (λ is. absent_own p copies asked block (none.0 is), λ absent. none.1 (own_absent p copies asked block low absent))
 
-pub has_if : (b : Bool) (p : Part) (copies : List (Option Copied)) (image block : ℕ) → block < p.blocks → IsTrue b ↔ HasCopy copies image (p.base + block) → IsTrue b ↔ HasCopy (map (own p) copies) image block
+pub has_if : (b : Bool) (p : Part) (copies : List (Option Copied)) (image block : ℕ) → block < p.blocks → IsTrue b ↔ HasCopy copies image (p.base + block)
+    → IsTrue b ↔ HasCopy (map (own p) copies) image block
 has_if b p copies image block low has = (λ is. let at = has.0 is in (at.0, copy_own p copies at.0 image block low at.1), λ had. has.1 (has_own p copies image block had))
 
 pub has_outside : (p : Part) (copies : List (Option Copied)) (image block : ℕ) → p.blocks ≤ block → HasCopy (map (own p) copies) image block → ⊥

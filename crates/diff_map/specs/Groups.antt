@@ -1,6 +1,6 @@
 -- What a contract sees of a `GroupMap`: the map of each volume, all over the same slots. A slot is noted for one volume at most.
 -- (This project's own.)
-use Rattle.std.specs.Prelude.{ℕ, ◌≡◌, Bool, true, false, List, [], Option, Some, None, replicate, slice_get, slice_index_or, slice_set}
+use Rattle.std.specs.Prelude.{ℕ, ◌≡◌, true, false, List, [], Option, Some, None, replicate, slice_get, slice_index_or, slice_set}
 use Rattle.diff_map.specs.declared.copied.Copied.{Copied}
 use Rattle.diff_map.specs.declared.entry.Entry.{Entry}
 use Rattle.diff_map.specs.declared.handed_down.HandedDown.{HandedDown}
@@ -41,3 +41,7 @@ pub record IsHandedDown (old new : MapValue) (older image : ℕ) (handed : Hande
   pub kept_is : handed.kept ≡ true → new ≡ with_row handed.entry.slot (Some (copy_of older handed.entry.block)) (with_row handed.entry.slot None old)
   pub freed : handed.kept ≡ false → HasCopy (with_row handed.entry.slot None old).copies older handed.entry.block
   pub freed_is : handed.kept ≡ false → new ≡ with_row handed.entry.slot None old
+
+-- the same where the older image has it
+abbrev pub IsGivenDown : MapValue → MapValue → ℕ → ℕ → Entry → Type 0
+IsGivenDown old new older image entry = IsHandedDown old new older image (record { entry = entry; kept = true })

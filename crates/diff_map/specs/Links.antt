@@ -1,10 +1,10 @@
 -- How the copies of a block hang together: a block leads to the slot of its newest copy, and the row of a copy to the next older one. What a
 -- link means is said of the copies, not of the way there: it leads to the copy of the block with the greatest set below, where there is
 -- one. Where there is none, it is not said where it leads, so who follows it looks whether the slot has such a copy. (This project's own.)
-use Rattle.std.specs.Prelude.{ℕ, ◌≡◌, ◌<◌, ◌≤◌, ◌^◌, ◌⊎◌, List, Option, Some, None, ◌==◌, if◌then◌else◌, length, slice_index, slice_index_or, slice_set, IfSome}
+use Rattle.std.specs.Prelude.{ℕ, ◌≡◌, ◌<◌, ◌≤◌, ◌^◌, List, Option, Some, None, ◌==◌, if◌then◌else◌, length, slice_index, slice_index_or, slice_set, IfSome}
 use Rattle.diff_map.specs.declared.copied.Copied.{Copied}
 use Rattle.diff_map.specs.declared.row.Row.{Row}
-use Rattle.diff_map.specs.Copies.{copied_at, copy_of}
+use Rattle.diff_map.specs.Copies.{HasCopy, copied_at, copy_of}
 
 -- what a contract sees: how many blocks there are, and for each slot its copy
 pub record LinksValue : Type 0 where
@@ -86,3 +86,9 @@ newest_after newest block (Some slot) to = newest
 abbrev pub older_after : List Row → Option ℕ → ℕ → List Row
 older_after rows None to = rows
 older_after rows (Some slot) to = slice_set rows slot (record { block = (row_at rows slot).block; set = (row_at rows slot).set; older = to })
+
+-- a lesser set, which lacked the block, has the copy of the slot now
+pub record IsLowered (old new : LinksValue) (slot set block : ℕ) : Type 0 where
+  pub block_is : (copied : Copied) → copied_at old.copies slot ≡ Some copied → copied.block ≡ block
+  pub lacked : HasCopy old.copies set block → ⊥
+  pub lowered : new ≡ record { blocks = old.blocks; copies = slice_set old.copies slot (Some (copy_of set block)) }

@@ -30,7 +30,8 @@ map_of copies volume = record { blocks = volume.blocks; images = volume.images.i
 pub record AreParts (blocks : ℕ) (parts : List Part) : Type 0 where
   pub apart : AllPairs (λ p q. p.base + p.blocks ≤ q.base) parts
   pub within : All (λ p. p.base + p.blocks ≤ blocks) parts
-  pub all : (block : ℕ) → block < blocks → (k : ℕ) × (k < length parts) × ((p : Part) → (slice_index_or parts k p).base ≤ block) × ((p : Part) → block < (slice_index_or parts k p).base + (slice_index_or parts k p).blocks)
+  pub all : (block : ℕ) → block < blocks
+      → (k : ℕ) × (k < length parts) × ((p : Part) → (slice_index_or parts k p).base ≤ block) × ((p : Part) → block < (slice_index_or parts k p).base + (slice_index_or parts k p).blocks)
   pub narrow : blocks < 2 ^ 32
 
 -- the images of a volume and their counts are those of its copies

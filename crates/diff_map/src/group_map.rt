@@ -4,7 +4,7 @@ ghost use Rattle.std.specs.Prelude.{◌≡◌, ◌<◌, ◌≤◌, ◌++◌, ◌
 ghost use Rattle.diff_map.specs.Chains.{IsFound, IsAbsent};
 ghost use Rattle.diff_map.specs.Copies.{HasCopy, copied_at, copy_of, noted_in};
 ghost use Rattle.diff_map.specs.Counts.{IsOldestUsed, IsPopped, used_for};
-ghost use Rattle.diff_map.specs.Groups.{IsHandedDown, IsOnlyAt, IsUnnoted, map_at, new_map, with_images, with_row};
+ghost use Rattle.diff_map.specs.Groups.{IsGivenDown, IsHandedDown, IsOnlyAt, IsUnnoted, map_at, new_map, with_images, with_row};
 ghost use Rattle.diff_map.specs.MapValue.{AreImages, IsMap, newest};
 
 use crate::copied::Copied;
@@ -177,6 +177,18 @@ impl GroupMap {
         });
     }
 
+    /// Adds the images of these sets, the oldest first, to a volume that has none.
+    pub fn add_images(&mut self, v: u32, sets: &[u32])
+        requires volume { v < length self.old }
+        requires none { (map_at self.old v).images ≡ [] }
+        requires rise { AreImages sets.now }
+        ensures { self.new ≡ slice_set self.old v (with_images sets.now (map_at self.old v)) }
+    {
+        for set in sets {
+            self.add_image(v, *set);
+        }
+    }
+
     /// Notes the slot for this block of the newest image of the volume.
     pub fn note(&mut self, v: u32, block: u32, slot: u32)
         requires volume { v < length self.old }
@@ -266,6 +278,9 @@ impl GroupMap {
     {
         let volume = &self.volumes[v as usize];
         let older = volume.images[at - 1];
+        if let Some(entry) = self.lower(v, at) {
+            return Some(HandedDown { entry, kept: true });
+        }
         let Some(entry) = self.pop_at(v, at) else {
             return None;
         };
@@ -274,6 +289,47 @@ impl GroupMap {
             self.note_for(v, older, entry.block, entry.slot);
         }
         Some(HandedDown { entry, kept })
+    }
+
+    /// Hands the first copy of the image at a place down to the next older image in one step, where that lacks the block. It may
+    /// leave that undone.
+    fn lower(&mut self, v: u32, at: usize) -> Option<Entry>
+        requires volume { v < length self.old }
+        requires image { at < length (map_at self.old v).images }
+        requires older { 0 < at }
+        ensures others { IsOnlyAt v self.old self.new }
+        ensures some { IfSome result (IsGivenDown (map_at self.old v) (map_at self.new v) (slice_index (map_at self.old v).images (at - 1)) (slice_index (map_at self.old v).images at)) }
+        ensures none { IsNone result → self.new ≡ self.old }
+    {
+        let _facts = self.links.slots();
+        let volume = &mut self.volumes[v as usize];
+        let count = volume.counts[at];
+        if count.used == 0 {
+            return None;
+        }
+        let slot = count.first;
+        let set = volume.images[at - 1];
+        let Some(block) = self.links.lower(slot, set) else {
+            return None;
+        };
+        let rest = self.next[slot as usize];
+        volume.counts[at] = ImageCount {
+            set: count.set,
+            used: count.used - 1,
+            first: rest,
+        };
+        let older = volume.counts[at - 1];
+        self.next[slot as usize] = older.first;
+        volume.counts[at - 1] = ImageCount {
+            set,
+            used: older.used + 1,
+            first: slot,
+        };
+        Some(Entry {
+            block: block - volume.base,
+            set: count.set,
+            slot,
+        })
     }
 
     /// Takes the volume's image of `set` out, which has no copy.

@@ -3,7 +3,7 @@
 ghost use Rattle.std.specs.Prelude.{◌≡◌, ◌<◌, ◌≤◌, ◌^◌, ◌↔◌, Some, None, length, replicate, slice_get, slice_set, IfOk, IfSome, IsNone, IsTrue};
 ghost use Rattle.diff_map.specs.Copies.{HasCopy, copied_at, copy_of};
 ghost use Rattle.diff_map.specs.Chains.{IsFound, IsAbsent};
-ghost use Rattle.diff_map.specs.Links.{AreLinked, row_at, HasBlock, NoneBetween, IsBetween, IsBelow, IsFrom, IsNextAbove, KeepsLinks, link_from, newest_after, older_after};
+ghost use Rattle.diff_map.specs.Links.{AreLinked, row_at, HasBlock, NoneBetween, IsBetween, IsBelow, IsFrom, IsLowered, IsNextAbove, KeepsLinks, link_from, newest_after, older_after};
 
 use crate::copied::Copied;
 use crate::row::Row;
@@ -214,5 +214,21 @@ impl Links {
             row.older,
         );
         row.block
+    }
+
+    /// Gives the copy of a slot to a lesser set, where no copy of the block has a set from that one on and below its own. No link changes.
+    /// The answer is the block.
+    pub fn lower(&mut self, slot: u32, set: u32) -> Option<u32>
+        requires above_zero { 0 < set }
+        requires below { (copied : Copied) × (copied_at self.old.copies slot ≡ Some copied) × (set < copied.set) }
+        ensures some { IfSome result (IsLowered self.old self.new slot set) }
+        ensures none { IsNone result → self.new ≡ self.old }
+    {
+        let row = self.rows[slot as usize];
+        if older_above(&self.rows, row.block, slot, set - 1).is_some() {
+            return None;
+        }
+        self.rows[slot as usize] = Row { set, ..row };
+        Some(row.block)
     }
 }

@@ -1,11 +1,12 @@
-use Rattle.std.proofs.Common.{ℕ, ◌≡◌, ◌≢◌, ◌<◌, ◌≤◌, ◌∙◌, true, not, eqb, ltb, leb, filter, Some, ap, sym, subst, rules, arith, Contains}
+use Rattle.std.proofs.Common.{ℕ, ◌≡◌, ◌≢◌, ◌∙◌, true, not, eqb, filter, Some, ap, sym, subst, arith, Contains}
 use Rattle.std.proofs.lemmas.Bool.Decides.{nat_tests}
 use Rattle.std.proofs.lemmas.List.{get_or_default}
 use Rattle.diff_map.specs.declared.copied.Copied.{Copied}
 use Rattle.diff_map.specs.Copies.{copied_at}
 use Rattle.diff_map.specs.MapValue.{MapValue}
 use Rattle.diff_map.specs.Parts.{own_copies}
-use Rattle.diff_map.proofs.Counted.{KeepsCounts-left, KeepsImages-left, counts_without, other_image_at}
+use Rattle.diff_map.proofs.Counted.{other_image_at}
+use Rattle.diff_map.proofs.ImagesLeft.{KeepsCounts-left, KeepsImages-left, counts_without}
 use Rattle.diff_map.proofs.GroupChanges.{IsAt, here, kept, KeepsGroup-images, maps_images}
 use Rattle.diff_map.proofs.ImagePlaces.{place_is}
 use Rattle.diff_map.proofs.Images.{filter_one}
@@ -33,8 +34,10 @@ invariant_of-self c =
     ∙ counts_without c.args.set c.place_from-at.result volume.images.items volume.counts.items (kept at).counts.sets rise place.0 place.1 in
     let stays = subst (λ (m : MapValue). (slot : ℕ) (d : Copied) → copied_at m.copies slot ≡ Some d → d.set ≢ c.args.set) (here at) c.requires.none in
     KeepsGroup-images at c.remove-image.new.self c.remove-count.new.self
-    (KeepsImages-left (λ image. not (eqb image c.args.set)) volume.images c.remove-image.new.self mine (kept at).images (λ slot d row. passes c.args.set d.set (stays slot d row)) left c.remove-image.ensures.capacity)
-    (KeepsCounts-left (λ image. not (eqb image c.args.set)) volume.images c.remove-image.new.self volume.counts c.remove-count.new.self c.self.inside.next.items mine (kept at).counts left less c.remove-count.ensures.capacity)
+    (KeepsImages-left (λ image. not (eqb image c.args.set)) volume.images c.remove-image.new.self mine (kept at).images
+    (λ slot d row. passes c.args.set d.set (stays slot d row)) left c.remove-image.ensures.capacity)
+    (KeepsCounts-left (λ image. not (eqb image c.args.set)) volume.images c.remove-image.new.self volume.counts c.remove-count.new.self c.self.inside.next.items mine
+    (kept at).counts left less c.remove-count.ensures.capacity)
 
 pub returns : goal.returns
 returns c =

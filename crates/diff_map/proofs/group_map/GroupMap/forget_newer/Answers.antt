@@ -1,10 +1,10 @@
-use Rattle.std.proofs.Common.{ℕ, ◌≡◌, ◌≢◌, ◌<◌, ◌≤◌, ◌∙◌, true, not, eqb, ltb, leb, filter, Some, ap, sym, subst, rules, arith}
+use Rattle.std.proofs.Common.{ℕ, ◌≡◌, ◌≤◌, ◌∙◌, true, leb, filter, Some, ap, sym, subst, arith}
 use Rattle.std.proofs.lemmas.Bool.Decides.{nat_tests}
 use Rattle.diff_map.specs.declared.copied.Copied.{Copied}
 use Rattle.diff_map.specs.Copies.{copied_at}
 use Rattle.diff_map.specs.MapValue.{MapValue}
 use Rattle.diff_map.specs.Parts.{own_copies}
-use Rattle.diff_map.proofs.Counted.{KeepsCounts-left, KeepsImages-left, counts_until}
+use Rattle.diff_map.proofs.ImagesLeft.{KeepsCounts-left, KeepsImages-left, counts_until}
 use Rattle.diff_map.proofs.GroupChanges.{IsAt, here, kept, KeepsGroup-images, maps_images}
 use Rattle.diff_map.proofs.Images.{images_until}
 use Rattle.diff_map.proofs.group_map.GroupMap.forget_newer.Goals as goal
@@ -24,8 +24,10 @@ invariant_of-self c =
     ∙ counts_until c.args.set c.place_after-left.result volume.images.items volume.counts.items (kept at).counts.sets place.within place.before place.onward in
     let stays = subst (λ (m : MapValue). (slot : ℕ) (d : Copied) → copied_at m.copies slot ≡ Some d → d.set ≤ c.args.set) (here at) c.requires.none in
     KeepsGroup-images at c.truncate.new.self c.truncate-2.new.self
-    (KeepsImages-left (λ image. leb image c.args.set) volume.images c.truncate.new.self mine (kept at).images (λ slot d row. passes c.args.set d.set (stays slot d row)) left c.truncate.ensures.capacity)
-    (KeepsCounts-left (λ image. leb image c.args.set) volume.images c.truncate.new.self volume.counts c.truncate-2.new.self c.self.inside.next.items mine (kept at).counts left less c.truncate-2.ensures.capacity)
+    (KeepsImages-left (λ image. leb image c.args.set) volume.images c.truncate.new.self mine (kept at).images
+    (λ slot d row. passes c.args.set d.set (stays slot d row)) left c.truncate.ensures.capacity)
+    (KeepsCounts-left (λ image. leb image c.args.set) volume.images c.truncate.new.self volume.counts c.truncate-2.new.self c.self.inside.next.items mine
+    (kept at).counts left less c.truncate-2.ensures.capacity)
 
 pub returns : goal.returns
 returns c =

@@ -1,10 +1,10 @@
-use Rattle.std.proofs.Common.{ℕ, ◌≡◌, ◌≢◌, ◌<◌, ◌≤◌, ◌∙◌, true, not, eqb, ltb, leb, filter, Some, ap, sym, subst, rules, arith}
+use Rattle.std.proofs.Common.{ℕ, ◌≡◌, ◌<◌, ◌∙◌, true, ltb, filter, Some, ap, sym, subst, arith}
 use Rattle.std.proofs.lemmas.Bool.Decides.{nat_tests}
 use Rattle.diff_map.specs.declared.copied.Copied.{Copied}
 use Rattle.diff_map.specs.Copies.{copied_at}
 use Rattle.diff_map.specs.MapValue.{MapValue}
 use Rattle.diff_map.specs.Parts.{own_copies}
-use Rattle.diff_map.proofs.Counted.{KeepsCounts-left, KeepsImages-left, counts_dropped}
+use Rattle.diff_map.proofs.ImagesLeft.{KeepsCounts-left, KeepsImages-left, counts_dropped}
 use Rattle.diff_map.proofs.GroupChanges.{IsAt, here, kept, KeepsGroup-images, maps_images}
 use Rattle.diff_map.proofs.Images.{images_dropped}
 use Rattle.diff_map.proofs.group_map.GroupMap.forget_up_to.Goals as goal
@@ -24,8 +24,10 @@ invariant_of-self c =
     ∙ counts_dropped c.args.set c.place_after-gone.result volume.images.items volume.counts.items (kept at).counts.sets place.within place.before place.onward in
     let stays = subst (λ (m : MapValue). (slot : ℕ) (d : Copied) → copied_at m.copies slot ≡ Some d → c.args.set < d.set) (here at) c.requires.none in
     KeepsGroup-images at c.drop_first.new.items c.drop_first-2.new.items
-    (KeepsImages-left (λ image. ltb c.args.set image) volume.images c.drop_first.new.items mine (kept at).images (λ slot d row. passes c.args.set d.set (stays slot d row)) left c.drop_first.ensures.capacity)
-    (KeepsCounts-left (λ image. ltb c.args.set image) volume.images c.drop_first.new.items volume.counts c.drop_first-2.new.items c.self.inside.next.items mine (kept at).counts left less c.drop_first-2.ensures.capacity)
+    (KeepsImages-left (λ image. ltb c.args.set image) volume.images c.drop_first.new.items mine (kept at).images
+    (λ slot d row. passes c.args.set d.set (stays slot d row)) left c.drop_first.ensures.capacity)
+    (KeepsCounts-left (λ image. ltb c.args.set image) volume.images c.drop_first.new.items volume.counts c.drop_first-2.new.items c.self.inside.next.items mine
+    (kept at).counts left less c.drop_first-2.ensures.capacity)
 
 pub returns : goal.returns
 returns c =

@@ -1,6 +1,4 @@
-use Rattle.std.proofs.Common.{◌∙◌, ◌≡◌, length, sym, ap, arith}
-use Rattle.diff_map.specs.Copies.{copied_at}
-use Rattle.diff_map.specs.MapValue.{MapValue}
+use Rattle.std.proofs.Common.{◌∙◌, sym, ap, arith}
 use Rattle.diff_map.specs.Parts.{part_of, own}
 use Rattle.diff_map.proofs.Grouped.{long_at}
 use Rattle.diff_map.proofs.Parts.{own_at}

@@ -1,5 +1,3 @@
-use Rattle.std.proofs.Common.{ap, sym, subst}
-use Rattle.diff_map.specs.MapValue.{IsMap}
 use Rattle.diff_map.proofs.Grouped.{IsMap-from}
 use Rattle.diff_map.proofs.GroupChanges.{IsAt, here, kept}
 use Rattle.diff_map.proofs.group_map.GroupMap.images.Goals as goal

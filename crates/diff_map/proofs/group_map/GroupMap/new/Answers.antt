@@ -1,9 +1,4 @@
-use Rattle.std.proofs.Common.{◌≡◌, ◌∙◌, ◌+◌, refl, get_or, sym, subst, ap, List, length, map, replicate, Option, None, take, ◌<◌, ◌^◌, ℕ, arith}
-use Rattle.std.proofs.lemmas.List.{take_all}
-use Rattle.diff_map.specs.declared.copied.Copied.{Copied}
-use Rattle.diff_map.specs.declared.of_volume.OfVolume.{OfVolume}
-use Rattle.diff_map.specs.Groups.{new_map}
-use Rattle.diff_map.specs.Parts.{map_of, KeepsGroup}
+use Rattle.std.proofs.Common.{◌+◌, refl, get_or, sym, subst, take}
 use Rattle.diff_map.proofs.GroupBegun.{AreBegun, AreBegun-none, AreBegun-one, KeepsGroup-begun}
 use Rattle.diff_map.proofs.group_map.GroupMap.new.Goals as goal
 

@@ -1,9 +1,7 @@
-use Rattle.std.proofs.Common.{◌<◌, ◌≡◌, ◌∙◌, Some, None, Contains, refl, sym, subst, ap, length, arith}
+use Rattle.std.proofs.Common.{◌<◌, None, Contains, refl, subst, arith}
 use Rattle.std.proofs.lemmas.List.{length-map}
-use Rattle.std.specs.List.{slice_get}
 use Rattle.std.proofs.lemmas.Option.{slice_get_within}
 use Rattle.diff_map.specs.Copies.{copy_of, HasCopy}
-use Rattle.diff_map.specs.Links.{LinksValue}
 use Rattle.diff_map.specs.MapValue.{MapValue}
 use Rattle.diff_map.specs.Parts.{own_copies, part_of, own}
 use Rattle.diff_map.proofs.Counted.{used_is, one_more_fits}
