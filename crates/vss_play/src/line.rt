@@ -60,7 +60,7 @@ impl Line {
         self.holder.is_none()
     }
 
-    /// Gives the floor of an actor, or that of nobody, to the one that rests longest.
+    /// Gives the floor of an actor, or that of nobody, to the first of the line.
     fn pass(&mut self, actor: usize) -> Option<usize>
         ensures next { self.old.resting.items ≡ option_to_list result ++ self.new.resting.items }
         ensures floor { IfSome result (λ next. self.new.holder ≡ Some next) }

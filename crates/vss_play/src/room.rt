@@ -13,8 +13,9 @@ const LONG_REST: u64 = 10_000;
 /// The longest rest where nobody has the floor, in microseconds: the others may be moving, or may not have come yet.
 const SHORT_REST: u64 = 200;
 
-/// A room beside the turn, in which the actors of a run rest that were blocked. One of them has the floor: it asks until it is blocked
-/// again, and then the one that rests longest has it. So few threads are awake. It is about time alone: no contract says anything of it.
+/// A room beside the turn, in which the actors of a run rest that were blocked. One of them has the floor:
+/// it asks until it is blocked again, and then the first of the line has it. So few threads are awake. It is
+/// about time alone: of the line it is proved that it loses nobody, and nothing of whom the room wakes.
 #[derive(Drop)]
 pub struct Room {
     line: Mutex<Line>,
