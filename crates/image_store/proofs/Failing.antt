@@ -1,14 +1,12 @@
 -- Which device failed, where calls that did not fail came before.
-use Rattle.std.proofs.Common.{◌≡◌, ℕ, ◌<◌, List, length, map, refl, ap, sym, subst, ◌∙◌, arith, Bool, Option, Result, Ok, Err}
-use Rattle.std.specs.Prelude.{IfErr, OnOk, slice_get, slice_set}
+use Rattle.std.proofs.Common.{◌≡◌, ℕ, ◌<◌, List, length, map, refl, ap, sym, subst, ◌∙◌, arith, Option}
+use Rattle.std.specs.Prelude.{slice_get, slice_set}
 use Rattle.std.proofs.lemmas.List.{length-map}
 use Rattle.std.proofs.lemmas.Option.{same_Some, slice_get_within}
 use Rattle.vss_names.specs.Faults.{Rose}
 use Rattle.cow_volume.specs.Calls.{AreaRose, DeviceRose, HasCauseAt, IsUnfailed, VolumeRose, blocks_at}
 use Rattle.cow_volume.specs.GroupValue.{GroupValue}
 use Rattle.cow_volume.specs.Room.{HasRoom}
-use Rattle.cow_volume.specs.Steps.{IsPutOr}
-use Rattle.write_history.specs.History.{Write}
 use Rattle.cow_volume.specs.declared.cause.Cause.{Cause}
 use Rattle.cow_volume.specs.declared.cause.Cause.TheVariants.{NoSuchBlock, Volume, Area}
 use Rattle.image_store.specs.Failing.{IsPassFault, IsShowFault, of_cause}

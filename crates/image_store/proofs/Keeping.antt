@@ -14,21 +14,21 @@ use Rattle.vss_catalog.specs.Entries.{EntryValue, lists_of}
 use Rattle.vss_catalog.specs.Group.{entry_at, entries_of}
 use Rattle.cow_volume.specs.GroupValue.{GroupValue, placed}
 use Rattle.cow_volume.specs.StandsFor.{StandsFor, told_in}
-use Rattle.cow_volume.specs.Ending.{IsSync}
+use Rattle.cow_volume.specs.Ending.{AllTell, IsSync, IsSynced}
 use Rattle.cow_volume.specs.Resuming.{AreKept}
 use Rattle.cow_volume.specs.Calls.{blocks_in, sets_in}
 use Rattle.cow_volume.specs.declared.cause.Cause.{Cause}
 use Rattle.cow_volume.specs.declared.cause.Cause.TheVariants.{Volume}
-use Rattle.cow_volume.proofs.Group.{slice_get-set_same, slice_get-set_other, slice_get_inside, slice_get_map, same_number, other_number}
+use Rattle.cow_volume.proofs.Group.{quiet_stands, slice_get-set_same, slice_get-set_other, slice_get_inside, slice_get_map, same_number, other_number}
 use Rattle.cow_volume.proofs.Kept.{map_set_told}
 use Rattle.vss_names.specs.Faults.{Rose}
 use Rattle.volume_device.specs.declared.device.Device.{Ghosts}
-use Rattle.image_store.specs.Closing.{IsCloseFault, OneRose}
+use Rattle.image_store.specs.Closing.{IsCloseFault, OneRose, given_back}
 use Rattle.image_store.specs.Head.{HeadValue, said_of}
 use Rattle.image_store.specs.Keeping.{IsKeptAs, blocks_of}
 use Rattle.image_store.specs.Plain.{PlainStore, plains_of}
-use Rattle.image_store.specs.StoreValue.{StoreValue, HasPlains, StandsAs}
-use Rattle.image_store.proofs.Plains.{same_lists}
+use Rattle.image_store.specs.StoreValue.{StoreValue, HasPlains, StandsAs, StandsStill}
+use Rattle.image_store.proofs.Plains.{same_lists, synced_kept}
 use Rattle.image_store.proofs.Stores.{store_of}
 
 -- ## devices are flushed one after another
@@ -171,6 +171,36 @@ pub closed_told : {D : Type 0} (told : D → Option (List (List ℕ))) (old new 
 closed_told told old new items before flushed len kept devices_are many same tells =
     let as_many : length flushed ≡ length items = sym (length-map flushed told) ∙ ap length tells ∙ length-map before told ∙ ap length same in
     ap (map told) (whole_again len flushed items many as_many) ∙ tells ∙ ap (map told) (same ∙ devices_are ∙ kept)
+
+tells_same : {D : Type 0} (told : D → Option (List (List ℕ))) (ds es : List D) → map told ds ≡ map told es → AllTell told es → AllTell told ds
+tells_same told ds es same tell = λ v d at.
+    let within = slice_get_within ds v d at in
+    let many : length ds ≡ length es = sym (length-map ds told) ∙ ap length same ∙ length-map es told in
+    let e = slice_get_inside es v (omega arith) in
+    let equal : told d ≡ told e.0 = same_Some (told d) (told e.0)
+    (sym (slice_get_map told ds v d at) ∙ ap (λ (ts : List (Option (List (List ℕ)))). slice_get ts v) same ∙ slice_get_map told es v e.0 e.1) in
+    ap is_some equal ∙ tell v e.0 e.1
+
+-- what is given back stands for what the store stood for
+pub closed_still : {D : Type 0} (ghosts : Ghosts D) (old new : GroupValue D) (names : List TextValue) (last : ℕ) (devices : List D) (area : D)
+    → IsSynced ghosts old new → map ghosts.told devices ≡ map ghosts.told old.devices → area ≡ new.area.device
+    → StandsStill ghosts.told (store_of old names last) (given_back (store_of old names last) devices area)
+closed_still {D = D} ghosts old new names last devices area sync same area_is = λ p stands.
+    let has = (synced_kept ghosts old new sync).plains p.volumes stands.group in
+    let blocks = same ∙ ap (map ghosts.told) (sym sync.devices) in
+    let slots = ap ghosts.told area_is in
+    let group = (given_back (store_of old names last) devices area).group in
+    record {
+      group = record {
+        hs = has.hs;
+        stands = quiet_stands ghosts.told new group has.hs has.stands blocks (sym sync.images) (sym sync.kept.volumes) (sym sync.records) slots;
+        devices = tells_same ghosts.told devices new.devices blocks has.devices;
+        area = ap is_some slots ∙ has.area;
+        plains = has.plains ∙ ap (λ (ns : List ℕ). plains_of ns has.hs) sync.kept.volumes;
+      };
+      last = stands.last;
+      given = stands.given;
+    }
 
 -- one of them failed
 pub closed_failed : {D : Type 0} (told : D → Option (List (List ℕ))) (count : D → ℕ) (old new : GroupValue D) (items before flushed : List D) (len : ℕ) (area : D) (r : Result Unit Cause)

@@ -23,7 +23,7 @@ ghost use Rattle.image_store.specs.Updating.{AreReady, IsAhead, IsOverwriting};
 ghost use Rattle.image_store.specs.Showing.{HasLength, HasShowCause, IsShow, shown_in};
 ghost use Rattle.image_store.specs.Reverting.{IsRevert};
 ghost use Rattle.image_store.specs.Cutting.{IsCutRefused};
-ghost use Rattle.image_store.specs.Closing.{IsCloseFault, OneRose};
+ghost use Rattle.image_store.specs.Closing.{IsCloseFault, given_back};
 ghost use Rattle.image_store.specs.Failing.{IsPassFault, IsRevertFault, IsShowFault};
 ghost use Rattle.image_store.specs.Head.{head_of, said_of};
 ghost use Rattle.image_store.specs.Keeping.{IsKeptAs, blocks_of};
@@ -417,6 +417,7 @@ impl<D: Device> Store<D> {
     pub fn close(self) -> Closed<D>
         ensures kept { OnOk result.outcome ((p : PlainStore) → StandsAs D.told self p → IsKeptAs D.lasting result.devices.items result.area (said_of self) p) }
         ensures told { map D.told result.devices.items ≡ map D.told self.group.devices }
+        ensures still { StandsStill D.told self (given_back self result.devices.items result.area) }
         ensures failed { IfErr result.outcome (IsCloseFault D.count self.group result.devices.items result.area) }
     {
         let Store { group, .. } = self;
