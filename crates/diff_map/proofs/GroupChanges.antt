@@ -27,6 +27,10 @@ pub record IsAt (blocks : ℕ) (volumes : List OfVolume) (next : List ℕ) (copi
   pub inside : v < length maps
   pub is : volume ≡ get_or volumes v volume
 
+pub is_at : {blocks : ℕ} {volumes : List OfVolume} {next : List ℕ} {copies : List (Option Copied)} {maps : List MapValue} {v : ℕ} {volume : OfVolume} → KeepsGroup blocks volumes next copies
+    → map (map_of copies) volumes ≡ maps → v < length maps → volume ≡ get_or volumes v volume → IsAt blocks volumes next copies maps v volume
+is_at keeps view inside is = record { keeps = keeps; view = view; inside = inside; is = is }
+
 -- the volume with other images, counts and number of slots
 abbrev pub with_lists : OfVolume → ℕ → Vec ℕ Global → Vec ImageCount Global → OfVolume
 with_lists volume used images counts = record { base = volume.base; blocks = volume.blocks; used = used; images = images; counts = counts }

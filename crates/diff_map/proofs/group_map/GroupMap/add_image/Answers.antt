@@ -2,14 +2,13 @@ use Rattle.std.proofs.Common.{◌<◌, ◌++◌, ◌∷◌, [], Bool, cond, leng
 use Rattle.diff_map.specs.MapValue.{MapValue}
 use Rattle.diff_map.specs.Parts.{own_copies}
 use Rattle.diff_map.proofs.Counted.{KeepsImages-cut, KeepsCounts-cut, as_many}
-use Rattle.diff_map.proofs.GroupChanges.{IsAt, here, kept, KeepsGroup-images, maps_images}
+use Rattle.diff_map.proofs.GroupChanges.{is_at, here, kept, KeepsGroup-images, maps_images}
 use Rattle.diff_map.proofs.group_map.GroupMap.add_image.Goals as goal
 
 pub invariant_of-self : goal.invariant_of-self
 invariant_of-self c =
     let volume = c.index_mut-volume.result.now in
-    let at : IsAt c.self.inside.links.blocks c.self.inside.volumes.items c.self.inside.next.items c.self.inside.links.copies c.args.self.now c.args.v volume
-    = record { keeps = c.self.invariant; view = c.self.view_is; inside = c.requires.volume; is = c.index_mut-volume.ensures.value } in
+    let at = is_at c.self.invariant c.self.view_is c.requires.volume c.index_mut-volume.ensures.value in
     let images = volume.images in
     let counts = volume.counts in
     let mine = own_copies volume c.self.inside.links.copies in
@@ -31,8 +30,7 @@ invariant_of-self c =
 pub returns : goal.returns
 returns c =
     let volume = c.index_mut-volume.result.now in
-    let at : IsAt c.self.inside.links.blocks c.self.inside.volumes.items c.self.inside.next.items c.self.inside.links.copies c.args.self.now c.args.v volume
-    = record { keeps = c.self.invariant; view = c.self.view_is; inside = c.requires.volume; is = c.index_mut-volume.ensures.value } in
+    let at = is_at c.self.invariant c.self.view_is c.requires.volume c.index_mut-volume.ensures.value in
     let images = volume.images in
     let short = subst (λ (m : MapValue). length m.images < 512) (here at) c.requires.room in
     let images_room = (kept at).images.image_room in

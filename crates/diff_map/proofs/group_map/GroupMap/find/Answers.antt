@@ -1,21 +1,19 @@
 use Rattle.std.proofs.Common.{refl, arith}
 use Rattle.diff_map.specs.Parts.{part_of}
-use Rattle.diff_map.proofs.GroupChanges.{IsAt, here, fits}
+use Rattle.diff_map.proofs.GroupChanges.{is_at, here, fits}
 use Rattle.diff_map.proofs.Parts.{absent_outside, found_if, none_if}
 use Rattle.diff_map.proofs.group_map.GroupMap.find.Goals as goal
 
 pub returns-then-block-volume-clause-none : goal.returns-then-block-volume-clause-none
 returns-then-block-volume-clause-none c =
     let volume = c.index-volume.result.now in
-    let at : IsAt c.self.inside.links.blocks c.self.inside.volumes.items c.self.inside.next.items c.self.inside.links.copies c.args.self.now c.args.v volume
-    = record { keeps = c.self.invariant; view = c.self.view_is; inside = c.requires; is = c.index-volume.ensures } in
+    let at = is_at c.self.invariant c.self.view_is c.requires c.index-volume.ensures in
     rw (here at) (λ none. absent_outside (part_of volume) c.self.inside.links.copies c.args.set c.args.block c.if-block-volume.true, λ absent. refl)
 
 pub overflow_add-volume : goal.overflow_add-volume
 overflow_add-volume c =
     let volume = c.index-volume.result.now in
-    let at : IsAt c.self.inside.links.blocks c.self.inside.volumes.items c.self.inside.next.items c.self.inside.links.copies c.args.self.now c.args.v volume
-    = record { keeps = c.self.invariant; view = c.self.view_is; inside = c.requires; is = c.index-volume.ensures } in
+    let at = is_at c.self.invariant c.self.view_is c.requires c.index-volume.ensures in
     let room = fits at in
     let narrow = c.self.invariant.parts.narrow in
     let low = c.if-block-volume.false in
@@ -24,15 +22,13 @@ overflow_add-volume c =
 pub returns-clause-found : goal.returns-clause-found
 returns-clause-found c =
     let volume = c.index-volume.result.now in
-    let at : IsAt c.self.inside.links.blocks c.self.inside.volumes.items c.self.inside.next.items c.self.inside.links.copies c.args.self.now c.args.v volume
-    = record { keeps = c.self.invariant; view = c.self.view_is; inside = c.requires; is = c.index-volume.ensures } in
+    let at = is_at c.self.invariant c.self.view_is c.requires c.index-volume.ensures in
     let low = c.if-block-volume.false in
     rw (here at) (found_if c.find.result (part_of volume) c.self.inside.links.copies c.args.set c.args.block (omega arith) c.find.ensures.found)
 
 pub returns-clause-none : goal.returns-clause-none
 returns-clause-none c =
     let volume = c.index-volume.result.now in
-    let at : IsAt c.self.inside.links.blocks c.self.inside.volumes.items c.self.inside.next.items c.self.inside.links.copies c.args.self.now c.args.v volume
-    = record { keeps = c.self.invariant; view = c.self.view_is; inside = c.requires; is = c.index-volume.ensures } in
+    let at = is_at c.self.invariant c.self.view_is c.requires c.index-volume.ensures in
     let low = c.if-block-volume.false in
     rw (here at) (none_if c.find.result (part_of volume) c.self.inside.links.copies c.args.set c.args.block (omega arith) c.find.ensures.none)

@@ -7,7 +7,7 @@ use Rattle.diff_map.specs.MapValue.{MapValue}
 use Rattle.diff_map.specs.Parts.{own_copies}
 use Rattle.diff_map.proofs.Counted.{other_image_at}
 use Rattle.diff_map.proofs.ImagesLeft.{KeepsCounts-left, KeepsImages-left, counts_without}
-use Rattle.diff_map.proofs.GroupChanges.{IsAt, here, kept, KeepsGroup-images, maps_images}
+use Rattle.diff_map.proofs.GroupChanges.{is_at, here, kept, KeepsGroup-images, maps_images}
 use Rattle.diff_map.proofs.ImagePlaces.{place_is}
 use Rattle.diff_map.proofs.Images.{filter_one}
 use Rattle.diff_map.proofs.group_map.GroupMap.forget.Goals as goal
@@ -18,8 +18,7 @@ passes set image stays = grind (arith, nat_tests)
 pub invariant_of-self : goal.invariant_of-self
 invariant_of-self c =
     let volume = c.index_mut-volume.result.now in
-    let at : IsAt c.self.inside.links.blocks c.self.inside.volumes.items c.self.inside.next.items c.self.inside.links.copies c.args.self.now c.args.v volume
-    = record { keeps = c.self.invariant; view = c.self.view_is; inside = c.requires.volume; is = c.index_mut-volume.ensures.value } in
+    let at = is_at c.self.invariant c.self.view_is c.requires.volume c.index_mut-volume.ensures.value in
     let mine = own_copies volume c.self.inside.links.copies in
     let contains = subst (λ (m : MapValue). Contains m.images c.args.set) (here at) c.requires.image in
     let before = rw c.deref.ensures.value at c.place_from-at.ensures.before in
@@ -42,8 +41,7 @@ invariant_of-self c =
 pub returns : goal.returns
 returns c =
     let volume = c.index_mut-volume.result.now in
-    let at : IsAt c.self.inside.links.blocks c.self.inside.volumes.items c.self.inside.next.items c.self.inside.links.copies c.args.self.now c.args.v volume
-    = record { keeps = c.self.invariant; view = c.self.view_is; inside = c.requires.volume; is = c.index_mut-volume.ensures.value } in
+    let at = is_at c.self.invariant c.self.view_is c.requires.volume c.index_mut-volume.ensures.value in
     let contains = subst (λ (m : MapValue). Contains m.images c.args.set) (here at) c.requires.image in
     let before = rw c.deref.ensures.value at c.place_from-at.ensures.before in
     let onward = rw c.deref.ensures.value at c.place_from-at.ensures.onward in

@@ -5,7 +5,7 @@ use Rattle.diff_map.specs.Copies.{copied_at}
 use Rattle.diff_map.specs.MapValue.{MapValue}
 use Rattle.diff_map.specs.Parts.{own_copies}
 use Rattle.diff_map.proofs.ImagesLeft.{KeepsCounts-left, KeepsImages-left, counts_until}
-use Rattle.diff_map.proofs.GroupChanges.{IsAt, here, kept, KeepsGroup-images, maps_images}
+use Rattle.diff_map.proofs.GroupChanges.{is_at, here, kept, KeepsGroup-images, maps_images}
 use Rattle.diff_map.proofs.Images.{images_until}
 use Rattle.diff_map.proofs.group_map.GroupMap.forget_newer.Goals as goal
 
@@ -15,8 +15,7 @@ passes set image stays = grind (arith, nat_tests)
 pub invariant_of-self : goal.invariant_of-self
 invariant_of-self c =
     let volume = c.index_mut-volume.result.now in
-    let at : IsAt c.self.inside.links.blocks c.self.inside.volumes.items c.self.inside.next.items c.self.inside.links.copies c.args.self.now c.args.v volume
-    = record { keeps = c.self.invariant; view = c.self.view_is; inside = c.requires.volume; is = c.index_mut-volume.ensures.value } in
+    let at = is_at c.self.invariant c.self.view_is c.requires.volume c.index_mut-volume.ensures.value in
     let mine = own_copies volume c.self.inside.links.copies in
     let place = rw c.deref.ensures.value at c.place_after-left.ensures in
     let left = c.truncate.ensures.items ∙ images_until c.args.set c.place_after-left.result volume.images.items place.before place.onward in
@@ -32,8 +31,7 @@ invariant_of-self c =
 pub returns : goal.returns
 returns c =
     let volume = c.index_mut-volume.result.now in
-    let at : IsAt c.self.inside.links.blocks c.self.inside.volumes.items c.self.inside.next.items c.self.inside.links.copies c.args.self.now c.args.v volume
-    = record { keeps = c.self.invariant; view = c.self.view_is; inside = c.requires.volume; is = c.index_mut-volume.ensures.value } in
+    let at = is_at c.self.invariant c.self.view_is c.requires.volume c.index_mut-volume.ensures.value in
     let place = rw c.deref.ensures.value at c.place_after-left.ensures in
     let left = c.truncate.ensures.items ∙ images_until c.args.set c.place_after-left.result volume.images.items place.before place.onward in
     maps_images at c.truncate.new.self c.truncate-2.new.self _ (left ∙ sym (ap (λ (m : MapValue). filter (λ image. leb image c.args.set) m.images) (here at)))

@@ -7,14 +7,13 @@ use Rattle.diff_map.specs.MapValue.{MapValue}
 use Rattle.diff_map.specs.Parts.{own_copies}
 use Rattle.diff_map.proofs.Counted.{place_of_count}
 use Rattle.diff_map.proofs.GivenDown.{older_fits, KeepsGroup-given, maps_given, given_down}
-use Rattle.diff_map.proofs.GroupChanges.{IsAt, here, kept, first, first_own, only_at}
+use Rattle.diff_map.proofs.GroupChanges.{is_at, here, kept, first, first_own, only_at}
 use Rattle.diff_map.proofs.group_map.GroupMap.lower.Goals as goal
 
 pub lower-requires-clause-below : goal.lower-requires-clause-below
 lower-requires-clause-below c =
     let volume = c.index_mut-volume.result.now in
-    let at : IsAt c.self.inside.links.blocks c.self.inside.volumes.items c.self.inside.next.items c.self.inside.links.copies c.args.self.now c.args.v volume
-    = record { keeps = c.self.invariant; view = c.self.view_is; inside = c.requires.volume; is = c.index_mut-volume.ensures.value } in
+    let at = is_at c.self.invariant c.self.view_is c.requires.volume c.index_mut-volume.ensures.value in
     let inside = subst (λ (m : MapValue). c.args.at < length m.images) (here at) c.requires.image in
     let count = c.index-count.result.now in
     let some = c.if-count-eq0.false in
@@ -31,8 +30,7 @@ lower-requires-clause-below c =
 pub index-rest-requires : goal.index-rest-requires
 index-rest-requires c =
     let volume = c.index_mut-volume.result.now in
-    let at : IsAt c.self.inside.links.blocks c.self.inside.volumes.items c.self.inside.next.items c.self.inside.links.copies c.args.self.now c.args.v volume
-    = record { keeps = c.self.invariant; view = c.self.view_is; inside = c.requires.volume; is = c.index_mut-volume.ensures.value } in
+    let at = is_at c.self.invariant c.self.view_is c.requires.volume c.index_mut-volume.ensures.value in
     let inside = subst (λ (m : MapValue). c.args.at < length m.images) (here at) c.requires.image in
     let count = c.index-count.result.now in
     let some = c.if-count-eq0.false in
@@ -45,8 +43,7 @@ index-rest-requires c =
 pub index_mut-requires-2 : goal.index_mut-requires-2
 index_mut-requires-2 c =
     let volume = c.index_mut-volume.result.now in
-    let at : IsAt c.self.inside.links.blocks c.self.inside.volumes.items c.self.inside.next.items c.self.inside.links.copies c.args.self.now c.args.v volume
-    = record { keeps = c.self.invariant; view = c.self.view_is; inside = c.requires.volume; is = c.index_mut-volume.ensures.value } in
+    let at = is_at c.self.invariant c.self.view_is c.requires.volume c.index_mut-volume.ensures.value in
     let inside = subst (λ (m : MapValue). c.args.at < length m.images) (here at) c.requires.image in
     let count = c.index-count.result.now in
     let some = c.if-count-eq0.false in
@@ -59,8 +56,7 @@ index_mut-requires-2 c =
 pub overflow_add-older : goal.overflow_add-older
 overflow_add-older c =
     let volume = c.index_mut-volume.result.now in
-    let at : IsAt c.self.inside.links.blocks c.self.inside.volumes.items c.self.inside.next.items c.self.inside.links.copies c.args.self.now c.args.v volume
-    = record { keeps = c.self.invariant; view = c.self.view_is; inside = c.requires.volume; is = c.index_mut-volume.ensures.value } in
+    let at = is_at c.self.invariant c.self.view_is c.requires.volume c.index_mut-volume.ensures.value in
     let inside = subst (λ (m : MapValue). c.args.at < length m.images) (here at) c.requires.image in
     let count = c.index-count.result.now in
     let some = c.if-count-eq0.false in
@@ -83,8 +79,7 @@ overflow_add-older c =
 pub overflow_sub-result : goal.overflow_sub-result
 overflow_sub-result c =
     let volume = c.index_mut-volume.result.now in
-    let at : IsAt c.self.inside.links.blocks c.self.inside.volumes.items c.self.inside.next.items c.self.inside.links.copies c.args.self.now c.args.v volume
-    = record { keeps = c.self.invariant; view = c.self.view_is; inside = c.requires.volume; is = c.index_mut-volume.ensures.value } in
+    let at = is_at c.self.invariant c.self.view_is c.requires.volume c.index_mut-volume.ensures.value in
     let inside = subst (λ (m : MapValue). c.args.at < length m.images) (here at) c.requires.image in
     let count = c.index-count.result.now in
     let some = c.if-count-eq0.false in
@@ -97,8 +92,7 @@ overflow_sub-result c =
 pub invariant_of-self-2 : goal.invariant_of-self-2
 invariant_of-self-2 c =
     let volume = c.index_mut-volume.result.now in
-    let at : IsAt c.self.inside.links.blocks c.self.inside.volumes.items c.self.inside.next.items c.self.inside.links.copies c.args.self.now c.args.v volume
-    = record { keeps = c.self.invariant; view = c.self.view_is; inside = c.requires.volume; is = c.index_mut-volume.ensures.value } in
+    let at = is_at c.self.invariant c.self.view_is c.requires.volume c.index_mut-volume.ensures.value in
     let inside = subst (λ (m : MapValue). c.args.at < length m.images) (here at) c.requires.image in
     let count = c.index-count.result.now in
     let some = c.if-count-eq0.false in
@@ -124,8 +118,7 @@ invariant_of-self-2 c =
 pub returns-clause-others : goal.returns-clause-others
 returns-clause-others c =
     let volume = c.index_mut-volume.result.now in
-    let at : IsAt c.self.inside.links.blocks c.self.inside.volumes.items c.self.inside.next.items c.self.inside.links.copies c.args.self.now c.args.v volume
-    = record { keeps = c.self.invariant; view = c.self.view_is; inside = c.requires.volume; is = c.index_mut-volume.ensures.value } in
+    let at = is_at c.self.invariant c.self.view_is c.requires.volume c.index_mut-volume.ensures.value in
     let inside = subst (λ (m : MapValue). c.args.at < length m.images) (here at) c.requires.image in
     let count = c.index-count.result.now in
     let some = c.if-count-eq0.false in
@@ -152,8 +145,7 @@ returns-clause-others c =
 pub returns-clause-some : goal.returns-clause-some
 returns-clause-some c =
     let volume = c.index_mut-volume.result.now in
-    let at : IsAt c.self.inside.links.blocks c.self.inside.volumes.items c.self.inside.next.items c.self.inside.links.copies c.args.self.now c.args.v volume
-    = record { keeps = c.self.invariant; view = c.self.view_is; inside = c.requires.volume; is = c.index_mut-volume.ensures.value } in
+    let at = is_at c.self.invariant c.self.view_is c.requires.volume c.index_mut-volume.ensures.value in
     let inside = subst (λ (m : MapValue). c.args.at < length m.images) (here at) c.requires.image in
     let count = c.index-count.result.now in
     let some = c.if-count-eq0.false in

@@ -8,14 +8,13 @@ use Rattle.diff_map.proofs.Counted.{used_is, one_more_fits}
 use Rattle.diff_map.proofs.Counting.{noted_fits}
 use Rattle.diff_map.proofs.ImagePlaces.{place_is}
 use Rattle.diff_map.proofs.Parts.{unnoted_own}
-use Rattle.diff_map.proofs.GroupChanges.{IsAt, here, kept, fits, unnoted_row, lacks_row, KeepsGroup-noted, maps_noted}
+use Rattle.diff_map.proofs.GroupChanges.{is_at, here, kept, fits, unnoted_row, lacks_row, KeepsGroup-noted, maps_noted}
 use Rattle.diff_map.proofs.group_map.GroupMap.note_for.Goals as goal
 
 pub overflow_add-volume : goal.overflow_add-volume
 overflow_add-volume c =
     let volume = c.index_mut-volume.result.now in
-    let at : IsAt c.self.inside.links.blocks c.self.inside.volumes.items c.self.inside.next.items c.self.inside.links.copies c.args.self.now c.args.v volume
-    = record { keeps = c.self.invariant; view = c.self.view_is; inside = c.requires.volume; is = c.index_mut-volume.ensures.value } in
+    let at = is_at c.self.invariant c.self.view_is c.requires.volume c.index_mut-volume.ensures.value in
     let low = subst (λ (m : MapValue). c.args.block < m.blocks) (here at) c.requires.in_range in
     let room = fits at in
     let narrow = c.self.invariant.parts.narrow in
@@ -24,8 +23,7 @@ overflow_add-volume c =
 pub note-requires-clause-in_range : goal.note-requires-clause-in_range
 note-requires-clause-in_range c =
     let volume = c.index_mut-volume.result.now in
-    let at : IsAt c.self.inside.links.blocks c.self.inside.volumes.items c.self.inside.next.items c.self.inside.links.copies c.args.self.now c.args.v volume
-    = record { keeps = c.self.invariant; view = c.self.view_is; inside = c.requires.volume; is = c.index_mut-volume.ensures.value } in
+    let at = is_at c.self.invariant c.self.view_is c.requires.volume c.index_mut-volume.ensures.value in
     let low = subst (λ (m : MapValue). c.args.block < m.blocks) (here at) c.requires.in_range in
     let room = fits at in
     omega arith
@@ -33,23 +31,20 @@ note-requires-clause-in_range c =
 pub note-requires-clause-lacks : goal.note-requires-clause-lacks
 note-requires-clause-lacks c =
     let volume = c.index_mut-volume.result.now in
-    let at : IsAt c.self.inside.links.blocks c.self.inside.volumes.items c.self.inside.next.items c.self.inside.links.copies c.args.self.now c.args.v volume
-    = record { keeps = c.self.invariant; view = c.self.view_is; inside = c.requires.volume; is = c.index_mut-volume.ensures.value } in
+    let at = is_at c.self.invariant c.self.view_is c.requires.volume c.index_mut-volume.ensures.value in
     let low = subst (λ (m : MapValue). c.args.block < m.blocks) (here at) c.requires.in_range in
     lacks_row at c.args.set c.args.block low (subst (λ (m : MapValue). HasCopy m.copies c.args.set c.args.block → ⊥) (here at) c.requires.lacks)
 
 pub note-requires-clause-unnoted : goal.note-requires-clause-unnoted
 note-requires-clause-unnoted c =
     let volume = c.index_mut-volume.result.now in
-    let at : IsAt c.self.inside.links.blocks c.self.inside.volumes.items c.self.inside.next.items c.self.inside.links.copies c.args.self.now c.args.v volume
-    = record { keeps = c.self.invariant; view = c.self.view_is; inside = c.requires.volume; is = c.index_mut-volume.ensures.value } in
+    let at = is_at c.self.invariant c.self.view_is c.requires.volume c.index_mut-volume.ensures.value in
     unnoted_row at c.args.slot c.slots-facts.ensures.valid c.requires.unnoted
 
 pub index_mut-requires : goal.index_mut-requires
 index_mut-requires c =
     let volume = c.index_mut-volume.result.now in
-    let at : IsAt c.self.inside.links.blocks c.self.inside.volumes.items c.self.inside.next.items c.self.inside.links.copies c.args.self.now c.args.v volume
-    = record { keeps = c.self.invariant; view = c.self.view_is; inside = c.requires.volume; is = c.index_mut-volume.ensures.value } in
+    let at = is_at c.self.invariant c.self.view_is c.requires.volume c.index_mut-volume.ensures.value in
     let free = unnoted_row at c.args.slot c.slots-facts.ensures.valid c.requires.unnoted in
     let inside = slice_get_within c.self.inside.links.copies c.args.slot None free in
     let long = (kept at).counts.long in
@@ -60,8 +55,7 @@ index_mut-requires c =
 pub overflow_add-count : goal.overflow_add-count
 overflow_add-count c =
     let volume = c.index_mut-volume.result.now in
-    let at : IsAt c.self.inside.links.blocks c.self.inside.volumes.items c.self.inside.next.items c.self.inside.links.copies c.args.self.now c.args.v volume
-    = record { keeps = c.self.invariant; view = c.self.view_is; inside = c.requires.volume; is = c.index_mut-volume.ensures.value } in
+    let at = is_at c.self.invariant c.self.view_is c.requires.volume c.index_mut-volume.ensures.value in
     let contains = subst (λ (m : MapValue). Contains m.images c.args.set) (here at) c.requires.image in
     let low = subst (λ (m : MapValue). c.args.block < m.blocks) (here at) c.requires.in_range in
     let free = unnoted_row at c.args.slot c.slots-facts.ensures.valid c.requires.unnoted in
@@ -79,8 +73,7 @@ overflow_add-count c =
 pub overflow_add-volume-2 : goal.overflow_add-volume-2
 overflow_add-volume-2 c =
     let volume = c.index_mut-volume.result.now in
-    let at : IsAt c.self.inside.links.blocks c.self.inside.volumes.items c.self.inside.next.items c.self.inside.links.copies c.args.self.now c.args.v volume
-    = record { keeps = c.self.invariant; view = c.self.view_is; inside = c.requires.volume; is = c.index_mut-volume.ensures.value } in
+    let at = is_at c.self.invariant c.self.view_is c.requires.volume c.index_mut-volume.ensures.value in
     let free = unnoted_row at c.args.slot c.slots-facts.ensures.valid c.requires.unnoted in
     let mine = own_copies volume c.self.inside.links.copies in
     let as_long = length-map c.self.inside.links.copies (own (part_of volume)) in
@@ -92,8 +85,7 @@ overflow_add-volume-2 c =
 pub invariant_of-self : goal.invariant_of-self
 invariant_of-self c =
     let volume = c.index_mut-volume.result.now in
-    let at : IsAt c.self.inside.links.blocks c.self.inside.volumes.items c.self.inside.next.items c.self.inside.links.copies c.args.self.now c.args.v volume
-    = record { keeps = c.self.invariant; view = c.self.view_is; inside = c.requires.volume; is = c.index_mut-volume.ensures.value } in
+    let at = is_at c.self.invariant c.self.view_is c.requires.volume c.index_mut-volume.ensures.value in
     let contains = subst (λ (m : MapValue). Contains m.images c.args.set) (here at) c.requires.image in
     let low = subst (λ (m : MapValue). c.args.block < m.blocks) (here at) c.requires.in_range in
     let free = unnoted_row at c.args.slot c.slots-facts.ensures.valid c.requires.unnoted in
@@ -106,8 +98,7 @@ invariant_of-self c =
 pub returns : goal.returns
 returns c =
     let volume = c.index_mut-volume.result.now in
-    let at : IsAt c.self.inside.links.blocks c.self.inside.volumes.items c.self.inside.next.items c.self.inside.links.copies c.args.self.now c.args.v volume
-    = record { keeps = c.self.invariant; view = c.self.view_is; inside = c.requires.volume; is = c.index_mut-volume.ensures.value } in
+    let at = is_at c.self.invariant c.self.view_is c.requires.volume c.index_mut-volume.ensures.value in
     let low = subst (λ (m : MapValue). c.args.block < m.blocks) (here at) c.requires.in_range in
     let free = unnoted_row at c.args.slot c.slots-facts.ensures.valid c.requires.unnoted in
     rw c.note.ensures (maps_noted at c.args.set c.args.block c.args.slot low free _ _)

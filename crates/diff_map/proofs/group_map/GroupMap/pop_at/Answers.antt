@@ -6,14 +6,13 @@ use Rattle.diff_map.specs.MapValue.{MapValue}
 use Rattle.diff_map.specs.Parts.{own_copies}
 use Rattle.diff_map.proofs.Counted.{used_at_place, place_of_count}
 use Rattle.diff_map.proofs.Counting.{noted_less}
-use Rattle.diff_map.proofs.GroupChanges.{IsAt, here, kept, first, first_own, KeepsGroup-popped, maps_popped, map_popped, maps_still, only_at, only_still}
+use Rattle.diff_map.proofs.GroupChanges.{is_at, here, kept, first, first_own, KeepsGroup-popped, maps_popped, map_popped, maps_still, only_at, only_still}
 use Rattle.diff_map.proofs.group_map.GroupMap.pop_at.Goals as goal
 
 pub returns-then-count-eq0-clause-none : goal.returns-then-count-eq0-clause-none
 returns-then-count-eq0-clause-none c =
     let volume = c.index_mut-volume.result.now in
-    let at : IsAt c.self.inside.links.blocks c.self.inside.volumes.items c.self.inside.next.items c.self.inside.links.copies c.args.self.now c.args.v volume
-    = record { keeps = c.self.invariant; view = c.self.view_is; inside = c.requires.volume; is = c.index_mut-volume.ensures.value } in
+    let at = is_at c.self.invariant c.self.view_is c.requires.volume c.index_mut-volume.ensures.value in
     let inside = subst (λ (m : MapValue). c.args.at < length m.images) (here at) c.requires.image in
     let mine = own_copies volume c.self.inside.links.copies in
     rw (here at)
@@ -26,15 +25,13 @@ returns-then-count-eq0-clause-none c =
 pub returns-then-count-eq0-clause-others : goal.returns-then-count-eq0-clause-others
 returns-then-count-eq0-clause-others c =
     let volume = c.index_mut-volume.result.now in
-    let at : IsAt c.self.inside.links.blocks c.self.inside.volumes.items c.self.inside.next.items c.self.inside.links.copies c.args.self.now c.args.v volume
-    = record { keeps = c.self.invariant; view = c.self.view_is; inside = c.requires.volume; is = c.index_mut-volume.ensures.value } in
+    let at = is_at c.self.invariant c.self.view_is c.requires.volume c.index_mut-volume.ensures.value in
     only_still c.args.self.now _ c.args.v (maps_still at)
 
 pub take_out-requires : goal.take_out-requires
 take_out-requires c =
     let volume = c.index_mut-volume.result.now in
-    let at : IsAt c.self.inside.links.blocks c.self.inside.volumes.items c.self.inside.next.items c.self.inside.links.copies c.args.self.now c.args.v volume
-    = record { keeps = c.self.invariant; view = c.self.view_is; inside = c.requires.volume; is = c.index_mut-volume.ensures.value } in
+    let at = is_at c.self.invariant c.self.view_is c.requires.volume c.index_mut-volume.ensures.value in
     let inside = subst (λ (m : MapValue). c.args.at < length m.images) (here at) c.requires.image in
     let count = c.index-count.result.now in
     let some = c.if-count-eq0.false in
@@ -45,8 +42,7 @@ take_out-requires c =
 pub overflow_sub-block : goal.overflow_sub-block
 overflow_sub-block c =
     let volume = c.index_mut-volume.result.now in
-    let at : IsAt c.self.inside.links.blocks c.self.inside.volumes.items c.self.inside.next.items c.self.inside.links.copies c.args.self.now c.args.v volume
-    = record { keeps = c.self.invariant; view = c.self.view_is; inside = c.requires.volume; is = c.index_mut-volume.ensures.value } in
+    let at = is_at c.self.invariant c.self.view_is c.requires.volume c.index_mut-volume.ensures.value in
     let inside = subst (λ (m : MapValue). c.args.at < length m.images) (here at) c.requires.image in
     let count = c.index-count.result.now in
     let some = c.if-count-eq0.false in
@@ -58,8 +54,7 @@ overflow_sub-block c =
 pub index-requires : goal.index-requires
 index-requires c =
     let volume = c.index_mut-volume.result.now in
-    let at : IsAt c.self.inside.links.blocks c.self.inside.volumes.items c.self.inside.next.items c.self.inside.links.copies c.args.self.now c.args.v volume
-    = record { keeps = c.self.invariant; view = c.self.view_is; inside = c.requires.volume; is = c.index_mut-volume.ensures.value } in
+    let at = is_at c.self.invariant c.self.view_is c.requires.volume c.index_mut-volume.ensures.value in
     let inside = subst (λ (m : MapValue). c.args.at < length m.images) (here at) c.requires.image in
     let count = c.index-count.result.now in
     let some = c.if-count-eq0.false in
@@ -72,8 +67,7 @@ index-requires c =
 pub overflow_sub-volume : goal.overflow_sub-volume
 overflow_sub-volume c =
     let volume = c.index_mut-volume.result.now in
-    let at : IsAt c.self.inside.links.blocks c.self.inside.volumes.items c.self.inside.next.items c.self.inside.links.copies c.args.self.now c.args.v volume
-    = record { keeps = c.self.invariant; view = c.self.view_is; inside = c.requires.volume; is = c.index_mut-volume.ensures.value } in
+    let at = is_at c.self.invariant c.self.view_is c.requires.volume c.index_mut-volume.ensures.value in
     let inside = subst (λ (m : MapValue). c.args.at < length m.images) (here at) c.requires.image in
     let count = c.index-count.result.now in
     let some = c.if-count-eq0.false in
@@ -85,8 +79,7 @@ overflow_sub-volume c =
 pub invariant_of-self-2 : goal.invariant_of-self-2
 invariant_of-self-2 c =
     let volume = c.index_mut-volume.result.now in
-    let at : IsAt c.self.inside.links.blocks c.self.inside.volumes.items c.self.inside.next.items c.self.inside.links.copies c.args.self.now c.args.v volume
-    = record { keeps = c.self.invariant; view = c.self.view_is; inside = c.requires.volume; is = c.index_mut-volume.ensures.value } in
+    let at = is_at c.self.invariant c.self.view_is c.requires.volume c.index_mut-volume.ensures.value in
     let inside = subst (λ (m : MapValue). c.args.at < length m.images) (here at) c.requires.image in
     let count = c.index-count.result.now in
     let some = c.if-count-eq0.false in
@@ -100,8 +93,7 @@ invariant_of-self-2 c =
 pub returns-clause-others : goal.returns-clause-others
 returns-clause-others c =
     let volume = c.index_mut-volume.result.now in
-    let at : IsAt c.self.inside.links.blocks c.self.inside.volumes.items c.self.inside.next.items c.self.inside.links.copies c.args.self.now c.args.v volume
-    = record { keeps = c.self.invariant; view = c.self.view_is; inside = c.requires.volume; is = c.index_mut-volume.ensures.value } in
+    let at = is_at c.self.invariant c.self.view_is c.requires.volume c.index_mut-volume.ensures.value in
     let inside = subst (λ (m : MapValue). c.args.at < length m.images) (here at) c.requires.image in
     let count = c.index-count.result.now in
     let some = c.if-count-eq0.false in
@@ -112,8 +104,7 @@ returns-clause-others c =
 pub returns-clause-some : goal.returns-clause-some
 returns-clause-some c =
     let volume = c.index_mut-volume.result.now in
-    let at : IsAt c.self.inside.links.blocks c.self.inside.volumes.items c.self.inside.next.items c.self.inside.links.copies c.args.self.now c.args.v volume
-    = record { keeps = c.self.invariant; view = c.self.view_is; inside = c.requires.volume; is = c.index_mut-volume.ensures.value } in
+    let at = is_at c.self.invariant c.self.view_is c.requires.volume c.index_mut-volume.ensures.value in
     let inside = subst (λ (m : MapValue). c.args.at < length m.images) (here at) c.requires.image in
     let count = c.index-count.result.now in
     let some = c.if-count-eq0.false in

@@ -2,15 +2,14 @@ use Rattle.std.proofs.Common.{subst, Contains}
 use Rattle.diff_map.specs.MapValue.{MapValue}
 use Rattle.diff_map.specs.Parts.{own_copies}
 use Rattle.diff_map.proofs.Counted.{used_is}
-use Rattle.diff_map.proofs.GroupChanges.{IsAt, here, kept}
+use Rattle.diff_map.proofs.GroupChanges.{is_at, here, kept}
 use Rattle.diff_map.proofs.ImagePlaces.{place_is}
 use Rattle.diff_map.proofs.group_map.GroupMap.used_by.Goals as goal
 
 pub returns : goal.returns
 returns c =
     let volume = c.index-volume.result.now in
-    let at : IsAt c.self.inside.links.blocks c.self.inside.volumes.items c.self.inside.next.items c.self.inside.links.copies c.args.self.now c.args.v volume
-    = record { keeps = c.self.invariant; view = c.self.view_is; inside = c.requires.volume; is = c.index-volume.ensures } in
+    let at = is_at c.self.invariant c.self.view_is c.requires.volume c.index-volume.ensures in
     let contains = subst (λ (m : MapValue). Contains m.images c.args.set) (here at) c.requires.image in
     let before = rw c.deref.ensures.value at c.place_from-at.ensures.before in
     let onward = rw c.deref.ensures.value at c.place_from-at.ensures.onward in
