@@ -6,6 +6,6 @@ use Rattle.std.specs.List.Sorted.{IsPermutation}
 abbrev pub StaysWithAnother : Option ℕ → ℕ → Option ℕ → Option ℕ → Type 0
 StaysWithAnother before actor after next = (other : ℕ) → before ≡ Some other → other ≢ actor → (after ≡ Some other) × (next ≡ None)
 
--- an actor came into a line, and the next of it got the floor: nobody is lost, and nobody is there once more
+-- an actor came into a line, and the next of it got the floor: nobody is lost, and no other is added
 abbrev pub IsSeated : List ℕ → ℕ → Option ℕ → List ℕ → Type 0
 IsSeated before actor next after = IsPermutation (before ++ actor ∷ []) (option_to_list next ++ after)
