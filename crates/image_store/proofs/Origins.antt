@@ -4,7 +4,7 @@ use Rattle.std.specs.Prelude.{◌==◌, ◌&&◌, ◌⊎◌, not, filter, nat_lt
 use Rattle.std.proofs.lemmas.Bool.Decides.{nat_tests}
 use Rattle.cow_volume.specs.Calls.{is_among}
 use Rattle.cow_volume.proofs.Group.{same_number, other_number}
-use Rattle.image_store.specs.FileBytes.{blocks_of_file, file_in}
+use Rattle.image_store.specs.FileBytes.{file_in}
 use Rattle.image_store.specs.Plain.{Kept, Plain, PlainStore, plain_at, volume_in, image_in, image_of, on_volume, on_each, cut_on, gone_on, with_blocks, dropped_on, older_on, reverted_on}
 use Rattle.image_store.specs.Steps.{Step, IsAllowed, AreAllowed, after, after_all, goes, stays}
 use Rattle.image_store.specs.Steps.Step.{Cut, Gone, Updated, UpdatedInPart, Dropped, Reverted, RevertedInPart, Shown, Read, Opened}
@@ -200,11 +200,6 @@ cut_once s earlier between later set vs ws all =
 
 -- ## a file comes back
 
-updated-here : (v : ℕ) (wanted : List (List ℕ)) (ps : List Plain) → v < length ps → (volume_in (on_volume v (with_blocks wanted) ps) v).blocks ≡ wanted
-updated-here v wanted [] l = absurd (omega arith)
-updated-here zero wanted (p ∷ ps) l = refl
-updated-here (suc v) wanted (p ∷ ps) l = updated-here v wanted ps (omega arith)
-
 -- an image that was cut before these steps, and is there after them, is that one
 same_cut : (s : PlainStore) (xs : List Step) (set v : ℕ) (blocks found : List (List ℕ)) → set ≤ s.last → AreAllowed s xs → image_of s set v ≡ Some blocks
     → image_of (after_all s xs) set v ≡ Some found → found ≡ blocks
@@ -214,20 +209,16 @@ same_cut s xs set v blocks found given all has at = by_origin (images_come s xs 
   by_origin (inr c) = absurd (not_again s c.earlier c.later set c.vs given (subst (AreAllowed s) c.steps_are all))
 
 pub files_back : FilesComeBack
-files_back s earlier between later file shown n set v vs fits all l among =
+files_back s earlier between later file shown n set v vs fits had all l among =
     let before = after_all s earlier in
-    let wanted = blocks_of_file n file in
-    let updated = after before (Updated v wanted) in
-    let cut = after updated (Cut set vs) in
-    let calls = Updated v wanted ∷ Cut set vs ∷ between in
+    let cut = after before (Cut set vs) in
+    let calls = Cut set vs ∷ between in
     let rest = allowed-append s earlier (calls ++ Shown set v shown ∷ later) (subst (AreAllowed s) (append_assoc earlier calls (Shown set v shown ∷ later)) all) in
-    let last = allowed-append cut between (Shown set v shown ∷ later) rest.1.1 in
+    let last = allowed-append cut between (Shown set v shown ∷ later) rest.1 in
     let many = as_many_after s earlier in
-    let as_before = as_many before (Updated v wanted) in
-    let inside : v < length updated.volumes = omega arith in
-    let here : image_of cut set v ≡ Some wanted = cut-each vs v set updated.volumes inside (rest.1.0.1 v) among ∙ ap Some (updated-here v wanted before.volumes (omega arith)) in
-    let same = same_cut cut between set v wanted last.0.0 (omega arith) (allowed-front cut between (Shown set v shown ∷ later) rest.1.1) here last.0.1 in
-    last.0.2 ∙ ap file_in same ∙ file_back n file fits
+    let here = cut-each vs v set before.volumes (omega arith) (rest.0.1 v) among in
+    let same = same_cut cut between set v (plain_at before v).blocks last.0.0 (omega arith) (allowed-front cut between (Shown set v shown ∷ later) rest.1) here last.0.1 in
+    last.0.2 ∙ ap file_in (same ∙ had) ∙ file_back n file fits
 
 -- ## calls
 

@@ -5,7 +5,7 @@ use Rattle.cow_volume.specs.Calls.{is_among}
 use Rattle.image_store.specs.FileBytes.{blocks_of_file, file_in, FitsIn}
 use Rattle.image_store.specs.Plain.{PlainStore, plain_at, image_of}
 use Rattle.image_store.specs.Steps.{Step, AreAllowed, after_all, stays}
-use Rattle.image_store.specs.Steps.Step.{Cut, Updated, Shown}
+use Rattle.image_store.specs.Steps.Step.{Cut, Shown}
 use Rattle.image_store.specs.StoreValue.{StoreValue, StandsAs}
 
 -- An image that was cut has, until it goes, the blocks that its volume had at that cut, whatever else was done.
@@ -38,11 +38,11 @@ ShownIsOfItsCut = (s : PlainStore) (steps later : List Step) (set v : ℕ) (show
 abbrev pub SetsAreCutOnce : Type 0
 SetsAreCutOnce = (s : PlainStore) (earlier between later : List Step) (set : ℕ) (vs ws : List ℕ) → AreAllowed s (earlier ++ Cut set vs ∷ between ++ Cut set ws ∷ later) → ⊥
 
--- A file that a volume was brought to, and that is shown of the image of a cut right after, comes back byte for byte, whatever was done
--- between the cut and the showing.
+-- A file that a volume holds when a set is cut over it, and that is shown of the image later, comes back byte for byte, whatever was done
+-- between.
 abbrev pub FilesComeBack : Type 0
 FilesComeBack = (s : PlainStore) (earlier between later : List Step) (file shown : List ℕ) (n set v : ℕ) (vs : List ℕ) → FitsIn n file
-    → AreAllowed s (earlier ++ Updated v (blocks_of_file n file) ∷ Cut set vs ∷ between ++ Shown set v shown ∷ later)
+    → (plain_at (after_all s earlier) v).blocks ≡ blocks_of_file n file → AreAllowed s (earlier ++ Cut set vs ∷ between ++ Shown set v shown ∷ later)
     → v < length s.volumes → is_among v vs ≡ true → shown ≡ file
 
 -- ## calls

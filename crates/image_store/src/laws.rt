@@ -32,7 +32,7 @@ pub fn sets_are_cut_once()
     ensures { SetsAreCutOnce }
 {}
 
-/// A file that is put in, cut, and shown of that image later comes back byte for byte, whatever is done between.
+/// A file that a volume holds at a cut, and that is shown of the image later, comes back byte for byte, whatever is done between.
 pub fn files_come_back()
     ensures { FilesComeBack }
 {}
