@@ -4,7 +4,7 @@ use Rattle.std.specs.Prelude.{◌==◌, ◌&&◌, ◌⊎◌, not, filter, nat_lt
 use Rattle.std.proofs.lemmas.Bool.Decides.{nat_tests}
 use Rattle.cow_volume.specs.Calls.{is_among}
 use Rattle.cow_volume.proofs.Group.{same_number, other_number}
-use Rattle.image_store.specs.FileBytes.{blocks_of_file, file_in}
+use Rattle.image_store.specs.FileBytes.{file_in}
 use Rattle.image_store.specs.Plain.{Kept, Plain, PlainStore, plain_at, volume_in, image_in, image_of, on_volume, on_each, cut_on, gone_on, with_blocks, dropped_on, older_on, reverted_on}
 use Rattle.image_store.specs.Steps.{Step, IsAllowed, AreAllowed, after, after_all, goes, stays}
 use Rattle.image_store.specs.Steps.Step.{Cut, Gone, Updated, UpdatedInPart, Dropped, Reverted, RevertedInPart, Shown, Read, Opened}
