@@ -1,58 +1,42 @@
-use crate::committing::{commit, give_up, mark};
 use crate::ended::Ended;
 use crate::finish::Finish;
-use crate::folder::Folder;
 use crate::opened::Opened;
-use crate::refusals::{has_image, place_of};
 use crate::status::Status;
 
-/// The volumes of which the image of a set is deleted.
-fn volumes_of(
-    rt: &HostRuntime,
-    folder: &Folder,
-    opened: &Opened,
-    set: u32,
-    name: Option<&str>,
-) -> Result<Vec<u32>, Ended> {
-    let mut volumes = Vec::new(rt.alloc());
-    if let Some(name) = name {
-        let volume = place_of(rt, folder, &opened.store, name)?;
-        has_image(rt, folder, &opened.store, volume, set)?;
-        volumes.push(volume)?;
-        return Ok(volumes);
-    }
+/// Drops the image of a set from one volume, or from each that has one. How many went is answered.
+fn drop_images(opened: &mut Opened, set: u32, only: Option<u32>) -> u32 {
+    let mut count = 0u32;
     for volume in 0..opened.store.volumes() {
-        if opened.store.images(volume).contains(&set) {
-            volumes.push(volume)?;
+        if only.is_none() || only == Some(volume) {
+            if opened.store.drop_image(set, volume).is_ok() {
+                count = count.saturating_add(1);
+            }
         }
     }
-    if volumes.is_empty() {
-        return Err(Ended::said(
-            Status::Refused,
-            format!(in rt.alloc(); "{}: set {set}: there is no image of it", folder.path),
-        ));
-    }
-    Ok(volumes)
+    count
 }
 
 /// `delete F SET [NAME]`: the images of a set go.
 pub fn delete(
     rt: &HostRuntime,
-    folder: &Folder,
     opened: &mut Opened,
     set: u32,
     name: Option<&str>,
 ) -> Result<Finish, Ended> {
-    let volumes = volumes_of(rt, folder, opened, set, name)?;
-    mark(rt, folder, &opened.store, "delete", &[])?;
-    for volume in volumes.iter() {
-        let _ = opened.store.drop_image(set, *volume);
+    let only = match name {
+        Some(name) => Some(opened.place_of_image(rt, set, name)?),
+        None => None,
+    };
+    let count = drop_images(opened, set, only);
+    if count == 0 {
+        let folder = opened.folder.path.as_str();
+        return Err(ended!(rt, Refused; "{folder}: set {set}: there is no image of it"));
     }
-    if let Err(ended) = commit(rt, folder, &mut opened.store) {
-        return Err(give_up(rt, folder, ended));
-    }
+    opened.folder.mark(rt, "delete\n")?;
+    let done = opened.commit(rt);
+    opened.or_unmark(rt, done)?;
     Ok(Finish {
-        text: format!(in rt.alloc(); "deleted {}\n", volumes.len())?,
+        text: format!(in rt.alloc(); "deleted {count}\n")?,
         is_marked: true,
     })
 }

@@ -1,6 +1,6 @@
 use crate::status::Status;
-use std::alloc::{AllocError, AllocFailed, Global};
-use std::fmt;
+use std::alloc::{AllocError, AllocFailed};
+use std::io;
 use vss_names::OutOfMemory;
 
 /// How a call ended that was not done: with which status, and the line that says why. Without a line a device of the folder failed, whose
@@ -19,54 +19,48 @@ impl Ended {
                 status,
                 line: Some(line),
             },
-            Err(_) => Ended::from(OutOfMemory),
+            Err(_) => Ended::silent(Status::OutOfMemory),
         }
+    }
+
+    /// Without a line.
+    pub fn silent(status: Status) -> Ended {
+        Ended { status, line: None }
     }
 
     /// A device of the folder failed.
     pub fn by_device() -> Ended {
-        Ended {
-            status: Status::FolderFault,
-            line: None,
-        }
+        Ended::silent(Status::FolderFault)
     }
+}
 
-    /// The words have not this form.
-    pub fn usage(alloc: Global, form: &str) -> Ended {
-        Ended::said(Status::Usage, format!(in alloc; "usage: {form}"))
-    }
-
-    /// The standard output failed.
-    pub fn write_fault(alloc: Global) -> Ended {
-        Ended::said(Status::WriteFault, String::from_str(alloc, "write fault"))
-    }
-
-    /// A call on a file of the folder failed: this is said of it, as `could not be read`.
-    pub fn by_file<E: fmt::Display>(alloc: Global, path: &str, call: &str, error: &E) -> Ended {
-        Ended::said(
-            Status::FolderFault,
-            format!(in alloc; "{path}: {call}: {error}"),
-        )
+/// What a call on a file of the folder gave. Of one that failed this is said, as `could not be read`.
+pub fn of_folder<T: Drop>(
+    rt: &HostRuntime,
+    path: &str,
+    what: &str,
+    done: io::Result<T>,
+) -> Result<T, Ended> {
+    match done {
+        Ok(value) => Ok(value),
+        Err(error) => Err(ended!(rt, FolderFault; "{path}: {what}: {error}")),
     }
 }
 
 impl From<OutOfMemory> for Ended {
     fn from(_refused: OutOfMemory) -> Ended {
-        Ended {
-            status: Status::OutOfMemory,
-            line: None,
-        }
+        Ended::silent(Status::OutOfMemory)
     }
 }
 
 impl From<AllocError> for Ended {
     fn from(_refused: AllocError) -> Ended {
-        Ended::from(OutOfMemory)
+        Ended::silent(Status::OutOfMemory)
     }
 }
 
 impl<T: Drop> From<AllocFailed<T>> for Ended {
     fn from(_refused: AllocFailed<T>) -> Ended {
-        Ended::from(OutOfMemory)
+        Ended::silent(Status::OutOfMemory)
     }
 }

@@ -1,20 +1,27 @@
+ghost use Rattle.std.specs.Prelude.{◌≡◌, ◌<◌, ◌≤◌, length};
+ghost use Rattle.vss_names.specs.Faults.{HasCause};
+
+use crate::ended::Ended;
 use crate::progress::Progress;
+use crate::status::Status;
 use block_data::BLOCK;
 use byteorder::{ByteOrder, LittleEndian};
+use image_store::PassFault;
 use std::fs::{File, Metadata};
-use std::io;
+use std::io::ErrorKind;
 use std::os::unix::fs::{FileExt, MetadataExt};
+use std::{fs, io};
 use volume_device::Device;
 use vss_names::Failed;
 
-/// A file as the blocks of a volume: its bytes, zeros, and its length in the last eight bytes (`image_store/specs/FileBytes.antt`). It is
-/// read alone, and as long as it was when it was opened.
+/// A file that was named, as the blocks of a volume: its bytes, zeros, and its length in the last eight bytes
+/// (`image_store/specs/FileBytes.antt`). It is read alone, and as long as it was when it was opened.
 #[derive(Drop)]
-pub struct FileInput {
+pub struct FileInput<'a> {
+    path: &'a str,
     file: File,
-    blocks: u32,
-    length: u64,
-    changed: (i64, i64),
+    found: Metadata,
+    pub blocks: u32,
     count: u64,
     last: Option<io::Error>,
     pub progress: Progress,
@@ -24,74 +31,138 @@ pub struct FileInput {
 const LENGTH: usize = 8;
 
 /// Ends a block of which the first `have` bytes are the file's: zeros, and in the last block of the volume the file's length in bytes.
-fn end_block(out: &mut [u8], have: usize, is_last: bool, file_length: u64) {
+fn end_block(out: &mut [u8], have: usize, is_last: bool, file_length: u64)
+    requires whole { length out.old ≡ BLOCK }
+    requires part { have ≤ BLOCK }
+{
     out[have..].fill(0);
     if is_last {
         LittleEndian::write_u64(&mut out[BLOCK - LENGTH..], file_length);
     }
 }
 
-/// When a file was changed last.
-fn time_of(found: &Metadata) -> (i64, i64) {
-    (found.mtime(), found.mtime_nsec())
+/// Whether a file is as long as it was, and was not changed since.
+fn is_unchanged(before: &Metadata, now: &Metadata) -> bool {
+    now.len() == before.len()
+        && now.mtime() == before.mtime()
+        && now.mtime_nsec() == before.mtime_nsec()
 }
 
-/// How many blocks a file of so many bytes needs, with its length.
-pub fn blocks_for(length: u64) -> u64 {
-    length.saturating_add(8).div_ceil(BLOCK as u64)
+/// Opens a file, if it is one: nobody waits for the other end of a pipe.
+pub fn file_at(rt: &HostRuntime, path: &str, writes: bool) -> io::Result<Option<(File, Metadata)>> {
+    if !fs::metadata(rt, path)?.is_file() {
+        return Ok(None);
+    }
+    let file = File::options().read(true).write(writes).open(rt, path)?;
+    let found = file.metadata()?;
+    Ok(Some((file, found)))
 }
 
-impl FileInput {
-    /// The file as so many blocks, in which it has room with its length.
-    pub fn new(rt: &HostRuntime, file: File, found: &Metadata, blocks: u32) -> FileInput {
-        FileInput {
-            file,
-            blocks,
-            length: found.len(),
-            changed: time_of(found),
-            count: 0,
-            last: None,
-            progress: Progress::new(rt, "compared", blocks),
+impl<'a> FileInput<'a> {
+    /// The file, as yet of no blocks.
+    pub fn open(rt: &HostRuntime, path: &'a str) -> Result<FileInput<'a>, Ended> {
+        match file_at(rt, path, false) {
+            Ok(Some((file, found))) => Ok(FileInput {
+                path,
+                file,
+                found,
+                blocks: 0,
+                count: 0,
+                last: None,
+                progress: Progress::new(rt, "compared", 0),
+            }),
+            Ok(None) => Err(ended!(rt, Unread; "{path}: is no file")),
+            Err(error) => Err(ended!(rt, Unread; "{path}: could not be read: {error}")),
         }
+    }
+
+    /// Gives it so many blocks, those of the volume of this name, in which it has to have room with its length.
+    pub fn fit(&mut self, rt: &HostRuntime, name: &str, blocks: u32) -> Result<(), Ended> {
+        let room = (u64::from(blocks) * BLOCK as u64).saturating_sub(LENGTH as u64);
+        let (path, length) = (self.path, self.length());
+        if length > room {
+            return Err(
+                ended!(rt, Refused; "{path}: length: {length} bytes, and {name} has room for {room}"),
+            );
+        }
+        self.blocks = blocks;
+        self.progress = Progress::new(rt, "compared", blocks);
+        Ok(())
     }
 
     /// How many bytes it had when it was opened.
     pub fn length(&self) -> u64 {
-        self.length
+        self.found.len()
     }
 
-    /// How many bytes it has now, where that or the time of its change is another than when it was opened.
-    pub fn changed(&self) -> io::Result<Option<u64>> {
-        let now = self.file.metadata()?;
-        if now.len() == self.length && time_of(&now) == self.changed {
-            return Ok(None);
+    /// Whether it is the file of another path.
+    pub fn is_at(&self, rt: &HostRuntime, path: &str) -> bool {
+        match fs::metadata(rt, path) {
+            Ok(other) => other.dev() == self.found.dev() && other.ino() == self.found.ino(),
+            Err(_) => false,
         }
-        Ok(Some(now.len()))
     }
 
-    /// The system's reason why the last failed read failed.
-    pub fn last_fault(&self) -> Option<&io::Error> {
-        self.last.as_ref()
+    /// What is said of a file that changed.
+    pub fn changed(&self, rt: &HostRuntime, now: u64, more: &str) -> Ended {
+        let (path, before) = (self.path, self.length());
+        ended!(rt, InputChanged; "{path}: changed while it was read: {before} bytes and then {now}{more}")
+    }
+
+    /// That the file has not changed since it was opened.
+    pub fn is_same(&self, rt: &HostRuntime, more: &str) -> Result<(), Ended> {
+        match self.file.metadata() {
+            Ok(now) if is_unchanged(&self.found, &now) => Ok(()),
+            Ok(now) => Err(self.changed(rt, now.len(), more)),
+            Err(error) => Err(
+                ended!(rt, Unread; "{}: could not be read: {error}{more}", self.path),
+            ),
+        }
+    }
+
+    /// What is said of a pass that failed, of a read of the file with this behind it, or of a device of the folder.
+    pub fn ended_by(&self, rt: &HostRuntime, fault: PassFault, more: &str) -> Ended {
+        match (fault, &self.last) {
+            (PassFault::Input, Some(error)) if error.kind() != ErrorKind::UnexpectedEof => {
+                ended!(rt, Unread; "{}: could not be read: {error}{more}", self.path)
+            }
+            (PassFault::Input, _) => match self.is_same(rt, more) {
+                Ok(()) => self.changed(rt, self.length(), more),
+                Err(ended) => ended,
+            },
+            _ => Ended::by_device(),
+        }
     }
 
     /// Reads as much of the block as the file has, and ends it.
-    fn read_part(&self, index: u32, out: &mut [u8]) -> io::Result<()> {
+    fn read_part(&self, index: u32, out: &mut [u8]) -> io::Result<()>
+        requires in_range { index < self.now.blocks }
+        requires whole { length out.old ≡ BLOCK }
+    {
         let place = u64::from(index) * BLOCK as u64;
-        let have = self.length.saturating_sub(place).min(BLOCK as u64) as usize;
+        let have = self.length().saturating_sub(place).min(BLOCK as u64) as usize;
         self.file.read_exact_at(&mut out[..have], place)?;
-        end_block(out, have, index + 1 == self.blocks, self.length);
+        end_block(out, have, index == self.blocks - 1, self.length());
         Ok(())
     }
 
-    /// Counts a call that failed.
-    fn fail(&mut self, error: Option<io::Error>) -> Failed {
-        self.count = self.count.saturating_add(1);
-        self.last = error;
-        Failed
+    /// What is told of a call. One that failed is counted and kept.
+    fn outcome(&mut self, done: io::Result<()>) -> Result<(), Failed>
+        ensures size { self.new.blocks ≡ self.old.blocks }
+        ensures cause { HasCause self.old.count self.new.count result }
+    {
+        match done {
+            Ok(()) => Ok(()),
+            Err(error) => {
+                self.count = self.count.saturating_add(1);
+                self.last = Some(error);
+                Err(Failed)
+            }
+        }
     }
 }
 
-impl Device for FileInput {
+impl<'a> Device for FileInput<'a> {
     ghost use Rattle.std.specs.Prelude.{None, false};
 
     ghost told = { λ d. None };
@@ -110,14 +181,12 @@ impl Device for FileInput {
 
     fn read_into(&mut self, index: u32, out: &mut [u8]) -> Result<(), Failed> {
         self.progress.step();
-        match self.read_part(index, out) {
-            Ok(()) => Ok(()),
-            Err(error) => Err(self.fail(Some(error))),
-        }
+        let done = self.read_part(index, out);
+        self.outcome(done)
     }
 
     fn write(&mut self, _index: u32, _block: &[u8]) -> Result<(), Failed> {
-        Err(self.fail(None))
+        self.outcome(Err(io::Error::from(ErrorKind::Unsupported)))
     }
 
     fn flush(&mut self) -> Result<(), Failed> {

@@ -1,9 +1,7 @@
 use crate::ended::Ended;
-use crate::folder::Folder;
-use crate::opened::Opened;
+use crate::opened::{Files, Opened};
 use crate::status::Status;
 use crate::store_device::StoreDevice;
-use image_store::Store;
 use std::alloc::Global;
 use volume_device::FileFault;
 
@@ -24,13 +22,27 @@ impl Finish {
     }
 }
 
+/// Prints a text.
+pub fn say(rt: &HostRuntime, text: &str) -> Result<(), Ended> {
+    match print!(rt; "{text}") {
+        Ok(()) => Ok(()),
+        Err(_) => Err(ended!(rt, WriteFault; "write fault")),
+    }
+}
+
+/// Prints what is wrong.
+pub fn tell(rt: &HostRuntime, ended: Ended) -> Result<(), Ended> {
+    if let Some(line) = &ended.line {
+        let _ = eprintln!(rt; "images: {line}");
+        return Ok(());
+    }
+    Err(ended)
+}
+
 /// What is said of the failed call of a device.
 pub fn fault_line(rt: &HostRuntime, fault: Option<FileFault>) -> Ended {
     match fault {
-        Some(fault) => Ended::said(
-            Status::FolderFault,
-            format!(in rt.alloc(); "{}: {}: {}", fault.path, fault.call, fault.error),
-        ),
+        Some(FileFault { path, call, error }) => ended!(rt, FolderFault; "{path}: {call}: {error}"),
         None => Ended::by_device(),
     }
 }
@@ -47,7 +59,7 @@ pub fn first_fault(rt: &HostRuntime, devices: Vec<StoreDevice>, area: StoreDevic
 }
 
 /// Ends a call that was not done: where a device failed, its own fault is said.
-fn ended_by(rt: &HostRuntime, store: Store<StoreDevice>, ended: Ended) -> Ended {
+pub fn ended_by(rt: &HostRuntime, store: Files, ended: Ended) -> Ended {
     if ended.line.is_some() || ended.status != Status::FolderFault {
         return ended;
     }
@@ -56,7 +68,7 @@ fn ended_by(rt: &HostRuntime, store: Store<StoreDevice>, ended: Ended) -> Ended 
 }
 
 /// Closes the store of a call that was done.
-fn close(rt: &HostRuntime, store: Store<StoreDevice>) -> Result<(), Ended> {
+pub fn close(rt: &HostRuntime, store: Files) -> Result<(), Ended> {
     let closed = store.close();
     match closed.outcome {
         Ok(()) => Ok(()),
@@ -65,28 +77,15 @@ fn close(rt: &HostRuntime, store: Store<StoreDevice>) -> Result<(), Ended> {
 }
 
 /// Ends a call.
-pub fn finish(
-    rt: &HostRuntime,
-    folder: &Folder,
-    opened: Opened,
-    done: Result<Finish, Ended>,
-) -> Result<(), Ended> {
+pub fn end(rt: &HostRuntime, opened: Opened, done: Result<Finish, Ended>) -> Result<(), Ended> {
     match done {
         Err(ended) => Err(ended_by(rt, opened.store, ended)),
         Ok(finish) => {
             if finish.is_marked {
                 close(rt, opened.store)?;
-                folder.unmark(rt)?;
+                opened.folder.unmark(rt)?;
             }
             say(rt, finish.text.as_str())
         }
-    }
-}
-
-/// Prints a text.
-pub fn say(rt: &HostRuntime, text: &str) -> Result<(), Ended> {
-    match print!(rt; "{text}") {
-        Ok(()) => Ok(()),
-        Err(_) => Err(Ended::write_fault(rt.alloc())),
     }
 }

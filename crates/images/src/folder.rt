@@ -1,13 +1,17 @@
-use crate::ended::Ended;
+ghost use Rattle.std.specs.Prelude.{◌≤◌};
+
+use crate::ended::{Ended, of_folder};
 use crate::marker::{MOST_MARKER, Marker};
 use crate::status::Status;
 use crate::way::Way;
 use block_data::{BLOCK, BlockBuf, Hasher};
+use diff_area::pages_for;
 use std::alloc::AllocError;
 use std::fs::{File, TryLockError};
 use std::io::{ErrorKind, Write};
 use std::os::unix::fs::FileExt;
 use std::{fs, io};
+use vss_names::MOST_SLOTS;
 
 /// The name of the state's file.
 pub const STATE: &str = "images.state";
@@ -29,14 +33,15 @@ pub struct Folder {
     held: File,
 }
 
-/// Writes a head, so many blocks of the front of the area's file, and the digest of both.
+/// Makes a file of a head, so many blocks of the front of the area's file, and the digest of both, and sees that it lasts.
 fn write_state(
     rt: &HostRuntime,
-    file: &mut File,
+    path: &str,
     head: &[u8],
     area: &File,
     front: u32,
 ) -> io::Result<()> {
+    let mut file = File::create(rt, path)?;
     let Ok(mut block) = BlockBuf::zeroed(rt.alloc()) else {
         return Err(io::Error::from(ErrorKind::OutOfMemory));
     };
@@ -64,10 +69,7 @@ impl Folder {
     pub fn open(rt: &HostRuntime, path: &str, way: Way) -> Result<Folder, Ended> {
         let state = format!(in rt.alloc(); "{path}/{STATE}")?;
         if let Err(error) = fs::symlink_metadata(rt, state.as_str()) {
-            return Err(Ended::said(
-                Status::Refused,
-                format!(in rt.alloc(); "{path}: no folder of images ({STATE}: {error})"),
-            ));
+            return Err(ended!(rt, Refused; "{path}: no folder of images ({STATE}: {error})"));
         }
         let folder = Folder::hold(rt, path)?;
         folder.lock(rt, way)?;
@@ -78,32 +80,26 @@ impl Folder {
     pub fn lock(&self, rt: &HostRuntime, way: Way) -> Result<(), Ended> {
         let locked = match way {
             Way::Writing => self.held.try_lock(),
-            Way::Listing | Way::Showing => self.held.try_lock_shared(),
+            _ => self.held.try_lock_shared(),
         };
         match locked {
             Ok(()) => Ok(()),
-            Err(TryLockError::WouldBlock) => Err(Ended::said(
-                Status::InUse,
-                format!(in rt.alloc(); "{}: in use by another process", self.path),
-            )),
-            Err(TryLockError::Error(error)) => Err(Ended::by_file(
-                rt.alloc(),
-                self.path.as_str(),
-                "could not be locked",
-                &error,
-            )),
+            Err(TryLockError::WouldBlock) => {
+                Err(ended!(rt, InUse; "{}: in use by another process", self.path))
+            }
+            Err(TryLockError::Error(error)) => {
+                of_folder(rt, self.path.as_str(), "could not be locked", Err(error))
+            }
         }
     }
 
     /// Holds a folder.
     pub fn hold(rt: &HostRuntime, path: &str) -> Result<Folder, Ended> {
-        match File::open(rt, path) {
-            Ok(held) => Ok(Folder {
-                path: String::from_str(rt.alloc(), path)?,
-                held,
-            }),
-            Err(error) => Err(Ended::by_file(rt.alloc(), path, "could not be opened", &error)),
-        }
+        let held = of_folder(rt, path, "could not be opened", File::open(rt, path))?;
+        Ok(Folder {
+            path: String::from_str(rt.alloc(), path)?,
+            held,
+        })
     }
 
     /// The path of a file in it.
@@ -112,8 +108,7 @@ impl Folder {
     }
 
     /// The path of a volume's file.
-    pub fn path_of_volume(&self, rt: &HostRuntime, name: &[u8]) -> Result<String, AllocError> {
-        let name = std::str::from_utf8(name).unwrap_or("");
+    pub fn path_of_volume(&self, rt: &HostRuntime, name: &str) -> Result<String, AllocError> {
         format!(in rt.alloc(); "{}/{name}.vol", self.path)
     }
 
@@ -125,65 +120,60 @@ impl Folder {
                 return Ok(Some(Marker::of(rt.alloc(), b"")?));
             }
         }
-        match fs::read(rt, path.as_str()) {
-            Ok(bytes) => Ok(Some(Marker::of(rt.alloc(), &bytes)?)),
-            Err(error) if error.kind() == ErrorKind::NotFound => Ok(None),
-            Err(error) => Err(Ended::by_file(
-                rt.alloc(),
-                path.as_str(),
-                "could not be read",
-                &error,
-            )),
+        let found = fs::read(rt, path.as_str());
+        if let Err(error) = &found {
+            if error.kind() == ErrorKind::NotFound {
+                return Ok(None);
+            }
         }
+        let bytes = of_folder(rt, path.as_str(), "could not be read", found)?;
+        Ok(Some(Marker::of(rt.alloc(), &bytes)?))
     }
 
-    /// Makes the marker of a call, with the names of the volumes whose present contents will be in transit, and sees that it lasts.
+    /// Makes the marker of a call, of its name and those of the volumes whose present contents will be in transit, a line each, and sees that
+    /// it lasts.
     pub fn mark(&self, rt: &HostRuntime, text: &str) -> Result<(), Ended> {
         let new = self.path_of(rt, MARKER_NEW)?;
-        if let Err(error) = write_whole(rt, new.as_str(), text.as_bytes()) {
-            return Err(Ended::by_file(rt.alloc(), new.as_str(), "could not be written", &error));
-        }
+        let made = write_whole(rt, new.as_str(), text.as_bytes());
+        of_folder(rt, new.as_str(), "could not be written", made)?;
         self.rename(rt, new.as_str(), MARKER)
     }
 
     /// Takes the marker away, and sees that this lasts.
     pub fn unmark(&self, rt: &HostRuntime) -> Result<(), Ended> {
         let path = self.path_of(rt, MARKER)?;
-        if let Err(error) = fs::remove_file(rt, path.as_str()) {
-            return Err(Ended::by_file(rt.alloc(), path.as_str(), "could not be removed", &error));
-        }
+        let gone = fs::remove_file(rt, path.as_str());
+        of_folder(rt, path.as_str(), "could not be removed", gone)?;
         self.sync(rt)
     }
 
-    /// Makes a state what the next opening finds: the head, and so many blocks of the front of the area's file. The area was synced before.
-    pub fn commit(&self, rt: &HostRuntime, head: &[u8], front: u32) -> Result<(), Ended> {
+    /// Makes a state what the next opening finds: the head, and the header and the table of an area of so many slots, as the area's file has
+    /// them. The area was synced before.
+    pub fn commit(&self, rt: &HostRuntime, head: &[u8], slots: u32) -> Result<(), Ended>
+        requires { slots ≤ MOST_SLOTS }
+    {
         let area = self.path_of(rt, AREA)?;
-        let area = match File::open(rt, area.as_str()) {
-            Ok(file) => file,
-            Err(error) => return Err(Ended::by_file(
-                rt.alloc(),
-                area.as_str(),
-                "could not be opened",
-                &error,
-            )),
-        };
+        let area = of_folder(
+            rt,
+            area.as_str(),
+            "could not be opened",
+            File::open(rt, area.as_str()),
+        )?;
         let new = self.path_of(rt, STATE_NEW)?;
-        let made = match File::create(rt, new.as_str()) {
-            Ok(mut file) => write_state(rt, &mut file, head, &area, front),
-            Err(error) => Err(error),
-        };
-        if let Err(error) = made {
-            return Err(Ended::by_file(rt.alloc(), new.as_str(), "could not be written", &error));
-        }
+        let made = write_state(rt, new.as_str(), head, &area, 1 + pages_for(slots));
+        of_folder(rt, new.as_str(), "could not be written", made)?;
         self.rename(rt, new.as_str(), STATE)
     }
 
     /// Gives a file of it another name, and sees that this lasts.
     fn rename(&self, rt: &HostRuntime, from: &str, name: &str) -> Result<(), Ended> {
         let to = self.path_of(rt, name)?;
-        if let Err(error) = fs::rename(rt, from, to.as_str()) {
-            return Err(Ended::by_file(rt.alloc(), from, "could not be renamed", &error));
-        }
+        of_folder(
+            rt,
+            from,
+            "could not be renamed",
+            fs::rename(rt, from, to.as_str()),
+        )?;
         self.sync(rt)
     }
 
@@ -191,10 +181,9 @@ impl Folder {
     pub fn sync(&self, rt: &HostRuntime) -> Result<(), Ended> {
         match self.held.sync_all() {
             Ok(()) => Ok(()),
-            Err(error) => Err(Ended::said(
-                Status::Unsettled,
-                format!(in rt.alloc(); "{}: could not be synced: {error}", self.path),
-            )),
+            Err(error) => {
+                Err(ended!(rt, Unsettled; "{}: could not be synced: {error}", self.path))
+            }
         }
     }
 }

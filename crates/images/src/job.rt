@@ -1,131 +1,151 @@
+ghost use Rattle.std.specs.Prelude.{◌≡◌, ◌<◌, ◌≤◌, ◌*◌, length, vec_capacity, IfOk, IsTrue, OnOk};
+ghost use Rattle.cow_volume.specs.Calls.{blocks_at};
+
 use crate::ended::Ended;
 use crate::file_input::FileInput;
-use crate::status::Status;
-use block_data::BLOCK;
-use image_store::PassFault;
-use std::fs::{File, Metadata};
-use std::{fs, io};
+use crate::finish::say;
+use crate::opened::{Files, Opened};
+use crate::progress::Progress;
+use image_store::Pass;
+use std::alloc::{AllocError, Global};
+use write_history::Evicted;
 
-/// A volume that is brought to a file: which of its blocks differ, how many were written, and how many copied for images.
+/// A volume that is brought to a file: which of its blocks differ, how many those are, and how many were copied for images.
 #[derive(Drop)]
 pub struct Job<'a> {
-    pub path: &'a str,
+    pub name: &'a str,
     pub volume: u32,
-    pub input: FileInput,
+    pub input: FileInput<'a>,
     pub differs: Vec<bool>,
     pub written: u32,
     pub copied: u32,
 }
 
-/// A file that was named and is not read.
-fn unread(rt: &HostRuntime, path: &str, error: &io::Error, more: &str) -> Ended {
-    Ended::said(
-        Status::Unread,
-        format!(in rt.alloc(); "{path}: could not be read: {error}{more}"),
-    )
+/// Empties a list, and sees that it has room for all images of a store.
+fn make_empty(store: &Files, gone: &mut Vec<Evicted>) -> Result<(), AllocError>
+    ensures { OnOk result (512 * length store.now.group.area.volumes ≤ vec_capacity gone.new) }
+{
+    gone.clear();
+    gone.reserve(512 * store.volumes() as usize)
 }
 
-/// Opens a file, if it is one: nobody waits for the other end of a pipe.
-pub fn file_at(rt: &HostRuntime, path: &str, writes: bool) -> io::Result<Option<(File, Metadata)>> {
-    if !fs::metadata(rt, path)?.is_file() {
-        return Ok(None);
+/// How many blocks are marked.
+fn marked(differs: &[bool]) -> u32 {
+    let mut count = 0u32;
+    for one in differs {
+        if *one {
+            count = count.saturating_add(1);
+        }
     }
-    let file = File::options().read(true).write(writes).open(rt, path)?;
-    let found = file.metadata()?;
-    Ok(Some((file, found)))
+    count
 }
 
-/// Opens a file that was named.
-pub fn open_file(rt: &HostRuntime, path: &str) -> Result<(File, Metadata), Ended> {
-    match file_at(rt, path, false) {
-        Ok(Some(opened)) => Ok(opened),
-        Ok(None) => Err(Ended::said(Status::Unread, format!(in rt.alloc(); "{path}: is no file"))),
-        Err(error) => Err(unread(rt, path, &error, "")),
+/// Prints the images that went.
+fn say_gone(rt: &HostRuntime, store: &Files, gone: &[Evicted]) -> Result<(), Ended> {
+    for one in gone {
+        if one.volume < store.volumes() {
+            let name = std::str::from_utf8(store.name(one.volume).bytes()).unwrap_or("");
+            let line = format!(in rt.alloc(); "evicted set {} {name}\n", one.set)?;
+            say(rt, line.as_str())?;
+        }
     }
-}
-
-/// That a file of so many bytes has room in a volume of so many blocks.
-pub fn has_room(
-    rt: &HostRuntime,
-    path: &str,
-    name: &str,
-    length: u64,
-    blocks: u32,
-) -> Result<(), Ended> {
-    let room = (u64::from(blocks) * BLOCK as u64).saturating_sub(8);
-    if length <= room {
-        return Ok(());
-    }
-    Err(Ended::said(
-        Status::Refused,
-        format!(in rt.alloc(); "{path}: length: {length} bytes, and {name} has room for {room}"),
-    ))
+    Ok(())
 }
 
 impl<'a> Job<'a> {
-    /// That of a volume of so many blocks, in which the file has room.
+    /// That of a volume of as many blocks as the file was given.
     pub fn new(
-        rt: &HostRuntime,
-        path: &'a str,
+        alloc: Global,
+        name: &'a str,
         volume: u32,
-        file: File,
-        found: &Metadata,
-        blocks: u32,
-    ) -> Result<Job<'a>, Ended> {
+        input: FileInput<'a>,
+    ) -> Result<Job<'a>, AllocError>
+        ensures { IfOk result (λ job. job.input ≡ input.entry) }
+    {
         Ok(Job {
-            path,
+            name,
             volume,
-            input: FileInput::new(rt, file, found, blocks),
-            differs: vec![in rt.alloc(); false; blocks as usize]?,
+            differs: vec![in alloc; false; input.blocks as usize]?,
+            input,
             written: 0,
             copied: 0,
         })
     }
 
-    /// How many blocks are marked.
-    pub fn marked(&self) -> u32 {
-        let mut count = 0u32;
-        for differs in self.differs.iter() {
-            if *differs {
-                count = count.saturating_add(1);
+    /// Whether the file and the marks are of as many blocks as the volume.
+    fn fits(&self, store: &Files) -> bool
+        ensures volume { IsTrue result → self.now.volume < length store.now.group.area.volumes }
+        ensures sizes { IsTrue result → self.now.input.blocks ≡ blocks_at store.now.group self.now.volume }
+        ensures marks { IsTrue result → length self.now.differs.items ≡ blocks_at store.now.group self.now.volume }
+    {
+        if self.volume >= store.volumes() {
+            return false;
+        }
+        let blocks = store.blocks(self.volume);
+        self.input.blocks == blocks && self.differs.len() == blocks as usize
+    }
+
+    /// The first pass: the blocks that differ are marked. Nothing else changes.
+    pub fn compare(&mut self, rt: &HostRuntime, store: &mut Files) -> Result<(), Ended> {
+        if !self.fits(store) {
+            return Err(Ended::by_device());
+        }
+        let done = store.compare(self.volume, &mut self.input, &mut self.differs);
+        if let Err(fault) = done {
+            return Err(self.input.ended_by(rt, fault, ""));
+        }
+        self.written = marked(&self.differs);
+        self.input.is_same(rt, "")
+    }
+
+    /// The second pass: old bytes go into slots. Every slot that images gave up is used only after the commit without them.
+    pub fn copy_ahead(
+        &mut self,
+        rt: &HostRuntime,
+        opened: &mut Opened,
+        gone: &mut Vec<Evicted>,
+    ) -> Result<(), Ended> {
+        let mut from = 0;
+        let mut copied = 0;
+        for _stop in 0..u32::MAX {
+            if !self.fits(&opened.store) {
+                return Err(Ended::by_device());
+            }
+            make_empty(&opened.store, gone)?;
+            let passed = opened
+                .store
+                .copy_ahead(self.volume, &self.differs, from, &mut copied, gone);
+            self.copied = copied;
+            match passed {
+                Err(_) => return Err(Ended::by_device()),
+                Ok(Pass::Done) => return Ok(()),
+                Ok(Pass::Evicted { at, .. }) => {
+                    say_gone(rt, &opened.store, gone)?;
+                    opened.commit(rt)?;
+                    from = at;
+                }
             }
         }
-        count
+        Ok(())
     }
 
-    /// What is said of a pass that failed, of a read of the file with this behind it, or of a device of the folder.
-    pub fn fault(&self, rt: &HostRuntime, fault: PassFault, more: &str) -> Ended {
-        match (fault, self.input.last_fault()) {
-            (PassFault::Input, Some(error)) if error.kind() != io::ErrorKind::UnexpectedEof => {
-                unread(rt, self.path, error, more)
-            }
-            (PassFault::Input, _) => self.changed(rt, more),
-            _ => Ended::by_device(),
+    /// The third pass: the blocks that differ are written. `more` is said of a file that changed.
+    pub fn overwrite(
+        &mut self,
+        rt: &HostRuntime,
+        store: &mut Files,
+        gone: &mut Vec<Evicted>,
+        more: &str,
+    ) -> Result<(), Ended> {
+        self.input.progress = Progress::new(rt, "written", self.written);
+        make_empty(store, gone)?;
+        if !self.fits(store) {
+            return Err(Ended::by_device());
         }
-    }
-
-    /// What is said of a file that changed.
-    fn changed(&self, rt: &HostRuntime, more: &str) -> Ended {
-        let now = match self.input.changed() {
-            Ok(Some(length)) => length,
-            _ => self.input.length(),
-        };
-        Ended::said(
-            Status::InputChanged,
-            format!(in rt.alloc();
-                "{}: changed while it was read: {} bytes and then {now}{more}",
-                self.path,
-                self.input.length()
-            ),
-        )
-    }
-
-    /// That the file has not changed since it was opened.
-    pub fn is_same(&self, rt: &HostRuntime, more: &str) -> Result<(), Ended> {
-        match self.input.changed() {
-            Ok(None) => Ok(()),
-            Ok(Some(_)) => Err(self.changed(rt, more)),
-            Err(error) => Err(unread(rt, self.path, &error, more)),
+        let passed = store.overwrite(self.volume, &mut self.input, &self.differs, 0, gone);
+        if let Err(fault) = passed {
+            return Err(self.input.ended_by(rt, fault, more));
         }
+        self.input.is_same(rt, more)
     }
 }

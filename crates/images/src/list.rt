@@ -1,6 +1,7 @@
+ghost use Rattle.std.specs.Prelude.{◌≡◌, ◌<◌, length};
+
 use crate::ended::Ended;
 use crate::finish::Finish;
-use crate::folder::Folder;
 use crate::opened::Opened;
 use crate::show::refusal;
 use image_store::Which;
@@ -8,35 +9,36 @@ use image_store::Which;
 /// The length of the file of a volume, or of its image.
 pub fn length_of(
     rt: &HostRuntime,
-    folder: &Folder,
     opened: &mut Opened,
     volume: u32,
     which: Which,
-) -> Result<u64, Ended> {
+) -> Result<u64, Ended>
+    requires { volume < length opened.old.store.group.area.volumes }
+    ensures { opened.new.store.group.area.volumes ≡ opened.old.store.group.area.volumes }
+{
     match opened.store.length(volume, which) {
         Ok(length) => Ok(length),
-        Err(fault) => Err(refusal(rt, folder, opened, volume, which, fault)),
+        Err(fault) => Err(refusal(rt, opened, volume, which, fault)),
     }
 }
 
 /// Adds the lines of a volume and of its images.
 fn add_volume(
     rt: &HostRuntime,
-    folder: &Folder,
     opened: &mut Opened,
     volume: u32,
     text: &mut String,
-) -> Result<(), Ended> {
-    let length = length_of(rt, folder, opened, volume, Which::Now)?;
-    let name = std::str::from_utf8(opened.store.name(volume).bytes()).unwrap_or("");
-    let line = format!(in rt.alloc();
-        "volume {name} blocks {} length {length}\n",
-        opened.store.blocks(volume)
-    )?;
+) -> Result<(), Ended>
+    requires { volume < length opened.old.store.group.area.volumes }
+    ensures { opened.new.store.group.area.volumes ≡ opened.old.store.group.area.volumes }
+{
+    let length = length_of(rt, opened, volume, Which::Now)?;
+    let (name, blocks) = (opened.name_of(volume), opened.store.blocks(volume));
+    let line = format!(in rt.alloc(); "volume {name} blocks {blocks} length {length}\n")?;
     text.push_str(line.as_str())?;
     let sets = opened.store.images(volume).to_vec(rt.alloc())?;
     for set in sets.iter() {
-        let length = length_of(rt, folder, opened, volume, Which::Of(*set))?;
+        let length = length_of(rt, opened, volume, Which::Of(*set))?;
         let used = opened.store.used_by(volume, *set).unwrap_or(0);
         let line = format!(in rt.alloc(); "image {set} length {length} used {used}\n")?;
         text.push_str(line.as_str())?;
@@ -45,18 +47,14 @@ fn add_volume(
 }
 
 /// `list F`: the volumes, their images, and the slots in use.
-pub fn list(rt: &HostRuntime, folder: &Folder, opened: &mut Opened) -> Result<Finish, Ended> {
+pub fn list(rt: &HostRuntime, opened: &mut Opened) -> Result<Finish, Ended> {
     let mut text = String::new(rt.alloc());
     for volume in 0..opened.store.volumes() {
-        add_volume(rt, folder, opened, volume, &mut text)?;
+        add_volume(rt, opened, volume, &mut text)?;
     }
     let store = &opened.store;
-    let line = format!(in rt.alloc();
-        "slots {} of {}, last set {}\n",
-        store.used_all(),
-        store.slots(),
-        store.last()
-    )?;
+    let (used, slots, last) = (store.used_all(), store.slots(), store.last());
+    let line = format!(in rt.alloc(); "slots {used} of {slots}, last set {last}\n")?;
     text.push_str(line.as_str())?;
     Ok(Finish {
         text,

@@ -13,12 +13,19 @@
 //! For a status other than 0 it prints one line to the standard error: the file, the field and what was found.
 #![tactic(auto)]
 
-mod area_file;
+/// An `Ended` of this status, with a line.
+macro_rules! ended {
+    ($rt:expr, $status:ident; $($line:tt)*) => {
+        Ended::said(Status::$status, format!(in $rt.alloc(); $($line)*))
+    };
+}
+
 mod check;
 mod committing;
 mod create;
 mod cut;
 mod delete;
+mod device_file;
 mod digest_sink;
 mod ended;
 mod file_input;
@@ -27,11 +34,11 @@ mod folder;
 mod job;
 mod list;
 mod marker;
+mod naming;
+mod new_store;
 mod opened;
 mod pair;
-mod part;
 mod progress;
-mod refusals;
 mod request;
 mod revert;
 mod show;
@@ -39,18 +46,18 @@ mod shown_sink;
 mod state;
 mod status;
 mod store_device;
+mod task;
 mod update;
 mod way;
 
 use ended::Ended;
 use finish::Finish;
-use folder::Folder;
 use opened::Opened;
 use request::Request;
 use status::Status;
 use std::process::ExitCode;
 use std::{env, io};
-use way::Way;
+use task::Task;
 
 /// The words after the program's name.
 fn words_given(rt: &HostRuntime) -> io::Result<Vec<String>> {
@@ -61,41 +68,29 @@ fn words_given(rt: &HostRuntime) -> io::Result<Vec<String>> {
     Ok(words)
 }
 
-/// Makes a call on an open folder. What it prints at its end is answered.
-fn call_on(
-    rt: &HostRuntime,
-    folder: &Folder,
-    opened: &mut Opened,
-    request: Request<'_>,
-) -> Result<Finish, Ended> {
-    match request {
-        Request::Cut { names, .. } => cut::cut(rt, folder, opened, names),
-        Request::Update { pairs, .. } => update::update(rt, folder, opened, pairs),
-        Request::List { .. } => list::list(rt, folder, opened),
-        Request::Show { set, name, .. } => show::show(rt, folder, opened, set, name),
-        Request::Digest { set, name, .. } => show::digest(rt, folder, opened, set, name),
-        Request::Delete { set, name, .. } => delete::delete(rt, folder, opened, set, name),
-        Request::Revert { set, name, .. } => revert::revert(rt, folder, opened, set, name),
-        Request::Create { .. } | Request::Check { .. } => Ok(Finish::quiet(rt.alloc())),
+/// Does a task on an open folder. What it prints at its end is answered.
+fn call_on(rt: &HostRuntime, opened: &mut Opened, task: Task<'_>) -> Result<Finish, Ended> {
+    match task {
+        Task::Cut { names } => cut::cut(rt, opened, names),
+        Task::Update { pairs } => update::update(rt, opened, pairs),
+        Task::List => list::list(rt, opened),
+        Task::Show { set, name } => show::show(rt, opened, set, name),
+        Task::Digest { set, name } => show::digest(rt, opened, set, name),
+        Task::Delete { set, name } => delete::delete(rt, opened, set, name),
+        Task::Revert { set, name } => revert::revert(rt, opened, set, name),
+        Task::Check => check::check(rt, opened),
+        Task::Create { .. } => Ok(Finish::quiet(rt.alloc())),
     }
 }
 
 /// Does what is asked for.
 fn run(rt: &HostRuntime, request: Request<'_>) -> Result<(), Ended> {
-    match request {
-        Request::Create {
-            folder,
-            slots,
-            pairs,
-        } => create::create(rt, folder, slots, pairs),
-        Request::Check { folder } => check::check(rt, folder),
-        _ => {
-            let folder = Folder::open(rt, request.folder(), Way::of(request))?;
-            let mut opened = opened::open(rt, &folder, Way::of(request))?;
-            let done = call_on(rt, &folder, &mut opened, request);
-            finish::finish(rt, &folder, opened, done)
-        }
+    if let Task::Create { slots, pairs } = request.task {
+        return create::create(rt, request.folder, slots, pairs);
     }
+    let mut opened = opened::open(rt, request.folder, request.task.way())?;
+    let done = call_on(rt, &mut opened, request.task);
+    finish::end(rt, opened, done)
 }
 
 fn main(rt: HostRuntime) -> ExitCode {
@@ -106,7 +101,7 @@ fn main(rt: HostRuntime) -> ExitCode {
     };
     let done = match Request::of(&words) {
         Ok(request) => run(&rt, request),
-        Err(form) => Err(Ended::usage(rt.alloc(), form)),
+        Err(form) => Err(ended!(rt, Usage; "usage: {form}")),
     };
     let Err(ended) = done else {
         return ExitCode::from(0);

@@ -1,3 +1,5 @@
+use std::alloc::{AllocError, Global};
+
 /// A volume's name and the file that it is brought to, as a word `NAME=FILE` or `NAME:BLOCKS=FILE` has them.
 #[derive(Clone, Copy)]
 pub struct Pair<'a> {
@@ -8,11 +10,11 @@ pub struct Pair<'a> {
 
 /// The number that a word of digits is, without a leading zero.
 pub fn number_of(word: &str) -> Option<u32> {
-    let digits = word.as_bytes();
-    if !digits.iter().all(|digit| digit.is_ascii_digit()) || digits.len() > 1 && digits[0] == b'0' {
-        return None;
+    match word.as_bytes() {
+        [b'0', _, ..] => None,
+        digits if digits.iter().all(|digit| digit.is_ascii_digit()) => word.parse::<u32>().ok(),
+        _ => None,
     }
-    word.parse::<u32>().ok()
 }
 
 /// The set that a word is.
@@ -43,4 +45,26 @@ impl<'a> Pair<'a> {
             file,
         })
     }
+}
+
+/// Whether there are words, and each has the form of a pair; only those of `create` may have a number of blocks.
+pub fn are_pairs(words: &[String], may_size: bool) -> bool {
+    for word in words {
+        match Pair::of(word.as_str()) {
+            Some(pair) if may_size || pair.blocks.is_none() => {}
+            _ => return false,
+        }
+    }
+    !words.is_empty()
+}
+
+/// The pairs that words are.
+pub fn pairs_of<'a>(alloc: Global, words: &'a [String]) -> Result<Vec<Pair<'a>>, AllocError> {
+    let mut pairs = Vec::new(alloc);
+    for word in words {
+        if let Some(pair) = Pair::of(word.as_str()) {
+            pairs.push(pair)?;
+        }
+    }
+    Ok(pairs)
 }

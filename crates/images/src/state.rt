@@ -1,10 +1,11 @@
-use crate::ended::Ended;
+use crate::ended::{Ended, of_folder};
 use crate::folder::{Folder, STATE};
 use crate::status::Status;
 use block_data::{BLOCK, digest};
-use diff_area::{MOST_SLOTS, pages_for};
+use diff_area::pages_for;
 use image_store::{Head, OpenFault};
 use std::fs;
+use vss_names::MOST_SLOTS;
 
 /// The most bytes of a state.
 const MOST_STATE: u64 = 267_820 + 1_064_960 + 48;
@@ -20,22 +21,16 @@ pub struct State {
     pub area_blocks: u32,
 }
 
-/// A state of which this is wrong.
-fn damaged(rt: &HostRuntime, path: &str, what: &str) -> Ended {
-    Ended::said(Status::Damaged, format!(in rt.alloc(); "{path}: {what}"))
-}
-
 /// The bytes of the state's file.
 fn bytes_in(rt: &HostRuntime, path: &str) -> Result<Vec<u8>, Ended> {
     match fs::metadata(rt, path) {
-        Ok(found) if found.len() > MOST_STATE => return Err(damaged(rt, path, "size: too large")),
-        Ok(found) if !found.is_file() => return Err(damaged(rt, path, "no file")),
+        Ok(found) if found.len() > MOST_STATE => {
+            return Err(ended!(rt, Damaged; "{path}: size: too large"));
+        }
+        Ok(found) if !found.is_file() => return Err(ended!(rt, Damaged; "{path}: no file")),
         _ => {}
     }
-    match fs::read(rt, path) {
-        Ok(bytes) => Ok(bytes),
-        Err(error) => Err(Ended::by_file(rt.alloc(), path, "could not be read", &error)),
-    }
+    of_folder(rt, path, "could not be read", fs::read(rt, path))
 }
 
 /// How many blocks an area has, where the front has its header and the table of the header's number of slots.
@@ -50,11 +45,22 @@ fn blocks_of_area(front: &[u8]) -> Option<u32> {
     Some(1 + pages_for(slots) + slots)
 }
 
-/// What is said of a head that is none.
-fn head_fault(rt: &HostRuntime, path: &str, fault: OpenFault) -> Ended {
-    match fault {
-        OpenFault::OutOfMemory => Ended::from(vss_names::OutOfMemory),
-        fault => Ended::said(Status::Damaged, format!(in rt.alloc(); "{path}: {fault}")),
+/// The head and the front in the bytes of a state, with the blocks of the area, or what is wrong.
+fn parts_in(bytes: &[u8]) -> Result<(&[u8], &[u8], u32), &'static str> {
+    if bytes.len() < DIGEST {
+        return Err("size: too small");
+    }
+    let (sealed, seal) = bytes.split_at(bytes.len() - DIGEST);
+    if digest(sealed).as_slice() != seal {
+        return Err("digest: another");
+    }
+    let Some(length) = Head::length_in(sealed) else {
+        return Err("catalog: cut off");
+    };
+    let (head, front) = sealed.split_at(length);
+    match blocks_of_area(front) {
+        Some(blocks) => Ok((head, front, blocks)),
+        None => Err("front: not that of an area"),
     }
 }
 
@@ -62,21 +68,10 @@ impl State {
     /// The committed state of a folder.
     pub fn read(rt: &HostRuntime, folder: &Folder) -> Result<State, Ended> {
         let path = folder.path_of(rt, STATE)?;
-        let path = path.as_str();
-        let bytes = bytes_in(rt, path)?;
-        if bytes.len() < DIGEST {
-            return Err(damaged(rt, path, "size: too small"));
-        }
-        let (sealed, seal) = bytes.split_at(bytes.len() - DIGEST);
-        if digest(sealed).as_slice() != seal {
-            return Err(damaged(rt, path, "digest: another"));
-        }
-        let Some(length) = Head::length_in(sealed) else {
-            return Err(damaged(rt, path, "catalog: cut off"));
-        };
-        let (head, front) = sealed.split_at(length);
-        let Some(area_blocks) = blocks_of_area(front) else {
-            return Err(damaged(rt, path, "front: not that of an area"));
+        let bytes = bytes_in(rt, path.as_str())?;
+        let (head, front, area_blocks) = match parts_in(&bytes) {
+            Ok(parts) => parts,
+            Err(what) => return Err(ended!(rt, Damaged; "{path}: {what}")),
         };
         match Head::read(rt.alloc(), head) {
             Ok(head) => Ok(State {
@@ -84,7 +79,8 @@ impl State {
                 front: front.to_vec(rt.alloc())?,
                 area_blocks,
             }),
-            Err(fault) => Err(head_fault(rt, path, fault)),
+            Err(OpenFault::OutOfMemory) => Err(Ended::silent(Status::OutOfMemory)),
+            Err(fault) => Err(ended!(rt, Damaged; "{path}: {fault}")),
         }
     }
 }
