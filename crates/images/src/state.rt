@@ -39,10 +39,14 @@ fn blocks_of_area(front: &[u8]) -> Option<u32> {
         return None;
     }
     let slots = u32::from_le_bytes([front[12], front[13], front[14], front[15]]);
-    if slots > MOST_SLOTS || front.len() != BLOCK * (1 + pages_for(slots) as usize) {
+    if slots > MOST_SLOTS {
         return None;
     }
-    Some(1 + pages_for(slots) + slots)
+    let table = 1 + pages_for(slots);
+    if front.len() != BLOCK * table as usize {
+        return None;
+    }
+    Some(table + slots)
 }
 
 /// The head and the front in the bytes of a state, with the blocks of the area, or what is wrong.
