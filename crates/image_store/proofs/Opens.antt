@@ -10,7 +10,8 @@ use Rattle.vss_catalog.proofs.ResumedLists.{catalog_lists}
 use Rattle.vss_names.specs.TextValue.{TextValue}
 use Rattle.vss_catalog.specs.Allowed.{IsCatalog, AreEntries}
 use Rattle.vss_catalog.specs.Entries.{EntryValue, lists_of}
-use Rattle.vss_catalog.specs.Names.{are_names, is_name}
+use Rattle.vss_names.specs.Names.{is_name}
+use Rattle.vss_catalog.specs.Names.{are_names}
 use Rattle.cow_volume.proofs.Group.{number_is, other_number, same_number, slice_get_inside, slice_get_map}
 use Rattle.cow_volume.proofs.Reverting.{take_next}
 use Rattle.image_store.specs.Keeping.{blocks_of}
