@@ -50,7 +50,8 @@ device_read devices v d l is = slice_get_read devices (length devices) v d refl 
 
 abbrev pub called : {D E : Type 0} (ghosts : Ghosts D) (v : ℕ) (devices : List D) (before after : D) (r : Result Unit E)
     → slice_get devices v ≡ Some before
-    → is_some (ghosts.told after) ≡ is_some (ghosts.told before) → ghosts.size after ≡ ghosts.size before → ghosts.lending after ≡ ghosts.lending before → HasCause (ghosts.count before) (ghosts.count after) r
+    → is_some (ghosts.told after) ≡ is_some (ghosts.told before) → ghosts.size after ≡ ghosts.size before → ghosts.lending after ≡ ghosts.lending before
+    → HasCause (ghosts.count before) (ghosts.count after) r
     → IsCalled ghosts v devices (slice_set devices v after) (is_err r)
 called ghosts v devices before after r at tells size_is lends cause = record {
   before = before;
@@ -73,7 +74,8 @@ tells_after old new b bytes (Err x) ok err = ap is_some err
 
 pub device_put : {D E : Type 0} (ghosts : Ghosts D) (v b : ℕ) (bytes : List ℕ) (devices : List D) (before after : D) (r : Result Unit E)
     → slice_get devices v ≡ Some before
-    → OnOk r (ghosts.told after ≡ option_map (λ blocks. slice_set blocks b bytes) (ghosts.told before)) → OnErr r (ghosts.told after ≡ ghosts.told before) → ghosts.size after ≡ ghosts.size before → ghosts.lending after ≡ ghosts.lending before
+    → OnOk r (ghosts.told after ≡ option_map (λ blocks. slice_set blocks b bytes) (ghosts.told before)) → OnErr r (ghosts.told after ≡ ghosts.told before)
+    → ghosts.size after ≡ ghosts.size before → ghosts.lending after ≡ ghosts.lending before
     → HasCause (ghosts.count before) (ghosts.count after) r
     → IsPut ghosts v b bytes devices (slice_set devices v after) (is_err r)
 device_put ghosts v b bytes devices before after r at written kept size_is lends cause = record {

@@ -49,7 +49,8 @@ module _ {D : Type 0} (ghosts : Ghosts D) where
         mapped (x ∷ ds) zero h = ap (λ (y : D). Some (ghosts.told y)) (same_Some x d h)
         mapped (x ∷ ds) (suc k) h = mapped ds k h
 
-  pub volume_rose : (devices : List D) (v : ℕ) (d e : D) (old new : CopiesValue D) → slice_get devices v ≡ Some d → Rose (ghosts.count d) (ghosts.count e) → ghosts.count new.area.device ≡ ghosts.count old.area.device
+  pub volume_rose : (devices : List D) (v : ℕ) (d e : D) (old new : CopiesValue D) → slice_get devices v ≡ Some d
+      → Rose (ghosts.count d) (ghosts.count e) → ghosts.count new.area.device ≡ ghosts.count old.area.device
       → VolumeRose ghosts.count v (group_of devices old) (group_of (slice_set devices v e) new)
   volume_rose devices v d e old new at rose area = record { before = d; now = e; was = at; is = set_here devices v at; rose = rose; devices = map-set ghosts.count devices v e; area = area } where
     set_here : (ds : List D) (k : ℕ) → slice_get ds k ≡ Some d → slice_get (slice_set ds k e) k ≡ Some e

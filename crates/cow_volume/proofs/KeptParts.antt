@@ -150,7 +150,8 @@ tells_both (Some blocks) told e = refl
 
 pub synced_kept : {D : Type 0} (ghosts : Ghosts D) (old new : GroupValue D) (area : AreaValue D) (hs : List History)
     → IsSync ghosts old new (Ok tt) → StandsFor ghosts.told old hs → AllTell ghosts.told old.devices → is_some (ghosts.told old.area.device) ≡ true
-    → area.volumes ≡ new.area.volumes → ghosts.told area.device ≡ ghosts.told new.area.device → ((cs : List Copy) → AreStored (ghosts.told new.area.device) cs → AreHeld (ghosts.told area.device) area.records cs)
+    → area.volumes ≡ new.area.volumes → ghosts.told area.device ≡ ghosts.told new.area.device
+    → ((cs : List Copy) → AreStored (ghosts.told new.area.device) cs → AreHeld (ghosts.told area.device) area.records cs)
     → AreKept ghosts.told new.devices area new.images hs
 synced_kept {D = D} ghosts old new area hs sync stands all tells volumes same loaded =
     let kept = sync.0.kept in

@@ -106,7 +106,8 @@ stood_first told size lending devices old new first hs table images l e stands =
 
 synced_first : {D : Type 0} (ghosts : Ghosts D) (devices : List D) (old new : CopiesValue D) (first : List (List ℕ))
     → KeepsTable ghosts.size ghosts.lending old.area new.area → new.images ≡ old.images
-    → ghosts.count old.area.device ≤ ghosts.count new.area.device → length first ≤ table_for (length old.area.records) → ghosts.told new.area.device ≡ option_map (with_first first) (ghosts.told old.area.device)
+    → ghosts.count old.area.device ≤ ghosts.count new.area.device → length first ≤ table_for (length old.area.records)
+    → ghosts.told new.area.device ≡ option_map (with_first first) (ghosts.told old.area.device)
     → IsSynced ghosts (group_of devices old) (group_of devices new)
 synced_first ghosts devices old new first table images later l e = record {
   kept = kept_area ghosts devices old new table (tells_written (ghosts.told old.area.device) (ghosts.told new.area.device) first e) later;

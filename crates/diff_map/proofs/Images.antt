@@ -1,6 +1,6 @@
 -- The images of a volume in order of their sets: the next older one, and what is left where some go.
-use Rattle.std.proofs.Common.{ℕ, zero, suc, ◌≡◌, ◌≢◌, ◌<◌, ◌≤◌, ◌^◌, ◌⊎◌, inl, inr, Bool, true, false, cond, eqb, leb, ltb, not, List, [], ◌∷◌, length, get_or, take, drop, ◌-◌, zero-add, Option, Some, None, refl, ap, sym, ◌∙◌}
-use Rattle.std.proofs.Common.{subst, arith, All, Contains}
+use Rattle.std.proofs.Common.{ℕ, zero, suc, ◌≡◌, ◌≢◌, ◌<◌, ◌≤◌, ◌^◌, ◌⊎◌, inl, inr, Bool, true, false, cond, eqb, leb, ltb, not, List, [], ◌∷◌, length, get_or, take}
+use Rattle.std.proofs.Common.{drop, ◌-◌, zero-add, Option, Some, None, refl, ap, sym, ◌∙◌, subst, arith, All, Contains}
 use Rattle.std.specs.List.{AllPairs, AllWithin, filter, fold, copy_within, remove}
 use Rattle.std.proofs.lemmas.Bool.{cases_eq, cases_lt, lt-ltb, le-ltb}
 use Rattle.std.proofs.lemmas.Bool.Decides.{nat_tests}

@@ -284,7 +284,8 @@ FreesMapUpTo-past going n image first mid old new up inside read stays = record 
 }
 
 -- the images between two places do not go
-pub FreesMapUpTo-untaken : (going : Going) (n m : ℕ) (first mid : MapValue) (old new : List Bool) → FreesMapUpTo going n first mid old new → AllWithin (λ image. takes going image ≡ false) first.images n m
+pub FreesMapUpTo-untaken : (going : Going) (n m : ℕ) (first mid : MapValue) (old new : List Bool) → FreesMapUpTo going n first mid old new
+    → AllWithin (λ image. takes going image ≡ false) first.images n m
     → FreesMapUpTo going m first mid old new
 FreesMapUpTo-untaken going n m first mid old new up stay = record {
   blocks = up.blocks;

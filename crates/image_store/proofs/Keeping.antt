@@ -105,7 +105,8 @@ told_blocks (Some slots) (Some blocks) want a t is = ap Some is
 
 pub closed_kept : {D : Type 0} (ghosts : Ghosts D) (old new : GroupValue D) (names : List TextValue) (last : ℕ) (devices : List D)
     (done : Unit {0}) (p : PlainStore)
-    → IsSync ghosts old new (Ok done) → ghosts.lasting new.area.device ≡ ghosts.told new.area.device → map ghosts.lasting devices ≡ map ghosts.told new.devices → StandsAs ghosts.told (store_of old names last) p
+    → IsSync ghosts old new (Ok done) → ghosts.lasting new.area.device ≡ ghosts.told new.area.device → map ghosts.lasting devices ≡ map ghosts.told new.devices
+    → StandsAs ghosts.told (store_of old names last) p
     → IsKeptAs ghosts.lasting devices new.area.device (said_of (store_of old names last)) p
 closed_kept {D = D} ghosts old new names last devices done p sync area lasts stands =
     let hs = stands.group.hs in
@@ -156,7 +157,8 @@ pub closed_outcome : {D : Type 0} (ghosts : Ghosts D) (old new : GroupValue D) (
     (area : D) (done : Unit {0}) (r : Result Unit Cause) → IsSync ghosts old new (Ok done) → ghosts.lasting new.area.device ≡ ghosts.told new.area.device → items ≡ new.devices → length items ≡ len
     → before ≡ items
     → area ≡ new.area.device → OnOk r (map ghosts.lasting flushed ≡ map ghosts.told before) → map ghosts.told flushed ≡ map ghosts.told before
-    → OnOk r ((p : PlainStore) → StandsAs ghosts.told (store_of old names last) p → IsKeptAs ghosts.lasting (take len (flushed ++ drop (length flushed) items)) area (said_of (store_of old names last)) p)
+    → OnOk r ((p : PlainStore) → StandsAs ghosts.told (store_of old names last) p
+        → IsKeptAs ghosts.lasting (take len (flushed ++ drop (length flushed) items)) area (said_of (store_of old names last)) p)
 closed_outcome ghosts old new names last items before flushed len area done (Err cause) sync lasts devices_are many same area_is flushes tells = tt
 closed_outcome {D = D} ghosts old new names last items before flushed len area done (Ok all) sync lasts devices_are many same area_is flushes tells = λ p stands.
     let as_many : length flushed ≡ length items = sym (length-map flushed ghosts.told) ∙ ap length tells ∙ length-map before ghosts.told ∙ ap length same in

@@ -59,7 +59,8 @@ module _ {D : Type 0} (ghosts : Ghosts D) where
 
   pub kept_same : (old new : GroupValue D) → IsKept ghosts old new → contract.IsSame (λ v. tells ghosts.told v) (λ v. blocks_of v) (λ v. slots_of v) (λ v. faults_of ghosts.count v) old new
   kept_same old new kept = record {
-    tells_is = ap (λ (t : Bool). t && is_some (ghosts.told new.area.device)) (each_tells (λ d. is_some (ghosts.told d)) old.devices new.devices kept.devices (λ v d e at also. (kept.each v d e at also).tells))
+    tells_is = ap (λ (t : Bool). t && is_some (ghosts.told new.area.device)) (each_tells (λ d. is_some (ghosts.told d)) old.devices new.devices kept.devices
+        (λ v d e at also. (kept.each v d e at also).tells))
         ∙ ap (λ (t : Bool). list_all (λ d. is_some (ghosts.told d)) old.devices && t) kept.area.tells;
     size_is = ap (λ (ns : List ℕ). blocks_in (slice_get ns 0)) kept.volumes;
     slots_is = ap (λ (n : ℕ). Some n) kept.slots;
@@ -72,7 +73,8 @@ module _ {D : Type 0} (ghosts : Ghosts D) where
       (inr (one_rose ghosts.count old.devices new.devices 0 rose.before rose.now rose.was rose.is rose.rose))
 
   area_rose : (old new : GroupValue D) → IsKept ghosts old new → AreaRose ghosts.count old new → Rose (faults_of ghosts.count old) (faults_of ghosts.count new)
-  area_rose old new kept rose = all_rose (ghosts.count old.area.device) (ghosts.count new.area.device) (map ghosts.count old.devices) (map ghosts.count new.devices) kept.area.later (later old new kept) (inl rose.rose)
+  area_rose old new kept rose = all_rose (ghosts.count old.area.device) (ghosts.count new.area.device) (map ghosts.count old.devices) (map ghosts.count new.devices)
+      kept.area.later (later old new kept) (inl rose.rose)
 
   block_cause : (old new : GroupValue D) (b : ℕ) (cause : Cause) → IsKept ghosts old new → HasCauseAt ghosts.count 0 b old new cause
       → contract.HasBlockCause (λ v. blocks_of v) (λ v. faults_of ghosts.count v) b old new cause
