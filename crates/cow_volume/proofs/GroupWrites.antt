@@ -118,7 +118,7 @@ module _ {D : Type 0} (ghosts : Ghosts D) (devices : List D) (c : CopiesValue D)
           stands = λ hs stood. group_written_first ghosts.told (group_of devices c) (group_of (slice_set devices v f) last) hs v d f w slot copied.copy stood low
               (sym (needs_by_records ghosts.told (group_of devices c) hs v w.block stood low) ∙ lacks) at told_is is_there copied.read
               (slot_room (ghosts.told c.area.device) (length c.area.records) slot (subst (λ (n : ℕ). IfSome (ghosts.told c.area.device) (AreBlocks n)) fits whole)
-                (slot_within c.area.records slot is_there))
+              (slot_within c.area.records slot is_there))
               refl (ap (λ x. x.images) is ∙ copied.area_on.images) (ap (λ x. x.area.volumes) is ∙ copied.area_on.volumes) records_are (ap ghosts.told device_is ∙ copied.area_on.device.tells);
           unfailed = record { devices = map_set_told ghosts.count devices v d f at (unfailed ∙ copied.device_same); area = ap ghosts.count device_is ∙ copied.area_same };
         } where

@@ -157,7 +157,7 @@ merged_before {D = D} ghosts devices after old now new v set m keeps =
             let at_now = quiet_stands ghosts.told (group_of ds old) (group_of ds now) hs stands refl images keeps.kept.volumes records keeps.slots in
             let gone = m.gone.stands ds hs at_now in
             quiet_stands ghosts.told (group_of ds new) (group_of ds (merged_as new old)) _ gone refl refl
-                (sym (m.gone.volumes ∙ keeps.kept.volumes)) refl (sym (ap ghosts.told m.gone.device ∙ keeps.slots));
+            (sym (m.gone.volumes ∙ keeps.kept.volumes)) refl (sym (ap ghosts.told m.gone.device ∙ keeps.slots));
       };
       found = λ b slot f. m.found b slot (subst (λ (rs : List Record). IsFirstCopy rs v set b slot) (sym records) f);
       none = λ b n. m.none b (subst (λ (rs : List Record). HasNoCopy rs v set b) (sym records) n);

@@ -158,7 +158,7 @@ pub closed_outcome : {D : Type 0} (ghosts : Ghosts D) (old new : GroupValue D) (
     → before ≡ items
     → area ≡ new.area.device → OnOk r (map ghosts.lasting flushed ≡ map ghosts.told before) → map ghosts.told flushed ≡ map ghosts.told before
     → OnOk r ((p : PlainStore) → StandsAs ghosts.told (store_of old names last) p
-        → IsKeptAs ghosts.lasting (take len (flushed ++ drop (length flushed) items)) area (said_of (store_of old names last)) p)
+    → IsKeptAs ghosts.lasting (take len (flushed ++ drop (length flushed) items)) area (said_of (store_of old names last)) p)
 closed_outcome ghosts old new names last items before flushed len area done (Err cause) sync lasts devices_are many same area_is flushes tells = tt
 closed_outcome {D = D} ghosts old new names last items before flushed len area done (Ok all) sync lasts devices_are many same area_is flushes tells = λ p stands.
     let as_many : length flushed ≡ length items = sym (length-map flushed ghosts.told) ∙ ap length tells ∙ length-map before ghosts.told ∙ ap length same in
