@@ -3,10 +3,7 @@
 ghost use Rattle.std.specs.Prelude.{◌≡◌};
 ghost use Rattle.provider.specs.Preparing.{refusal};
 
-use vss_names::{MOST_IMAGES, VssResult};
-
-/// A set has at most so many volumes.
-pub(crate) const MOST_VOLUMES: usize = 64;
+use vss_names::{MOST_IMAGES, MOST_VOLUMES_OF_A_SET, VssResult};
 
 /// Why a volume with so many images does not join these volumes: the first cause that stands.
 pub(crate) fn refusal(volume: u32, volumes: &[u32], images: usize) -> Option<VssResult>
@@ -15,7 +12,7 @@ pub(crate) fn refusal(volume: u32, volumes: &[u32], images: usize) -> Option<Vss
     if volumes.contains(&volume) {
         return Some(VssResult::ObjectAlreadyExists);
     }
-    if volumes.len() >= MOST_VOLUMES {
+    if volumes.len() >= MOST_VOLUMES_OF_A_SET {
         return Some(VssResult::MaximumNumberOfVolumesReached);
     }
     if images >= MOST_IMAGES {

@@ -23,7 +23,7 @@ use crate::dropping::{drop_on, drop_set_in};
 use crate::ending::list_devices;
 use crate::hashing::{digest_of, digest_of_image};
 use crate::making::device_count;
-use crate::preparing::{MOST_VOLUMES, refusal};
+use crate::preparing::refusal;
 use crate::renumbering::renumber;
 use block_data::{BLOCK, BlockBuf, Payload};
 use cow_volume::{Cause, CowGroup, ImageFault, RevertFault};
@@ -33,7 +33,7 @@ use std::alloc::Global;
 use std::marker::Model;
 use std::thread::Threads;
 use volume_device::Device;
-use vss_names::{OutOfMemory, VssResult};
+use vss_names::{MOST_VOLUMES_OF_A_SET, OutOfMemory, VssResult};
 use write_history::Evicted;
 
 /// Groups of volumes over devices, with the set that is being prepared.
@@ -71,7 +71,7 @@ impl<D: Device> Provider<D> {
         ensures refused { IfErr result (λ given. given.items ≡ groups.items) }
     {
         let count = device_count(&groups);
-        let Ok(volumes) = Vec::with_capacity(alloc, MOST_VOLUMES) else {
+        let Ok(volumes) = Vec::with_capacity(alloc, MOST_VOLUMES_OF_A_SET) else {
             return Err(groups);
         };
         let Ok(list) = Vec::with_capacity(alloc, count) else {

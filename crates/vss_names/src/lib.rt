@@ -38,7 +38,10 @@ pub use context::Context;
 pub use failed::Failed;
 pub use failing_calls::FailingCalls;
 pub use level::Level;
-pub use limits::{MOST_BLOCKS, MOST_IMAGES, MOST_NAME, MOST_SLOTS, MOST_VOLUMES, MOST_WRITERS};
+pub use limits::{
+    MOST_BLOCKS, MOST_IMAGES, MOST_NAME, MOST_SLOTS, MOST_VOLUMES, MOST_VOLUMES_OF_A_SET,
+    MOST_WRITERS,
+};
 pub use names::is_name;
 pub use numbers::Numbers;
 pub use order::Order;

@@ -4,6 +4,9 @@ pub const MOST_IMAGES: usize = 512;
 /// The most volumes of a group, and of a scenario.
 pub const MOST_VOLUMES: u32 = 128;
 
+/// The most volumes of a set.
+pub const MOST_VOLUMES_OF_A_SET: usize = 64;
+
 /// The most blocks of a volume.
 pub const MOST_BLOCKS: u32 = 65_536;
 

@@ -10,7 +10,7 @@ use crate::names::{volume_name, writer_name};
 use crate::words::{add, add_number, add_short_number};
 use scenario::Scenario;
 use vss_model::Evicted;
-use vss_names::{Order, SetOutcome, Text};
+use vss_names::{MOST_WRITERS, Order, SetOutcome, Text};
 
 /// Appends the line of an evicted image.
 fn add_evicted(scenario: &Scenario, image: Evicted, out: &mut Text)
@@ -105,7 +105,7 @@ fn add_all_lost(scenario: &Scenario, order: Order, lost: u64, out: &mut Text)
     ensures bytes { out.new.bytes ≡ out.old.bytes ++ flat_map (lost_text scenario.now (Some order)) (writers_of lost) }
     ensures spare { out.old.spare ≤ out.new.spare + 4096 }
 {
-    for writer in 0..64 {
+    for writer in 0..MOST_WRITERS {
         add_lost_if(scenario, order, lost, writer, out);
     }
 }

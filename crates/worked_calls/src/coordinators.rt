@@ -6,7 +6,7 @@ use component_doc::{Metas, Selection};
 use coordinator::{Coordinator, Effects};
 use set_agenda::Kind;
 use std::alloc::Global;
-use vss_names::{Level, SourceKind, Text, Usage};
+use vss_names::{Level, MOST_WRITERS, SourceKind, Text, Usage};
 use writer_calls::Answer;
 use writer_meta::{Components, Metadata};
 
@@ -30,7 +30,7 @@ fn register(
     coordinator: &mut Coordinator,
     class: u128,
 ) -> Result<(), Stopped> {
-    if coordinator.writers() >= 64 {
+    if coordinator.writers() >= MOST_WRITERS as usize {
         return Err(Stopped);
     }
     let name = Text::copy(alloc, b"db")?;
