@@ -117,6 +117,12 @@ class Damage:
         ):
             self.field(place, number.to_bytes(4, "little"), catalog + told, True)
 
+    def last_set(self):
+        """Where the greatest number was given, no set is cut."""
+        state = bytearray(self.whole["images.state"][:-32])
+        state[8:12] = bytes(4 * [255])
+        self.refuses("images.state", bytes(state) + hashlib.sha256(state).digest(), 3, ["cut", "F", "db"], b"images: F: sets: 4294967295 was given, there is no next")
+
     def sizes(self):
         for name in ("db.vol", "wal.vol"):
             data = self.whole[name]
@@ -182,6 +188,7 @@ def main():
     damage = Damage(program, room)
     damage.state()
     damage.fields()
+    damage.last_set()
     damage.sizes()
     damage.lengths()
     damage.missing()

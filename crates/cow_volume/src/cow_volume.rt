@@ -126,7 +126,7 @@ impl<D: Device> CowVolume<D> {
         self.group.used(0)
     }
 
-    /// How many slots the image of a set uses; None where no such image stands. All copies are looked at.
+    /// How many slots the image of a set uses; None where no such image stands.
     pub fn used_by(&self, set: u32) -> Option<u32>
         ensures { (h : History) → StandsForOne D.told self.now h → result ≡ used_by (blocks_of self.now) h.writes h.images set }
     {

@@ -11,8 +11,8 @@ ghost use Rattle.vss_catalog.specs.Written.{bytes_of};
 ghost use Rattle.cow_volume.specs.GroupValue.{placed};
 ghost use Rattle.write_history.specs.History.{History};
 ghost use Rattle.write_history.specs.Slots.{group_used, used_by};
-ghost use Rattle.cow_volume.specs.Calls.{AreaRose, DeviceRose, VolumeRose, blocks_at, history_at, is_among, sets_at};
-ghost use Rattle.cow_volume.specs.Ending.{AllTell};
+ghost use Rattle.cow_volume.specs.Calls.{DeviceRose, IsUnfailed, VolumeRose, blocks_at, history_at, is_among, sets_at};
+ghost use Rattle.cow_volume.specs.Ending.{AllTell, IsSync};
 ghost use Rattle.cow_volume.specs.Resuming.{AreKept, NoneTell};
 ghost use Rattle.cow_volume.specs.StandsFor.{StandsFor};
 ghost use Rattle.vss_names.specs.Faults.{Rose};
@@ -394,7 +394,8 @@ impl<D: Device> Store<D> {
 
     /// Writes the table of its area, and brings all slots and it to where they last.
     pub fn sync(&mut self) -> Result<(), Cause>
-        ensures failed { IfErr result (λ cause. (cause ≡ Cause.Area) × AreaRose D.count self.old.group self.new.group) }
+        ensures lasts { OnOk result (D.lasting self.new.group.area.device ≡ D.told self.new.group.area.device) }
+        ensures sync { IsSync D.Device self.old.group self.new.group result }
         ensures still { StandsStill D.told self.old self.new }
         ensures head { head_of self.new ≡ head_of self.old }
         ensures volumes { self.new.group.area.volumes ≡ self.old.group.area.volumes }
@@ -405,6 +406,8 @@ impl<D: Device> Store<D> {
     /// Brings all accepted writes of a volume to where they last.
     pub fn flush(&mut self, v: u32) -> Result<(), Cause>
         requires { v < length self.old.group.area.volumes }
+        ensures lasts { OnOk result ((d : D) → slice_get self.new.group.devices v ≡ Some d → D.lasting d ≡ D.told d) }
+        ensures same { OnOk result (IsUnfailed D.count self.old.group self.new.group) }
         ensures failed { IfErr result (λ cause. (cause ≡ Cause.Volume) × VolumeRose D.count v self.old.group self.new.group) }
         ensures still { StandsStill D.told self.old self.new }
         ensures head { head_of self.new ≡ head_of self.old }

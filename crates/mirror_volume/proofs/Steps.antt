@@ -1,20 +1,20 @@
 -- A mirror that is brought into step, block after block.
 use Rattle.std.proofs.Common.{◌≡◌, ℕ, zero, suc, ◌+◌, List, [], ◌∷◌, ap, sym, refl, subst, ◌∙◌, arith, Bool, true, false, Some, None}
-use Rattle.std.specs.Prelude.{slice_get, slice_set, sum, map, ◌==◌, if◌then◌else◌, Result, Ok, Err}
+use Rattle.std.specs.Prelude.{slice_get, slice_set, sum, map, length, ◌==◌, if◌then◌else◌, Result, Ok, Err}
 use Rattle.std.proofs.lemmas.Option.{same_Some}
 use Rattle.std.proofs.lemmas.List.Sums.{sum_by-cons}
 use Rattle.volume_device.specs.declared.device.Device.{Ghosts}
 use Rattle.cow_volume.proofs.Group.{slice_get-set_same, slice_get-set_other, same_number, other_number}
 use Rattle.cow_volume.specs.declared.image_fault.ImageFault.TheVariants.{NoSuchImage, NoSuchBlock, Volume as VolumeFailed, Area as AreaFailed}
 use Rattle.mirror_volume.specs.declared.mirror.Mirror.{Mirror}
-use Rattle.mirror_volume.specs.MirrorCalls.{IsQuietOn}
+use Rattle.mirror_volume.specs.MirrorCalls.{IsCalled, IsQuietOn}
 use Rattle.mirror_volume.specs.declared.synced.Synced.{Synced}
 use Rattle.mirror_volume.specs.declared.synced.Synced.TheVariants.{Copied, InStep}
 use Rattle.mirror_volume.specs.declared.sync_fault.SyncFault.{SyncFault}
 use Rattle.mirror_volume.specs.declared.sync_fault.SyncFault.TheVariants.{HoldsImage, Volume}
 use Rattle.mirror_volume.specs.Stale.{stale_count}
 use Rattle.mirror_volume.specs.Mirrors.{MirrorValue}
-use Rattle.mirror_volume.specs.Resync.{IsStep, IsSynced, Call, IsCall, AreCalls, Step, Read, ImageRead, Cut, Drop, Flush, MirrorFlush, copied_by, copied_on, stale_in, stale_at}
+use Rattle.mirror_volume.specs.Resync.{IsStep, IsSynced, Call, IsCall, AreCalls, Step, Read, ImageRead, Cut, Drop, Flush, MirrorFlush, Sync, copied_by, copied_on, stale_in, stale_at}
 use Rattle.mirror_volume.proofs.Counts.{count-unmarked}
 
 step_fewer : {D : Type 0} → (ghosts : Ghosts D) (primary now : D) (old new : Mirror D) (result : Result Synced SyncFault)
@@ -42,6 +42,15 @@ as_stale (x ∷ ms) zero zero m n at same = ap stale_count same ∙ ap (λ (y : 
 as_stale (x ∷ ms) zero (suc k) m n at same = refl
 as_stale (x ∷ ms) (suc j) zero m n at same = refl
 as_stale (x ∷ ms) (suc j) (suc k) m n at same = as_stale ms j k m n at same
+
+-- mirrors whose devices alone were called have as many
+as_called : {D : Type 0} → (ghosts : Ghosts D) (ms ns : List (Mirror D)) (k : ℕ) → length ns ≡ length ms
+    → ((j : ℕ) (m n : Mirror D) → slice_get ms j ≡ Some m → slice_get ns j ≡ Some n → IsCalled ghosts m n) → stale_in (slice_get ns k) ≡ stale_in (slice_get ms k)
+as_called ghosts [] [] k long each = refl
+as_called ghosts [] (n ∷ ns) k long each = absurd (omega arith)
+as_called ghosts (m ∷ ms) [] k long each = absurd (omega arith)
+as_called ghosts (m ∷ ms) (n ∷ ns) zero long each = ap stale_count (each 0 m n refl refl).stale
+as_called ghosts (m ∷ ms) (n ∷ ns) (suc k) long each = as_called ghosts ms ns k (omega arith) (λ j a b at also. each (suc j) a b at also)
 
 module _ {D : Type 0} (ghosts : Ghosts D) (k : ℕ) where
   -- by the mirrors of the two states
@@ -82,6 +91,7 @@ module _ {D : Type 0} (ghosts : Ghosts D) (k : ℕ) where
   call_fewer old new (Drop set (Err fault)) is = nothing old new is.2
   call_fewer old new Flush is = unchanged old new is.mirrors
   call_fewer old new (MirrorFlush j result) is = quiet_on old new j is.mirror is.quiet
+  call_fewer old new (Sync result) is = by_mirrors old new new.mirrors refl (as_called ghosts old.mirrors new.mirrors k is.mirrors.long is.mirrors.each)
 
   calls_fewer : (old new : MirrorValue D) (calls : List Call) → AreCalls ghosts old calls new → stale_at new k + sum (map (copied_on k) calls) ≡ stale_at old k
   calls_fewer old new [] are = let same = ap (λ (v : MirrorValue D). stale_at v k) are in omega arith

@@ -14,7 +14,7 @@ use Rattle.mirror_volume.specs.declared.sync_fault.SyncFault.{SyncFault}
 use Rattle.mirror_volume.specs.declared.sync_fault.SyncFault.TheVariants.{HoldsImage, Volume}
 use Rattle.mirror_volume.specs.Stale.{IsLowestStale, stale_count}
 use Rattle.mirror_volume.specs.Mirrors.{MirrorValue}
-use Rattle.mirror_volume.specs.MirrorCalls.{IsQuietDevice, IsRead, IsImageRead, IsCut, IsDropped, IsQuiet, IsMirrorFlush}
+use Rattle.mirror_volume.specs.MirrorCalls.{IsAllFlushed, IsQuietDevice, IsRead, IsImageRead, IsCut, IsDropped, IsQuiet, IsMirrorFlush}
 
 -- ## one block
 
@@ -117,6 +117,8 @@ pub data Call : Type 0 where
   Flush : Call
   -- a flush of a mirror
   MirrorFlush : ℕ → Result Unit Failed → Call
+  -- a flush of the primary and of each mirror
+  Sync : Result Unit Failed → Call
 
 abbrev pub IsCall : {D : Type 0} → Ghosts D → MirrorValue D → Call → MirrorValue D → Type 0
 IsCall ghosts old (Step k answer) new = IsSynced ghosts old new k answer
@@ -126,6 +128,7 @@ IsCall ghosts old (Cut set result) new = IsCut old new set result
 IsCall ghosts old (Drop set result) new = IsDropped old new set result
 IsCall ghosts old Flush new = IsQuiet ghosts old new
 IsCall ghosts old (MirrorFlush k result) new = IsMirrorFlush ghosts old new k result
+IsCall ghosts old (Sync result) new = IsAllFlushed ghosts old new result
 
 -- calls one after another lead from one state of a volume to another
 abbrev pub AreCalls : {D : Type 0} → Ghosts D → MirrorValue D → List Call → MirrorValue D → Type 0
