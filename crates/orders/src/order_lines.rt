@@ -103,7 +103,7 @@ fn begins_with_digit(word: &[u8]) -> bool
     ensures { result ≡ lines.begins_with_digit word.now }
 {
     match word {
-        [first, ..] => b'0' <= *first && *first <= b'9',
+        [first, ..] => first.is_ascii_digit(),
         [] => false,
     }
 }
