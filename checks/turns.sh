@@ -21,9 +21,9 @@ trial="$(program service_trial)" || exit 1
 lines=$((64 + 2 * 13))
 for run in 1 2 3 4 5 6 7 8 9 10; do
   "$trial" run < "$room/scenario" > "$room/report" 2> "$room/told" || wrong "run $run ended with another status than 0"
-  read -r _ _ _ _ _ _ _ _ _ _ _ before _ after < "$room/told"
-  if [ "$before" != "$after" ] || [ "$before" -lt 129 ]; then
-    wrong "run $run: the gate was told $before times before a step, and $after times after one"
+  read -r _ _ _ _ _ _ _ _ _ _ _ before _ after _ moved < "$room/told"
+  if [ "$before" != "$after" ] || [ "$before" -lt 129 ] || [ "$moved" -lt 1 ] || [ "$moved" -gt "$after" ]; then
+    wrong "run $run: the gate was told $before times before a step, $after times after one, and of $moved moves"
   fi
   made="$(awk '$2 == "lane" { print $3, $4 }' "$room/report" | sort -u | wc -l)"
   all="$(grep -c '^[0-9]* lane ' "$room/report")"
