@@ -1,8 +1,5 @@
-use Rattle.std.proofs.Common.{ℕ, ◌≡◌, ◌≢◌, Some, refl, sym, ap, ◌∙◌, arith}
+use Rattle.std.proofs.Common.{refl, sym, ◌∙◌, arith}
 use Rattle.std.proofs.lemmas.Option.{none-some}
-use Rattle.diff_map.specs.declared.copied.Copied.{Copied}
-use Rattle.diff_map.specs.Copies.{copied_at}
-use Rattle.diff_map.specs.Groups.{map_at}
 use Rattle.diff_map.proofs.Counting.{used_none}
 use Rattle.cow_volume.proofs.renewing.first_with_copies.Goals as goal
 
