@@ -1,7 +1,9 @@
 //! The copies of a volume, where some of them go or are handed down to an older image: its map, the area's records and the pool.
 
 ghost use Rattle.std.specs.Prelude.{◌≡◌, ◌<◌, ◌-◌, Contains, Some, length, map, slice_get, slice_index};
+ghost use Rattle.std.specs.List.{AllWithin};
 ghost use Rattle.diff_map.specs.Copies.{AllTaken};
+ghost use Rattle.diff_map.specs.Counts.{used_for};
 ghost use Rattle.diff_map.specs.Groups.{IsOnlyAt, map_at, with_copies};
 ghost use Rattle.diff_map.specs.Leaving.{rule_of};
 ghost use Rattle.diff_map.specs.Rules.{renewed, merged, next_older, GivesBack};
@@ -13,6 +15,17 @@ use diff_area::{Area, Record};
 use diff_map::{Going, GroupMap, place_from};
 use slot_pool::SlotPool;
 use volume_device::Device;
+
+/// The place of the first image of volume `v` that has a copy, or of the one that would follow them.
+fn first_with_copies(maps: &GroupMap, v: u32) -> usize
+    requires { v < length maps.now }
+    ensures { AllWithin (λ image. used_for (map_at maps.now v).copies image ≡ 0) (map_at maps.now v).images 0 result }
+{
+    match maps.oldest_used(v) {
+        Some(set) => place_from(maps.images(v), set),
+        None => maps.images(v).len(),
+    }
+}
 
 /// Frees those copies of volume `v` that go. Their images stay.
 pub(crate) fn free_copies<D: Device>(
@@ -31,7 +44,8 @@ pub(crate) fn free_copies<D: Device>(
     ensures area { area.new ≡ with_records (followed v (map_at maps.new v).copies area.old.records) area.old }
 {
     let (from, to) = going.places(maps.images(v));
-    for i in from..to {
+    let some = first_with_copies(maps, v);
+    for i in from.max(some)..to {
         let image = maps.images(v)[i];
         if going.takes(image) {
             'copies: while let Some(entry) = maps.pop_at(v, i) {

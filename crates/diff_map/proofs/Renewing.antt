@@ -299,6 +299,22 @@ FreesMapUpTo-untaken going n m first mid old new up stay = record {
   };
 }
 
+-- the images between two places have no copy
+pub FreesMapUpTo-unused : (going : Going) (n m : ℕ) (first mid : MapValue) (old new : List Bool) → FreesMapUpTo going n first mid old new
+    → AllWithin (λ image. used_for mid.copies image ≡ 0) first.images n m
+    → FreesMapUpTo going m first mid old new
+FreesMapUpTo-unused going n m first mid old new up none = record {
+  blocks = up.blocks;
+  images = up.images;
+  frees = record {
+    renews = up.frees.renews;
+    freed = λ k d low within test. elim (cases_lt k n) [
+      | inl before ↦ up.frees.freed k d before within test
+      | inr after ↦ none k d after low
+    ];
+  };
+}
+
 pub freed_map : (going : Going) (n : ℕ) (first after : MapValue) (old new : List Bool) → IsMap first → FreesMapUpTo going n first after old new → length first.images ≤ n
     → after ≡ record { blocks = first.blocks; images = first.images; copies = renewed (rule_of going) first.copies }
 freed_map going n first after old new valid up end = renewed_map (rule_of going) first after old new (record { blocks = up.blocks; images = up.images; renews = up.frees.renews })

@@ -95,13 +95,19 @@ fn set_at(rows: &[Row], slot: u32) -> u32 {
 fn far_at(far: &[u32], slot: u32) -> u32 {
     match far.get(slot as usize) {
         Some(link) => *link,
-        None => u32::MAX,
+        None => NOWHERE,
     }
 }
 
-/// Where a copy's far link leads that stands above this one: twice as far as before where the last two far links are about as long, else
-/// to this one.
-fn far_from(rows: &[Row], far: &[u32], older: u32) -> u32 {
+/// No slot: what a far link names where no copy is older.
+const NOWHERE: u32 = u32::MAX;
+
+/// Where the far link of a copy of this block and set leads, which stands above this link: to that link's copy, or twice as far as before
+/// where the last two far links are about as long. Where no copy is older, nothing else is looked at, now or when the link is followed.
+fn far_from(rows: &[Row], far: &[u32], block: u32, set: u32, older: u32) -> u32 {
+    if reach(rows, older, block, 0, u64::from(set)).is_none() {
+        return NOWHERE;
+    }
     let next = far_at(far, older);
     let last = far_at(far, next);
     let (top, middle, bottom) = (set_at(rows, older), set_at(rows, next), set_at(rows, last));
@@ -238,7 +244,7 @@ impl Links {
     {
         let above = next_above(&self.newest, &self.rows, &self.far, block, set);
         let older = link_from(&self.newest, &self.rows, block, above);
-        let far = far_from(&self.rows, &self.far, older);
+        let far = far_from(&self.rows, &self.far, block, set, older);
         lead_far(&mut self.far, slot, far);
         self.rows[slot as usize] = Row { block, set, older };
         lead(&mut self.newest, &mut self.rows, block, above, slot);

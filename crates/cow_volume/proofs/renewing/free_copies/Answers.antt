@@ -1,7 +1,7 @@
 use Rattle.std.proofs.Common.{◌≡◌, true, ◌+◌, ◌<◌, ◌∙◌, List, None, refl, ap, sym, subst, arith, length, get_or}
 use Rattle.diff_map.specs.Leaving.{takes}
 use Rattle.diff_map.specs.MapValue.{MapValue}
-use Rattle.diff_map.proofs.Renewing.{FreesMapUpTo-none, FreesMapUpTo-popped, FreesMapUpTo-done, FreesMapUpTo-past, FreesMapUpTo-untaken, going_was, freed_map}
+use Rattle.diff_map.proofs.Renewing.{FreesMapUpTo-none, FreesMapUpTo-popped, FreesMapUpTo-done, FreesMapUpTo-past, FreesMapUpTo-untaken, FreesMapUpTo-unused, going_was, freed_map}
 use Rattle.diff_map.specs.Groups.{map_at}
 use Rattle.cow_volume.proofs.GroupMaps.{only-none, only-more}
 use Rattle.cow_volume.proofs.Following.{FreesCopies, Follows-first, Follows-set, slot_inside}
@@ -9,12 +9,18 @@ use Rattle.cow_volume.proofs.renewing.free_copies.Goals as goal
 use Rattle.cow_volume.proofs.renewing.free_copies.Goals.{then-takes+in_default, else-takes}
 
 pub loop-i-init : goal.loop-i-init
-loop-i-init g c = record {
-  only = only-none c.args.v c.args.maps.now;
-  frees = FreesMapUpTo-untaken c.args.going 0 c.places-from.result.0 (map_at c.args.maps.now c.args.v) (map_at c.args.maps.now c.args.v) c.args.pool.now c.args.pool.now
-      (FreesMapUpTo-none c.args.going (map_at c.args.maps.now c.args.v) c.args.pool.now) (rw c.images.ensures.images at c.places-from.ensures.before);
-  follows = Follows-first c.args.v c.args.area.now (map_at c.args.maps.now c.args.v) c.requires.tied;
-}
+loop-i-init g c =
+    let first = map_at c.args.maps.now c.args.v in
+    let some = c.first_with_copies-some.ensures in
+    let most = c.max-i.ensures in
+    record {
+      only = only-none c.args.v c.args.maps.now;
+      frees = FreesMapUpTo-unused c.args.going c.places-from.result.0 _ first first c.args.pool.now c.args.pool.now
+          (FreesMapUpTo-untaken c.args.going 0 c.places-from.result.0 first first c.args.pool.now c.args.pool.now
+          (FreesMapUpTo-none c.args.going first c.args.pool.now) (rw c.images.ensures.images at c.places-from.ensures.before))
+          (λ k d low high. some k d (omega arith) (omega arith));
+      follows = Follows-first c.args.v c.args.area.now first c.requires.tied;
+    }
 
 pub clear_record-requires : goal.clear_record-requires
 clear_record-requires g c =
