@@ -1,15 +1,22 @@
 -- What holds of every list of steps: where an image comes from.
 use Rattle.std.proofs.Common.{◌≡◌, ◌≢◌, ℕ, zero, suc, ◌<◌, ◌≤◌, List, [], ◌∷◌, ◌++◌, length, map, refl, ap, sym, subst, ◌∙◌, arith, append_assoc, Bool, true, false, ◌||◌, Option, Some, None, inl, inr}
-use Rattle.std.specs.Prelude.{◌==◌, ◌&&◌, ◌⊎◌, not, filter, nat_lt, nat_le, if◌then◌else◌}
+use Rattle.std.specs.Prelude.{◌==◌, ◌&&◌, ◌⊎◌, not, filter, nat_lt, nat_le, if◌then◌else◌, Result, Ok, Err, OnOk, IfOk}
 use Rattle.std.proofs.lemmas.Bool.Decides.{nat_tests}
+use Rattle.std.proofs.lemmas.Option.{same_Some}
 use Rattle.cow_volume.specs.Calls.{is_among}
 use Rattle.cow_volume.proofs.Group.{same_number, other_number}
 use Rattle.image_store.specs.FileBytes.{file_in}
+use Rattle.image_store.specs.Head.{HeadValue}
+use Rattle.image_store.specs.Keeping.{IsKeptAs}
 use Rattle.image_store.specs.Plain.{Kept, Plain, PlainStore, plain_at, volume_in, image_in, image_of, on_volume, on_each, cut_on, gone_on, with_blocks, dropped_on, older_on, reverted_on}
 use Rattle.image_store.specs.Steps.{Step, IsAllowed, AreAllowed, after, after_all, goes, stays}
 use Rattle.image_store.specs.Steps.Step.{Cut, Gone, Updated, UpdatedInPart, Dropped, Reverted, RevertedInPart, Shown, Read, Opened}
-use Rattle.image_store.specs.Course.{CallsFollowOneAnother, ShownIsOfItsCut, ImagesComeOfCuts, IsCutIn, SetsAreCutOnce, FilesComeBack}
-use Rattle.image_store.specs.StoreValue.{StandsAs}
+use Rattle.image_store.specs.Course.{AreTaken, CallsFollowOneAnother, ShownIsOfItsCut, ImagesComeOfCuts, IsCutIn, IsShowStep, SetsAreCutOnce, FilesComeBack}
+use Rattle.image_store.specs.Showing.{IsShow, shown_in}
+use Rattle.image_store.specs.StoreValue.{StoreValue, StandsAs, StandsStill}
+use Rattle.image_store.specs.declared.show_fault.ShowFault.{ShowFault}
+use Rattle.image_store.specs.declared.which.Which.{Which}
+use Rattle.image_store.specs.declared.which.Which.TheVariants.{Now, Of}
 use Rattle.image_store.proofs.Files.{file_back}
 use Rattle.image_store.proofs.Lasting.{after-append, Has, allowed-append, as_many, as_many_after, cut-each, other-on}
 
@@ -229,3 +236,24 @@ allowed-both s (x ∷ xs) ys first others = (first.0, allowed-both (after s x) x
 pub calls_follow : {D : Type 0} (told : D → Option (List (List ℕ))) → CallsFollowOneAnother told
 calls_follow told p xs ys middle new first others =
     record { allowed = allowed-both p xs ys first.allowed others.allowed; stands = subst (λ (q : PlainStore). StandsAs told new q) (sym (after-append p xs ys)) others.stands }
+
+pub show_step : {D : Type 0} (told : D → Option (List (List ℕ))) (old new : StoreValue D) (v : ℕ) (which : Which) (before later : Option (List ℕ)) (r : Result Unit ShowFault)
+    → ((p : PlainStore) → StandsAs told old p → IsShow (shown_in p.volumes v which) before later r) → StandsStill told old new → OnOk r (IsShowStep told old new v which before later)
+show_step told old new v which before later (Err fault) shown still = tt
+show_step told old new v Now before later (Ok done) shown still = λ p stands.
+    let is = shown p stands in
+    (file_in is.blocks, is.took, record { allowed = (ap file_in (sym (same_Some (plain_at p v).blocks is.blocks is.are)), tt); stands = still p stands })
+show_step told old new v (Of set) before later (Ok done) shown still = λ p stands.
+    let is = shown p stands in
+    (file_in is.blocks, is.took, record { allowed = ((is.blocks, is.are, refl), tt); stands = still p stands })
+
+pub opened_step : {D C R : Type 0} (told lasting : D → Option (List (List ℕ))) (old : StoreValue D) (said head : HeadValue) (devices later : List D) (area again : D)
+    (closed : Result Unit C) (answer : Result (StoreValue D) R) → OnOk closed ((p : PlainStore) → StandsAs told old p → IsKeptAs lasting devices area said p)
+    → ((devices later : List D) (area again : D) (p : PlainStore) → IsKeptAs lasting devices area said p
+    → map told later ≡ map lasting devices → told again ≡ lasting area → IsKeptAs told later again head p)
+    → IfOk answer (λ new. (p : PlainStore) → IsKeptAs told later again head p → StandsAs told new p)
+    → OnOk closed (IfOk answer (λ new. map told later ≡ map lasting devices → told again ≡ lasting area → (p : PlainStore) → StandsAs told old p → AreTaken told p (Opened ∷ []) new))
+opened_step told lasting old said head devices later area again (Err fault) answer kept found stands = tt
+opened_step told lasting old said head devices later area again (Ok done) (Err refused) kept found stands = tt
+opened_step told lasting old said head devices later area again (Ok done) (Ok new) kept found stands = λ tells slots p stood.
+    record { allowed = (tt, tt); stands = stands p (found devices later area again p (kept p stood) tells slots) }

@@ -1,12 +1,15 @@
 -- What holds of every list of steps, in the words of a person who keeps files in a store; and that a list of calls is a list of steps.
 -- (This project's own.)
-use Rattle.std.specs.Prelude.{ℕ, ◌≡◌, ◌<◌, ◌⊎◌, true, List, ◌∷◌, ◌++◌, length, Option, Some, None}
+use Rattle.std.specs.Prelude.{ℕ, ◌≡◌, ◌<◌, ◌⊎◌, true, List, [], ◌∷◌, ◌++◌, length, Option, Some, None}
+use Rattle.io_edge.specs.Streams.{Took}
 use Rattle.cow_volume.specs.Calls.{is_among}
 use Rattle.image_store.specs.FileBytes.{blocks_of_file, file_in, FitsIn}
 use Rattle.image_store.specs.Plain.{PlainStore, plain_at, image_of}
 use Rattle.image_store.specs.Steps.{Step, AreAllowed, after_all, stays}
-use Rattle.image_store.specs.Steps.Step.{Cut, Shown}
+use Rattle.image_store.specs.Steps.Step.{Cut, Shown, Read}
 use Rattle.image_store.specs.StoreValue.{StoreValue, StandsAs}
+use Rattle.image_store.specs.declared.which.Which.{Which}
+use Rattle.image_store.specs.declared.which.Which.TheVariants.{Now, Of}
 
 -- An image that was cut has, until it goes, the blocks that its volume had at that cut, whatever else was done.
 abbrev pub ImagesAreOfTheirCut : Type 0
@@ -56,3 +59,13 @@ pub record AreTaken {D : Type 0} (told : D → Option (List (List ℕ))) (p : Pl
 abbrev pub CallsFollowOneAnother : {D : Type 0} → (D → Option (List (List ℕ))) → Type 0
 CallsFollowOneAnother {D = D} told = (p : PlainStore) (first others : List Step) (middle new : StoreValue D)
     → AreTaken told p first middle → AreTaken told (after_all p first) others new → AreTaken told p (first ++ others) new
+
+-- these bytes were shown of a volume, or of its image of a set
+abbrev pub show_of : ℕ → Which → List ℕ → Step
+show_of v Now bytes = Read v bytes
+show_of v (Of set) bytes = Shown set v bytes
+
+-- a show took that step, with the bytes that the sink took, where it tells them
+abbrev pub IsShowStep : {D : Type 0} → (D → Option (List (List ℕ))) → StoreValue D → StoreValue D → ℕ → Which → Option (List ℕ) → Option (List ℕ) → Type 0
+IsShowStep told old new v which before after = (p : PlainStore) → StandsAs told old p
+    → (bytes : List ℕ) × Took before bytes after × AreTaken told p (show_of v which bytes ∷ []) new

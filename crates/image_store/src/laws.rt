@@ -1,14 +1,22 @@
-//! What holds of every list of calls on a store, and of one that is closed and opened again: functions that do nothing, whose contracts are
-//! the laws.
+//! What holds of every list of calls on a store, and of one that is closed and opened again: functions that do nothing, or make just
+//! the calls of which they speak, and whose contracts are the laws.
 
-ghost use Rattle.std.specs.Prelude.{◌≡◌, List, map};
-ghost use Rattle.image_store.specs.Course.{CallsFollowOneAnother, FilesComeBack, ImagesAreOfTheirCut, ImagesComeOfCuts, SetsAreCutOnce, ShownIsOfItsCut};
+ghost use Rattle.std.specs.Prelude.{◌≡◌, ◌<◌, List, [], ◌∷◌, length, map, IfOk, OnOk};
+ghost use Rattle.image_store.specs.Course.{AreTaken, CallsFollowOneAnother, FilesComeBack, ImagesAreOfTheirCut, ImagesComeOfCuts, IsShowStep, SetsAreCutOnce, ShownIsOfItsCut};
 ghost use Rattle.image_store.specs.Head.{bytes_of_head, head_of, said_of};
 ghost use Rattle.image_store.specs.Keeping.{IsKeptAs};
 ghost use Rattle.image_store.specs.Plain.{PlainStore};
+ghost use Rattle.image_store.specs.Steps.Step.{Opened};
+ghost use Rattle.image_store.specs.StoreValue.{StandsAs};
 
+use crate::closed::Closed;
 use crate::head::Head;
+use crate::refused::Refused;
+use crate::show_fault::ShowFault;
 use crate::store::Store;
+use crate::which::Which;
+use io_edge::Sink;
+use std::alloc::Global;
 use volume_device::Device;
 
 /// An image that was cut has, until it is deleted, its volume is reverted past it, or it is reported as evicted, the blocks that its
@@ -42,6 +50,20 @@ pub fn calls_follow_one_another<D: Device>()
     ensures { CallsFollowOneAnother D.told }
 {}
 
+/// A `show` that is answered Ok takes the step `Shown` of an image, or `Read` of a volume as it is, with the bytes that the sink took.
+pub fn a_show_is_a_step<D: Device, K: Sink>(
+    store: &mut Store<D>,
+    v: u32,
+    which: Which,
+    sink: &mut K,
+) -> Result<(), ShowFault>
+    requires { v < length store.old.group.area.volumes }
+    ensures { OnOk result (IsShowStep D.told store.old store.new v which (K.taken sink.old)
+        (K.taken sink.new)) }
+{
+    store.show(v, which, sink)
+}
+
 /// What lasts of a store that was closed (`Store::close`) is what the next opening takes up (`Store::open`): devices that tell what lasted
 /// of the old ones, with the head that was read of the store's bytes, are kept for the same whole copies.
 pub fn what_lasts_is_found<D: Device>(store: &Store<D>, head: &Head)
@@ -53,4 +75,24 @@ pub fn what_lasts_is_found<D: Device>(store: &Store<D>, head: &Head)
     let _given = store.last();
     let _catalog = head.catalog();
     let _last = head.last();
+}
+
+/// A `close` that is answered Ok, and an `open` of its head and of devices that tell what lasts of those that it gave back, take the step
+/// `Opened`.
+pub fn what_is_closed_is_opened<D: Device>(
+    alloc: Global,
+    store: Store<D>,
+    head: &Head,
+    later: Vec<D>,
+    again: D,
+) -> (Closed<D>, Result<Store<D>, Refused<D>>)
+    requires { bytes_of_head head.now ≡ head_of store }
+    ensures { OnOk result.0.outcome (IfOk result.1 (λ new.
+        map D.told later.items ≡ map D.lasting result.0.devices.items
+        → D.told again ≡ D.lasting result.0.area
+        → (p : PlainStore) → StandsAs D.told store p → AreTaken D.told p (Opened ∷ []) new)) }
+{
+    what_lasts_is_found(&store, head);
+    let closed = store.close();
+    (closed, Store::open(alloc, later, again, head))
 }

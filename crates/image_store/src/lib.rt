@@ -33,8 +33,9 @@ pub use closed::Closed;
 pub use cut_fault::CutFault;
 pub use head::Head;
 pub use laws::{
-    calls_follow_one_another, files_come_back, images_are_of_their_cut, images_come_of_cuts,
-    sets_are_cut_once, shown_is_of_its_cut, what_lasts_is_found,
+    a_show_is_a_step, calls_follow_one_another, files_come_back, images_are_of_their_cut,
+    images_come_of_cuts, sets_are_cut_once, shown_is_of_its_cut, what_is_closed_is_opened,
+    what_lasts_is_found,
 };
 pub use new_fault::NewFault;
 pub use open_fault::OpenFault;

@@ -19,7 +19,7 @@ use Rattle.diff_map.specs.declared.entry.Entry.{Entry}
 use Rattle.diff_map.proofs.Noting.{IsIndex-noted}
 use Rattle.cow_volume.specs.Calls.{is_among}
 use Rattle.cow_volume.specs.GroupValue.{GroupValue}
-use Rattle.cow_volume.specs.OneVolume.{StandsForOne, blocks_of}
+use Rattle.cow_volume.specs.OneVolume.{StandsForOne, blocks_of, image_sets}
 use Rattle.cow_volume.specs.StandsFor.{record_of}
 use Rattle.cow_volume.specs.TakingUp.{mixed, unnoted}
 use Rattle.cow_volume.specs.Tied.{copied_for}
@@ -31,8 +31,8 @@ use Rattle.cow_volume.proofs.TakingUp.{noted_before}
 use Rattle.cow_volume.proofs.Ties.{free_is}
 use Rattle.vss_recover.specs.OverlayCalls.{IsNotedIn}
 use Rattle.vss_recover.specs.Recoveries.{Recovery, Recovering, recovered, IsOfImages}
-use Rattle.vss_recover.specs.RecoverValue.{StandsFor, IsOverlay}
-use Rattle.vss_recover.specs.TakingUp.{AreOfImages, taken_up}
+use Rattle.vss_recover.specs.RecoverValue.{RecoverValue, StandsFor, IsOverlay}
+use Rattle.vss_recover.specs.TakingUp.{AreOfImages, taken_up, unopened}
 use Rattle.vss_recover.proofs.Standing.{sets_are}
 use Rattle.vss_recover.proofs.UsedSlots.{each_used}
 
@@ -231,6 +231,26 @@ made_stand told volume overlay final h fits are of none stood =
         final = refl;
       },
     )
+
+-- the parts stood for a history
+pub parts_stand : {D : Type 0} (told : D → Option (List (List ℕ))) (volume : GroupValue D) (overlay : AreaValue D) (final : List ℕ) (h : Recovering) → StandsForOne told volume h.volume
+    → IsOverlay (told overlay.device) overlay.records (blocks_of volume) h.recoveries → IsOfImages (image_sets volume) h → h.final ≡ final
+    → StandsFor told (taken_up volume overlay final) (unopened h)
+parts_stand told volume overlay final h stood held of final_is = record {
+  volume = stood;
+  overlay = held;
+  of_images = record { recoveries = of.recoveries; window = λ set e. absurd (none-some set e); final = of.final };
+  window = refl;
+  claims = refl;
+  final = sym final_is;
+}
+
+-- what is said of a volume is said of its parts
+pub of_parts : {D : Type 0} (told : D → Option (List (List ℕ))) (v : RecoverValue D) (volume : GroupValue D) (overlay : AreaValue D) (h : Recovering) → volume ≡ v.volume → overlay ≡ v.overlay
+    → StandsFor told v h → StandsFor told (record { volume = volume; overlay = overlay; window = v.window; claims = v.claims; final = v.final }) h
+of_parts {D = D} told v volume overlay h volume_is overlay_is stood =
+    let with_parts : GroupValue D → AreaValue D → RecoverValue D = λ g o. record { volume = g; overlay = o; window = v.window; claims = v.claims; final = v.final } in
+    subst (λ (g : GroupValue D). StandsFor told (with_parts g overlay) h) (sym volume_is) (subst (λ (o : AreaValue D). StandsFor told (with_parts v.volume o) h) (sym overlay_is) stood)
 
 -- what holds of a value holds of an answer that is this value
 pub of_value : {X E : Type 0} (P : X → Type 0) (r : Result X E) (x : X) → IfOk r (λ v. v ≡ x) → P x → IfOk r P

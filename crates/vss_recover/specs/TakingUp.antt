@@ -5,11 +5,15 @@ use Rattle.diff_area.specs.AreaValue.{AreaValue}
 use Rattle.diff_area.specs.declared.table_record.Record.{Record}
 use Rattle.cow_volume.specs.Calls.{is_among}
 use Rattle.cow_volume.specs.GroupValue.{GroupValue}
+use Rattle.vss_recover.specs.Recoveries.{Recovering}
 use Rattle.vss_recover.specs.RecoverValue.{RecoverValue}
 
 -- no window is open
 abbrev pub taken_up : {D : Type 0} → GroupValue D → AreaValue D → List ℕ → RecoverValue D
 taken_up volume overlay final = record { volume = volume; overlay = overlay; window = None; claims = []; final = final }
+
+abbrev pub unopened : Recovering → Recovering
+unopened h = record { volume = h.volume; recoveries = h.recoveries; window = None; claims = []; final = h.final }
 
 -- each recovered block, and each final set, is of an image that stands
 pub record AreOfImages (h : History) (records : List Record) (final : List ℕ) : Type 0 where

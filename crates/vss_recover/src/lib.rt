@@ -22,7 +22,7 @@ pub use claim::Claim;
 pub use finals::MOST_CLAIMS;
 pub use laws::{
     images_show_what_was_made_since_the_cut, recoveries_are_made_in_the_window,
-    recoveries_leave_the_volume,
+    recoveries_leave_the_volume, what_is_taken_apart_is_taken_up,
 };
 pub use open_fault::OpenFault;
 pub use recover_fault::RecoverFault;
