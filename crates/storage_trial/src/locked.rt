@@ -118,6 +118,17 @@ fn tell_held<R: Wait>(
     tell_of(rt, "IsHeld", &shard.is_held())
 }
 
+/// The number that a shard says it has.
+pub fn tell_number<R: Wait>(
+    rt: &HostRuntime,
+    handle: &R,
+    locks: &Locks,
+    v: u32,
+) -> Result<(), TrialError> {
+    let shard = locks.shard(v)?.lock(handle);
+    tell_of(rt, "Number", &shard.number())
+}
+
 /// How many cuts the journal has.
 fn tell_cuts<R: Wait>(rt: &HostRuntime, handle: &R, locks: &Locks) -> Result<(), TrialError> {
     let journal = locks.journal()?.lock(handle);

@@ -3,6 +3,7 @@
 //!
 //!     # ..                       is passed over, as an empty line is
 //!     subject SUBJECT            another subject begins, of which nothing is made
+//!     faults                     prints each fault of the storage crates, and what it says of itself
 //!     fails DEVICE CALL NUMBERS ..    calls fail of a device that is made next: `read`, `write` or `flush`, with the numbers of `1,4-7`
 //!
 //! A line that makes something, as `group`, makes it of zeros, and no call is planned to fail any longer. Of a block that is read the byte
@@ -53,7 +54,7 @@
 //!     volume BLOCKS SLOTS · shards             a volume, and shards of the volumes so far with their journal; the calls are on these
 //!     group G · journal J                      ... or on the shards, or the journal, that were made as the Gth, from 0
 //!     draft · draft_of N                       a draft of no parts, or the one that was made as the Nth; the calls are for it
-//!     fill V BLOCK BYTE [TIMES] · stamp V BLOCK NUMBER [TIMES] · read V BLOCK · image V IMAGE BLOCK · is_held V · volumes · cuts · cut NUMBER
+//!     fill V BLOCK BYTE [TIMES] · stamp V BLOCK NUMBER [TIMES] · read V BLOCK · image V IMAGE BLOCK · is_held V · number V · volumes · cuts · cut NUMBER
 //!     collect V · give_back V · has V · record · recorded
 //!     gather                                   after it no call is made but of gather
 //!     threads WRITES CUTS                      a writer of each shard, and one who makes cuts of all, in threads; prints each writer's entries
@@ -66,6 +67,7 @@ mod both;
 mod call;
 mod closed;
 mod content;
+mod faults;
 mod grouped;
 mod groups;
 mod locked;

@@ -109,6 +109,7 @@ impl Sharded {
     ) -> Result<(), TrialError> {
         match (call.name.as_str(), call.numbers.as_slice()) {
             ("gather", []) => return self.gather(rt),
+            ("number", [v]) => return locked::tell_number(rt, handle, &self.locks, *v),
             ("threads", [writes, cuts]) => return self.write_in_threads(rt, handle, *writes, *cuts),
             _ => {}
         }

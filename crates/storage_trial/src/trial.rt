@@ -1,5 +1,6 @@
 use crate::both::Lists;
 use crate::call::Call;
+use crate::faults::say_all;
 use crate::groups::Groups;
 use crate::mirrored::Mirrored;
 use crate::plan::Plan;
@@ -96,6 +97,7 @@ impl Trial {
             [] => self.take_empty(rt),
             [first, ..] if first.starts_with('#') => Ok(()),
             ["subject", ..] => self.begin(rt, &words[1..]),
+            ["faults"] => say_all(rt),
             ["fails", device, ..] => self.plan.add(rt.alloc(), device, &words[2..]),
             _ => self.make(rt, handle, words),
         }
