@@ -3,6 +3,7 @@ pub mod Serving
 pub mod Asked
 pub mod Replies
 pub mod Numbers
+pub mod FewEvicted
 pub mod FaultMarks
 pub mod OneMove
 pub mod GoingLanes

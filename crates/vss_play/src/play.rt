@@ -19,8 +19,8 @@ use crate::moved::Moved;
 use crate::play_fault::PlayFault;
 use crate::step_fault::StepFault;
 use crate::turn::{
-    advance, answers_no_more, are_used_up, first_cursors, first_lines, lanes_with_lines, mark_of,
-    next_line, push_move, step_by, turns_come_to_an_end, write_lines,
+    advance, answers_no_more, are_used_up, bytes_for, first_cursors, first_lines, lanes_with_lines,
+    mark_of, next_line, push_move, step_by, turns_come_to_an_end, write_lines,
 };
 use provider::DigestsOf;
 use scenario::Scenario;
@@ -30,7 +30,6 @@ use std::thread::Threads;
 use volume_device::{Device, Maker, Store};
 use vss_model::Event;
 use vss_names::{Failed, Text};
-use vss_report::MOST_BYTES;
 use vss_world::{Reply, World};
 use write_history::{Actor, Mark, Move, Trail, TrailFault};
 
@@ -193,7 +192,8 @@ impl<D: Device> Play<D> {
             Err(TrailFault::Full) => return Err(StepFault::TrailFull),
             Err(TrailFault::OutOfMemory) => return Err(StepFault::OutOfMemory),
         }
-        if self.lines.reserve(MOST_BYTES).is_err() {
+        let most = bytes_for(&self.scenario, event);
+        if self.lines.reserve(most).is_err() {
             return Err(StepFault::OutOfMemory);
         }
         match step_by(&mut self.world, alloc, &self.scenario, event, given) {

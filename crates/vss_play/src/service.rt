@@ -5,7 +5,7 @@ ghost use Rattle.vss_model.specs.Acts.{enabled};
 ghost use Rattle.vss_world.specs.Moves.{IsEvent, IsStepped, AreListed, takes_memory};
 ghost use Rattle.vss_world.specs.Stands.{IsOf, Stands, IsStanding, IfStands};
 ghost use Rattle.vss_world.specs.declared.reply.Reply.TheVariants.{Moved};
-ghost use Rattle.vss_report.specs.declared.lines.TheConstants.{MOST_BYTES};
+ghost use Rattle.vss_report.specs.ToldLines.{most_bytes};
 ghost use Rattle.vss_play.specs.Running.{AreInPlan};
 ghost use Rattle.vss_play.specs.Serving.{AreToldOf, actor_by};
 
@@ -13,14 +13,13 @@ use crate::asking::{Given, first_answer, none_given, tell_aborts};
 use crate::new_groups::open_new;
 use crate::play_fault::PlayFault;
 use crate::step_fault::StepFault;
-use crate::turn::{mark_of, write_lines};
+use crate::turn::{bytes_for, mark_of, write_lines};
 use scenario::Scenario;
 use std::alloc::Global;
 use std::marker::Model;
 use volume_device::{Device, Maker, Store};
 use vss_model::{Event, Outcome};
 use vss_names::{OutOfMemory, Text};
-use vss_report::MOST_BYTES;
 use vss_world::{Reply, World};
 use write_history::{Actor, Move};
 use writer_calls::{Standing, VssWriter};
@@ -195,10 +194,10 @@ impl<D: Device> Service<D> {
         ensures stepped { IfOk result (IsStepped D.told D.count self.old.world self.new.world self.old.plan event) }
         ensures lines { IfOk result (λ reply. AreToldOf D.told self.new.plan self.new.world self.new.moves line event reply out.old.bytes out.new.bytes) }
     {
-        if out.reserve(MOST_BYTES).is_err() {
+        let _kept = self.world();
+        if out.reserve(bytes_for(&self.scenario, event)).is_err() {
             return Err(StepFault::OutOfMemory);
         }
-        let _kept = self.world();
         let Reply::Moved(outcome) = self.step(alloc, event)? else {
             return Ok(Reply::Blocked);
         };
@@ -209,7 +208,7 @@ impl<D: Device> Service<D> {
     /// Appends the lines of the last move, for which there is room.
     fn add_lines(&self, event: Event, line: u32, outcome: &Outcome, out: &mut Text)
         requires numbers { AreInPlan self.now.plan (actor_by event) outcome.now self.now.world.evicted }
-        requires room { MOST_BYTES ≤ out.old.spare }
+        requires room { most_bytes (length self.now.world.evicted) ≤ out.old.spare }
         ensures { AreToldOf D.told self.now.plan self.now.world self.now.moves line event (Moved outcome.now) out.old.bytes out.new.bytes }
     {
         let item = Move {

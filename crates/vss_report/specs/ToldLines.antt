@@ -1,5 +1,5 @@
 -- The lines that a program writes of a move and at the end, from what it was told. (This project's own.)
-use Rattle.std.specs.Prelude.{ℕ, ◌+◌, ◌≡◌, ◌<◌, ◌≤◌, ◌==◌, if◌then◌else◌, Bool, List, [], ◌++◌, length, All, Option, Some, None, codes}
+use Rattle.std.specs.Prelude.{ℕ, ◌+◌, ◌*◌, ◌≡◌, ◌<◌, ◌≤◌, ◌==◌, if◌then◌else◌, Bool, List, [], ◌++◌, length, All, Option, Some, None, codes}
 use Rattle.std.specs.List.{flat_map}
 use Rattle.std.specs.Fmt.{decimal}
 use Rattle.hex.specs.Hex.{encode_lower}
@@ -63,6 +63,10 @@ abbrev pub told_lines : Plan → ℕ → ℕ → Actor → Outcome → List ℕ 
 told_lines s n line actor o listed evicted rows =
     as_line (decimal n ++ spaced (told_actor s line actor) ++ spaced (told_text s listed rows o.told))
     ++ flat_map (evicted_text s) evicted ++ flat_map (lost_text s o.lost_order) (writers_of o.lost) ++ told_end o.set o.result
+
+-- the most bytes that they take where so many images are evicted
+abbrev pub most_bytes : ℕ → ℕ
+most_bytes evicted = 16384 + 54 * evicted
 
 -- the number of the line that an actor makes: that of a lane's next line
 abbrev pub IsLineOf : Plan → Run → Actor → ℕ → Type 0

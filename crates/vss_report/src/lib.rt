@@ -1,7 +1,7 @@
 //! The report of a run: every move in order with its reply and effects, and how all volumes and images stand at the end.
 //!
 //! `opening_line`, `move_lines` and `closing_line` append the lines to a text, each byte of them as defined, or leave it as
-//! it was where memory is refused; a spare of `MOST_BYTES` is enough for each. The lines of a move are those that the
+//! it was where memory is refused; a spare of `most_bytes` is enough for each. The lines of a move are those that the
 //! report of its run has, wherever the outcome is what the move comes to.
 //!
 //! `specs/Words.antt` has the texts of the things that a report names, `specs/ToldLines.antt` the lines from what a program
@@ -33,7 +33,7 @@ mod short;
 mod state_words;
 mod words;
 
-pub use lines::{MOST_BYTES, closing_line, move_lines, opening_line};
+pub use lines::{closing_line, most_bytes, move_lines, opening_line};
 pub use read_back::trail_of;
 pub use report_fault::ReportFault;
 pub use vss_model::{ClosingRow, Evicted, Lists, Outcome, Told};

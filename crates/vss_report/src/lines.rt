@@ -5,7 +5,7 @@ ghost use Rattle.std.specs.Fmt.{decimal};
 ghost use Rattle.vss_report.specs.Words.{spaced, as_line};
 ghost use Rattle.vss_report.specs.Report.{first_line};
 ghost use Rattle.vss_report.specs.LegibleOutcome.{IsLegibleAs};
-ghost use Rattle.vss_report.specs.ToldLines.{told_actor, told_text, told_lines, AreLinesOf, AreInRange, HasRowsIfTold, IsActor, IsTold, closing_text, IsClosingRow};
+ghost use Rattle.vss_report.specs.ToldLines.{told_actor, told_text, told_lines, most_bytes, AreLinesOf, AreInRange, HasRowsIfTold, IsActor, IsTold, closing_text, IsClosingRow};
 
 use crate::closing::add_closing;
 use crate::effects::{add_all_evicted, add_end, add_losses};
@@ -18,8 +18,14 @@ use vss_model::{ClosingRow, Lists, Outcome, Told};
 use vss_names::{OutOfMemory, Text};
 use write_history::{Actor, Move};
 
-/// The most bytes that the lines of one move, or one closing line, take. A move may evict 65,536 images, each with its line.
-pub const MOST_BYTES: usize = 4194304;
+/// The most bytes that the lines of a move take that evicts so many images. The first line of a report and a closing line
+/// take no more than those of a move that evicts none.
+pub fn most_bytes(evicted: usize) -> usize
+    requires { evicted ≤ 65536 }
+    ensures { result ≡ most_bytes evicted }
+{
+    16384 + 54 * evicted
+}
 
 /// The most bytes that a closing line takes.
 const CLOSING_BYTES: usize = 160;
@@ -77,7 +83,7 @@ fn add_move(
 pub fn opening_line(out: &mut Text) -> Result<(), OutOfMemory>
     ensures ok { OnOk result (out.new.bytes ≡ out.old.bytes ++ first_line) }
     ensures err { OnErr result (out.new ≡ out.old) }
-    ensures succeeds { MOST_BYTES ≤ out.old.spare → IsOk result }
+    ensures succeeds { most_bytes 0 ≤ out.old.spare → IsOk result }
 {
     out.add(b"report 1\n")
 }
@@ -99,11 +105,11 @@ pub fn move_lines(
         (told_lines scenario.now number line item.actor outcome.now lists.now.listed.now lists.now.evicted.now lists.now.rows.now) }
     ensures legible { IsLegibleAs scenario.now item outcome.now lists.now.listed.now lists.now.evicted.now lists.now.rows.now }
     ensures err { OnErr result (out.new ≡ out.old) }
-    ensures succeeds { MOST_BYTES ≤ out.old.spare → IsOk result }
+    ensures succeeds { most_bytes (length lists.now.evicted.now) ≤ out.old.spare → IsOk result }
 {
     let _plan = scenario.volumes();
     is_short(outcome, lists);
-    out.reserve(MOST_BYTES)?;
+    out.reserve(most_bytes(lists.evicted.len()))?;
     add_move(scenario, number, line, item.actor, outcome.told, lists, out);
     add_all_evicted(scenario, lists.evicted, out);
     add_losses(scenario, outcome.lost_order, outcome.lost, out);
@@ -120,7 +126,7 @@ pub fn closing_line(
     requires { IsClosingRow scenario.now row.now }
     ensures ok { OnOk result (out.new.bytes ≡ out.old.bytes ++ closing_text scenario.now row.now) }
     ensures err { OnErr result (out.new ≡ out.old) }
-    ensures succeeds { MOST_BYTES ≤ out.old.spare → IsOk result }
+    ensures succeeds { most_bytes 0 ≤ out.old.spare → IsOk result }
 {
     out.reserve(CLOSING_BYTES)?;
     add_closing(scenario, row, out);
