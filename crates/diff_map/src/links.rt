@@ -35,6 +35,9 @@ impl Model for Links {
 /// All sets are below this one.
 const ABOVE_ALL: u64 = 1 << 32;
 
+/// No slot: what a far link names where no copy is older.
+const NOWHERE: u32 = u32::MAX;
+
 /// The slot that a link of a block names, where its copy is of the block and between these sets. Else the link leads to no such copy: what
 /// it named went, and another copy may have its slot.
 fn reach(rows: &[Row], link: u32, block: u32, low: u32, high: u64) -> Option<u32>
@@ -98,9 +101,6 @@ fn far_at(far: &[u32], slot: u32) -> u32 {
         None => NOWHERE,
     }
 }
-
-/// No slot: what a far link names where no copy is older.
-const NOWHERE: u32 = u32::MAX;
 
 /// Where the far link of a copy of this block and set leads, which stands above this link: to that link's copy, or twice as far as before
 /// where the last two far links are about as long. Where no copy is older, nothing else is looked at, now or when the link is followed.

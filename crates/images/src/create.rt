@@ -157,7 +157,10 @@ fn create_new(rt: &HostRuntime, new: &str) -> Result<(), Ended> {
 
 /// Makes a folder of images.
 pub fn create(rt: &HostRuntime, path: &str, slots: u32, words: &[String]) -> Result<(), Ended> {
-    let path = path.trim_end_matches('/');
+    let path = match path.trim_end_matches('/') {
+        "" => path,
+        trimmed => trimmed,
+    };
     let pairs = pairs_of(rt.alloc(), words)?;
     check_words(rt, path, slots, &pairs)?;
     if fs::symlink_metadata(rt, path).is_ok() {

@@ -3,6 +3,7 @@ use crate::finish::Finish;
 use crate::opened::Opened;
 use crate::status::Status;
 use image_store::CutFault;
+use vss_names::MOST_IMAGES;
 
 /// What is said of a set that was not cut.
 fn refusal(rt: &HostRuntime, opened: &Opened, fault: CutFault) -> Ended {
@@ -19,7 +20,7 @@ fn refusal(rt: &HostRuntime, opened: &Opened, fault: CutFault) -> Ended {
             } else {
                 ""
             };
-            ended!(rt, Refused; "{folder}: images of {name}: 512, at most 512")
+            ended!(rt, Refused; "{folder}: images of {name}: {MOST_IMAGES}, at most {MOST_IMAGES}")
         }
     }
 }

@@ -8,6 +8,7 @@ use crate::opened::{Files, Opened};
 use crate::progress::Progress;
 use image_store::Pass;
 use std::alloc::{AllocError, Global};
+use vss_names::MOST_IMAGES;
 use write_history::Evicted;
 
 /// A volume that is brought to a file: which of its blocks differ, how many those are, and how many were copied for images.
@@ -26,7 +27,7 @@ fn make_empty(store: &Files, gone: &mut Vec<Evicted>) -> Result<(), AllocError>
     ensures { OnOk result (512 * length store.now.group.area.volumes ≤ vec_capacity gone.new) }
 {
     gone.clear();
-    gone.reserve(512 * store.volumes() as usize)
+    gone.reserve(MOST_IMAGES * store.volumes() as usize)
 }
 
 /// How many blocks are marked.
@@ -142,10 +143,10 @@ impl<'a> Job<'a> {
         if !self.fits(store) {
             return Err(Ended::by_device());
         }
-        let passed = store.overwrite(self.volume, &mut self.input, &self.differs, 0, gone);
-        if let Err(fault) = passed {
-            return Err(self.input.ended_by(rt, fault, more));
+        match store.overwrite(self.volume, &mut self.input, &self.differs, 0, gone) {
+            Ok(Pass::Done) => self.input.is_same(rt, more),
+            Ok(Pass::Evicted { .. }) => Err(Ended::by_device()),
+            Err(fault) => Err(self.input.ended_by(rt, fault, more)),
         }
-        self.input.is_same(rt, more)
     }
 }

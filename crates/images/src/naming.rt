@@ -6,6 +6,7 @@ ghost use Rattle.std.specs.List.{AllPairs};
 use crate::ended::Ended;
 use crate::opened::Opened;
 use crate::status::Status;
+use vss_names::MOST_NAME;
 
 impl Opened {
     /// The name of a volume.
@@ -73,7 +74,7 @@ fn may_be_in_name(byte: u8) -> bool {
 fn name_fault(name: &str) -> Option<&'static str> {
     match name.as_bytes() {
         [] => Some("is empty"),
-        bytes if bytes.len() > 32 => Some("more than 32 bytes"),
+        bytes if bytes.len() > MOST_NAME as usize => Some("more than 32 bytes"),
         [first, ..] if !first.is_ascii_alphabetic() => Some("a letter comes first"),
         bytes if bytes.iter().all(|byte| may_be_in_name(*byte)) => None,
         _ => Some("letters, digits, `_`, `-` and `.` alone"),

@@ -36,11 +36,11 @@ impl<'a> Request<'a> {
             return Err(form_of(word.as_str()));
         };
         match Task::of(word.as_str(), rest) {
-            Some(task) => Ok(Request {
+            Some(task) if !folder.is_empty() => Ok(Request {
                 folder: folder.as_str(),
                 task,
             }),
-            None => Err(form_of(word.as_str())),
+            _ => Err(form_of(word.as_str())),
         }
     }
 }

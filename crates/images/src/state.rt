@@ -2,6 +2,7 @@ use crate::ended::{Ended, of_folder};
 use crate::folder::{Folder, STATE};
 use crate::status::Status;
 use block_data::{BLOCK, digest};
+use byteorder::{ByteOrder, LittleEndian};
 use diff_area::pages_for;
 use image_store::{Head, OpenFault};
 use std::fs;
@@ -38,7 +39,7 @@ fn blocks_of_area(front: &[u8]) -> Option<u32> {
     if front.len() < BLOCK {
         return None;
     }
-    let slots = u32::from_le_bytes([front[12], front[13], front[14], front[15]]);
+    let slots = LittleEndian::read_u32(&front[12..16]);
     if slots > MOST_SLOTS {
         return None;
     }

@@ -12,6 +12,7 @@ use crate::job::Job;
 use crate::opened::Opened;
 use crate::pair::{Pair, pairs_of};
 use crate::status::Status;
+use vss_names::MOST_IMAGES;
 use write_history::Evicted;
 
 /// Whether this is a file of the folder.
@@ -117,7 +118,7 @@ fn counts_of(rt: &HostRuntime, jobs: &[Job<'_>]) -> Result<String, Ended> {
 /// Brings the volumes to the files.
 pub fn update(rt: &HostRuntime, opened: &mut Opened, words: &[String]) -> Result<Finish, Ended> {
     let mut jobs = jobs_of(rt, opened, words)?;
-    let mut gone = Vec::with_capacity(rt.alloc(), 512 * opened.store.volumes() as usize)?;
+    let mut gone = Vec::with_capacity(rt.alloc(), MOST_IMAGES * opened.store.volumes() as usize)?;
     for job in jobs.iter_mut() {
         job.compare(rt, &mut opened.store)?;
     }
