@@ -30,7 +30,7 @@ fn register(
     coordinator: &mut Coordinator,
     class: u128,
 ) -> Result<(), Stopped> {
-    if coordinator.writers() >= MOST_WRITERS as usize {
+    if coordinator.writers() >= MOST_WRITERS {
         return Err(Stopped);
     }
     let name = Text::copy(alloc, b"db")?;
