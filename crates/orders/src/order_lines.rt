@@ -103,7 +103,7 @@ fn begins_with_digit(word: &[u8]) -> bool
     ensures { result ≡ lines.begins_with_digit word.now }
 {
     match word {
-        [first, ..] => first.is_ascii_digit(),
+        [first, ..] => b'0' <= *first && *first <= b'9',
         [] => false,
     }
 }
