@@ -1,5 +1,5 @@
 -- A group that is taken up again stands for the histories for which its parts stand; and a synced group leaves such parts.
-use Rattle.std.proofs.Common.{◌≡◌, ◌<◌, ℕ, zero, suc, ◌+◌, List, [], ◌∷◌, length, map, get_or, refl, ap, sym, subst, ◌∙◌, arith, Bool, true, Option, Some, None, is_some, inl, inr, IsPermutation}
+use Rattle.std.proofs.Common.{◌≡◌, ◌<◌, ℕ, zero, suc, ◌+◌, List, [], ◌∷◌, length, map, get_or, refl, ap, sym, subst, ◌∙◌, arith, true, Option, Some, None, is_some, inl, inr, IsPermutation}
 use Rattle.std.proofs.Common.{Contains}
 use Rattle.std.specs.Prelude.{slice_get, slice_index_or, IfSome, Ok}
 use Rattle.std.proofs.lemmas.List.{length-map}

@@ -1,6 +1,6 @@
 -- What is left of a group where the records of its copies are written to the area's device and brought to where they last. (This
 -- project's own.)
-use Rattle.std.specs.Prelude.{ℕ, ◌≡◌, Bool, true, List, Option, Some, is_some, slice_get, Result, Ok, Err}
+use Rattle.std.specs.Prelude.{ℕ, ◌≡◌, true, List, Option, Some, is_some, slice_get, Result, Ok, Err}
 use Rattle.write_history.specs.History.{History}
 use Rattle.write_history.specs.Slots.{copies}
 use Rattle.diff_area.specs.Copies.{AreStored}

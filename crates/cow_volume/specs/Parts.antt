@@ -1,6 +1,6 @@
 -- A group in its parts: the devices of its volumes, one for each and each of as many blocks as its volume has, and its copies. And
 -- what a call on one of the devices leaves of them. (This project's own.)
-use Rattle.std.specs.Prelude.{ℕ, ◌≡◌, ◌≤◌, Bool, true, false, List, map, Option, Some, IfSome, slice_get, slice_set, option_map}
+use Rattle.std.specs.Prelude.{ℕ, ◌≡◌, ◌≤◌, Bool, true, false, List, map, Some, IfSome, slice_get, slice_set, option_map}
 use Rattle.vss_names.specs.Faults.{Rose}
 use Rattle.volume_device.specs.declared.device.Device.{Ghosts}
 use Rattle.cow_volume.specs.GroupValue.{GroupValue}

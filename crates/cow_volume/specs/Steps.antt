@@ -1,5 +1,5 @@
 -- The steps of which calls on a group are made: one call on one device. (This project's own.)
-use Rattle.std.specs.Prelude.{ℕ, ◌≡◌, ◌≤◌, Bool, List, length, Option, Some, slice_get, slice_set, option_map, IfSome, Result, Ok, Err}
+use Rattle.std.specs.Prelude.{ℕ, ◌≡◌, ◌≤◌, List, length, Option, Some, slice_get, slice_set, option_map, IfSome, Result, Ok, Err}
 use Rattle.vss_names.specs.Faults.{Rose}
 use Rattle.volume_device.specs.declared.device.Device.{Ghosts}
 use Rattle.diff_area.specs.Places.{place_of_slot}

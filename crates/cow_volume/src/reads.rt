@@ -29,6 +29,15 @@ pub(crate) fn has_image<D: Device>(copies: &Copies<D>, v: u32, set: u32) -> bool
     sets[at] == set
 }
 
+/// The same, where the place `near` among the volume's images is tried first.
+pub(crate) fn has_image_near<D: Device>(copies: &Copies<D>, v: u32, set: u32, near: usize) -> bool
+    requires { v < length copies.now.area.volumes }
+    ensures { result ≡ is_among set (images_on copies.now v) }
+{
+    let sets = copies.images(v);
+    (near < sets.len() && sets[near] == set) || has_image(copies, v, set)
+}
+
 /// Reads a block of a volume as it is into `out`, which after a failed read holds any bytes.
 pub(crate) fn read_now<D: Device>(
     devices: &mut Vec<D>,

@@ -56,7 +56,8 @@ fn drop_newer<D: Device>(copies: &mut Copies<D>, v: u32, set: u32)
     }
 }
 
-/// Restores a block from the copy that the image of a set shows, and says whether there is one. `buffer` takes the bytes.
+/// Restores a block from the copy that the image of a set shows, and says whether there is one. `buffer` takes the bytes if the area's
+/// device does not lend them.
 fn restore_block<D: Device>(
     devices: &mut Vec<D>,
     copies: &mut Copies<D>,
@@ -74,6 +75,12 @@ fn restore_block<D: Device>(
     let Some(slot) = copies.find(v, set, block) else {
         return Ok(false);
     };
+    if let Some(bytes) = copies.lend_slot(slot) {
+        return match write_device(devices, v, block, bytes) {
+            Ok(()) => Ok(true),
+            Err(_) => Err(Cause::Volume),
+        };
+    }
     if copies.read_slot(slot, buffer.bytes_mut()).is_err() {
         return Err(Cause::Area);
     }
