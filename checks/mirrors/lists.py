@@ -1,9 +1,9 @@
 #!/usr/bin/env python3
 """Rows for the subject `mirror` of the trials of storage, in a folder: lists.py FOLDER ROWS..
 
-singly.rows: single calls, again and again on a new volume, of which another device call fails each time. plain.rows: one list of some
-hundred commands for both kinds of volumes, in which nothing fails, no image has to go and no cut is refused. random.rows: lists of
-commands for both kinds, with failing calls, few mirrors and few slots.
+singly.rows: single calls, again and again on a new volume, of which another device call fails each time, alone or with all that follow.
+plain.rows: one list of some hundred commands for both kinds of volumes, in which nothing fails, no image has to go and no cut is refused.
+random.rows: lists of commands for both kinds, with failing calls, few mirrors and few slots.
 """
 import hashlib
 import os
@@ -47,16 +47,18 @@ ONE_LIFE = """\
 write 0 1 / cut 1 / write 0 2 / write 1 3 / ready / image 1 0 / image 1 1 / read 0 / read 1 / cut 2 / write 1 4 / image 2 1 / drop 1 / stale 0
 stale 1 / step 0 / step 0 / step 0 / step 1 / cut 3 / image 3 0 / image 3 1 / drop 2 / write 0 5 / step 1 / step 1 / step 1 / ready / images
 read 0 / read 1 / cut 4 / image 4 0 / image 4 1 / read 0 / read 1 / write 2 6 / read 2 / image 4 2 / image 5 0 / drop 5 / drop 3 / drop 4
-stale 0 / stale 1""".replace("\n", " / ").split(" / ")
+stale 0 / stale 1 / flush / flush 0 / flush 1 / sync / sync / read 2""".replace("\n", " / ").split(" / ")
 
 
 def singly():
-    """The life of a volume of two blocks with two mirrors, with one device call after another failing, and without any."""
+    """The life of a volume of two blocks with two mirrors, with one device call after another failing, alone or with all that follow, and
+    without any."""
     lists = Singly().make_all(["volume 2 2"] + ONE_LIFE)
     for device in "primary", "mirror0", "mirror1":
-        for kind in "read", "write":
-            for number in range(1, 13):
-                lists.make_all([f"fails {device} {kind} {number}", "volume 2 2"] + ONE_LIFE)
+        for kind, most in ("read", 12), ("write", 12), ("flush", 4):
+            for number in range(1, most + 1):
+                for those in number, f"{number}-99":
+                    lists.make_all([f"fails {device} {kind} {those}", "volume 2 2"] + ONE_LIFE)
     return lists
 
 

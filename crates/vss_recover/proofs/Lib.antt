@@ -11,5 +11,6 @@ pub mod Taken
 pub mod UsedSlots
 pub mod Syncing
 pub mod TakenUp
+pub mod Loaded
 pub mod EntryCounts
 pub mod Passing

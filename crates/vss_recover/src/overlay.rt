@@ -69,6 +69,8 @@ impl<D: Device> Overlay<D> {
         requires { length area.volumes ≡ 1 }
         ensures value { IfOk result (λ overlay. overlay ≡ area) }
         ensures valid { AreRecords area.volumes area.records }
+        ensures fits { D.size area.device ≡ blocks_for (length area.records) }
+        ensures whole { IfSome (D.told area.device) (AreBlocks (D.size area.device)) }
     {
         let _facts = area.slots();
         let pool = pool_of(alloc, &area)?;

@@ -9,10 +9,10 @@ ghost use Rattle.cow_volume.specs.OneVolume.{StandsForOne, blocks_of, image_sets
 ghost use Rattle.vss_recover.specs.Calls.{IsStep, IsBeside, IsSettledUpTo, IsDropped, IsReadAlone, AreUnfailed, HasReadCause, IsShown, IsOpened, IsRecoverWrite, IsReverted, IsRevertStep, IsClosed, IsClosingStep, IsSettled, HasOpenCause, MayOpen};
 ghost use Rattle.vss_recover.specs.OverlayCalls.{count_in, lacks_room};
 ghost use Rattle.vss_recover.specs.Recoveries.{IsOfImages, Recovering, unrecovered, recovered, blocks_recovered, all_recovered, with_final, kept_window};
-ghost use Rattle.vss_recover.specs.RecoverValue.{IsOverlay, StandsFor};
+ghost use Rattle.vss_recover.specs.RecoverValue.{IsOverlay, RecoverValue, StandsFor};
 ghost use Rattle.vss_recover.specs.Steps.{Step};
 ghost use Rattle.vss_recover.specs.Syncing.{IsRecoverSync, KeepsSaid};
-ghost use Rattle.vss_recover.specs.TakingUp.{AreOfImages, taken_up, unopened};
+ghost use Rattle.vss_recover.specs.TakingUp.{AreOfImages, HasCopiesOf, taken_up, unopened};
 
 use crate::claim::Claim;
 use crate::claims::{first_out, first_overlap, owner_of};
@@ -77,8 +77,9 @@ impl<D: Device> RecoverVolume<D> {
     }
 
     /// Takes a volume up again: the copy-on-write volume, the overlay with the blocks that its records say, and the sets of the final
-    /// images. No window is open. It takes all memory of the later calls. The volume stands for what its parts stand for. Where the
-    /// overlay's device does not tell what it holds, that is what the copy-on-write volume stands for, with some recovery writes.
+    /// images. No window is open. It takes all memory of the later calls. The volume stands for what its parts stand for, and so for what
+    /// a volume stood for from whose overlay, once synced, this one was loaded. Where the overlay's device does not tell what it holds,
+    /// that is what the copy-on-write volume stands for, with some recovery writes.
     pub fn resume(
         alloc: Global,
         volume: CowVolume<D>,
@@ -91,6 +92,10 @@ impl<D: Device> RecoverVolume<D> {
         ensures stands { IfOk result (λ v. (h : Recovering) → StandsForOne D.told volume h.volume
             → IsOverlay (D.told overlay.device) overlay.records (blocks_of volume) h.recoveries
             → IsOfImages (image_sets volume) h → h.final ≡ finals.now
+            → StandsFor D.told v (unopened h)) }
+        ensures loaded { IfOk result (λ v. (was : RecoverValue D) (h : Recovering) → StandsFor D.told was h
+            → HasCopiesOf D.told was.overlay overlay → blocks_of volume ≡ blocks_of was.volume
+            → finals.now ≡ was.final → StandsForOne D.told volume h.volume
             → StandsFor D.told v (unopened h)) }
         ensures untold { IfOk result (λ v. (h : History) → AreOfImages h overlay.records finals.now → D.told overlay.device ≡ None
             → StandsForOne D.told volume h → (r : Recovering) × (r.volume ≡ h) × StandsFor D.told v r) }
