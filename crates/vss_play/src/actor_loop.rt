@@ -61,7 +61,6 @@ pub(crate) fn take_turns_as<R: Wait, D: Device, G: Gate>(
 {
     let mut blocked = 0u32;
     for _ in rt.forever() {
-        guest.look();
         match take_one(rt, turn, caller, actor, gate)? {
             Stepped::Moved => {
                 blocked = 0;
@@ -98,5 +97,5 @@ pub fn take_turns<R: Wait, D: Device, G: Gate>(
     ensures wanting { OnErr result (HasWanted (mine caller.old) (mine caller.new)) }
     ensures same { IsSame caller.old caller.new }
 {
-    take_turns_as(rt, turn, caller, actor, gate, &mut Guest::new(None, 0))
+    take_turns_as(rt, turn, caller, actor, gate, &mut Guest::new(rt, None, 0))
 }

@@ -60,7 +60,7 @@ fn act_all<R: Threads + Wait + Sync, D: Device + Send, G: Gate>(
             requires { (i < length actors.now) × Calls caller.old turn.now }
             ensures { Calls caller.new turn.entry.now × HasActed (slice_get actors.entry.now i) (standing caller.old) (standing caller.new) }
         {
-            let mut guest = Guest::new(Some(room), i);
+            let mut guest = Guest::new(rt, Some(room), i);
             let _ = take_turns_as(rt, turn, caller, actors[i], gate, &mut guest);
             guest.leave(rt);
         },

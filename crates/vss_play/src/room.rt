@@ -1,17 +1,13 @@
 use crate::line::{Line, RECENT};
 use std::alloc::Global;
-use std::sync::atomic::AtomicU64;
-use std::sync::atomic::Ordering::SeqCst;
 use std::sync::{Mutex, Wait};
 use std::thread::Parker;
 use std::time::Duration;
 use vss_names::OutOfMemory;
 
-/// The longest rest in microseconds. After that an actor asks without the floor, since a gate may let the one that has it wait for others.
-const LONG_REST: u64 = 10_000;
-
-/// The longest rest where nobody has the floor, in microseconds: the others may be moving, or may not have come yet.
-const SHORT_REST: u64 = 200;
+/// How long an actor rests at most, in milliseconds, and as long again for each that rested before it. Then it asks without the
+/// floor, since a gate may let the one that has it wait for others.
+const REST: u64 = 20;
 
 /// A room beside the turn, in which the actors of a run rest that were blocked. One of them has the floor:
 /// it asks until it is blocked again, and then the first of the line has it. So few threads are awake. It is
@@ -21,8 +17,6 @@ pub struct Room {
     line: Mutex<Line>,
     /// What each actor sleeps on.
     bells: Vec<Parker>,
-    /// How many moves were made.
-    moves: AtomicU64,
 }
 
 impl Room {
@@ -35,20 +29,9 @@ impl Room {
             bells.push(Parker::new())?;
         }
         Ok(Room {
-            line: Mutex::new(Line::new(resting, recent, actors as u64)),
+            line: Mutex::new(Line::new(resting, recent, actors)),
             bells,
-            moves: AtomicU64::new(0),
         })
-    }
-
-    /// How many moves were made.
-    pub fn moves(&self) -> u64 {
-        self.moves.load(SeqCst)
-    }
-
-    /// Counts a move.
-    pub fn count_move(&self) {
-        let _ = self.moves.fetch_add(1, SeqCst);
     }
 
     /// Wakes an actor.
@@ -59,37 +42,42 @@ impl Room {
         }
     }
 
-    /// An actor rests until it has the floor, or for the longest time; whether it moved before it was
-    /// blocked. Whether it has the floor.
-    pub fn rest<R: Wait>(&self, rt: &R, actor: usize, has_moved: bool) -> bool {
+    /// An actor comes. Which round it is.
+    pub fn come<R: Wait>(&self, rt: &R) -> u64 {
+        self.line.lock(rt).come()
+    }
+
+    /// An actor that was blocked, and may have moved before, rests until it has the floor, or for the longest time. It does not
+    /// where a round has begun since the one in which it asked, nor where it has nobody to wait for. Which round it is then.
+    pub fn rest<R: Wait>(&self, rt: &R, actor: usize, has_moved: bool, round: u64) -> u64 {
         let mut line = self.line.lock(rt);
-        let next = line.rest(actor, has_moved);
-        let longest = if line.is_free() {
-            SHORT_REST
-        } else {
-            LONG_REST
-        };
+        let is_old = line.round() != round;
+        if has_moved {
+            line.begin_round(actor);
+        }
+        if is_old || line.waits_for_nobody() {
+            return line.round();
+        }
+        let longest = REST.saturating_mul(line.place());
+        let next = line.rest(actor);
         drop(line);
         self.wake(next);
         if let Some(bell) = self.bells.get(actor) {
-            bell.park_timeout(rt, Duration::from_micros(longest));
+            bell.park_timeout(rt, Duration::from_millis(longest));
         }
-        self.line.lock(rt).rise(actor)
-    }
-
-    /// How often the floor went to one that rested.
-    pub fn passed<R: Wait>(&self, rt: &R) -> u64 {
-        self.line.lock(rt).passed()
-    }
-
-    /// Whether the floor went to all other actors since it had gone to so many.
-    pub fn went_around<R: Wait>(&self, rt: &R, passed: u64) -> bool {
-        self.line.lock(rt).went_around(passed)
+        let mut line = self.line.lock(rt);
+        let _ = line.rise(actor);
+        line.round()
     }
 
     /// An actor leaves for good.
-    pub fn leave<R: Wait>(&self, rt: &R, actor: usize) {
-        let next = self.line.lock(rt).leave(actor);
+    pub fn leave<R: Wait>(&self, rt: &R, actor: usize, has_moved: bool) {
+        let mut line = self.line.lock(rt);
+        if has_moved {
+            line.begin_round(actor);
+        }
+        let next = line.leave(actor);
+        drop(line);
         self.wake(next);
     }
 }
