@@ -1,12 +1,11 @@
 use cow_volume::ResumeFault;
 use diff_area::AreaFault;
-use std::alloc::{AllocError, AllocFailed};
 use std::fmt;
 use vss_catalog::CatalogFault;
 use vss_names::OutOfMemory;
 
 /// Why devices, an area's device and the bytes of a head are no store: what is first wrong, in this order. Volumes are counted from 0.
-#[derive(Clone, Copy, Debug, PartialEq, Eq)]
+#[derive(Clone, Copy)]
 pub enum OpenFault {
     /// The head ends before its catalog does, or goes on behind it.
     Length { found: u64 },
@@ -104,28 +103,6 @@ impl From<OutOfMemory> for OpenFault {
     ghost from_gives = { λ _ fault. fault ≡ memory };
 
     fn from(_refused: OutOfMemory) -> OpenFault {
-        OpenFault::OutOfMemory
-    }
-}
-
-impl From<AllocError> for OpenFault {
-    ghost use Rattle.std.specs.Prelude.{◌≡◌};
-    ghost use Rattle.image_store.specs.declared.open_fault.OpenFault.TheVariants.{OutOfMemory as memory};
-
-    ghost from_gives = { λ _ fault. fault ≡ memory };
-
-    fn from(_refused: AllocError) -> OpenFault {
-        OpenFault::OutOfMemory
-    }
-}
-
-impl<T: Drop> From<AllocFailed<T>> for OpenFault {
-    ghost use Rattle.std.specs.Prelude.{◌≡◌};
-    ghost use Rattle.image_store.specs.declared.open_fault.OpenFault.TheVariants.{OutOfMemory as memory};
-
-    ghost from_gives = { λ _ fault. fault ≡ memory };
-
-    fn from(_refused: AllocFailed<T>) -> OpenFault {
         OpenFault::OutOfMemory
     }
 }

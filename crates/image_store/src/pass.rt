@@ -1,5 +1,5 @@
 /// How far a pass of an update came.
-#[derive(Clone, Copy, Debug, PartialEq, Eq)]
+#[derive(Clone, Copy)]
 pub enum Pass {
     /// To the end.
     Done,

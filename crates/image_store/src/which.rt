@@ -1,5 +1,5 @@
 /// What of a volume is shown.
-#[derive(Clone, Copy, Debug, PartialEq, Eq)]
+#[derive(Clone, Copy)]
 pub enum Which {
     /// The volume as it is.
     Now,

@@ -1,36 +1,21 @@
-use crate::status::Status;
-use std::alloc::{AllocError, AllocFailed};
-use std::io;
-use vss_names::OutOfMemory;
+//! What is printed.
 
-/// How a call ended that was not done: with which status, and the line that says why. Without a line a device of the folder failed, whose
-/// own fault says it, or the line was printed before.
-#[derive(Drop)]
-pub struct Ended {
-    pub status: Status,
-    pub line: Option<String>,
+use crate::status::Status;
+use std::fmt::Display;
+use std::io;
+use volume_device::FileFault;
+
+/// Prints the line that says why a call ends so; its status is answered.
+pub fn said<D: Display + Drop>(rt: &HostRuntime, status: Status, line: D) -> Status {
+    let _ = eprintln!(rt; "images: {line}");
+    status
 }
 
-impl Ended {
-    /// With this line.
-    pub fn said(status: Status, line: Result<String, AllocError>) -> Ended {
-        match line {
-            Ok(line) => Ended {
-                status,
-                line: Some(line),
-            },
-            Err(_) => Ended::silent(Status::OutOfMemory),
-        }
-    }
-
-    /// Without a line.
-    pub fn silent(status: Status) -> Ended {
-        Ended { status, line: None }
-    }
-
-    /// A device of the folder failed.
-    pub fn by_device() -> Ended {
-        Ended::silent(Status::FolderFault)
+/// Prints a text.
+pub fn say<D: Display + Drop>(rt: &HostRuntime, text: D) -> Result<(), Status> {
+    match rt.print(text) {
+        Ok(()) => Ok(()),
+        Err(_) => Err(said(rt, Status::WriteFault, "write fault")),
     }
 }
 
@@ -40,27 +25,18 @@ pub fn of_folder<T: Drop>(
     path: &str,
     what: &str,
     done: io::Result<T>,
-) -> Result<T, Ended> {
+) -> Result<T, Status> {
     match done {
         Ok(value) => Ok(value),
-        Err(error) => Err(ended!(rt, FolderFault; "{path}: {what}: {error}")),
+        Err(error) => Err(ended!(*rt, FolderFault; "{path}: {what}: {error}")),
     }
 }
 
-impl From<OutOfMemory> for Ended {
-    fn from(_refused: OutOfMemory) -> Ended {
-        Ended::silent(Status::OutOfMemory)
-    }
-}
-
-impl From<AllocError> for Ended {
-    fn from(_refused: AllocError) -> Ended {
-        Ended::silent(Status::OutOfMemory)
-    }
-}
-
-impl<T: Drop> From<AllocFailed<T>> for Ended {
-    fn from(_refused: AllocFailed<T>) -> Ended {
-        Ended::silent(Status::OutOfMemory)
+/// Says the failed call of a device, if one failed.
+pub fn by_device(rt: &HostRuntime, fault: Option<FileFault>) -> Status {
+    match fault {
+        Some(FileFault { path, call, error }) =>
+            ended!(*rt, FolderFault; "{path}: {call}: {error}"),
+        None => Status::DeviceFault,
     }
 }

@@ -1,7 +1,6 @@
 ghost use Rattle.std.specs.Prelude.{◌≡◌, ◌<◌, ◌≤◌, length};
 ghost use Rattle.vss_names.specs.Faults.{HasCause};
 
-use crate::ended::Ended;
 use crate::progress::Progress;
 use crate::status::Status;
 use block_data::BLOCK;
@@ -18,6 +17,7 @@ use vss_names::Failed;
 /// (`image_store/specs/FileBytes.antt`). It is read alone, and as long as it was when it was opened.
 #[derive(Drop)]
 pub struct FileInput<'a> {
+    pub rt: HostRuntime,
     path: &'a str,
     file: File,
     found: Metadata,
@@ -60,9 +60,10 @@ pub fn file_at(rt: &HostRuntime, path: &str, writes: bool) -> io::Result<Option<
 
 impl<'a> FileInput<'a> {
     /// The file, as yet of no blocks.
-    pub fn open(rt: &HostRuntime, path: &'a str) -> Result<FileInput<'a>, Ended> {
+    pub fn open(rt: &HostRuntime, path: &'a str) -> Result<FileInput<'a>, Status> {
         match file_at(rt, path, false) {
             Ok(Some((file, found))) => Ok(FileInput {
+                rt: *rt,
                 path,
                 file,
                 found,
@@ -71,22 +72,22 @@ impl<'a> FileInput<'a> {
                 last: None,
                 progress: Progress::new(rt, "compared", 0),
             }),
-            Ok(None) => Err(ended!(rt, Unread; "{path}: is no file")),
-            Err(error) => Err(ended!(rt, Unread; "{path}: could not be read: {error}")),
+            Ok(None) => Err(ended!(*rt, Unread; "{path}: is no file")),
+            Err(error) => Err(ended!(*rt, Unread; "{path}: could not be read: {error}")),
         }
     }
 
     /// Gives it so many blocks, those of the volume of this name, in which it has to have room with its length.
-    pub fn fit(&mut self, rt: &HostRuntime, name: &str, blocks: u32) -> Result<(), Ended> {
+    pub fn fit(&mut self, name: &str, blocks: u32) -> Result<(), Status> {
         let room = (u64::from(blocks) * BLOCK as u64).saturating_sub(LENGTH as u64);
         let (path, length) = (self.path, self.length());
         if length > room {
             return Err(
-                ended!(rt, Refused; "{path}: length: {length} bytes, and {name} has room for {room}"),
+                ended!(self.rt, Refused; "{path}: length: {length} bytes, and {name} has room for {room}"),
             );
         }
         self.blocks = blocks;
-        self.progress = Progress::new(rt, "compared", blocks);
+        self.progress = Progress::new(&self.rt, "compared", blocks);
         Ok(())
     }
 
@@ -96,41 +97,45 @@ impl<'a> FileInput<'a> {
     }
 
     /// Whether it is the file of another path.
-    pub fn is_at(&self, rt: &HostRuntime, path: &str) -> bool {
-        match fs::metadata(rt, path) {
+    pub fn is_at(&self, path: String) -> bool {
+        match fs::metadata(&self.rt, path.as_str()) {
             Ok(other) => other.dev() == self.found.dev() && other.ino() == self.found.ino(),
             Err(_) => false,
         }
     }
 
-    /// What is said of a file that changed.
-    pub fn changed(&self, rt: &HostRuntime, now: u64, more: &str) -> Ended {
+    /// Says that the file changed.
+    fn changed(&self, now: u64, more: &str) -> Status {
         let (path, before) = (self.path, self.length());
-        ended!(rt, InputChanged; "{path}: changed while it was read: {before} bytes and then {now}{more}")
+        ended!(self.rt, InputChanged; "{path}: changed while it was read: {before} bytes and then {now}{more}")
     }
 
-    /// That the file has not changed since it was opened.
-    pub fn is_same(&self, rt: &HostRuntime, more: &str) -> Result<(), Ended> {
+    /// Says that the file could not be read.
+    fn unread(&self, error: &io::Error, more: &str) -> Status {
+        ended!(self.rt, Unread; "{}: could not be read: {error}{more}", self.path)
+    }
+
+    /// That the file has not changed since it was opened, and so may have been read as it was.
+    fn check(&self, was_read: bool, more: &str) -> Result<(), Status> {
         match self.file.metadata() {
-            Ok(now) if is_unchanged(&self.found, &now) => Ok(()),
-            Ok(now) => Err(self.changed(rt, now.len(), more)),
-            Err(error) => Err(
-                ended!(rt, Unread; "{}: could not be read: {error}{more}", self.path),
-            ),
+            Ok(now) if was_read && is_unchanged(&self.found, &now) => Ok(()),
+            Ok(now) => Err(self.changed(now.len(), more)),
+            Err(error) => Err(self.unread(&error, more)),
         }
     }
 
-    /// What is said of a pass that failed, of a read of the file with this behind it, or of a device of the folder.
-    pub fn ended_by(&self, rt: &HostRuntime, fault: PassFault, more: &str) -> Ended {
-        match (fault, &self.last) {
-            (PassFault::Input, Some(error)) if error.kind() != ErrorKind::UnexpectedEof => {
-                ended!(rt, Unread; "{}: could not be read: {error}{more}", self.path)
-            }
-            (PassFault::Input, _) => match self.is_same(rt, more) {
-                Ok(()) => self.changed(rt, self.length(), more),
-                Err(ended) => ended,
+    /// Ends a pass: what is said of one that failed, of a read of the file with this behind it, or of a device of the folder.
+    pub fn end(&mut self, fault: Option<PassFault>, more: &str) -> Result<(), Status> {
+        self.progress.clear();
+        match fault {
+            None => self.check(true, more),
+            Some(PassFault::Input) => match &self.last {
+                Some(error) if error.kind() != ErrorKind::UnexpectedEof => {
+                    Err(self.unread(error, more))
+                }
+                _ => self.check(false, more),
             },
-            _ => Ended::by_device(),
+            _ => Err(Status::DeviceFault),
         }
     }
 

@@ -1,12 +1,13 @@
-ghost use Rattle.std.specs.Prelude.{◌≡◌, ◌<◌, ◌≤◌, ◌*◌, length, vec_capacity, IfOk, IsTrue, OnOk};
+ghost use Rattle.std.specs.Prelude.{◌≡◌, ◌<◌, ◌≤◌, ◌*◌, length, vec_capacity, IfOk, OnOk};
 ghost use Rattle.cow_volume.specs.Calls.{blocks_at};
 
-use crate::ended::Ended;
+use crate::ended::say;
 use crate::file_input::FileInput;
-use crate::finish::say;
+use crate::naming::name_in;
 use crate::opened::{Files, Opened};
 use crate::progress::Progress;
-use image_store::Pass;
+use crate::status::Status;
+use image_store::{Pass, PassFault};
 use std::alloc::{AllocError, Global};
 use vss_names::MOST_IMAGES;
 use write_history::Evicted;
@@ -17,7 +18,7 @@ pub struct Job<'a> {
     pub name: &'a str,
     pub volume: u32,
     pub input: FileInput<'a>,
-    pub differs: Vec<bool>,
+    differs: Vec<bool>,
     pub written: u32,
     pub copied: u32,
 }
@@ -41,16 +42,15 @@ fn marked(differs: &[bool]) -> u32 {
     count
 }
 
-/// Prints the images that went.
-fn say_gone(rt: &HostRuntime, store: &Files, gone: &[Evicted]) -> Result<(), Ended> {
+/// Prints the images that went, and commits that they are gone.
+fn commit_without(opened: &mut Opened, gone: &[Evicted]) -> Result<(), Status> {
     for one in gone {
-        if one.volume < store.volumes() {
-            let name = std::str::from_utf8(store.name(one.volume).bytes()).unwrap_or("");
-            let line = format!(in rt.alloc(); "evicted set {} {name}\n", one.set)?;
-            say(rt, line.as_str())?;
+        if one.volume < opened.store.volumes() {
+            let (rt, name) = (&opened.folder.rt, name_in(&opened.store, one.volume));
+            say(rt, format_args!("evicted set {} {name}\n", one.set))?;
         }
     }
-    Ok(())
+    opened.commit()
 }
 
 impl<'a> Job<'a> {
@@ -73,58 +73,64 @@ impl<'a> Job<'a> {
         })
     }
 
-    /// Whether the file and the marks are of as many blocks as the volume.
-    fn fits(&self, store: &Files) -> bool
-        ensures volume { IsTrue result → self.now.volume < length store.now.group.area.volumes }
-        ensures sizes { IsTrue result → self.now.input.blocks ≡ blocks_at store.now.group self.now.volume }
-        ensures marks { IsTrue result → length self.now.differs.items ≡ blocks_at store.now.group self.now.volume }
+    /// That the file and the marks are of as many blocks as the volume.
+    fn fits(&self, store: &Files) -> Result<(), Status>
+        ensures volume { OnOk result (self.now.volume < length store.now.group.area.volumes) }
+        ensures sizes { OnOk result (self.now.input.blocks ≡ blocks_at store.now.group self.now.volume) }
+        ensures marks { OnOk result (length self.now.differs.items ≡ blocks_at store.now.group self.now.volume) }
     {
         if self.volume >= store.volumes() {
-            return false;
+            return Err(Status::DeviceFault);
         }
         let blocks = store.blocks(self.volume);
-        self.input.blocks == blocks && self.differs.len() == blocks as usize
+        if self.input.blocks != blocks || self.differs.len() != blocks as usize {
+            return Err(Status::DeviceFault);
+        }
+        Ok(())
     }
 
     /// The first pass: the blocks that differ are marked. Nothing else changes.
-    pub fn compare(&mut self, rt: &HostRuntime, store: &mut Files) -> Result<(), Ended> {
-        if !self.fits(store) {
-            return Err(Ended::by_device());
-        }
+    pub fn compare(&mut self, store: &mut Files) -> Result<(), Status> {
+        self.fits(store)?;
         let done = store.compare(self.volume, &mut self.input, &mut self.differs);
-        if let Err(fault) = done {
-            return Err(self.input.ended_by(rt, fault, ""));
-        }
         self.written = marked(&self.differs);
-        self.input.is_same(rt, "")
+        self.input.end(done.err(), "")
+    }
+
+    /// Copies from a block on, to the end or to where images went, which is committed. Where to go on is answered.
+    fn copy_part(
+        &mut self,
+        opened: &mut Opened,
+        from: u32,
+        gone: &mut Vec<Evicted>,
+    ) -> Result<Option<u32>, Status> {
+        self.fits(&opened.store)?;
+        make_empty(&opened.store, gone)?;
+        let copied = &mut self.copied;
+        match opened
+            .store
+            .copy_ahead(self.volume, &self.differs, from, copied, gone)
+        {
+            Err(_) => Err(Status::DeviceFault),
+            Ok(Pass::Done) => Ok(None),
+            Ok(Pass::Evicted { at, .. }) => {
+                commit_without(opened, gone)?;
+                Ok(Some(at))
+            }
+        }
     }
 
     /// The second pass: old bytes go into slots. Every slot that images gave up is used only after the commit without them.
     pub fn copy_ahead(
         &mut self,
-        rt: &HostRuntime,
         opened: &mut Opened,
         gone: &mut Vec<Evicted>,
-    ) -> Result<(), Ended> {
+    ) -> Result<(), Status> {
         let mut from = 0;
-        let mut copied = 0;
         for _stop in 0..u32::MAX {
-            if !self.fits(&opened.store) {
-                return Err(Ended::by_device());
-            }
-            make_empty(&opened.store, gone)?;
-            let passed = opened
-                .store
-                .copy_ahead(self.volume, &self.differs, from, &mut copied, gone);
-            self.copied = copied;
-            match passed {
-                Err(_) => return Err(Ended::by_device()),
-                Ok(Pass::Done) => return Ok(()),
-                Ok(Pass::Evicted { at, .. }) => {
-                    say_gone(rt, &opened.store, gone)?;
-                    opened.commit(rt)?;
-                    from = at;
-                }
+            match self.copy_part(opened, from, gone)? {
+                Some(at) => from = at,
+                None => return Ok(()),
             }
         }
         Ok(())
@@ -133,20 +139,18 @@ impl<'a> Job<'a> {
     /// The third pass: the blocks that differ are written. `more` is said of a file that changed.
     pub fn overwrite(
         &mut self,
-        rt: &HostRuntime,
         store: &mut Files,
         gone: &mut Vec<Evicted>,
         more: &str,
-    ) -> Result<(), Ended> {
-        self.input.progress = Progress::new(rt, "written", self.written);
+    ) -> Result<(), Status> {
+        self.input.progress = Progress::new(&self.input.rt, "written", self.written);
         make_empty(store, gone)?;
-        if !self.fits(store) {
-            return Err(Ended::by_device());
-        }
-        match store.overwrite(self.volume, &mut self.input, &self.differs, 0, gone) {
-            Ok(Pass::Done) => self.input.is_same(rt, more),
-            Ok(Pass::Evicted { .. }) => Err(Ended::by_device()),
-            Err(fault) => Err(self.input.ended_by(rt, fault, more)),
-        }
+        self.fits(store)?;
+        let fault = match store.overwrite(self.volume, &mut self.input, &self.differs, 0, gone) {
+            Ok(Pass::Done) => None,
+            Ok(Pass::Evicted { .. }) => Some(PassFault::Volume),
+            Err(fault) => Some(fault),
+        };
+        self.input.end(fault, more)
     }
 }

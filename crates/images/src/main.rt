@@ -13,23 +13,18 @@
 //! For a status other than 0 it prints one line to the standard error: the file, the field and what was found.
 #![tactic(auto)]
 
-/// An `Ended` of this status, with a line.
+/// The status of this name, of which a line is printed.
 macro_rules! ended {
     ($rt:expr, $status:ident; $($line:tt)*) => {
-        Ended::said(Status::$status, format!(in $rt.alloc(); $($line)*))
+        crate::ended::said(&$rt, Status::$status, format_args!($($line)*))
     };
 }
 
 mod check;
-mod committing;
 mod create;
-mod cut;
-mod delete;
 mod device_file;
-mod digest_sink;
 mod ended;
 mod file_input;
-mod finish;
 mod folder;
 mod job;
 mod list;
@@ -40,7 +35,7 @@ mod opened;
 mod pair;
 mod progress;
 mod request;
-mod revert;
+mod sets;
 mod show;
 mod shown_sink;
 mod state;
@@ -50,10 +45,8 @@ mod task;
 mod update;
 mod way;
 
-use ended::Ended;
-use finish::Finish;
 use opened::Opened;
-use request::Request;
+use request::{Request, form_of};
 use status::Status;
 use std::process::ExitCode;
 use std::{env, io};
@@ -68,46 +61,48 @@ fn words_given(rt: &HostRuntime) -> io::Result<Vec<String>> {
     Ok(words)
 }
 
-/// Does a task on an open folder. What it prints at its end is answered.
-fn call_on(rt: &HostRuntime, opened: &mut Opened, task: Task<'_>) -> Result<Finish, Ended> {
+/// Does a task on an open folder.
+fn call_on(opened: &mut Opened, task: Task<'_>) -> Result<(), Status> {
     match task {
-        Task::Cut { names } => cut::cut(rt, opened, names),
-        Task::Update { pairs } => update::update(rt, opened, pairs),
-        Task::List => list::list(rt, opened),
-        Task::Show { set, name } => show::show(rt, opened, set, name),
-        Task::Digest { set, name } => show::digest(rt, opened, set, name),
-        Task::Delete { set, name } => delete::delete(rt, opened, set, name),
-        Task::Revert { set, name } => revert::revert(rt, opened, set, name),
-        Task::Check => check::check(rt, opened),
-        Task::Create { .. } => Ok(Finish::quiet(rt.alloc())),
+        Task::Cut { names } => sets::cut(opened, names),
+        Task::Update { pairs } => update::update(opened, pairs),
+        Task::List => list::list(opened),
+        Task::Show(of) => show::show(opened, of),
+        Task::Digest(of) => show::digest(opened, of),
+        Task::Delete { set, name } => sets::delete(opened, set, name),
+        Task::Revert { set, name } => sets::revert(opened, set, name),
+        Task::Check => check::check(opened),
+        Task::Create { .. } => Ok(()),
     }
 }
 
 /// Does what is asked for.
-fn run(rt: &HostRuntime, request: Request<'_>) -> Result<(), Ended> {
+fn run(rt: &HostRuntime, request: Request<'_>) -> Result<(), Status> {
     if let Task::Create { slots, pairs } = request.task {
         return create::create(rt, request.folder, slots, pairs);
     }
     let mut opened = opened::open(rt, request.folder, request.task.way())?;
-    let done = call_on(rt, &mut opened, request.task);
-    finish::end(rt, opened, done)
+    let done = call_on(&mut opened, request.task);
+    opened.end(done)
+}
+
+/// Does what words ask for. Of those that could not be read as text there are none.
+fn answer(rt: &HostRuntime, words: io::Result<Vec<String>>) -> Result<(), Status> {
+    let words = match words {
+        Ok(words) => words,
+        Err(error) if error.kind() == io::ErrorKind::InvalidData => Vec::new(rt.alloc()),
+        Err(_) => return Err(Status::OutOfMemory),
+    };
+    match Request::of(&words) {
+        Some(request) => run(rt, request),
+        None => Err(ended!(*rt, Usage; "usage: {}", form_of(&words))),
+    }
 }
 
 fn main(rt: HostRuntime) -> ExitCode {
-    let words = match words_given(&rt) {
-        Ok(words) => words,
-        Err(error) if error.kind() == io::ErrorKind::InvalidData => Vec::new(rt.alloc()),
-        Err(_) => return ExitCode::from(Status::OutOfMemory.code()),
-    };
-    let done = match Request::of(&words) {
-        Ok(request) => run(&rt, request),
-        Err(form) => Err(ended!(rt, Usage; "usage: {form}")),
-    };
-    let Err(ended) = done else {
-        return ExitCode::from(0);
-    };
-    if let Some(line) = &ended.line {
-        let _ = eprintln!(rt; "images: {line}");
+    let words = words_given(&rt);
+    match answer(&rt, words) {
+        Ok(()) => ExitCode::from(0),
+        Err(status) => ExitCode::from(status.code()),
     }
-    ExitCode::from(ended.status.code())
 }

@@ -3,8 +3,7 @@
 ghost use Rattle.std.specs.Prelude.{◌≡◌, ◌≤◌, map, replicate, IfOk, IsTrue};
 ghost use Rattle.diff_area.specs.Records.{AreVolumes, free};
 
-use crate::ended::Ended;
-use crate::finish::fault_line;
+use crate::ended::by_device;
 use crate::folder::{AREA, Folder};
 use crate::job::Job;
 use crate::opened::Files;
@@ -16,12 +15,12 @@ use volume_device::{Device, FileDevice};
 use vss_names::{MOST_BLOCKS, MOST_SLOTS, MOST_VOLUMES, Text};
 
 /// A device over a new file of zeros.
-fn new_device(rt: &HostRuntime, path: String, blocks: u32) -> Result<StoreDevice, Ended>
+fn new_device(rt: &HostRuntime, path: String, blocks: u32) -> Result<StoreDevice, Status>
     ensures { IfOk result (λ device. ⟦<StoreDevice as Device>⟧.size device ≡ blocks) }
 {
     match FileDevice::create(rt, path, blocks) {
         Ok(file) => Ok(StoreDevice::new(file, Vec::new(rt.alloc()))),
-        Err(fault) => Err(fault_line(rt, Some(fault))),
+        Err(fault) => Err(by_device(rt, Some(fault))),
     }
 }
 
@@ -38,62 +37,57 @@ fn are_volumes(blocks: &[u32]) -> bool
     blocks.iter().all(|one| 0 < *one && *one <= MOST_BLOCKS)
 }
 
+/// How many blocks there are in all.
+fn sum_of(blocks: &[u32]) -> u64 {
+    let mut sum = 0u64;
+    for one in blocks {
+        sum = sum.saturating_add(u64::from(*one));
+    }
+    sum
+}
+
 /// How many blocks the volumes have, if that is not too many.
-pub fn blocks_of(rt: &HostRuntime, jobs: &[Job<'_>]) -> Result<Vec<u32>, Ended>
+pub fn blocks_of(rt: &HostRuntime, jobs: &[Job<'_>]) -> Result<Vec<u32>, Status>
     ensures volumes { IfOk result (λ blocks. AreVolumes blocks.items) }
     ensures blocks { IfOk result (λ blocks. blocks.items ≡ map (λ job. job.input.blocks) jobs.now) }
 {
     let blocks: Vec<u32> = jobs.iter().map(|job| job.input.blocks).collect(rt.alloc())?;
-    let in_all = blocks
-        .iter()
-        .fold(0u64, |sum, one| sum.saturating_add(u64::from(*one)));
+    let in_all = sum_of(&blocks);
     if in_all > MOST_IN_ALL || !are_volumes(&blocks) {
-        return Err(
-            ended!(rt, Refused; "blocks: {in_all} in all, at most {MOST_IN_ALL}"
-        ),
-        );
+        return Err(ended!(*rt, Refused; "blocks: {in_all} in all, at most {MOST_IN_ALL}"));
     }
     Ok(blocks)
 }
 
 /// The new area of volumes of these numbers of blocks.
-fn new_area(
-    rt: &HostRuntime,
-    folder: &Folder,
-    slots: u32,
-    blocks: &[u32],
-) -> Result<Area<StoreDevice>, Ended>
+fn new_area(folder: &Folder, slots: u32, blocks: &[u32]) -> Result<Area<StoreDevice>, Status>
     requires few { slots ≤ MOST_SLOTS }
     requires volumes { AreVolumes blocks.now }
     ensures volumes { IfOk result (λ area. area.volumes ≡ blocks.now) }
     ensures records { IfOk result (λ area. area.records ≡ replicate slots free) }
 {
-    let path = folder.path_of(rt, AREA)?;
-    let device = new_device(rt, path, 1 + pages_for(slots) + slots)?;
-    match Area::open_new(rt.alloc(), device, slots, blocks) {
+    let path = folder.path_of(AREA)?;
+    let device = new_device(&folder.rt, path, 1 + pages_for(slots) + slots)?;
+    match Area::open_new(folder.rt.alloc(), device, slots, blocks) {
         Ok(area) => Ok(area),
-        Err(_) => Err(Ended::silent(Status::OutOfMemory)),
+        Err(_) => Err(Status::OutOfMemory),
     }
 }
 
 /// The devices of the volumes, of zeros.
-fn new_devices(
-    rt: &HostRuntime,
-    folder: &Folder,
-    jobs: &[Job<'_>],
-) -> Result<Vec<StoreDevice>, Ended>
+fn new_devices(folder: &Folder, jobs: &[Job<'_>]) -> Result<Vec<StoreDevice>, Status>
     ensures { IfOk result (λ devices. map ⟦<StoreDevice as Device>⟧.size devices.items ≡ map (λ job. job.input.blocks) jobs.now) }
 {
-    let mut devices = Vec::new(rt.alloc());
+    let mut devices = Vec::new(folder.rt.alloc());
     for job in jobs {
-        let path = folder.path_of_volume(rt, job.name)?;
-        devices.push(new_device(rt, path, job.input.blocks)?)?;
+        let path = folder.path_of_volume(job.name)?;
+        devices.push(new_device(&folder.rt, path, job.input.blocks)?)?;
     }
     Ok(devices)
 }
 
 /// The names of the volumes.
-fn names_of(rt: &HostRuntime, jobs: &[Job<'_>]) -> Result<Vec<Text>, Ended> {
+fn names_of(rt: &HostRuntime, jobs: &[Job<'_>]) -> Result<Vec<Text>, Status> {
     let mut names = Vec::new(rt.alloc());
     for job in jobs {
         names.push(Text::copy(rt.alloc(), job.name.as_bytes())?)?;
@@ -102,21 +96,16 @@ fn names_of(rt: &HostRuntime, jobs: &[Job<'_>]) -> Result<Vec<Text>, Ended> {
 }
 
 /// The new store of these volumes, of zeros.
-pub fn new_store(
-    rt: &HostRuntime,
-    folder: &Folder,
-    slots: u32,
-    jobs: &[Job<'_>],
-) -> Result<Files, Ended>
+pub fn new_store(folder: &Folder, slots: u32, jobs: &[Job<'_>]) -> Result<Files, Status>
     requires { slots ≤ MOST_SLOTS }
 {
-    let blocks = blocks_of(rt, jobs)?;
-    let devices = new_devices(rt, folder, jobs)?;
-    let area = new_area(rt, folder, slots, &blocks)?;
-    let names = names_of(rt, jobs)?;
-    match Store::new(rt.alloc(), devices, area, names) {
+    let blocks = blocks_of(&folder.rt, jobs)?;
+    let names = names_of(&folder.rt, jobs)?;
+    let devices = new_devices(folder, jobs)?;
+    let area = new_area(folder, slots, &blocks)?;
+    match Store::new(folder.rt.alloc(), devices, area, names) {
         Ok(store) => Ok(store),
-        Err(NewFault::Names) => Err(Ended::by_device()),
-        Err(NewFault::OutOfMemory) => Err(Ended::silent(Status::OutOfMemory)),
+        Err(NewFault::Names) => Err(Status::DeviceFault),
+        Err(NewFault::OutOfMemory) => Err(Status::OutOfMemory),
     }
 }

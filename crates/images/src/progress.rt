@@ -7,8 +7,9 @@ const PAUSE: u64 = 250;
 /// How many blocks a MiB has.
 const MIB: u32 = 64;
 
-/// A line on a terminal that shows how far a pass over many blocks is. It is gone when this is dropped, and at the last block. Where the standard
-/// error is no terminal, nothing is written.
+/// A line on a terminal that shows how far a pass over many blocks is. It is gone at the last block, and is to be cleared after a pass that did
+/// not come to it. Where the standard error is no terminal, nothing is written.
+#[derive(Clone, Copy)]
 pub struct Progress {
     rt: HostRuntime,
     word: &'static str,
@@ -37,7 +38,7 @@ impl Progress {
     }
 
     /// Takes the line away.
-    fn clear(&mut self) {
+    pub fn clear(&mut self) {
         if self.is_there {
             let _ = eprint!(self.rt; "\r\x1b[K");
             self.is_there = false;
@@ -69,21 +70,5 @@ impl Progress {
         } else if self.done % MIB == 0 {
             self.show(last);
         }
-    }
-}
-
-impl Drop for Progress {
-    fn drop(self) {
-        if self.is_there {
-            let _ = eprint!(self.rt; "\r\x1b[K");
-        }
-        let Self {
-            rt: _,
-            word: _,
-            blocks: _,
-            done: _,
-            shown: _,
-            is_there: _,
-        } = self;
     }
 }

@@ -10,9 +10,12 @@ pub struct Request<'a> {
 const ALL: &str =
     "create F SLOTS NAME[:BLOCKS]=FILE .. | cut F NAME .. | update F NAME=FILE .. | list F | show F [SET] NAME | digest F [SET] NAME | delete F SET [NAME] | revert F SET NAME | check F";
 
-/// The form of the words of which this is the first.
-fn form_of(word: &str) -> &'static str {
-    match word {
+/// The form that words should have, by the first of them.
+pub fn form_of(words: &[String]) -> &'static str {
+    let [word, ..] = words else {
+        return ALL;
+    };
+    match word.as_str() {
         "create" => "create F SLOTS NAME[:BLOCKS]=FILE ..",
         "cut" => "cut F NAME ..",
         "update" => "update F NAME=FILE ..",
@@ -27,20 +30,13 @@ fn form_of(word: &str) -> &'static str {
 }
 
 impl<'a> Request<'a> {
-    /// What these words ask for, or the form that they should have.
-    pub fn of(words: &'a [String]) -> Result<Request<'a>, &'static str> {
-        let [word, rest @ ..] = words else {
-            return Err(ALL);
+    /// What these words ask for, if they have a form.
+    pub fn of(words: &'a [String]) -> Option<Request<'a>> {
+        let [word, folder, rest @ ..] = words else {
+            return None;
         };
-        let [folder, rest @ ..] = rest else {
-            return Err(form_of(word.as_str()));
-        };
-        match Task::of(word.as_str(), rest) {
-            Some(task) if !folder.is_empty() => Ok(Request {
-                folder: folder.as_str(),
-                task,
-            }),
-            _ => Err(form_of(word.as_str())),
-        }
+        let task = Task::of(word.as_str(), rest)?;
+        let folder = folder.as_str();
+        (!folder.is_empty()).then_some(Request { folder, task })
     }
 }

@@ -1,102 +1,91 @@
+//! `show` and `digest`.
+
 ghost use Rattle.std.specs.Prelude.{◌<◌, length, IfOk};
 
-use crate::digest_sink::DigestSink;
-use crate::ended::Ended;
-use crate::finish::{Finish, say};
-use crate::folder::AREA;
+use crate::folder::{AREA, Folder};
+use crate::marker::Marker;
+use crate::naming::name_in;
 use crate::opened::Opened;
 use crate::progress::Progress;
 use crate::shown_sink::ShownSink;
 use crate::status::Status;
-use block_data::BLOCK;
+use crate::task::Shown;
+use block_data::{BLOCK, Hasher};
 use image_store::{ShowFault, Which};
-use io_edge::OutSink;
+
+/// Says that the folder was left open. What is in transit is refused.
+fn check_marker(folder: &Folder, marker: &Marker, which: Which, name: &str) -> Result<(), Status> {
+    let status = ended!(folder.rt, Unclean; "{}: left open by {marker}", folder.path);
+    match which {
+        Which::Now if marker.has(name) => Err(status),
+        _ => Ok(()),
+    }
+}
 
 /// What is shown of which volume.
-fn shown(
-    rt: &HostRuntime,
-    opened: &Opened,
-    set: Option<u32>,
-    name: &str,
-) -> Result<(u32, Which), Ended>
+fn found(opened: &Opened, of: Shown<'_>) -> Result<(u32, Which), Status>
     ensures { IfOk result (λ it. it.0 < length opened.now.store.group.area.volumes) }
 {
-    let (volume, which) = match set {
-        None => (opened.place_of(rt, name)?, Which::Now),
-        Some(set) => (opened.place_of_image(rt, set, name)?, Which::Of(set)),
+    let (volume, which) = match of.set {
+        None => (opened.place_of(of.name)?, Which::Now),
+        Some(set) => (opened.place_of_image(set, of.name)?, Which::Of(set)),
     };
     if let Some(marker) = &opened.marker {
-        let call = marker.told(rt.alloc())?;
-        let line = format!(in rt.alloc(); "{}: left open by {call}", opened.folder.path)?;
-        if which == Which::Now && marker.has(name) {
-            return Err(Ended::said(Status::Unclean, Ok(line)));
-        }
-        let _ = eprintln!(rt; "images: {line}");
+        check_marker(&opened.folder, marker, which, of.name)?;
     }
     Ok((volume, which))
 }
 
-/// What is said of a file that was not shown.
-pub fn refusal(
-    rt: &HostRuntime,
-    opened: &Opened,
-    volume: u32,
-    which: Which,
-    fault: ShowFault,
-) -> Ended
+/// Says why a file was not shown.
+pub fn refusal(opened: &Opened, volume: u32, which: Which, fault: ShowFault) -> Status
     requires { volume < length opened.now.store.group.area.volumes }
 {
-    let (folder, name) = (opened.folder.path.as_str(), opened.name_of(volume));
+    let (folder, name) = (opened.folder.path.as_str(), name_in(&opened.store, volume));
     let size = u64::from(opened.store.blocks(volume)) * BLOCK as u64;
-    match (fault, which) {
-        (ShowFault::BadLength { found }, Which::Now) => {
-            ended!(rt, Damaged; "{folder}/{name}.vol: length: {found} in {size} bytes"
-            )
-        }
-        (ShowFault::BadLength { found }, Which::Of(set)) =>
-            ended!(rt, Damaged; "{folder}/{AREA}: set {set} of {name}: length: {found} in {size} bytes"
-        ),
-        (ShowFault::Sink, _) => ended!(rt, WriteFault; "write fault"),
-        _ => Ended::by_device(),
+    match fault {
+        ShowFault::BadLength { found } => match which {
+            Which::Now => {
+                ended!(opened.folder.rt, Damaged; "{folder}/{name}.vol: length: {found} in {size} bytes")
+            }
+            Which::Of(set) => {
+                ended!(opened.folder.rt, Damaged; "{folder}/{AREA}: set {set} of {name}: length: {found} in {size} bytes")
+            }
+        },
+        ShowFault::Sink => ended!(opened.folder.rt, WriteFault; "write fault"),
+        _ => Status::DeviceFault,
+    }
+}
+
+/// Writes a file into a sink, and then takes its progress away; the word says what becomes of the blocks.
+fn show_in(
+    opened: &mut Opened,
+    of: Shown<'_>,
+    word: &'static str,
+    sink: &mut ShownSink,
+) -> Result<(), Status> {
+    let (volume, which) = found(opened, of)?;
+    sink.progress = Progress::new(&opened.folder.rt, word, opened.store.blocks(volume));
+    let done = opened.store.show(volume, which, sink);
+    sink.progress.clear();
+    match done {
+        Ok(()) => Ok(()),
+        Err(fault) => Err(refusal(opened, volume, which, fault)),
     }
 }
 
 /// `show F [SET] NAME`: writes the file.
-pub fn show(
-    rt: &HostRuntime,
-    opened: &mut Opened,
-    set: Option<u32>,
-    name: &str,
-) -> Result<Finish, Ended> {
-    let (volume, which) = shown(rt, opened, set, name)?;
-    let mut sink = ShownSink {
-        sink: OutSink::new(rt.stdout()),
-        progress: Progress::new(rt, "shown", opened.store.blocks(volume)),
-    };
-    match opened.store.show(volume, which, &mut sink) {
-        Ok(()) => Ok(Finish::quiet(rt.alloc())),
-        Err(fault) => Err(refusal(rt, opened, volume, which, fault)),
-    }
+pub fn show(opened: &mut Opened, of: Shown<'_>) -> Result<(), Status> {
+    let mut sink = ShownSink::new(&opened.folder.rt, None);
+    show_in(opened, of, "shown", &mut sink)
 }
 
 /// `digest F [SET] NAME`: prints the SHA-256 of the file.
-pub fn digest(
-    rt: &HostRuntime,
-    opened: &mut Opened,
-    set: Option<u32>,
-    name: &str,
-) -> Result<Finish, Ended> {
-    let (volume, which) = shown(rt, opened, set, name)?;
-    let mut sink = ShownSink {
-        sink: DigestSink::new(),
-        progress: Progress::new(rt, "digested", opened.store.blocks(volume)),
-    };
-    if let Err(fault) = opened.store.show(volume, which, &mut sink) {
-        return Err(refusal(rt, opened, volume, which, fault));
+pub fn digest(opened: &mut Opened, of: Shown<'_>) -> Result<(), Status> {
+    let mut sink = ShownSink::new(&opened.folder.rt, Some(Hasher::new()));
+    show_in(opened, of, "digested", &mut sink)?;
+    if let Some(hasher) = sink.hasher {
+        let digits = hex::encode(opened.folder.rt.alloc(), hasher.finish().as_slice())?;
+        write!(opened.text, "{digits}\n")?;
     }
-    let digits = hex::encode(rt.alloc(), sink.sink.finish().as_slice())?;
-    Ok(Finish {
-        text: format!(in rt.alloc(); "{digits}\n")?,
-        is_marked: false,
-    })
+    Ok(())
 }

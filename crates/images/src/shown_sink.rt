@@ -1,25 +1,46 @@
 use crate::progress::Progress;
-use io_edge::Sink;
+use block_data::Hasher;
+use io_edge::{OutSink, Sink};
 use vss_names::Failed;
 
-/// A sink of which each piece that it takes is counted on the terminal.
+/// Where the bytes of a file go that is shown: to the standard output, or into a digest. Each piece is counted on the terminal.
 #[derive(Drop)]
-pub struct ShownSink<K: Sink> {
-    pub sink: K,
+pub struct ShownSink {
+    out: OutSink,
+    pub hasher: Option<Hasher>,
     pub progress: Progress,
 }
 
-impl<K: Sink> Sink for ShownSink<K> {
-    ghost taken = { λ s. K.taken s.sink };
+impl ShownSink {
+    /// One that took nothing; with a hasher, what it takes goes there.
+    pub fn new(rt: &HostRuntime, hasher: Option<Hasher>) -> ShownSink {
+        ShownSink {
+            out: OutSink::new(rt.stdout()),
+            hasher,
+            progress: Progress::new(rt, "", 0),
+        }
+    }
+}
 
-    ghost count = { λ s. K.count s.sink };
+impl Sink for ShownSink {
+    ghost use Rattle.std.specs.Prelude.{None};
+
+    ghost taken = { λ _. None };
+
+    ghost count = { λ s. ⟦<OutSink as Sink>⟧.count s.out };
 
     fn write(&mut self, piece: &[u8]) -> Result<usize, Failed> {
         self.progress.step();
-        self.sink.write(piece)
+        match &mut self.hasher {
+            Some(hasher) => {
+                hasher.add(piece);
+                Ok(piece.len())
+            }
+            None => self.out.write(piece),
+        }
     }
 
     fn faults(&self) -> u64 {
-        self.sink.faults()
+        self.out.faults()
     }
 }

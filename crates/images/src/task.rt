@@ -8,56 +8,75 @@ pub enum Task<'a> {
     Cut { names: &'a [String] },
     Update { pairs: &'a [String] },
     List,
-    /// Without a set, of the volume as it is.
-    Show { set: Option<u32>, name: &'a str },
-    Digest { set: Option<u32>, name: &'a str },
+    Show(Shown<'a>),
+    Digest(Shown<'a>),
     /// Without a name, of each volume that has an image of the set.
     Delete { set: u32, name: Option<&'a str> },
     Revert { set: u32, name: &'a str },
     Check,
 }
 
-/// The set, if there is one, and the name of words that end with a name.
-fn shown<'a>(words: &'a [String]) -> Option<(Option<u32>, &'a str)> {
+/// The image of a set, or without one the volume of this name.
+#[derive(Clone, Copy)]
+pub struct Shown<'a> {
+    pub set: Option<u32>,
+    pub name: &'a str,
+}
+
+/// What words show that end with a name.
+fn words_shown<'a>(words: &'a [String]) -> Option<Shown<'a>> {
+    let (set, name) = match words {
+        [name] => (None, name.as_str()),
+        [set, name] => (Some(set_of(set.as_str())?), name.as_str()),
+        _ => return None,
+    };
+    Some(Shown { set, name })
+}
+
+/// What `create` makes of these words.
+fn create_of<'a>(words: &'a [String]) -> Option<Task<'a>> {
     match words {
-        [name] => Some((None, name.as_str())),
-        [set, name] => Some((Some(set_of(set.as_str())?), name.as_str())),
+        [slots, pairs @ ..] if are_pairs(pairs, true) => Some(Task::Create {
+            slots: number_of(slots.as_str())?,
+            pairs,
+        }),
         _ => None,
     }
+}
+
+/// What `delete` takes of these words.
+fn delete_of<'a>(words: &'a [String]) -> Option<Task<'a>> {
+    let (set, name) = match words {
+        [set] => (set, None),
+        [set, name] => (set, Some(name.as_str())),
+        _ => return None,
+    };
+    let set = set_of(set.as_str())?;
+    Some(Task::Delete { set, name })
+}
+
+/// What `revert` takes of these words.
+fn revert_of<'a>(words: &'a [String]) -> Option<Task<'a>> {
+    let [set, name] = words else {
+        return None;
+    };
+    let (set, name) = (set_of(set.as_str())?, name.as_str());
+    Some(Task::Revert { set, name })
 }
 
 impl<'a> Task<'a> {
     /// What the first word and those after the folder ask for.
     pub fn of(word: &str, rest: &'a [String]) -> Option<Task<'a>> {
-        match (word, rest) {
-            ("create", [slots, pairs @ ..]) if are_pairs(pairs, true) => Some(Task::Create {
-                slots: number_of(slots.as_str())?,
-                pairs,
-            }),
-            ("cut", [_, ..]) => Some(Task::Cut { names: rest }),
-            ("update", _) if are_pairs(rest, false) => Some(Task::Update { pairs: rest }),
-            ("list", []) => Some(Task::List),
-            ("show", _) => {
-                let (set, name) = shown(rest)?;
-                Some(Task::Show { set, name })
-            }
-            ("digest", _) => {
-                let (set, name) = shown(rest)?;
-                Some(Task::Digest { set, name })
-            }
-            ("delete", [set]) => Some(Task::Delete {
-                set: set_of(set.as_str())?,
-                name: None,
-            }),
-            ("delete", [set, name]) => Some(Task::Delete {
-                set: set_of(set.as_str())?,
-                name: Some(name.as_str()),
-            }),
-            ("revert", [set, name]) => Some(Task::Revert {
-                set: set_of(set.as_str())?,
-                name: name.as_str(),
-            }),
-            ("check", []) => Some(Task::Check),
+        match word {
+            "create" => create_of(rest),
+            "cut" => (!rest.is_empty()).then_some(Task::Cut { names: rest }),
+            "update" => are_pairs(rest, false).then_some(Task::Update { pairs: rest }),
+            "list" => rest.is_empty().then_some(Task::List),
+            "show" => Some(Task::Show(words_shown(rest)?)),
+            "digest" => Some(Task::Digest(words_shown(rest)?)),
+            "delete" => delete_of(rest),
+            "revert" => revert_of(rest),
+            "check" => rest.is_empty().then_some(Task::Check),
             _ => None,
         }
     }
@@ -66,7 +85,7 @@ impl<'a> Task<'a> {
     pub fn way(self) -> Way {
         match self {
             Task::Check => Way::Checking,
-            Task::Show { .. } | Task::Digest { .. } => Way::Showing,
+            Task::Show(_) | Task::Digest(_) => Way::Showing,
             Task::List => Way::Listing,
             _ => Way::Writing,
         }

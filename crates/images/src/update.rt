@@ -4,11 +4,10 @@
 
 ghost use Rattle.std.specs.Prelude.{◌<◌, length};
 
-use crate::ended::Ended;
 use crate::file_input::FileInput;
-use crate::finish::Finish;
 use crate::folder::{AREA, STATE};
 use crate::job::Job;
+use crate::naming::{check_once, name_in};
 use crate::opened::Opened;
 use crate::pair::{Pair, pairs_of};
 use crate::status::Status;
@@ -16,119 +15,132 @@ use vss_names::MOST_IMAGES;
 use write_history::Evicted;
 
 /// Whether this is a file of the folder.
-fn is_own(rt: &HostRuntime, opened: &Opened, input: &FileInput<'_>) -> Result<bool, Ended> {
+fn is_own(opened: &Opened, input: &FileInput<'_>) -> Result<bool, Status> {
+    let folder = &opened.folder;
     for volume in 0..opened.store.volumes() {
-        let path = opened.folder.path_of_volume(rt, opened.name_of(volume))?;
-        if input.is_at(rt, path.as_str()) {
+        if input.is_at(folder.path_of_volume(name_in(&opened.store, volume))?) {
             return Ok(true);
         }
     }
-    let area = opened.folder.path_of(rt, AREA)?;
-    let state = opened.folder.path_of(rt, STATE)?;
-    Ok(input.is_at(rt, area.as_str()) || input.is_at(rt, state.as_str()))
+    Ok(input.is_at(folder.path_of(AREA)?) || input.is_at(folder.path_of(STATE)?))
 }
 
-/// The job of a pair, of this volume.
-fn job_of<'a>(
-    rt: &HostRuntime,
+/// That the file of a pair is none of the folder, and has room in the volume.
+fn fit(
     opened: &Opened,
-    pair: Pair<'a>,
+    pair: Pair<'_>,
     volume: u32,
-) -> Result<Job<'a>, Ended>
+    input: &mut FileInput<'_>,
+) -> Result<(), Status>
     requires { volume < length opened.now.store.group.area.volumes }
 {
-    let mut input = FileInput::open(rt, pair.file)?;
-    if is_own(rt, opened, &input)? {
-        let folder = opened.folder.path.as_str();
-        return Err(ended!(rt, Refused; "{}: is a file of {folder}", pair.file));
+    if is_own(opened, input)? {
+        return Err(
+            ended!(opened.folder.rt, Refused; "{}: is a file of {}", pair.file, opened.folder.path),
+        );
     }
-    input.fit(rt, pair.name, opened.store.blocks(volume))?;
-    Ok(Job::new(rt.alloc(), pair.name, volume, input)?)
+    input.fit(pair.name, opened.store.blocks(volume))
 }
 
-/// The jobs of words that are pairs.
-fn jobs_of<'a>(
-    rt: &HostRuntime,
+/// Adds the job of a pair.
+fn add_job<'a>(opened: &Opened, pair: Pair<'a>, jobs: &mut Vec<Job<'a>>) -> Result<(), Status> {
+    let volume = opened.place_of(pair.name)?;
+    let mut input = FileInput::open(&opened.folder.rt, pair.file)?;
+    fit(opened, pair, volume, &mut input)?;
+    Ok(jobs.push(Job::new(opened.folder.rt.alloc(), pair.name, volume, input)?)?)
+}
+
+/// Adds the jobs of pairs. All volumes are found before a file is opened.
+fn add_jobs<'a>(
     opened: &Opened,
-    words: &'a [String],
-) -> Result<Vec<Job<'a>>, Ended> {
-    let pairs = pairs_of(rt.alloc(), words)?;
-    let mut volumes = Vec::new(rt.alloc());
-    for pair in pairs.iter() {
-        opened.add_place(rt, pair.name, &mut volumes)?;
+    pairs: &[Pair<'a>],
+    jobs: &mut Vec<Job<'a>>,
+) -> Result<(), Status> {
+    let folder = &opened.folder;
+    for (place, pair) in pairs.iter().enumerate() {
+        opened.place_of(pair.name)?;
+        check_once(&folder.rt, folder.path.as_str(), *pair, &pairs[..place])?;
     }
-    let mut jobs = Vec::new(rt.alloc());
-    for (pair, volume) in pairs.iter().zip(volumes.iter()) {
-        jobs.push(job_of(rt, opened, *pair, *volume)?)?;
-    }
-    Ok(jobs)
-}
-
-/// Makes the marker, with the names of the volumes.
-fn mark(rt: &HostRuntime, opened: &Opened, jobs: &[Job<'_>]) -> Result<(), Ended> {
-    let mut text = String::from_str(rt.alloc(), "update\n")?;
-    for job in jobs {
-        text.push_str(job.name)?;
-        text.push('\n')?;
-    }
-    opened.folder.mark(rt, text.as_str())
-}
-
-/// The second pass, committed.
-fn copy_all(
-    rt: &HostRuntime,
-    opened: &mut Opened,
-    jobs: &mut [Job<'_>],
-    gone: &mut Vec<Evicted>,
-) -> Result<(), Ended> {
-    for job in jobs.iter_mut() {
-        job.copy_ahead(rt, opened, gone)?;
-    }
-    opened.commit(rt)
-}
-
-/// The second and the third pass.
-fn write_all(
-    rt: &HostRuntime,
-    opened: &mut Opened,
-    jobs: &mut [Job<'_>],
-    gone: &mut Vec<Evicted>,
-) -> Result<(), Ended> {
-    let copied = copy_all(rt, opened, jobs, gone);
-    opened.or_unmark(rt, copied)?;
-    for job in jobs.iter_mut() {
-        let name = job.name;
-        let more = format!(in rt.alloc(); "; {name} has a part of each: update it again")?;
-        job.overwrite(rt, &mut opened.store, gone, more.as_str())?;
+    for pair in pairs {
+        add_job(opened, *pair, jobs)?;
     }
     Ok(())
 }
 
-/// The lines of what was written and copied.
-fn counts_of(rt: &HostRuntime, jobs: &[Job<'_>]) -> Result<String, Ended> {
-    let mut text = String::new(rt.alloc());
+/// Makes the marker, with the names of the volumes.
+fn mark(opened: &mut Opened, jobs: &[Job<'_>]) -> Result<(), Status> {
+    let mut text = String::from_str(opened.folder.rt.alloc(), "update\n")?;
     for job in jobs {
-        let (name, written, copied) = (job.name, job.written, job.copied);
-        let line = format!(in rt.alloc(); "{name} written {written} copied {copied}\n")?;
-        text.push_str(line.as_str())?;
+        write!(text, "{}\n", job.name)?;
     }
-    Ok(text)
+    opened.mark(text.as_str())
 }
 
-/// Brings the volumes to the files.
-pub fn update(rt: &HostRuntime, opened: &mut Opened, words: &[String]) -> Result<Finish, Ended> {
-    let mut jobs = jobs_of(rt, opened, words)?;
-    let mut gone = Vec::with_capacity(rt.alloc(), MOST_IMAGES * opened.store.volumes() as usize)?;
+/// The second pass, committed.
+fn copy_all(
+    opened: &mut Opened,
+    jobs: &mut [Job<'_>],
+    gone: &mut Vec<Evicted>,
+) -> Result<(), Status> {
     for job in jobs.iter_mut() {
-        job.compare(rt, &mut opened.store)?;
+        job.copy_ahead(opened, gone)?;
     }
-    let is_marked = jobs.iter().any(|job| job.written > 0);
-    if is_marked {
-        mark(rt, opened, &jobs)?;
-        write_all(rt, opened, jobs.as_mut_slice(), &mut gone)?;
+    opened.commit()
+}
+
+/// The second and the third pass.
+fn write_all(
+    opened: &mut Opened,
+    jobs: &mut [Job<'_>],
+    gone: &mut Vec<Evicted>,
+) -> Result<(), Status> {
+    let copied = copy_all(opened, jobs, gone);
+    opened.or_unmark(copied)?;
+    for job in jobs.iter_mut() {
+        let (alloc, name) = (opened.folder.rt.alloc(), job.name);
+        let more = format!(in alloc; "; {name} has a part of each: update it again")?;
+        job.overwrite(&mut opened.store, gone, more.as_str())?;
     }
-    Ok(Finish {
-        text: counts_of(rt, &jobs)?,
-        is_marked,
-    })
+    Ok(())
+}
+
+/// All passes, and the lines of what was written and copied.
+fn update_by(
+    opened: &mut Opened,
+    jobs: &mut [Job<'_>],
+    gone: &mut Vec<Evicted>,
+) -> Result<(), Status> {
+    let mut differs = false;
+    for job in jobs.iter_mut() {
+        job.compare(&mut opened.store)?;
+        differs |= job.written > 0;
+    }
+    if differs {
+        mark(opened, jobs)?;
+        write_all(opened, jobs, gone)?;
+    }
+    for job in jobs.iter() {
+        let (name, written, copied) = (job.name, job.written, job.copied);
+        write!(opened.text, "{name} written {written} copied {copied}\n")?;
+    }
+    Ok(())
+}
+
+/// Brings the volumes of pairs to their files.
+fn update_pairs<'a>(
+    opened: &mut Opened,
+    pairs: &[Pair<'a>],
+    jobs: &mut Vec<Job<'a>>,
+) -> Result<(), Status> {
+    add_jobs(opened, pairs, jobs)?;
+    let alloc = opened.folder.rt.alloc();
+    let mut gone = Vec::with_capacity(alloc, MOST_IMAGES * opened.store.volumes() as usize)?;
+    update_by(opened, jobs.as_mut_slice(), &mut gone)
+}
+
+/// `update F NAME=FILE ..`.
+pub fn update(opened: &mut Opened, words: &[String]) -> Result<(), Status> {
+    let alloc = opened.folder.rt.alloc();
+    let pairs = pairs_of(alloc, words)?;
+    update_pairs(opened, &pairs, &mut Vec::new(alloc))
 }

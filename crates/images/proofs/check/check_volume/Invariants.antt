@@ -1,5 +1,5 @@
 use Rattle.std.specs.Prelude.{◌≡◌}
 use Rattle.images.proofs.check.check_volume.Given as goal
 
-abbrev pub invariant-loop-set : goal.invariant-loop-set
-invariant-loop-set l = l.opened.store.group.area.volumes ≡ l.fn.opened.store.group.area.volumes
+abbrev pub invariant-loop-place : goal.invariant-loop-place
+invariant-loop-place l = l.opened.store.group.area.volumes ≡ l.fn.opened.store.group.area.volumes

@@ -1,5 +1,5 @@
 use Rattle.std.specs.Prelude.{◌≡◌}
-use Rattle.images.proofs.revert.drop_newer.Given as goal
+use Rattle.images.proofs.sets.drop_newer.Given as goal
 
 abbrev pub invariant-loop-image : goal.invariant-loop-image
 invariant-loop-image l = l.store.group.area.volumes ≡ l.fn.store.group.area.volumes

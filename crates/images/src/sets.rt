@@ -1,0 +1,110 @@
+//! `cut`, `delete` and `revert`: sets come and go.
+
+ghost use Rattle.std.specs.Prelude.{◌≡◌, ◌≢◌, ◌<◌, length, All, OnOk};
+ghost use Rattle.std.specs.List.{AllPairs};
+
+use crate::naming::name_in;
+use crate::opened::{Files, Opened};
+use crate::status::Status;
+use image_store::CutFault;
+use vss_names::MOST_IMAGES;
+
+/// Says why a set was not cut.
+fn refusal(opened: &Opened, fault: CutFault) -> Status {
+    let folder = opened.folder.path.as_str();
+    match fault {
+        CutFault::NoNextSet => {
+            let last = u32::MAX;
+            ended!(opened.folder.rt, Refused; "{folder}: sets: {last} was given, there is no next")
+        }
+        CutFault::TooManyImages { volume } => {
+            let name = if volume < opened.store.volumes() {
+                name_in(&opened.store, volume)
+            } else {
+                ""
+            };
+            ended!(opened.folder.rt, Refused; "{folder}: images of {name}: {MOST_IMAGES}, at most {MOST_IMAGES}")
+        }
+    }
+}
+
+/// Adds the volumes of these names.
+fn add_places(opened: &Opened, names: &[String], volumes: &mut Vec<u32>) -> Result<(), Status>
+    requires within { All (λ v. v < length opened.now.store.group.area.volumes) volumes.old.items }
+    requires apart { AllPairs (λ u v. u ≢ v) volumes.old.items }
+    ensures within { OnOk result (All (λ v. v < length opened.now.store.group.area.volumes) volumes.new.items) }
+    ensures apart { OnOk result (AllPairs (λ u v. u ≢ v) volumes.new.items) }
+{
+    for name in names {
+        opened.add_place(name.as_str(), volumes)?;
+    }
+    Ok(())
+}
+
+/// `cut F NAME ..`: one set over these volumes.
+pub fn cut(opened: &mut Opened, names: &[String]) -> Result<(), Status> {
+    let mut volumes = Vec::new(opened.folder.rt.alloc());
+    add_places(opened, names, &mut volumes)?;
+    match opened.store.cut(&volumes) {
+        Ok(set) => {
+            write!(opened.text, "set {set}\n")?;
+            opened.commit_marked("cut\n")
+        }
+        Err(fault) => Err(refusal(opened, fault)),
+    }
+}
+
+/// Drops the image of a set from one volume, or from each that has one. How many went is answered.
+fn drop_images(store: &mut Files, set: u32, only: Option<u32>) -> u32 {
+    let mut count = 0u32;
+    for volume in 0..store.volumes() {
+        if only.unwrap_or(volume) == volume && store.drop_image(set, volume).is_ok() {
+            count = count.saturating_add(1);
+        }
+    }
+    count
+}
+
+/// `delete F SET [NAME]`: the images of a set go.
+pub fn delete(opened: &mut Opened, set: u32, name: Option<&str>) -> Result<(), Status> {
+    let only = match name {
+        Some(name) => Some(opened.place_of_image(set, name)?),
+        None => None,
+    };
+    let count = drop_images(&mut opened.store, set, only);
+    if count == 0 {
+        let folder = opened.folder.path.as_str();
+        return Err(
+            ended!(opened.folder.rt, Refused; "{folder}: set {set}: there is no image of it"),
+        );
+    }
+    write!(opened.text, "deleted {count}\n")?;
+    opened.commit_marked("delete\n")
+}
+
+/// The images of a volume that are newer than that of a set go, the newest first. So what is kept after it shows that image and the older
+/// ones wherever a revert is broken off.
+fn drop_newer(store: &mut Files, set: u32, volume: u32)
+    requires { volume < length store.old.group.area.volumes }
+    ensures { store.new.group.area.volumes ≡ store.old.group.area.volumes }
+{
+    for _image in 0..store.images(volume).len() {
+        let newest = store.images(volume).last().copied().unwrap_or(0);
+        if newest > set {
+            let _ = store.drop_image(newest, volume);
+        }
+    }
+}
+
+/// `revert F SET NAME`: a volume is brought back to its image of a set. The order of the steps is the point: the newer images go and that is
+/// committed, then blocks are restored and synced, and then the slots that this set free are committed as free.
+pub fn revert(opened: &mut Opened, set: u32, name: &str) -> Result<(), Status> {
+    let volume = opened.place_of_image(set, name)?;
+    let text = format!(in opened.folder.rt.alloc(); "revert\n{name}\n")?;
+    drop_newer(&mut opened.store, set, volume);
+    opened.commit_marked(text.as_str())?;
+    if opened.store.revert(set, volume).is_err() || opened.store.flush(volume).is_err() {
+        return Err(Status::DeviceFault);
+    }
+    opened.commit()
+}
