@@ -1,4 +1,4 @@
-ghost use Rattle.std.specs.Prelude.{◌≡◌, ◌+◌, ◌≤◌, ◌++◌, ◌⊎◌, Some, false, length, map, OnOk, OnErr, IfOk, IsErr, IsErrOf, option_map, is_some};
+ghost use Rattle.std.specs.Prelude.{◌≡◌, ◌+◌, ◌≤◌, ◌++◌, ◌⊎◌, Some, true, false, length, map, OnOk, OnErr, IfOk, IsErr, IsErrOf, option_map, is_some};
 ghost use Rattle.vss_names.specs.Faults.{Rose, all_counted};
 ghost use Rattle.vss_model.specs.Trail.{event_of};
 ghost use Rattle.vss_report.specs.ToldLines.{IsLineOf};

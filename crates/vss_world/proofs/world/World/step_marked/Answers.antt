@@ -1,3 +1,4 @@
+use Rattle.std.proofs.Common.{true}
 use Rattle.cow_volume.specs.Calls.{counted_as}
 use Rattle.vss_world.proofs.Listed.{listed_so}
 use Rattle.vss_world.proofs.world.World.step_marked.Goals as goal
