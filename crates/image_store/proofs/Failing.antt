@@ -1,9 +1,10 @@
 -- Which device failed, where calls that did not fail came before.
-use Rattle.std.proofs.Common.{◌≡◌, ℕ, ◌<◌, List, length, map, refl, ap, sym, subst, ◌∙◌, arith, Option}
+use Rattle.std.proofs.Common.{◌≡◌, ℕ, ◌<◌, List, length, map, refl, ap, sym, subst, ◌∙◌, arith}
 use Rattle.std.specs.Prelude.{slice_get, slice_set}
 use Rattle.std.proofs.lemmas.List.{length-map}
 use Rattle.std.proofs.lemmas.Option.{same_Some, slice_get_within}
 use Rattle.vss_names.specs.Faults.{Rose}
+use Rattle.volume_device.specs.declared.device.Device.{Ghosts}
 use Rattle.cow_volume.specs.Calls.{AreaRose, DeviceRose, HasCauseAt, IsUnfailed, VolumeRose, blocks_at}
 use Rattle.cow_volume.specs.GroupValue.{GroupValue}
 use Rattle.cow_volume.specs.Room.{HasRoom}
@@ -53,9 +54,9 @@ show_after count v a b c (BadLength found) same still = unfailed_then count a b 
 show_after count v a b c Sink same still = unfailed_then count a b c same still
 
 -- where room was made nothing was called
-pub room_unfailed : {D : Type 0} (told : D → Option (List (List ℕ))) (count : D → ℕ) (old new : GroupValue D) (v b up_to : ℕ) → HasRoom told old new v b up_to → IsUnfailed count old new
-room_unfailed told count old new v b up_to room =
-    record { devices = ap (λ (g : GroupValue _). map count g.devices) room.left; area = ap (λ (g : GroupValue _). count g.area.device) room.left }
+pub room_unfailed : {D : Type 0} (ghosts : Ghosts D) (old new : GroupValue D) (v b up_to : ℕ) → HasRoom ghosts.told old new v b up_to → IsUnfailed ghosts.count old new
+room_unfailed ghosts old new v b up_to room =
+    record { devices = ap (λ (g : GroupValue _). map ghosts.count g.devices) room.left; area = ap (λ (g : GroupValue _). ghosts.count g.area.device) room.left }
 
 -- a block that is there was not read
 pub device_of : {D : Type 0} (count : D → ℕ) (v b : ℕ) (old new : GroupValue D) (cause : Cause) → b < blocks_at old v → HasCauseAt count v b old new cause → DeviceRose count v old new cause

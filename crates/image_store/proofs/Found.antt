@@ -3,6 +3,7 @@ use Rattle.std.proofs.Common.{◌≡◌, ℕ, ◌<◌, List, ◌++◌, length, m
 use Rattle.std.specs.Prelude.{codes, slice_get}
 use Rattle.std.proofs.lemmas.List.{append_assoc, drop_at, length-append, length-map}
 use Rattle.std.proofs.lemmas.Option.{same_Some, slice_get_within}
+use Rattle.volume_device.specs.declared.device.Device.{Ghosts}
 use Rattle.write_history.specs.Slots.{copies}
 use Rattle.diff_area.specs.Copies.{AreStored}
 use Rattle.vss_catalog.specs.Entries.{EntryValue}
@@ -51,12 +52,12 @@ same_head h s same read_h read_s low_h low_s =
 
 -- ## devices that tell what lasted
 
-pub found : {D : Type 0} (told lasting : D → Option (List (List ℕ))) (devices later : List D) (area again : D) (head said : HeadValue) (p : PlainStore) → head ≡ said
-    → IsKeptAs lasting devices area said p
-    → map told later ≡ map lasting devices → told again ≡ lasting area → IsKeptAs told later again head p
-found {D = D} told lasting devices later area again head said p same kept tells slots =
-    let many : length later ≡ length devices = sym (length-map later told) ∙ ap length tells ∙ length-map devices lasting in
-    subst (λ (h : HeadValue). IsKeptAs told later again h p) (sym same)
+pub found : {D : Type 0} (ghosts : Ghosts D) (devices later : List D) (area again : D) (head said : HeadValue) (p : PlainStore) → head ≡ said
+    → IsKeptAs ghosts.lasting devices area said p
+    → map ghosts.told later ≡ map ghosts.lasting devices → ghosts.told again ≡ ghosts.lasting area → IsKeptAs ghosts.told later again head p
+found {D = D} ghosts devices later area again head said p same kept tells slots =
+    let many : length later ≡ length devices = sym (length-map later ghosts.told) ∙ ap length tells ∙ length-map devices ghosts.lasting in
+    subst (λ (h : HeadValue). IsKeptAs ghosts.told later again h p) (sym same)
     (record {
       hs = kept.hs;
       last = kept.last;
@@ -65,8 +66,9 @@ found {D = D} told lasting devices later area again head said p same kept tells 
       each = λ v d e h at is of.
           let within = slice_get_within later v d at in
           let x = slice_get_inside devices v (omega arith) in
-          let held : told d ≡ lasting x.0 = same_Some (told d) (lasting x.0)
-          (sym (slice_get_map told later v d at) ∙ ap (λ (ts : List (Option (List (List ℕ)))). slice_get ts v) tells ∙ slice_get_map lasting devices v x.0 x.1) in
+          let held : ghosts.told d ≡ ghosts.lasting x.0 = same_Some (ghosts.told d) (ghosts.lasting x.0)
+          (sym (slice_get_map ghosts.told later v d at) ∙ ap (λ (ts : List (Option (List (List ℕ)))). slice_get ts v) tells
+          ∙ slice_get_map ghosts.lasting devices v x.0 x.1) in
           let volume = kept.each v x.0 e h x.1 is of in
           record { blocks = held ∙ volume.blocks; sets = volume.sets; images = volume.images };
       tells = ap is_some slots ∙ kept.tells;

@@ -34,29 +34,30 @@ use Rattle.image_store.proofs.Stores.{store_of}
 -- ## devices are flushed one after another
 
 -- the first k were, none of them failed, and all tell what they told
-pub record HaveLasted {D : Type 0} (told lasting : D → Option (List (List ℕ))) (count : D → ℕ) (k : ℕ) (old now : List D) : Type 0 where
-  pub told_is : map told now ≡ map told old
-  pub counts : map count now ≡ map count old
-  pub last : (j : ℕ) (d : D) → j < k → slice_get now j ≡ Some d → lasting d ≡ told d
+pub record HaveLasted {D : Type 0} (ghosts : Ghosts D) (k : ℕ) (old now : List D) : Type 0 where
+  pub told_is : map ghosts.told now ≡ map ghosts.told old
+  pub counts : map ghosts.count now ≡ map ghosts.count old
+  pub last : (j : ℕ) (d : D) → j < k → slice_get now j ≡ Some d → ghosts.lasting d ≡ ghosts.told d
 
-pub none_lasted : {D : Type 0} (told lasting : D → Option (List (List ℕ))) (count : D → ℕ) (ds : List D) → HaveLasted told lasting count 0 ds ds
-none_lasted told lasting count ds = record { told_is = refl; counts = refl; last = λ j d low at. absurd (omega arith) }
+pub none_lasted : {D : Type 0} (ghosts : Ghosts D) (ds : List D) → HaveLasted ghosts 0 ds ds
+none_lasted ghosts ds = record { told_is = refl; counts = refl; last = λ j d low at. absurd (omega arith) }
 
 pub still_told : {D X : Type 0} (told : D → X) (k : ℕ) (old now : List D) (d next : D) → map told now ≡ map told old → slice_get now k ≡ Some d → told next ≡ told d
     → map told (slice_set now k next) ≡ map told old
 still_told told k old now d next have at same = map_set_told told now k d next at same ∙ have
 
-pub one_lasted : {D : Type 0} (told lasting : D → Option (List (List ℕ))) (count : D → ℕ) (k : ℕ) (old now : List D) (d next : D) → HaveLasted told lasting count k old now → slice_get now k ≡ Some d
-    → told next ≡ told d → count next ≡ count d → lasting next ≡ told next → HaveLasted told lasting count (k + 1) old (slice_set now k next)
-one_lasted {D = D} told lasting count k old now d next have at same counted lasts = record {
-  told_is = still_told told k old now d next have.told_is at same;
-  counts = still_told count k old now d next have.counts at counted;
+pub one_lasted : {D : Type 0} (ghosts : Ghosts D) (k : ℕ) (old now : List D) (d next : D) → HaveLasted ghosts k old now → slice_get now k ≡ Some d
+    → ghosts.told next ≡ ghosts.told d → ghosts.count next ≡ ghosts.count d → ghosts.lasting next ≡ ghosts.told next
+    → HaveLasted ghosts (k + 1) old (slice_set now k next)
+one_lasted {D = D} ghosts k old now d next have at same counted lasts = record {
+  told_is = still_told ghosts.told k old now d next have.told_is at same;
+  counts = still_told ghosts.count k old now d next have.counts at counted;
   last = λ j e low there. by_number j e (j == k) refl low there;
 } where
-  by_number : (j : ℕ) (e : D) (t : Bool) → (j == k) ≡ t → j < k + 1 → slice_get (slice_set now k next) j ≡ Some e → lasting e ≡ told e
+  by_number : (j : ℕ) (e : D) (t : Bool) → (j == k) ≡ t → j < k + 1 → slice_get (slice_set now k next) j ≡ Some e → ghosts.lasting e ≡ ghosts.told e
   by_number j e true is low there =
       let here : Some next ≡ Some e = sym (slice_get-set_same now k d next at) ∙ ap (slice_get (slice_set now k next)) (sym (same_number j k is)) ∙ there in
-      subst (λ (x : D). lasting x ≡ told x) (same_Some next e here) lasts
+      subst (λ (x : D). ghosts.lasting x ≡ ghosts.told x) (same_Some next e here) lasts
   by_number j e false is low there =
       let other = other_number j k is in
       have.last j e (omega arith) (sym (slice_get-set_other now k j next (λ same. other (sym same))) ∙ there)
@@ -77,10 +78,10 @@ maps_same : {X Y : Type 0} (f g : X → Y) (xs : List X) → ((j : ℕ) (x : X) 
 maps_same f g [] h = refl
 maps_same f g (x ∷ xs) h = ap (λ y. y ∷ map f xs) (h 0 x refl) ∙ ap (λ ys. g x ∷ ys) (maps_same f g xs (λ j y at. h (suc j) y at))
 
-pub all_lasted : {D : Type 0} (told lasting : D → Option (List (List ℕ))) (count : D → ℕ) (k : ℕ) (old now : List D) → HaveLasted told lasting count k old now → length now ≤ k
-    → map lasting now ≡ map told old
-all_lasted told lasting count k old now have all =
-    maps_same lasting told now (λ j d at. have.last j d (let within = slice_get_within now j d at in omega arith) at) ∙ have.told_is
+pub all_lasted : {D : Type 0} (ghosts : Ghosts D) (k : ℕ) (old now : List D) → HaveLasted ghosts k old now → length now ≤ k
+    → map ghosts.lasting now ≡ map ghosts.told old
+all_lasted ghosts k old now have all =
+    maps_same ghosts.lasting ghosts.told now (λ j d at. have.last j d (let within = slice_get_within now j d at in omega arith) at) ∙ have.told_is
 
 -- ## the entries of a group
 
@@ -205,17 +206,19 @@ closed_still {D = D} ghosts old new names last devices area sync same area_is = 
     }
 
 -- one of them failed
-pub closed_failed : {D : Type 0} (told : D → Option (List (List ℕ))) (count : D → ℕ) (old new : GroupValue D) (items before flushed : List D) (len : ℕ) (area : D) (r : Result Unit Cause)
+pub closed_failed : {D : Type 0} (ghosts : Ghosts D) (old new : GroupValue D) (items before flushed : List D) (len : ℕ) (area : D) (r : Result Unit Cause)
     → new.devices ≡ old.devices
-    → count new.area.device ≡ count old.area.device → items ≡ new.devices → length items ≡ len → before ≡ items → area ≡ new.area.device → map told flushed ≡ map told before
-    → IfErr r (λ cause. cause ≡ Volume) → OnErr r (OneRose (map count before) (map count flushed)) → IfErr r (IsCloseFault count old (take len (flushed ++ drop (length flushed) items)) area)
-closed_failed told count old new items before flushed len area (Ok done) kept quiet devices_are many same area_is tells is rose = tt
-closed_failed {D = D} told count old new items before flushed len area (Err cause) kept quiet devices_are many same area_is tells is rose =
-    let as_many : length flushed ≡ length items = sym (length-map flushed told) ∙ ap length tells ∙ length-map before told ∙ ap length same in
-    subst (λ (c : Cause). IsCloseFault count old (take len (flushed ++ drop (length flushed) items)) area c) (sym is) (
-      subst (λ (ds : List D). OneRose (map count old.devices) (map count ds)) (sym (whole_again len flushed items many as_many))
-          (subst (λ (ds : List D). OneRose (map count ds) (map count flushed)) (same ∙ devices_are ∙ kept) rose),
-      ap count area_is ∙ quiet,
+    → ghosts.count new.area.device ≡ ghosts.count old.area.device → items ≡ new.devices → length items ≡ len → before ≡ items → area ≡ new.area.device
+    → map ghosts.told flushed ≡ map ghosts.told before
+    → IfErr r (λ cause. cause ≡ Volume) → OnErr r (OneRose (map ghosts.count before) (map ghosts.count flushed))
+    → IfErr r (IsCloseFault ghosts.count old (take len (flushed ++ drop (length flushed) items)) area)
+closed_failed ghosts old new items before flushed len area (Ok done) kept quiet devices_are many same area_is tells is rose = tt
+closed_failed {D = D} ghosts old new items before flushed len area (Err cause) kept quiet devices_are many same area_is tells is rose =
+    let as_many : length flushed ≡ length items = sym (length-map flushed ghosts.told) ∙ ap length tells ∙ length-map before ghosts.told ∙ ap length same in
+    subst (λ (c : Cause). IsCloseFault ghosts.count old (take len (flushed ++ drop (length flushed) items)) area c) (sym is) (
+      subst (λ (ds : List D). OneRose (map ghosts.count old.devices) (map ghosts.count ds)) (sym (whole_again len flushed items many as_many))
+          (subst (λ (ds : List D). OneRose (map ghosts.count ds) (map ghosts.count flushed)) (same ∙ devices_are ∙ kept) rose),
+      ap ghosts.count area_is ∙ quiet,
     )
 
 -- ## a store that is opened

@@ -3,6 +3,7 @@ use Rattle.std.proofs.Common.{◌≡◌, ◌≢◌, ℕ, zero, suc, ◌<◌, ◌
 use Rattle.std.specs.Prelude.{◌==◌, ◌&&◌, ◌⊎◌, not, filter, nat_lt, nat_le, if◌then◌else◌, Result, Ok, Err, OnOk, IfOk}
 use Rattle.std.proofs.lemmas.Bool.Decides.{nat_tests}
 use Rattle.std.proofs.lemmas.Option.{same_Some}
+use Rattle.volume_device.specs.declared.device.Device.{Ghosts}
 use Rattle.cow_volume.specs.Calls.{is_among}
 use Rattle.cow_volume.proofs.Group.{same_number, other_number}
 use Rattle.image_store.specs.FileBytes.{file_in}
@@ -247,13 +248,15 @@ show_step told old new v (Of set) before later (Ok done) shown still = λ p stan
     let is = shown p stands in
     (file_in is.blocks, is.took, record { allowed = ((is.blocks, is.are, refl), tt); stands = still p stands })
 
-pub opened_step : {D C R : Type 0} (told lasting : D → Option (List (List ℕ))) (old : StoreValue D) (said head : HeadValue) (devices later : List D) (area again : D)
-    (closed : Result Unit C) (answer : Result (StoreValue D) R) → OnOk closed ((p : PlainStore) → StandsAs told old p → IsKeptAs lasting devices area said p)
-    → ((devices later : List D) (area again : D) (p : PlainStore) → IsKeptAs lasting devices area said p
-    → map told later ≡ map lasting devices → told again ≡ lasting area → IsKeptAs told later again head p)
-    → IfOk answer (λ new. (p : PlainStore) → IsKeptAs told later again head p → StandsAs told new p)
-    → OnOk closed (IfOk answer (λ new. map told later ≡ map lasting devices → told again ≡ lasting area → (p : PlainStore) → StandsAs told old p → AreTaken told p (Opened ∷ []) new))
-opened_step told lasting old said head devices later area again (Err fault) answer kept found stands = tt
-opened_step told lasting old said head devices later area again (Ok done) (Err refused) kept found stands = tt
-opened_step told lasting old said head devices later area again (Ok done) (Ok new) kept found stands = λ tells slots p stood.
+pub opened_step : {D C R : Type 0} (ghosts : Ghosts D) (old : StoreValue D) (said head : HeadValue) (devices later : List D) (area again : D)
+    (closed : Result Unit C) (answer : Result (StoreValue D) R) → OnOk closed
+    ((p : PlainStore) → StandsAs ghosts.told old p → IsKeptAs ghosts.lasting devices area said p)
+    → ((devices later : List D) (area again : D) (p : PlainStore) → IsKeptAs ghosts.lasting devices area said p
+    → map ghosts.told later ≡ map ghosts.lasting devices → ghosts.told again ≡ ghosts.lasting area → IsKeptAs ghosts.told later again head p)
+    → IfOk answer (λ new. (p : PlainStore) → IsKeptAs ghosts.told later again head p → StandsAs ghosts.told new p)
+    → OnOk closed (IfOk answer (λ new. map ghosts.told later ≡ map ghosts.lasting devices → ghosts.told again ≡ ghosts.lasting area → (p : PlainStore)
+    → StandsAs ghosts.told old p → AreTaken ghosts.told p (Opened ∷ []) new))
+opened_step ghosts old said head devices later area again (Err fault) answer kept found stands = tt
+opened_step ghosts old said head devices later area again (Ok done) (Err refused) kept found stands = tt
+opened_step ghosts old said head devices later area again (Ok done) (Ok new) kept found stands = λ tells slots p stood.
     record { allowed = (tt, tt); stands = stands p (found devices later area again p (kept p stood) tells slots) }

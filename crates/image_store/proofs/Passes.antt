@@ -22,33 +22,35 @@ use Rattle.image_store.proofs.Sets.{at_or_below}
 -- ## the first pass
 
 -- the first k blocks are compared
-pub record IsMarkedTo {D I : Type 0} (told : D → Option (List (List ℕ))) (has : I → Option (List (List ℕ))) (size : I → ℕ) (old now : GroupValue D) (input input_now : I) (v : ℕ)
+pub record IsMarkedTo {D I : Type 0} (told : D → Option (List (List ℕ))) (source : Ghosts I) (old now : GroupValue D) (input input_now : I) (v : ℕ)
     (before differs : List Bool) (k : ℕ) : Type 0 where
   pub kept : KeepsPlains told old now
-  pub told_is : has input_now ≡ has input
-  pub size_is : size input_now ≡ size input
+  pub told_is : source.told input_now ≡ source.told input
+  pub size_is : source.size input_now ≡ source.size input
   pub len : length differs ≡ length before
-  pub marked : (wanted : List (List ℕ)) (ps : List Plain) → has input ≡ Some wanted → HasPlains told old ps → (b : ℕ) → b < k → slice_get differs b ≡ Some false
+  pub marked : (wanted : List (List ℕ)) (ps : List Plain) → source.told input ≡ Some wanted → HasPlains told old ps → (b : ℕ) → b < k
+      → slice_get differs b ≡ Some false
       → slice_get (volume_in ps v).blocks b ≡ slice_get wanted b
 
-pub marked_none : {D I : Type 0} (told : D → Option (List (List ℕ))) (has : I → Option (List (List ℕ))) (size : I → ℕ) (old : GroupValue D) (input : I) (v : ℕ) (differs : List Bool)
-    → IsMarkedTo told has size old old input input v differs differs 0
-marked_none told has size old input v differs = record { kept = kept_refl told old; told_is = refl; size_is = refl; len = refl; marked = λ wanted ps is plains b l. absurd (omega arith) }
+pub marked_none : {D I : Type 0} (told : D → Option (List (List ℕ))) (source : Ghosts I) (old : GroupValue D) (input : I) (v : ℕ) (differs : List Bool)
+    → IsMarkedTo told source old old input input v differs differs 0
+marked_none told source old input v differs = record { kept = kept_refl told old; told_is = refl; size_is = refl; len = refl; marked = λ wanted ps is plains b l. absurd (omega arith) }
 
 -- one more is
-pub marked_more : {D I : Type 0} (told : D → Option (List (List ℕ))) (has : I → Option (List (List ℕ))) (size : I → ℕ) (old now new : GroupValue D) (input input_now input_new : I) (v : ℕ)
-    (before differs : List Bool) (k : ℕ) (mark : Bool) → IsMarkedTo told has size old now input input_now v before differs k → KeepsPlains told now new → has input_new ≡ has input_now
-    → size input_new ≡ size input_now → k < length differs
-    → ((wanted : List (List ℕ)) (ps : List Plain) → has input_now ≡ Some wanted → HasPlains told now ps → mark ≡ false → slice_get (volume_in ps v).blocks k ≡ slice_get wanted k)
-    → IsMarkedTo told has size old new input input_new v before (slice_set differs k mark) (k + 1)
-marked_more told has size old now new input input_now input_new v before differs k mark so kept told_is size_is l same = record {
+pub marked_more : {D I : Type 0} (told : D → Option (List (List ℕ))) (source : Ghosts I) (old now new : GroupValue D) (input input_now input_new : I) (v : ℕ)
+    (before differs : List Bool) (k : ℕ) (mark : Bool) → IsMarkedTo told source old now input input_now v before differs k → KeepsPlains told now new
+    → source.told input_new ≡ source.told input_now → source.size input_new ≡ source.size input_now → k < length differs
+    → ((wanted : List (List ℕ)) (ps : List Plain) → source.told input_now ≡ Some wanted → HasPlains told now ps → mark ≡ false
+    → slice_get (volume_in ps v).blocks k ≡ slice_get wanted k) → IsMarkedTo told source old new input input_new v before (slice_set differs k mark) (k + 1)
+marked_more told source old now new input input_now input_new v before differs k mark so kept told_is size_is l same = record {
   kept = kept_then told old now new so.kept kept;
   told_is = told_is ∙ so.told_is;
   size_is = size_is ∙ so.size_is;
   len = length-slice_set differs k mark ∙ so.len;
   marked = λ wanted ps is plains b m at. by_place wanted ps is plains b m at (at_or_below b k (omega arith));
 } where
-  by_place : (wanted : List (List ℕ)) (ps : List Plain) → has input ≡ Some wanted → HasPlains told old ps → (b : ℕ) → b < k + 1 → slice_get (slice_set differs k mark) b ≡ Some false
+  by_place : (wanted : List (List ℕ)) (ps : List Plain) → source.told input ≡ Some wanted → HasPlains told old ps → (b : ℕ) → b < k + 1
+      → slice_get (slice_set differs k mark) b ≡ Some false
       → (b ≡ k) ⊎ (b < k)
       → slice_get (volume_in ps v).blocks b ≡ slice_get wanted b
   by_place wanted ps is plains b m at (inl e) =
@@ -61,12 +63,13 @@ marked_more told has size old now new input input_now input_new v before differs
   by_place wanted ps is plains b m at (inr n) =
       so.marked wanted ps is plains b n (sym (slice_get-set_other differs k b mark (λ e. absurd (omega arith))) ∙ at)
 
-pub marked_all : {D I : Type 0} (told : D → Option (List (List ℕ))) (has : I → Option (List (List ℕ))) (size : I → ℕ) (old now : GroupValue D) (input input_now : I) (v : ℕ)
+pub marked_all : {D I : Type 0} (told : D → Option (List (List ℕ))) (source : Ghosts I) (old now : GroupValue D) (input input_now : I) (v : ℕ)
     (before differs : List Bool) (k : ℕ)
-    → v < length old.area.volumes → length before ≡ blocks_at old v → blocks_at old v ≤ k → ((wanted : List (List ℕ)) → has input ≡ Some wanted → length wanted ≡ blocks_at old v)
-    → IsMarkedTo told has size old now input input_now v before differs k
-    → (wanted : List (List ℕ)) (ps : List Plain) → has input ≡ Some wanted → HasPlains told old ps → AreReady differs wanted (volume_in ps v).blocks 0
-marked_all told has size old now input input_now v before differs k l marks all whole so wanted ps is plains =
+    → v < length old.area.volumes → length before ≡ blocks_at old v → blocks_at old v ≤ k
+    → ((wanted : List (List ℕ)) → source.told input ≡ Some wanted → length wanted ≡ blocks_at old v)
+    → IsMarkedTo told source old now input input_now v before differs k
+    → (wanted : List (List ℕ)) (ps : List Plain) → source.told input ≡ Some wanted → HasPlains told old ps → AreReady differs wanted (volume_in ps v).blocks 0
+marked_all told source old now input input_now v before differs k l marks all whole so wanted ps is plains =
     let many = as_many_blocks told old ps v plains l in
     record {
       marks = so.len ∙ marks ∙ sym many;
@@ -119,20 +122,21 @@ pub read_there : (input : Option (List (List ℕ))) (wanted : List (List ℕ)) (
     → slice_get wanted k ≡ Some bytes
 read_there input wanted k piece bytes read is same = subst (λ (o : Option (List (List ℕ))). IfSome o (λ blocks. slice_get blocks k ≡ Some piece)) is read ∙ ap Some (sym same)
 
-pub record IsWrittenTo {D I : Type 0} (told : D → Option (List (List ℕ))) (has : I → Option (List (List ℕ))) (size : I → ℕ) (old now : GroupValue D) (input input_now : I) (v : ℕ)
+pub record IsWrittenTo {D I : Type 0} (told : D → Option (List (List ℕ))) (source : Ghosts I) (old now : GroupValue D) (input input_now : I) (v : ℕ)
     (differs : List Bool) (from k : ℕ) : Type 0 where
   pub volumes : now.area.volumes ≡ old.area.volumes
-  pub told_is : has input_now ≡ has input
-  pub size_is : size input_now ≡ size input
-  pub written : (wanted : List (List ℕ)) (ps : List Plain) → has input ≡ Some wanted → HasPlains told old ps → AreReady differs wanted (volume_in ps v).blocks from
+  pub told_is : source.told input_now ≡ source.told input
+  pub size_is : source.size input_now ≡ source.size input
+  pub written : (wanted : List (List ℕ)) (ps : List Plain) → source.told input ≡ Some wanted → HasPlains told old ps
+      → AreReady differs wanted (volume_in ps v).blocks from
       → HasSome told now ps v differs wanted k
 
 with_own : (p : Plain) → with_blocks p.blocks p ≡ p
 with_own p = refl
 
-pub written_none : {D I : Type 0} (told : D → Option (List (List ℕ))) (has : I → Option (List (List ℕ))) (size : I → ℕ) (old : GroupValue D) (input : I) (v : ℕ) (differs : List Bool) (from : ℕ)
-    → IsWrittenTo told has size old old input input v differs from from
-written_none told has size old input v differs from = record {
+pub written_none : {D I : Type 0} (told : D → Option (List (List ℕ))) (source : Ghosts I) (old : GroupValue D) (input : I) (v : ℕ) (differs : List Bool) (from : ℕ)
+    → IsWrittenTo told source old old input input v differs from from
+written_none told source old input v differs from = record {
   volumes = refl;
   told_is = refl;
   size_is = refl;
@@ -161,10 +165,10 @@ ready_more differs wanted now k ready here = record {
   by_place b (inr l) = ready.first b l
 
 -- a block that is not marked is passed
-pub written_past : {D I : Type 0} (told : D → Option (List (List ℕ))) (has : I → Option (List (List ℕ))) (size : I → ℕ) (old now : GroupValue D) (input input_now : I) (v : ℕ) (differs : List Bool)
+pub written_past : {D I : Type 0} (told : D → Option (List (List ℕ))) (source : Ghosts I) (old now : GroupValue D) (input input_now : I) (v : ℕ) (differs : List Bool)
     (from k : ℕ)
-    → slice_get differs k ≡ Some false → IsWrittenTo told has size old now input input_now v differs from k → IsWrittenTo told has size old now input input_now v differs from (k + 1)
-written_past told has size old now input input_now v differs from k unmarked so = record {
+    → slice_get differs k ≡ Some false → IsWrittenTo told source old now input input_now v differs from k → IsWrittenTo told source old now input input_now v differs from (k + 1)
+written_past told source old now input input_now v differs from k unmarked so = record {
   volumes = so.volumes;
   told_is = so.told_is;
   size_is = so.size_is;
@@ -225,13 +229,14 @@ set_mixed old wanted now k bytes l at mixed = (length-slice_set now k bytes ∙ 
     shifted e (inl f) = inl (e ∙ f)
     shifted e (inr f) = inr (e ∙ f)
 
-pub written_more : {D I : Type 0} (ghosts : Ghosts D) (has : I → Option (List (List ℕ))) (measure : I → ℕ) (old now room new : GroupValue D)
+pub written_more : {D I : Type 0} (ghosts : Ghosts D) (source : Ghosts I) (old now room new : GroupValue D)
     (input input_now input_new : I) (v : ℕ)
-    (differs : List Bool) (from k : ℕ) (bytes : List ℕ) → v < length old.area.volumes → k < blocks_at old v → IsWrittenTo ghosts.told has measure old now input input_now v differs from k
+    (differs : List Bool) (from k : ℕ) (bytes : List ℕ) → v < length old.area.volumes → k < blocks_at old v → IsWrittenTo ghosts.told source old now input input_now v differs from k
     → KeepsPlains ghosts.told now room
-    → has input_new ≡ has input_now → measure input_new ≡ measure input_now → ((wanted : List (List ℕ)) → has input_now ≡ Some wanted → slice_get wanted k ≡ Some bytes)
-    → IsPut ghosts room new v (record { block = k; bytes = bytes }) → IsWrittenTo ghosts.told has measure old new input input_new v differs from (k + 1)
-written_more ghosts has measure old now room new input input_now input_new v differs from k bytes l m so kept told_is size_is read put = record {
+    → source.told input_new ≡ source.told input_now → source.size input_new ≡ source.size input_now
+    → ((wanted : List (List ℕ)) → source.told input_now ≡ Some wanted → slice_get wanted k ≡ Some bytes)
+    → IsPut ghosts room new v (record { block = k; bytes = bytes }) → IsWrittenTo ghosts.told source old new input input_new v differs from (k + 1)
+written_more ghosts source old now room new input input_now input_new v differs from k bytes l m so kept told_is size_is read put = record {
   volumes = put.kept.volumes ∙ kept.volumes ∙ so.volumes;
   told_is = told_is ∙ so.told_is;
   size_is = size_is ∙ so.size_is;
@@ -256,11 +261,12 @@ written_more ghosts has measure old now room new input input_now input_new v dif
   blocks_of ns = blocks_in (slice_get ns v)
 
 -- all marked blocks are put
-pub written_all : {D I : Type 0} (told : D → Option (List (List ℕ))) (has : I → Option (List (List ℕ))) (size : I → ℕ) (old now : GroupValue D) (input input_now : I) (v : ℕ) (differs : List Bool)
+pub written_all : {D I : Type 0} (told : D → Option (List (List ℕ))) (source : Ghosts I) (old now : GroupValue D) (input input_now : I) (v : ℕ) (differs : List Bool)
     (from k : ℕ)
-    (wanted : List (List ℕ)) (ps : List Plain) → v < length old.area.volumes → blocks_at old v ≤ k → IsWrittenTo told has size old now input input_now v differs from k → has input ≡ Some wanted
+    (wanted : List (List ℕ)) (ps : List Plain) → v < length old.area.volumes → blocks_at old v ≤ k
+    → IsWrittenTo told source old now input input_now v differs from k → source.told input ≡ Some wanted
     → HasPlains told old ps → AreReady differs wanted (volume_in ps v).blocks from → HasPlains told now (on_volume v (with_blocks wanted) ps)
-written_all told has size old now input input_now v differs from k wanted ps l all so is plains ready =
+written_all told source old now input input_now v differs from k wanted ps l all so is plains ready =
     let some = so.written wanted ps is plains ready in
     let many = as_many_blocks told old ps v plains l in
     let long = some.mixed.0 in
@@ -271,12 +277,12 @@ written_all told has size old now input input_now v differs from k wanted ps l a
     cc) in
     subst (λ (blocks : List (List ℕ)). HasPlains told now (on_volume v (with_blocks blocks) ps)) same some.plains
 
-pub written_stopped : {D I : Type 0} (told : D → Option (List (List ℕ))) (has : I → Option (List (List ℕ))) (size : I → ℕ) (old now new : GroupValue D) (input input_now : I) (v : ℕ)
+pub written_stopped : {D I : Type 0} (told : D → Option (List (List ℕ))) (source : Ghosts I) (old now new : GroupValue D) (input input_now : I) (v : ℕ)
     (differs : List Bool) (from k up_to : ℕ)
-    (wanted : List (List ℕ)) (ps : List Plain) (list : List Evicted) → 0 < up_to → IsWrittenTo told has size old now input input_now v differs from k → HasRoom told now new v k up_to
-    → list ≡ images_going up_to now.images → has input ≡ Some wanted → HasPlains told old ps → AreReady differs wanted (volume_in ps v).blocks from
+    (wanted : List (List ℕ)) (ps : List Plain) (list : List Evicted) → 0 < up_to → IsWrittenTo told source old now input input_now v differs from k → HasRoom told now new v k up_to
+    → list ≡ images_going up_to now.images → source.told input ≡ Some wanted → HasPlains told old ps → AreReady differs wanted (volume_in ps v).blocks from
     → HasSomeGone told new ps v differs wanted k up_to list
-written_stopped told has size old now new input input_now v differs from k up_to wanted ps list some so room list_is is plains ready =
+written_stopped told source old now new input input_now v differs from k up_to wanted ps list some so room list_is is plains ready =
     let part = so.written wanted ps is plains ready in
     record {
       now = part.now;
@@ -290,10 +296,11 @@ written_stopped told has size old now new input input_now v differs from k up_to
     }
 
 -- a device failed
-pub written_part : {D I : Type 0} (told : D → Option (List (List ℕ))) (has : I → Option (List (List ℕ))) (size : I → ℕ) (old now new : GroupValue D) (input input_now : I) (v : ℕ)
+pub written_part : {D I : Type 0} (told : D → Option (List (List ℕ))) (source : Ghosts I) (old now new : GroupValue D) (input input_now : I) (v : ℕ)
     (differs : List Bool) (from k : ℕ)
-    (wanted : List (List ℕ)) (ps : List Plain) → IsWrittenTo told has size old now input input_now v differs from k → KeepsPlains told now new → has input ≡ Some wanted
+    (wanted : List (List ℕ)) (ps : List Plain) → IsWrittenTo told source old now input input_now v differs from k → KeepsPlains told now new
+    → source.told input ≡ Some wanted
     → HasPlains told old ps → AreReady differs wanted (volume_in ps v).blocks from → HasMixed told new ps v wanted
-written_part told has size old now new input input_now v differs from k wanted ps so kept is plains ready =
+written_part told source old now new input input_now v differs from k wanted ps so kept is plains ready =
     let part = so.written wanted ps is plains ready in
     (part.now, part.mixed, kept.plains (on_volume v (with_blocks part.now) ps) part.plains)

@@ -3,6 +3,7 @@ use Rattle.std.proofs.Common.{◌≡◌, ℕ, ◌+◌, List, [], ◌∷◌, ◌+
 use Rattle.std.specs.Prelude.{Result, Ok, Err, IfOk}
 use Rattle.std.proofs.lemmas.List.Sums.{sum_by-cons}
 use Rattle.vss_names.specs.TextValue.{TextValue}
+use Rattle.volume_device.specs.declared.device.Device.{Ghosts}
 use Rattle.write_history.specs.declared.mark.Mark.{Mark}
 use Rattle.write_history.specs.declared.mark.Mark.TheVariants.{Clean}
 use Rattle.write_history.specs.declared.move_item.Move.{Move}
@@ -27,28 +28,28 @@ use Rattle.orders.proofs.Reporting.{StandsAt, in_turn_as, of_trail_in_turn, none
 
 -- ## to the report
 
-replayed : {D : Type 0} {lasting : D → Option (List (List ℕ))} (told : D → Option (List (List ℕ))) (count : D → ℕ) (tells : Bool) (s : Plan) (moves : List Move) (p q : Played D)
-    (text : TextValue) → IsFresh told count tells s p → IsFollowedFar told count p q moves → IsEndedInTurn told lasting count q text → IsReplayed count tells s moves text.bytes
-replayed told count tells s moves p q text fresh far h =
+replayed : {D : Type 0} (ghosts : Ghosts D) (tells : Bool) (s : Plan) (moves : List Move) (p q : Played D)
+    (text : TextValue) → IsFresh ghosts tells s p → IsFollowedFar ghosts p q moves → IsEndedInTurn ghosts q text → IsReplayed ghosts.count tells s moves text.bytes
+replayed ghosts tells s moves p q text fresh far h =
     let rest = h.turned.played.onward.rest in
     let made : q.trail ≡ far.made = far.trail ∙ ap (λ (ms : List Move). ms ++ far.made) fresh.trail in
-    let begun : StandsAt told tells s far.made q = record { plan = far.plan ∙ fresh.plan; trail_is = made; tell = λ t. far.tells ∙ fresh.tell t } in
+    let begun : StandsAt ghosts.told tells s far.made q = record { plan = far.plan ∙ fresh.plan; trail_is = made; tell = λ t. far.tells ∙ fresh.tell t } in
     record {
       first = far.made;
       rest = rest;
-      in_turn = in_turn_as told tells s far.made q rest begun h.turned.in_turn;
-      reported = of_trail_in_turn told count tells s far.made q text begun h;
+      in_turn = in_turn_as ghosts.told tells s far.made q rest begun h.turned.in_turn;
+      reported = of_trail_in_turn ghosts tells s far.made q text begun h;
       exact = λ never legal. sym made ∙ far.exact never
           (subst (λ (x : Plan). is_legal x (p.trail ++ moves) ≡ true) (sym fresh.plan) (subst (λ (ms : List Move). is_legal s (ms ++ moves) ≡ true) (sym fresh.trail) legal))
           ∙ ap (λ (ms : List Move). ms ++ moves) fresh.trail;
-      unmarked = λ never none. both_none far.made rest (ap faults (sym made) ∙ far.unmarked never none ∙ ap faults fresh.trail) (none_marked told count q h.last h.turned.played.onward never);
+      unmarked = λ never none. both_none far.made rest (ap faults (sym made) ∙ far.unmarked never none ∙ ap faults fresh.trail) (none_marked ghosts q h.last h.turned.played.onward never);
     }
 
-pub replayed_if : {D : Type 0} (told lasting : D → Option (List (List ℕ))) (count : D → ℕ) (tells : Bool) (s : Plan) (moves : List Move) (p q : Played D)
-    (result : Result TextValue PlayFault) → IsFresh told count tells s p → IsFollowedFar told count p q moves → IfOk result (IsEndedInTurn told lasting count q)
-    → IfOk result (λ text. IsReplayed count tells s moves text.bytes)
-replayed_if told lasting count tells s moves p q (Ok text) fresh far h = replayed told count tells s moves p q text fresh far h
-replayed_if told lasting count tells s moves p q (Err e) fresh far h = tt
+pub replayed_if : {D : Type 0} (ghosts : Ghosts D) (tells : Bool) (s : Plan) (moves : List Move) (p q : Played D)
+    (result : Result TextValue PlayFault) → IsFresh ghosts tells s p → IsFollowedFar ghosts p q moves → IfOk result (IsEndedInTurn ghosts q)
+    → IfOk result (λ text. IsReplayed ghosts.count tells s moves text.bytes)
+replayed_if ghosts tells s moves p q (Ok text) fresh far h = replayed ghosts tells s moves p q text fresh far h
+replayed_if ghosts tells s moves p q (Err e) fresh far h = tt
 
 -- ## the moves of a text
 

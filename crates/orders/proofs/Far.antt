@@ -3,10 +3,11 @@ use Rattle.std.proofs.Common.{◌≡◌, ℕ, ◌+◌, ◌<◌, ◌≤◌, List,
 use Rattle.std.proofs.lemmas.Bool.{and_from, and_parts, true≢false}
 use Rattle.std.proofs.lemmas.List.{append-nil, take_more, take_all, take-append-drop}
 use Rattle.std.proofs.lemmas.List.Sums.{sum_by-append}
+use Rattle.volume_device.specs.declared.device.Device.{Ghosts}
 use Rattle.write_history.specs.declared.mark.Mark.{Mark}
 use Rattle.write_history.specs.declared.mark.Mark.TheVariants.{Clean}
 use Rattle.write_history.specs.declared.move_item.Move.{Move}
-use Rattle.cow_volume.specs.Calls.{NeverFails, uncounted}
+use Rattle.cow_volume.specs.Calls.{NeverFails, counted_as}
 use Rattle.scenario.specs.Plan.{Plan}
 use Rattle.vss_model.specs.Acts.{event_allows}
 use Rattle.vss_model.specs.declared.event.Event.{Event}
@@ -50,8 +51,8 @@ legal_clean s r m k actor clean legal =
 
 -- ## the next move
 
-module _ {D : Type 0} (told : D → Option (List (List ℕ))) (count : D → ℕ) where
-  pub far_none : (p : Played D) → IsFollowedFar told count p p []
+module _ {D : Type 0} (ghosts : Ghosts D) where
+  pub far_none : (p : Played D) → IsFollowedFar ghosts p p []
   far_none p = record {
     made = [];
     plan = refl;
@@ -61,8 +62,8 @@ module _ {D : Type 0} (told : D → Option (List (List ℕ))) (count : D → ℕ
     unmarked = λ never none. refl;
   }
 
-  far_more : (p q r : Played D) (ms : List Move) (m : Move) → IsFollowedFar told count p q ms → IsMovedOn told uncounted q r m.actor
-      → (NeverFails count → is_legal_move q.plan (run_of q) m ≡ true → r.trail ≡ q.trail ++ m ∷ []) → IsFollowedFar told count p r (ms ++ m ∷ [])
+  far_more : (p q r : Played D) (ms : List Move) (m : Move) → IsFollowedFar ghosts p q ms → IsMovedOn (counted_as ghosts true) q r m.actor
+      → (NeverFails ghosts.count → is_legal_move q.plan (run_of q) m ≡ true → r.trail ≡ q.trail ++ m ∷ []) → IsFollowedFar ghosts p r (ms ++ m ∷ [])
   far_more p q r ms m far one marked = record {
     made = far.made ++ record { actor = m.actor; mark = one.mark } ∷ [];
     plan = one.plan ∙ far.plan;
@@ -90,19 +91,21 @@ module _ {D : Type 0} (told : D → Option (List (List ℕ))) (count : D → ℕ
       unmarked_last : (xs : List Move) (x : Move) → faults (xs ++ x ∷ []) ≡ 0 → (faults xs ≡ 0) × (x.mark ≡ Clean)
       unmarked_last xs x e = let all = clean_of x.mark (faults xs) (sym (faults-append xs x) ∙ e) in (all.0, (parts x [] all.1).0)
 
-  pub far_next : (p q r : Played D) (moves : List Move) (i : ℕ) (d : Move) → i < length moves → IsFollowedFar told count p q (take i moves) → IsMovedOn told uncounted q r (get_or moves i d).actor
-      → (NeverFails count → is_legal_move q.plan (run_of q) (get_or moves i d) ≡ true → r.trail ≡ q.trail ++ get_or moves i d ∷ []) → IsFollowedFar told count p r (take (i + 1) moves)
+  pub far_next : (p q r : Played D) (moves : List Move) (i : ℕ) (d : Move) → i < length moves → IsFollowedFar ghosts p q (take i moves)
+      → IsMovedOn (counted_as ghosts true) q r (get_or moves i d).actor
+      → (NeverFails ghosts.count → is_legal_move q.plan (run_of q) (get_or moves i d) ≡ true → r.trail ≡ q.trail ++ get_or moves i d ∷ [])
+      → IsFollowedFar ghosts p r (take (i + 1) moves)
   far_next p q r moves i d l far one marked =
-      subst (λ (ms : List Move). IsFollowedFar told count p r ms) (sym (take_more moves i d l)) (far_more p q r (take i moves) (get_or moves i d) far one marked)
+      subst (λ (ms : List Move). IsFollowedFar ghosts p r ms) (sym (take_more moves i d l)) (far_more p q r (take i moves) (get_or moves i d) far one marked)
 
-  pub far_all : (p q : Played D) (moves : List Move) (i : ℕ) → length moves ≤ i → IsFollowedFar told count p q (take i moves) → IsFollowedFar told count p q moves
-  far_all p q moves i l far = subst (λ (ms : List Move). IsFollowedFar told count p q ms) (take_all i moves l) far
+  pub far_all : (p q : Played D) (moves : List Move) (i : ℕ) → length moves ≤ i → IsFollowedFar ghosts p q (take i moves) → IsFollowedFar ghosts p q moves
+  far_all p q moves i l far = subst (λ (ms : List Move). IsFollowedFar ghosts p q ms) (take_all i moves l) far
 
   -- the next may not come: then these moves are no legal trail
-  pub far_stopped : (p q r : Played D) (moves : List Move) (i : ℕ) (d : Move) → i < length moves → IsKept told r → IsFollowedFar told count p q (take i moves)
-      → (r ≡ q) × Stays q (get_or moves i d).actor → IsFollowedFar told count p r moves
+  pub far_stopped : (p q r : Played D) (moves : List Move) (i : ℕ) (d : Move) → i < length moves → IsKept ghosts.told r
+      → IsFollowedFar ghosts p q (take i moves) → (r ≡ q) × Stays q (get_or moves i d).actor → IsFollowedFar ghosts p r moves
   far_stopped p q r moves i d l kept far stays =
-      subst (λ (x : Played D). IsFollowedFar told count p x moves) (sym stays.0) (record {
+      subst (λ (x : Played D). IsFollowedFar ghosts p x moves) (sym stays.0) (record {
         made = far.made;
         plan = far.plan;
         trail = far.trail;
@@ -118,10 +121,10 @@ module _ {D : Type 0} (told : D → Option (List (List ℕ))) (count : D → ℕ
             let may : may_move p.plan (run p.plan (p.trail ++ take i moves)) m.actor ≡ true =
             (and_parts (may_move p.plan (run p.plan (p.trail ++ take i moves)) m.actor)
             (allows p.plan (run p.plan (p.trail ++ take i moves)) (event_of p.plan (run p.plan (p.trail ++ take i moves)) m.actor) m.mark) all.1).0 in
-            let kept_q : IsKept told q = subst (λ (x : Played D). IsKept told x) stays.0 kept in
+            let kept_q : IsKept ghosts.told q = subst (λ (x : Played D). IsKept ghosts.told x) stays.0 kept in
             let never_may : may_move p.plan (run p.plan (p.trail ++ take i moves)) m.actor ≡ false =
             subst (λ (ms : List Move). may_move p.plan (run p.plan ms) m.actor ≡ false) (far.exact never all.0)
-            (subst (λ (s : Plan). may_move s (run s q.trail) m.actor ≡ false) far.plan (may_never told q m.actor kept_q stays.1)) in
+            (subst (λ (s : Plan). may_move s (run s q.trail) m.actor ≡ false) far.plan (may_never ghosts.told q m.actor kept_q stays.1)) in
             absurd (true≢false (sym may ∙ never_may));
         unmarked = λ never none. far.unmarked never (none_before moves i none);
       })

@@ -7,6 +7,7 @@ use Rattle.std.specs.List.{range_with_len}
 use Rattle.std.proofs.lemmas.List.{append-nil, take_more, take-append-drop}
 use Rattle.std.proofs.lemmas.List.Folds.{find-append}
 use Rattle.vss_names.specs.declared.out_of_memory.OutOfMemory.{OutOfMemory}
+use Rattle.volume_device.specs.declared.device.Device.{Ghosts}
 use Rattle.write_history.specs.declared.actor.Actor.{Actor}
 use Rattle.write_history.specs.declared.actor.Actor.TheVariants.{Lane, Writer, Advance, Idle}
 use Rattle.write_history.specs.declared.move_item.Move.{Move}
@@ -36,8 +37,8 @@ one_false true b (inr e) = ap not e
 one_false false b (inr e) = refl
 
 -- an actor that moved goes, and one that stays does not
-pub mover_goes : {D : Type 0} (told : D → Option (List (List ℕ))) (count : D → ℕ) (p q : Played D) (actor : Actor) → IsMovedOn told count p q actor → goes p.plan p.trail actor ≡ true
-mover_goes told count p q actor h =
+pub mover_goes : {D : Type 0} (ghosts : Ghosts D) (p q : Played D) (actor : Actor) → IsMovedOn ghosts p q actor → goes p.plan p.trail actor ≡ true
+mover_goes ghosts p q actor h =
     both_true (may_move p.plan (run_of p) actor) (is_finished p.plan p.trail actor)
     (first_of (may_move p.plan (run_of p) actor) (allows p.plan (run_of p) (event_of p.plan (run_of p) actor) h.mark) h.legal) h.going
 
@@ -82,14 +83,13 @@ one_stays {D} first now next actors actor h here =
     let put : goes first.plan first.trail actor ≡ false = subst (λ (q : Played D). goes q.plan q.trail actor ≡ false) h.same (stays_put now actor here.1) in
     record { same = here.0 ∙ h.same; none = find_past (goes first.plan first.trail) actors (actor ∷ []) h.none ∙ find_none (goes first.plan first.trail) actor put }
 
-pub one_goes : {D : Type 0} (told : D → Option (List (List ℕ))) (count : D → ℕ) (first now next : Played D) (before rest : List Actor) (actor : Actor) → AreStaying first now before
-    → IsMovedOn told count now next actor
-    → IsFirstToGo told count first next (before ++ actor ∷ rest) (Ok true)
-one_goes {D} told count first now next before rest actor h moved =
-    let one = subst (λ (q : Played D). IsMovedOn told count q next actor) h.same moved in (
+pub one_goes : {D : Type 0} (ghosts : Ghosts D) (first now next : Played D) (before rest : List Actor) (actor : Actor) → AreStaying first now before
+    → IsMovedOn ghosts now next actor → IsFirstToGo ghosts first next (before ++ actor ∷ rest) (Ok true)
+one_goes {D} ghosts first now next before rest actor h moved =
+    let one = subst (λ (q : Played D). IsMovedOn ghosts q next actor) h.same moved in (
       actor,
       one,
-      find_past (goes first.plan first.trail) before (actor ∷ rest) h.none ∙ find_here (goes first.plan first.trail) actor rest (mover_goes told count first next actor one),
+      find_past (goes first.plan first.trail) before (actor ∷ rest) h.none ∙ find_here (goes first.plan first.trail) actor rest (mover_goes ghosts first next actor one),
     )
 
 -- the next of a list of actors
@@ -98,27 +98,27 @@ pub staying_next : {D : Type 0} (first now next : Played D) (actors : List Actor
 staying_next {D} first now next actors i d l h here =
     subst (λ (xs : List Actor). AreStaying first next xs) (sym (take_more actors i d l)) (one_stays first now next (take i actors) (get_or actors i d) h here)
 
-pub next_goes : {D : Type 0} (told : D → Option (List (List ℕ))) (count : D → ℕ) (first now next : Played D) (actors : List Actor) (i : ℕ) (d : Actor) → i < length actors
+pub next_goes : {D : Type 0} (ghosts : Ghosts D) (first now next : Played D) (actors : List Actor) (i : ℕ) (d : Actor) → i < length actors
     → AreStaying first now (take i actors)
-    → IsMovedOn told count now next (get_or actors i d) → IsFirstToGo told count first next actors (Ok true)
-next_goes {D} told count first now next actors i d l h moved =
+    → IsMovedOn ghosts now next (get_or actors i d) → IsFirstToGo ghosts first next actors (Ok true)
+next_goes {D} ghosts first now next actors i d l h moved =
     let parts : actors ≡ take i actors ++ get_or actors i d ∷ drop (suc i) actors = sym (take-append-drop i actors) ∙ ap (λ (xs : List Actor). take i actors ++ xs) (drop-cons actors i d l) in
-    subst (λ (xs : List Actor). IsFirstToGo told count first next xs (Ok true)) (sym parts) (one_goes told count first now next (take i actors) (drop (suc i) actors) (get_or actors i d) h moved)
+    subst (λ (xs : List Actor). IsFirstToGo ghosts first next xs (Ok true)) (sym parts) (one_goes ghosts first now next (take i actors) (drop (suc i) actors) (get_or actors i d) h moved)
 
 -- one more list of actors is asked
-pub then_true : {D : Type 0} (told : D → Option (List (List ℕ))) (count : D → ℕ) (old new : Played D) (xs ys : List Actor) → IsFirstToGo told count old new xs (Ok true)
-    → IsFirstToGo told count old new (xs ++ ys) (Ok true)
-then_true told count old new xs ys h = (h.0, h.1, find_within (goes old.plan old.trail) xs ys h.0 h.2)
+pub then_true : {D : Type 0} (ghosts : Ghosts D) (old new : Played D) (xs ys : List Actor) → IsFirstToGo ghosts old new xs (Ok true)
+    → IsFirstToGo ghosts old new (xs ++ ys) (Ok true)
+then_true ghosts old new xs ys h = (h.0, h.1, find_within (goes old.plan old.trail) xs ys h.0 h.2)
 
-pub then_asked : {D : Type 0} (told : D → Option (List (List ℕ))) (count : D → ℕ) (old now new : Played D) (xs ys : List Actor) (r : Result Bool OutOfMemory)
-    → IsFirstToGo told count old now xs (Ok false) → IsFirstToGo told count now new ys r → IsFirstToGo told count old new (xs ++ ys) r
-then_asked {D} told count old now new xs ys (Ok true) first h =
-    let one : IsFirstToGo told count old new ys (Ok true) = subst (λ (q : Played D). IsFirstToGo told count q new ys (Ok true)) first.0 h in
+pub then_asked : {D : Type 0} (ghosts : Ghosts D) (old now new : Played D) (xs ys : List Actor) (r : Result Bool OutOfMemory)
+    → IsFirstToGo ghosts old now xs (Ok false) → IsFirstToGo ghosts now new ys r → IsFirstToGo ghosts old new (xs ++ ys) r
+then_asked {D} ghosts old now new xs ys (Ok true) first h =
+    let one : IsFirstToGo ghosts old new ys (Ok true) = subst (λ (q : Played D). IsFirstToGo ghosts q new ys (Ok true)) first.0 h in
     (one.0, one.1, find_past (goes old.plan old.trail) xs ys first.1 ∙ one.2)
-then_asked {D} told count old now new xs ys (Ok false) first h =
-    let one : IsFirstToGo told count old new ys (Ok false) = subst (λ (q : Played D). IsFirstToGo told count q new ys (Ok false)) first.0 h in
+then_asked {D} ghosts old now new xs ys (Ok false) first h =
+    let one : IsFirstToGo ghosts old new ys (Ok false) = subst (λ (q : Played D). IsFirstToGo ghosts q new ys (Ok false)) first.0 h in
     (one.0, find_past (goes old.plan old.trail) xs ys first.1 ∙ one.1)
-then_asked told count old now new xs ys (Err e) first h = tt
+then_asked ghosts old now new xs ys (Err e) first h = tt
 
 -- ## where none goes the run is complete
 
@@ -157,9 +157,9 @@ none_alone p x e = (if_none (p x) x None e).0
 stays : {D : Type 0} (p : Played D) (actor : Actor) → goes p.plan p.trail actor ≡ false → Stays p actor
 stays p actor e = stays_by (may_move p.plan (run_of p) actor) (is_finished p.plan p.trail actor) e
 
-pub none_goes : {D : Type 0} (told : D → Option (List (List ℕ))) (count : D → ℕ) (p : Played D) (k : ℕ) → IsKept told p
+pub none_goes : {D : Type 0} (ghosts : Ghosts D) (p : Played D) (k : ℕ) → IsKept ghosts.told p
     → find (goes p.plan p.trail) (asked_from k (actors_in_threads p.plan)) ≡ None → is_complete p.plan p.trail ≡ true
-none_goes told count p k kept e =
+none_goes ghosts p k kept e =
     let test = goes p.plan p.trail in
     let lanes = map (λ i. Lane i) (range_with_len 0 (length p.plan.lanes)) in
     let writers = map (λ w. Writer w) (range_with_len 0 (length p.plan.writers)) in
@@ -167,16 +167,16 @@ none_goes told count p k kept e =
     let all : find test (lanes ++ writers ++ Advance ∷ []) ≡ None = none_in_all test k (actors_in_threads p.plan) ends.0 in
     let most = find_parts test (lanes ++ writers) (Advance ∷ []) all in
     let parts = find_parts test lanes writers most.0 in
-    stuck_complete told p kept
+    stuck_complete ghosts.told p kept
     (λ i l. stays p (Lane i) (none_from test (λ j. Lane j) (length p.plan.lanes) i parts.0 l))
     (λ w l. stays p (Writer w) (none_from test (λ j. Writer j) (length p.plan.writers) w parts.1 l))
     (stays p Advance (none_alone test Advance most.1)) (stays p Idle (none_alone test Idle ends.1))
 
 -- ## from draw to draw
 
-pub drawing_none : {D : Type 0} (told : D → Option (List (List ℕ))) (count : D → ℕ) (generator : ℕ) (p : Played D) → IsDrawing told count generator generator p p
-drawing_none told count generator p = record {
-  onward = onward_still told count p;
+pub drawing_none : {D : Type 0} (ghosts : Ghosts D) (generator : ℕ) (p : Played D) → IsDrawing ghosts generator generator p p
+drawing_none ghosts generator p = record {
+  onward = onward_still ghosts p;
   drawn = λ rest h. h;
 }
 
@@ -185,24 +185,24 @@ drawn_as : {D : Type 0} (p q : Played D) (generator : ℕ) (actor : Actor) → q
     → drawn_actor p.plan generator q.trail ≡ Some actor
 drawn_as {D} p q generator actor same e = subst (λ (x : Plan). drawn_actor x generator q.trail ≡ Some actor) same e
 
-pub drawing_more : {D : Type 0} (told : D → Option (List (List ℕ))) (count : D → ℕ) (first generator : ℕ) (p q r : Played D) → IsDrawing told count first generator p q
-    → IsFirstToGo told count q r (asked_from (place_of generator (length (actors_in_threads q.plan))) (actors_in_threads q.plan)) (Ok true) → IsDrawing told count first (generator_after generator) p r
+pub drawing_more : {D : Type 0} (ghosts : Ghosts D) (first generator : ℕ) (p q r : Played D) → IsDrawing ghosts first generator p q
+    → IsFirstToGo ghosts q r (asked_from (place_of generator (length (actors_in_threads q.plan))) (actors_in_threads q.plan)) (Ok true) → IsDrawing ghosts first (generator_after generator) p r
 unfolding onward_more
-drawing_more {D} told count first generator p q r so_far h =
+drawing_more {D} ghosts first generator p q r so_far h =
     let moved = h.1 in
     let m : Move = record { actor = h.0; mark = moved.mark } in
     record {
-      onward = onward_more told count p q r h.0 so_far.onward moved;
+      onward = onward_more ghosts p q r h.0 so_far.onward moved;
       drawn = λ rest are.
           subst (λ (ms : List Move). AreDrawn p.plan first p.trail ms) (sym (append_assoc so_far.onward.rest (m ∷ []) rest))
           (so_far.drawn (m ∷ rest) (drawn_as p q generator h.0 so_far.onward.plan h.2, subst (λ (ms : List Move). AreDrawn p.plan (generator_after generator) ms rest) moved.trail are));
     }
 
-pub drawing_ends : {D : Type 0} (told : D → Option (List (List ℕ))) (count : D → ℕ) (first generator : ℕ) (p q r : Played D) → IsKept told r → IsDrawing told count first generator p q
-    → IsFirstToGo told count q r (asked_from (place_of generator (length (actors_in_threads q.plan))) (actors_in_threads q.plan)) (Ok false) → IsPlayedAsDrawn told count first p r
-drawing_ends {D} told count first generator p q r kept so_far h =
-    subst (λ (x : Played D). IsPlayedAsDrawn told count first p x) (sym h.0) (record {
+pub drawing_ends : {D : Type 0} (ghosts : Ghosts D) (first generator : ℕ) (p q r : Played D) → IsKept ghosts.told r → IsDrawing ghosts first generator p q
+    → IsFirstToGo ghosts q r (asked_from (place_of generator (length (actors_in_threads q.plan))) (actors_in_threads q.plan)) (Ok false) → IsPlayedAsDrawn ghosts first p r
+drawing_ends {D} ghosts first generator p q r kept so_far h =
+    subst (λ (x : Played D). IsPlayedAsDrawn ghosts first p x) (sym h.0) (record {
       onward = so_far.onward;
-      complete = none_goes told count q (place_of generator (length (actors_in_threads q.plan))) (subst (λ (x : Played D). IsKept told x) h.0 kept) h.1;
+      complete = none_goes ghosts q (place_of generator (length (actors_in_threads q.plan))) (subst (λ (x : Played D). IsKept ghosts.told x) h.0 kept) h.1;
       drawn = subst (λ (ms : List Move). AreDrawn p.plan first p.trail ms) (append-nil so_far.onward.rest) (so_far.drawn [] tt);
     })

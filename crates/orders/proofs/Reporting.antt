@@ -3,6 +3,7 @@ use Rattle.std.proofs.Common.{◌≡◌, ℕ, ◌+◌, ◌≤◌, List, [], ◌�
 use Rattle.std.specs.Prelude.{map, sum, ◌⊎◌, IsTrue, Result, Ok, Err, IfOk}
 use Rattle.std.proofs.lemmas.List.Sums.{sum_by-cons, sum_by-append}
 use Rattle.vss_names.specs.Faults.{most}
+use Rattle.volume_device.specs.declared.device.Device.{Ghosts}
 use Rattle.cow_volume.specs.Calls.{NeverFails}
 use Rattle.vss_names.specs.TextValue.{TextValue}
 use Rattle.write_history.specs.declared.move_item.Move.{Move}
@@ -34,8 +35,9 @@ none_counted count never (d ∷ ds) =
     omega arith
 
 -- where no device ever fails, a run goes on without a fault mark
-pub none_marked : {D : Type 0} (told : D → Option (List (List ℕ))) (count : D → ℕ) (p q : Played D) (h : IsOnward told count p q) → NeverFails count → faults h.rest ≡ 0
-none_marked told count p q h never = none (faults h.rest) (sum (map count p.devices)) (sum (map count q.devices)) (none_counted count never q.devices) h.faults
+pub none_marked : {D : Type 0} (ghosts : Ghosts D) (p q : Played D) (h : IsOnward ghosts p q) → NeverFails ghosts.count → faults h.rest ≡ 0
+none_marked ghosts p q h never =
+    none (faults h.rest) (sum (map ghosts.count p.devices)) (sum (map ghosts.count q.devices)) (none_counted ghosts.count never q.devices) h.faults
   where
     none : (n a b : ℕ) → b ≡ 0 → (n + a ≤ b) ⊎ (most ≤ b) → n ≡ 0
     none n a b e (inl l) = omega arith
@@ -50,35 +52,36 @@ pub record StandsAt {D : Type 0} (told : D → Option (List (List ℕ))) (tells 
   pub trail_is : q.trail ≡ trail
   pub tell : IsTrue tells → tells_in told q ≡ all_tell s
 
-unfoldable pub onward_stands : {D : Type 0} (told : D → Option (List (List ℕ))) (count : D → ℕ) (tells : Bool) (s : Plan) (p q : Played D) → IsFresh told count tells s p
-    → (h : IsOnward told count p q) → StandsAt told tells s h.rest q
-onward_stands told count tells s p q fresh h = record {
+unfoldable pub onward_stands : {D : Type 0} (ghosts : Ghosts D) (tells : Bool) (s : Plan) (p q : Played D) → IsFresh ghosts tells s p
+    → (h : IsOnward ghosts p q) → StandsAt ghosts.told tells s h.rest q
+onward_stands ghosts tells s p q fresh h = record {
   plan = h.plan ∙ fresh.plan;
   trail_is = h.trail ∙ ap (λ (ms : List Move). ms ++ h.rest) fresh.trail;
   tell = λ t. h.tells ∙ fresh.tell t;
 }
 
-pub stands_on : {D : Type 0} (told : D → Option (List (List ℕ))) (count : D → ℕ) (tells : Bool) (s : Plan) (trail : List Move) (q r : Played D) → StandsAt told tells s trail q
-    → (h : IsOnward told count q r) → StandsAt told tells s (trail ++ h.rest) r
-stands_on told count tells s trail q r at h = record {
+pub stands_on : {D : Type 0} (ghosts : Ghosts D) (tells : Bool) (s : Plan) (trail : List Move) (q r : Played D) → StandsAt ghosts.told tells s trail q
+    → (h : IsOnward ghosts q r) → StandsAt ghosts.told tells s (trail ++ h.rest) r
+stands_on ghosts tells s trail q r at h = record {
   plan = h.plan ∙ at.plan;
   trail_is = h.trail ∙ ap (λ (ms : List Move). ms ++ h.rest) at.trail_is;
   tell = λ t. h.tells ∙ at.tell t;
 }
 
-pub of_trail : {D : Type 0} {lasting : D → Option (List (List ℕ))} (told : D → Option (List (List ℕ))) (count : D → ℕ) (tells : Bool) (s : Plan) (trail : List Move) (q : Played D)
+pub of_trail : {D : Type 0} (ghosts : Ghosts D) (tells : Bool) (s : Plan) (trail : List Move) (q : Played D)
     (places : ℕ) (kept_first kept_last : Option (List D)) (first last : ℕ) (text : TextValue)
-    → StandsAt told tells s trail q → is_complete q.plan q.trail ≡ true → IsEnded told lasting count q places kept_first kept_last first last (Ok text) → IsOfTrail tells s trail text.bytes
-of_trail {D} told count tells s trail q places kept_first kept_last first last text at complete ended =
+    → StandsAt ghosts.told tells s trail q → is_complete q.plan q.trail ≡ true → IsEnded ghosts q places kept_first kept_last first last (Ok text) → IsOfTrail tells s trail text.bytes
+of_trail {D} ghosts tells s trail q places kept_first kept_last first last text at complete ended =
     let r : Played D = ended.new in
     let quiet = ended.quiet in
     let kept = ended.keeps in
     let plan_is : r.plan ≡ s = quiet.plan ∙ at.plan in
     let trail_is : r.trail ≡ trail = quiet.trail ∙ at.trail_is in
-    let tell : IsTrue tells → tells_of told r.plan r.devices ≡ all_tell r.plan = λ t. quiet.tells ∙ at.tell t ∙ ap (λ (x : Plan). all_tell x) (sym plan_is) in
+    let tell : IsTrue tells → tells_of ghosts.told r.plan r.devices ≡ all_tell r.plan = λ t. quiet.tells ∙ at.tell t
+    ∙ ap (λ (x : Plan). all_tell x) (sym plan_is) in
     subst (λ (x : Plan). IsOfTrail tells x trail text.bytes) plan_is (subst (λ (ms : List Move). IsOfTrail tells r.plan ms text.bytes) trail_is (record {
       legal = kept.legal;
-      complete = complete_moved told count q r quiet complete;
+      complete = complete_moved ghosts q r quiet complete;
       only = λ t. only_told_report r.plan r.trail text.bytes (subst (λ (bs : List Bool). IsReport r.plan bs r.trail text.bytes) (tell t) ended.ends.0);
     }))
 
@@ -88,77 +91,78 @@ pub in_turn_as : {D : Type 0} (told : D → Option (List (List ℕ))) (tells : B
     → AreInTurn q.plan q.trail rest → AreInTurn s trail rest
 in_turn_as told tells s trail q rest at h = subst (λ (ms : List Move). AreInTurn s ms rest) at.trail_is (subst (λ (x : Plan). AreInTurn x q.trail rest) at.plan h)
 
-pub ended_in_turn : {D : Type 0} {lasting : D → Option (List (List ℕ))} (told : D → Option (List (List ℕ))) (count : D → ℕ) (p q : Played D) (places : ℕ) (kept_first kept_last : Option (List D))
+pub ended_in_turn : {D : Type 0} (ghosts : Ghosts D) (p q : Played D) (places : ℕ) (kept_first kept_last : Option (List D))
     (first last : ℕ) (result : Result TextValue PlayFault)
-    → IsPlayedInTurn told count p q → IsEnded told lasting count q places kept_first kept_last first last result → IfOk result (IsEndedInTurn told lasting count p)
-ended_in_turn told count p q places kept_first kept_last first last (Ok text) turned ended =
+    → IsPlayedInTurn ghosts p q → IsEnded ghosts q places kept_first kept_last first last result → IfOk result (IsEndedInTurn ghosts p)
+ended_in_turn ghosts p q places kept_first kept_last first last (Ok text) turned ended =
     record { last = q; turned = turned; places = places; kept_before = kept_first; kept_now = kept_last; count_before = first; count_now = last; ended = ended }
-ended_in_turn told count p q places kept_first kept_last first last (Err e) turned ended = tt
+ended_in_turn ghosts p q places kept_first kept_last first last (Err e) turned ended = tt
 
 -- the report of what was made first and of what came in turn
-pub of_trail_in_turn : {D : Type 0} {lasting : D → Option (List (List ℕ))} (told : D → Option (List (List ℕ))) (count : D → ℕ) (tells : Bool) (s : Plan) (first : List Move) (q : Played D)
-    (text : TextValue) → StandsAt told tells s first q → (h : IsEndedInTurn told lasting count q text) → IsOfTrail tells s (first ++ h.turned.played.onward.rest) text.bytes
-of_trail_in_turn told count tells s first q text at h =
-    of_trail told count tells s _ h.last h.places h.kept_before h.kept_now h.count_before h.count_now text (stands_on told count tells s first q h.last at h.turned.played.onward)
+pub of_trail_in_turn : {D : Type 0} (ghosts : Ghosts D) (tells : Bool) (s : Plan) (first : List Move) (q : Played D)
+    (text : TextValue) → StandsAt ghosts.told tells s first q → (h : IsEndedInTurn ghosts q text) → IsOfTrail tells s (first ++ h.turned.played.onward.rest) text.bytes
+of_trail_in_turn ghosts tells s first q text at h =
+    of_trail ghosts tells s _ h.last h.places h.kept_before h.kept_now h.count_before h.count_now text (stands_on ghosts tells s first q h.last at h.turned.played.onward)
     h.turned.played.complete h.ended
 
-pub ordered : {D : Type 0} {lasting : D → Option (List (List ℕ))} (told : D → Option (List (List ℕ))) (count : D → ℕ) (tells : Bool) (s : Plan) (entries : List Entry) (p q : Played D)
-    (text : TextValue) → IsFresh told count tells s p → IsLedBy told count p (actors_of entries) q → IsEndedInTurn told lasting count q text → IsOrdered count tells s entries text.bytes
+pub ordered : {D : Type 0} (ghosts : Ghosts D) (tells : Bool) (s : Plan) (entries : List Entry) (p q : Played D)
+    (text : TextValue) → IsFresh ghosts tells s p → IsLedBy ghosts p (actors_of entries) q → IsEndedInTurn ghosts q text → IsOrdered ghosts.count tells s entries text.bytes
 unfolding onward_stands
-ordered told count tells s entries p q text fresh led h =
-    let begun = onward_stands told count tells s p q fresh led.onward in
+ordered ghosts tells s entries p q text fresh led h =
+    let begun = onward_stands ghosts tells s p q fresh led.onward in
     record {
       first = led.onward.rest;
       rest = h.turned.played.onward.rest;
       begins = led.by;
       in_turn = in_turn_as told tells s led.onward.rest q h.turned.played.onward.rest begun h.turned.in_turn;
       reported = record {
-        of_trail = of_trail_in_turn told count tells s led.onward.rest q text begun h;
-        unmarked = λ never. both_none led.onward.rest h.turned.played.onward.rest (none_marked told count p q led.onward never) (none_marked told count q h.last h.turned.played.onward never);
+        of_trail = of_trail_in_turn ghosts tells s led.onward.rest q text begun h;
+        unmarked = λ never. both_none led.onward.rest h.turned.played.onward.rest (none_marked ghosts p q led.onward never) (none_marked ghosts q h.last h.turned.played.onward never);
       };
     }
 
 -- the moves before an entry that may not come
-pub halted : {D : Type 0} (told : D → Option (List (List ℕ))) (count : D → ℕ) (tells : Bool) (s : Plan) (entries : List Entry) (p q : Played D) (entry : Entry) (why : Why)
-    → IsFresh told count tells s p → IsHaltedAt told count p q entries entry why → IsKept told q → IsHalted count s entries entry why
-halted {D} told count tells s entries p q entry why fresh h kept =
+pub halted : {D : Type 0} (ghosts : Ghosts D) (tells : Bool) (s : Plan) (entries : List Entry) (p q : Played D) (entry : Entry) (why : Why)
+    → IsFresh ghosts tells s p → IsHaltedAt ghosts p q entries entry why → IsKept ghosts.told q → IsHalted ghosts.count s entries entry why
+halted {D} ghosts tells s entries p q entry why fresh h kept =
     let plan_is : q.plan ≡ s = h.led.onward.plan ∙ fresh.plan in
-    let begins = onward_stands told count tells s p q fresh h.led.onward in
-    subst (λ (x : Plan). IsHalted count x entries entry why) plan_is (record {
+    let begins = onward_stands ghosts tells s p q fresh h.led.onward in
+    subst (λ (x : Plan). IsHalted ghosts.count x entries entry why) plan_is (record {
       place = h.place;
       is_entry = h.is_entry;
       trail = q.trail;
       legal = kept.legal;
       begins = ap (λ (ms : List Move). map (λ (m : Move). m.actor) ms) begins.trail_is ∙ h.led.by;
       may_not = h.may_not;
-      unmarked = λ never. ap faults begins.trail_is ∙ none_marked told count p q h.led.onward never;
+      unmarked = λ never. ap faults begins.trail_is ∙ none_marked ghosts p q h.led.onward never;
     })
 
-pub unplayed_so : {D : Type 0} (told : D → Option (List (List ℕ))) (count : D → ℕ) (tells : Bool) (s : Plan) (entries : List Entry) (p q : Played D) (first last : ℕ) (halted_by : Halted)
-    → IsFresh told count tells s p → IsFollowed told count p q entries (Err halted_by) → IsKept told q → IsUnplayed count s entries first last (unplayed_at halted_by)
-unplayed_so told count tells s entries p q first last (At entry why) fresh h kept = halted told count tells s entries p q entry why fresh h kept
-unplayed_so told count tells s entries p q first last halt.OutOfMemory fresh h kept = tt
+pub unplayed_so : {D : Type 0} (ghosts : Ghosts D) (tells : Bool) (s : Plan) (entries : List Entry) (p q : Played D) (first last : ℕ) (halted_by : Halted)
+    → IsFresh ghosts tells s p → IsFollowed ghosts p q entries (Err halted_by) → IsKept ghosts.told q
+    → IsUnplayed ghosts.count s entries first last (unplayed_at halted_by)
+unplayed_so ghosts tells s entries p q first last (At entry why) fresh h kept = halted ghosts tells s entries p q entry why fresh h kept
+unplayed_so ghosts tells s entries p q first last halt.OutOfMemory fresh h kept = tt
 
 -- ## by draws
 
-pub of_seed : {D : Type 0} {lasting : D → Option (List (List ℕ))} (told : D → Option (List (List ℕ))) (count : D → ℕ) (tells : Bool) (s : Plan) (number : ℕ) (p r : Played D)
+pub of_seed : {D : Type 0} (ghosts : Ghosts D) (tells : Bool) (s : Plan) (number : ℕ) (p r : Played D)
     (places : ℕ) (kept_first kept_last : Option (List D)) (first last : ℕ) (text : TextValue)
-    → IsFresh told count tells s p → IsPlayedAsDrawn told count number p r → IsEnded told lasting count r places kept_first kept_last first last (Ok text) → IsOfSeed count tells s number text.bytes
-of_seed told count tells s number p r places kept_first kept_last first last text fresh drawn ended =
-    let whole = onward_stands told count tells s p r fresh drawn.onward in
+    → IsFresh ghosts tells s p → IsPlayedAsDrawn ghosts number p r → IsEnded ghosts r places kept_first kept_last first last (Ok text) → IsOfSeed ghosts.count tells s number text.bytes
+of_seed ghosts tells s number p r places kept_first kept_last first last text fresh drawn ended =
+    let whole = onward_stands ghosts tells s p r fresh drawn.onward in
     record {
       trail = drawn.onward.rest;
       drawn = subst (λ (ms : List Move). AreDrawn s number ms drawn.onward.rest) fresh.trail (subst (λ (x : Plan). AreDrawn x number p.trail drawn.onward.rest) fresh.plan drawn.drawn);
       reported = record {
-        of_trail = of_trail told count tells s _ r places kept_first kept_last first last text whole drawn.complete ended;
-        unmarked = λ never. none_marked told count p r drawn.onward never;
+        of_trail = of_trail ghosts tells s _ r places kept_first kept_last first last text whole drawn.complete ended;
+        unmarked = λ never. none_marked ghosts p r drawn.onward never;
       };
     }
 
-pub of_seed_if : {D : Type 0} {lasting : D → Option (List (List ℕ))} (told : D → Option (List (List ℕ))) (count : D → ℕ) (tells : Bool) (s : Plan) (number : ℕ) (p r : Played D)
+pub of_seed_if : {D : Type 0} (ghosts : Ghosts D) (tells : Bool) (s : Plan) (number : ℕ) (p r : Played D)
     (places : ℕ) (kept_first kept_last : Option (List D)) (first last : ℕ) (result : Result TextValue PlayFault)
-    → IsFresh told count tells s p → IsPlayedAsDrawn told count number p r → IsEnded told lasting count r places kept_first kept_last first last result
-    → IfOk result (λ text. IsOfSeed count tells s number text.bytes)
-of_seed_if told count tells s number p r places kept_first kept_last first last
-    (Ok text) fresh drawn ended = of_seed told count tells s number p r places kept_first kept_last first last text fresh drawn ended
-of_seed_if told count tells s number p r places kept_first kept_last first last (Err e) fresh drawn ended = tt
+    → IsFresh ghosts tells s p → IsPlayedAsDrawn ghosts number p r → IsEnded ghosts r places kept_first kept_last first last result
+    → IfOk result (λ text. IsOfSeed ghosts.count tells s number text.bytes)
+of_seed_if ghosts tells s number p r places kept_first kept_last first last
+    (Ok text) fresh drawn ended = of_seed ghosts tells s number p r places kept_first kept_last first last text fresh drawn ended
+of_seed_if ghosts tells s number p r places kept_first kept_last first last (Err e) fresh drawn ended = tt

@@ -1,10 +1,11 @@
 -- What a replay of a report promises. (This project's own.)
-use Rattle.std.specs.Prelude.{ℕ, ◌≡◌, ◌++◌, Bool, true, false, IsTrue, List, [], ◌∷◌, map, Option, Some, None, Result, Ok, Err}
+use Rattle.std.specs.Prelude.{ℕ, ◌≡◌, ◌++◌, Bool, true, false, IsTrue, List, [], ◌∷◌, map, Some, None, Result, Ok, Err}
 use Rattle.vss_names.specs.Faults.{Rose}
 use Rattle.vss_names.specs.declared.out_of_memory.OutOfMemory.{OutOfMemory}
+use Rattle.volume_device.specs.declared.device.Device.{Ghosts}
 use Rattle.write_history.specs.declared.mark.Mark.TheVariants.{Clean}
 use Rattle.write_history.specs.declared.move_item.Move.{Move}
-use Rattle.cow_volume.specs.Calls.{NeverFails, uncounted}
+use Rattle.cow_volume.specs.Calls.{NeverFails, counted_as}
 use Rattle.scenario.specs.Bounds.{IsPlan}
 use Rattle.scenario.specs.Named.{HasNames}
 use Rattle.scenario.specs.Plan.{Plan}
@@ -46,20 +47,22 @@ without_marks moves = map (λ (m : Move). record m { mark = Clean }) moves
 -- ## a run by these moves, as far as they may come
 
 -- whether a move was made, with its mark where it may come with that and no call of a device fails
-abbrev pub IsMade : {D : Type 0} → (D → Option (List (List ℕ))) → (D → ℕ) → Played D → Played D → Move → Result Bool OutOfMemory → Type 0
-IsMade told count old new m (Ok true) = IsMovedOn told uncounted old new m.actor × (NeverFails count → is_legal_move old.plan (run_of old) m ≡ true → new.trail ≡ old.trail ++ m ∷ [])
-IsMade told count old new m (Ok false) = (new ≡ old) × Stays old m.actor
-IsMade told count old new m (Err e) = Unit {0}
+abbrev pub IsMade : {D : Type 0} → Ghosts D → Played D → Played D → Move → Result Bool OutOfMemory → Type 0
+IsMade ghosts old new m (Ok true) =
+    IsMovedOn (counted_as ghosts true) old new m.actor
+    × (NeverFails ghosts.count → is_legal_move old.plan (run_of old) m ≡ true → new.trail ≡ old.trail ++ m ∷ [])
+IsMade ghosts old new m (Ok false) = (new ≡ old) × Stays old m.actor
+IsMade ghosts old new m (Err e) = Unit {0}
 
 -- The run went on. Where no call of a device fails, it did so by these moves if they may come with their marks, and without a fault mark
 -- if they have none.
-pub record IsFollowedFar {D : Type 0} (told : D → Option (List (List ℕ))) (count : D → ℕ) (old new : Played D) (moves : List Move) : Type 0 where
+pub record IsFollowedFar {D : Type 0} (ghosts : Ghosts D) (old new : Played D) (moves : List Move) : Type 0 where
   pub made : List Move
   pub plan : new.plan ≡ old.plan
   pub trail : new.trail ≡ old.trail ++ made
-  pub tells : tells_in told new ≡ tells_in told old
-  pub exact : NeverFails count → is_legal old.plan (old.trail ++ moves) ≡ true → new.trail ≡ old.trail ++ moves
-  pub unmarked : NeverFails count → faults moves ≡ 0 → faults new.trail ≡ faults old.trail
+  pub tells : tells_in ghosts.told new ≡ tells_in ghosts.told old
+  pub exact : NeverFails ghosts.count → is_legal old.plan (old.trail ++ moves) ≡ true → new.trail ≡ old.trail ++ moves
+  pub unmarked : NeverFails ghosts.count → faults moves ≡ 0 → faults new.trail ≡ faults old.trail
 
 -- the report of a trail that begins so and goes on in turn
 pub record IsReplayed {D : Type 0} (count : D → ℕ) (tells : Bool) (s : Plan) (moves : List Move) (text : List ℕ) : Type 0 where

@@ -2,6 +2,7 @@
 -- from that place on moves that can, once round; time goes by where none of them can. The draws are the words of SplitMix64, begun at
 -- the number. So the order is a function of the number and the scenario. (This project's own.)
 use Rattle.std.specs.Prelude.{ℕ, ◌≡◌, ◌%◌, ◌&&◌, not, Bool, true, false, List, [], ◌∷◌, ◌++◌, length, take, drop, find, Option, Some, None, Result, Ok, Err}
+use Rattle.volume_device.specs.declared.device.Device.{Ghosts}
 use Rattle.rand_xoshiro.specs.SplitMix64.{mix_u64}
 use Rattle.vss_names.specs.declared.out_of_memory.OutOfMemory.{OutOfMemory}
 use Rattle.write_history.specs.declared.actor.Actor.{Actor}
@@ -52,23 +53,23 @@ AreDrawn s generator before (m ∷ ms) = (drawn_actor s generator before ≡ Som
 -- ## steps of a run
 
 -- the first of these actors that goes made its move, or none of them goes
-abbrev pub IsFirstToGo : {D : Type 0} → (D → Option (List (List ℕ))) → (D → ℕ) → Played D → Played D → List Actor → Result Bool OutOfMemory → Type 0
-IsFirstToGo told count old new actors (Ok true) = (actor : Actor) × IsMovedOn told count old new actor × (find (goes old.plan old.trail) actors ≡ Some actor)
-IsFirstToGo told count old new actors (Ok false) = (new ≡ old) × (find (goes old.plan old.trail) actors ≡ None)
-IsFirstToGo told count old new actors (Err e) = Unit {0}
+abbrev pub IsFirstToGo : {D : Type 0} → Ghosts D → Played D → Played D → List Actor → Result Bool OutOfMemory → Type 0
+IsFirstToGo ghosts old new actors (Ok true) = (actor : Actor) × IsMovedOn ghosts old new actor × (find (goes old.plan old.trail) actors ≡ Some actor)
+IsFirstToGo ghosts old new actors (Ok false) = (new ≡ old) × (find (goes old.plan old.trail) actors ≡ None)
+IsFirstToGo ghosts old new actors (Err e) = Unit {0}
 
 -- the move that is drawn was made, or none goes
-abbrev pub IsDrawnMove : {D : Type 0} → (D → Option (List (List ℕ))) → (D → ℕ) → ℕ → Played D → Played D → Result Bool OutOfMemory → Type 0
-IsDrawnMove told count generator old new result =
-    let actors = actors_in_threads old.plan in IsFirstToGo told count old new (asked_from (place_of generator (length actors)) actors) result
+abbrev pub IsDrawnMove : {D : Type 0} → Ghosts D → ℕ → Played D → Played D → Result Bool OutOfMemory → Type 0
+IsDrawnMove ghosts generator old new result =
+    let actors = actors_in_threads old.plan in IsFirstToGo ghosts old new (asked_from (place_of generator (length actors)) actors) result
 
 -- a run that went on by drawn moves
-pub record IsDrawing {D : Type 0} (told : D → Option (List (List ℕ))) (count : D → ℕ) (first generator : ℕ) (old new : Played D) : Type 0 where
-  pub onward : IsOnward told count old new
+pub record IsDrawing {D : Type 0} (ghosts : Ghosts D) (first generator : ℕ) (old new : Played D) : Type 0 where
+  pub onward : IsOnward ghosts old new
   pub drawn : (rest : List Move) → AreDrawn old.plan generator new.trail rest → AreDrawn old.plan first old.trail (onward.rest ++ rest)
 
 -- a run that went on by drawn moves to its end
-pub record IsPlayedAsDrawn {D : Type 0} (told : D → Option (List (List ℕ))) (count : D → ℕ) (generator : ℕ) (old new : Played D) : Type 0 where
-  pub onward : IsOnward told count old new
+pub record IsPlayedAsDrawn {D : Type 0} (ghosts : Ghosts D) (generator : ℕ) (old new : Played D) : Type 0 where
+  pub onward : IsOnward ghosts old new
   pub complete : is_complete new.plan new.trail ≡ true
   pub drawn : AreDrawn old.plan generator old.trail onward.rest

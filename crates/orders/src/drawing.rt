@@ -39,7 +39,7 @@ fn first_to_go<D: Device>(
     play: &mut Play<D>,
     actors: &[Actor],
 ) -> Result<bool, OutOfMemory>
-    ensures { IsFirstToGo D.told D.count play.old play.new actors.now result }
+    ensures { IsFirstToGo D.Device play.old play.new actors.now result }
 {
     for actor in actors {
         if turn(alloc, play, *actor)? {
@@ -57,7 +57,7 @@ fn next_from<D: Device>(
     place: usize,
 ) -> Result<bool, OutOfMemory>
     requires { place < length actors.now }
-    ensures { IsFirstToGo D.told D.count play.old play.new (asked_from place actors.now) result }
+    ensures { IsFirstToGo D.Device play.old play.new (asked_from place actors.now) result }
 {
     let parts = actors.split_at(place);
     if first_to_go(alloc, play, parts.1)? {
@@ -79,7 +79,7 @@ fn drawn_move<D: Device>(
     requires all { actors.now ≡ actors_in_threads play.old.plan }
     requires some { 0 < length actors.now }
     ensures after { generator.new ≡ generator_after generator.old }
-    ensures moved { IsDrawnMove D.told D.count generator.old play.old play.new result }
+    ensures moved { IsDrawnMove D.Device generator.old play.old play.new result }
 {
     let place = draw(generator, actors.len());
     next_from(alloc, play, actors, place)
@@ -92,7 +92,7 @@ pub fn play_drawn<D: Device>(
     play: Play<D>,
     number: u32,
 ) -> Result<Play<D>, OutOfMemory>
-    ensures { IfOk result (IsPlayedAsDrawn D.told D.count number play) }
+    ensures { IfOk result (IsPlayedAsDrawn D.Device number play) }
 {
     let actors = actors_of(alloc, &play)?;
     let mut play = play;

@@ -15,7 +15,7 @@ use write_history::Move;
 
 /// Makes the moves that are asked for, in order, up to the first that may not come. Want of memory leaves the moves that were made.
 pub fn follow<D: Device>(alloc: Global, play: &mut Play<D>, entries: &[Entry]) -> Result<(), Halted>
-    ensures { IsFollowed D.told D.count play.old play.new entries.now result }
+    ensures { IsFollowed D.Device play.old play.new entries.now result }
 {
     for entry in entries {
         match play.step(alloc, entry.actor) {
@@ -40,7 +40,7 @@ pub fn follow<D: Device>(alloc: Global, play: &mut Play<D>, entries: &[Entry]) -
 
 /// Makes a move with its mark, or answers false where it may not come.
 fn make<D: Device>(alloc: Global, play: &mut Play<D>, item: Move) -> Result<bool, OutOfMemory>
-    ensures { IsMade D.told D.count play.old play.new item result }
+    ensures { IsMade D.Device play.old play.new item result }
 {
     match play.step_marked(alloc, item) {
         Ok(Moved::Moved) => Ok(true),
@@ -56,7 +56,7 @@ pub fn follow_far<D: Device>(
     play: &mut Play<D>,
     moves: &[Move],
 ) -> Result<(), OutOfMemory>
-    ensures { OnOk result (IsFollowedFar D.told D.count play.old play.new moves.now) }
+    ensures { OnOk result (IsFollowedFar D.Device play.old play.new moves.now) }
 {
     for item in moves {
         let has_moved = make(alloc, play, *item)?;

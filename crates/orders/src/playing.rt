@@ -27,7 +27,7 @@ fn report_in_turn<R: Threads + Sync, M: Maker>(
     play: Play<M::Made>,
     maker: &mut M,
 ) -> Result<Text, PlayFault>
-    ensures ended { IfOk result (IsEndedInTurn M.Made.told M.Made.lasting M.Made.count play) }
+    ensures ended { IfOk result (IsEndedInTurn M.Made.Device play) }
     ensures rose { IsErrOf result PlayFault.Failed → Rose (M.count maker.old) (M.count maker.new) }
 {
     let Ok(played) = play_in_turn(alloc, play) else {

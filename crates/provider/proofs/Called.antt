@@ -118,7 +118,7 @@ module _ {D : Type 0} (device : Ghosts D) {s : Plan} {old new : List (GroupValue
 
   pub image_cause_of : {T : Type 0} (set : ℕ) (result : Result T ImageFault) → OnOk result (is_among set (sets_at c.found.here c.found.within) ≡ true)
       → OnOk result (IsUnfailed device.count c.found.here c.after)
-      → IfErr result (HasDigestCause device.count c.found.within set c.found.here c.after) → HasImageCause device.told device.count s v set (fault_of result) old new
+      → IfErr result (HasDigestCause device.count c.found.within set c.found.here c.after) → HasImageCause device s v set (fault_of result) old new
   image_cause_of set (Ok done) has same why = (image_of device.told c.found set true has, counts_still device.count c same)
   image_cause_of set (Err image.NoSuchImage) has same why = (image_of device.told c.found set false why.0, groups_still why.1)
   image_cause_of set (Err image.NoSuchBlock) has same why = why
@@ -206,7 +206,7 @@ module _ {D : Type 0} (device : Ghosts D) {s : Plan} {old new : List (GroupValue
   }
 
   pub flush_lasts : IsKeptGroup device c.found.here c.after → ((d : D) → slice_get c.after.devices c.found.within ≡ Some d → device.lasting d ≡ device.told d)
-      → LastsAt device.told device.lasting (volume_place s v) (devices_of new)
+      → LastsAt device (volume_place s v) (devices_of new)
   flush_lasts kept lasts d at = lasts d (device_is (called_found kept) d at)
 
 -- ## the cut

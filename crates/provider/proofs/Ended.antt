@@ -48,7 +48,7 @@ module _ {D : Type 0} (device : Ghosts D) (old : List (GroupValue D)) (g : ℕ) 
   sync_of (Err cause) h = synced h.0
 
   pub sync_lasts : (result : Result Unit Cause) → OnOk result (device.lasting y.area.device ≡ device.told y.area.device) → IsSync device x y result
-      → OnOk result ((s : Plan) → AreLasting device.told device.lasting s old new g)
+      → OnOk result ((s : Plan) → AreLasting device s old new g)
   sync_lasts (Err cause) lasts h = tt
   sync_lasts (Ok done) lasts h = λ s p q at there.
       let one : Some x ≡ Some p = sym was ∙ at in

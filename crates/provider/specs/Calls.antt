@@ -97,12 +97,12 @@ abbrev pub HasImage : {D : Type 0} → (D → Option (List (List ℕ))) → Plan
 HasImage told s groups v set has = IfStandFor told s groups (λ hs. is_some (point_in set (history_at hs v).images) ≡ has)
 
 -- why a call on the image of a set failed: just where no such image stands, and then nothing changed; or a device failed
-abbrev pub HasImageCause : {D : Type 0} → (D → Option (List (List ℕ))) → (D → ℕ) → Plan → ℕ → ℕ → Option ImageFault → List (GroupValue D) → List (GroupValue D) → Type 0
-HasImageCause told count s v set None old new = HasImage told s old v set true × HasCause count s v None old new
-HasImageCause told count s v set (Some NoSuchImage) old new = HasImage told s old v set false × (new ≡ old)
-HasImageCause told count s v set (Some NoSuchBlock) old new = ⊥
-HasImageCause told count s v set (Some Volume) old new = HasImage told s old v set true × HasCause count s v (Some cause.Volume) old new
-HasImageCause told count s v set (Some Area) old new = HasImage told s old v set true × HasCause count s v (Some cause.Area) old new
+abbrev pub HasImageCause : {D : Type 0} → Ghosts D → Plan → ℕ → ℕ → Option ImageFault → List (GroupValue D) → List (GroupValue D) → Type 0
+HasImageCause device s v set None old new = HasImage device.told s old v set true × HasCause device.count s v None old new
+HasImageCause device s v set (Some NoSuchImage) old new = HasImage device.told s old v set false × (new ≡ old)
+HasImageCause device s v set (Some NoSuchBlock) old new = ⊥
+HasImageCause device s v set (Some Volume) old new = HasImage device.told s old v set true × HasCause device.count s v (Some cause.Volume) old new
+HasImageCause device s v set (Some Area) old new = HasImage device.told s old v set true × HasCause device.count s v (Some cause.Area) old new
 
 -- the image of a set went from volume v, or did not stand and nothing changed
 abbrev pub IsDropped : {D : Type 0} → Ghosts D → Plan → List (GroupValue D) → List (GroupValue D) → ℕ → ℕ → Bool → Type 0

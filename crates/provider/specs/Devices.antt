@@ -115,8 +115,8 @@ fault_of (Err fault) = Some fault
 -- ## brought to where it lasts
 
 -- what the device at a place tells lasts
-abbrev pub LastsAt : {D : Type 0} → (D → Option (List (List ℕ))) → (D → Option (List (List ℕ))) → ℕ → List D → Type 0
-LastsAt {D = D} told lasting place devices = (d : D) → slice_get devices place ≡ Some d → lasting d ≡ told d
+abbrev pub LastsAt : {D : Type 0} → Ghosts D → ℕ → List D → Type 0
+LastsAt {D = D} device place devices = (d : D) → slice_get devices place ≡ Some d → device.lasting d ≡ device.told d
 
 -- only the area's device of group g may have changed: the groups stand for what they stood for
 pub record IsSynced {D : Type 0} (device : Ghosts D) (old new : List (GroupValue D)) (g : ℕ) : Type 0 where
@@ -126,10 +126,10 @@ pub record IsSynced {D : Type 0} (device : Ghosts D) (old new : List (GroupValue
   pub stands : (s : Plan) → IfStandFor device.told s old (AreGroups device.told s new)
 
 -- on the area's device of group g stand the copies of the definitions, where all devices of its volumes tell, and they last
-abbrev pub AreLasting : {D : Type 0} → (D → Option (List (List ℕ))) → (D → Option (List (List ℕ))) → Plan → List (GroupValue D) → List (GroupValue D) → ℕ → Type 0
-AreLasting {D = D} told lasting s old new g = (x y : GroupValue D) → slice_get old g ≡ Some x → slice_get new g ≡ Some y
-    → (lasting y.area.device ≡ told y.area.device)
-    × IfStandFor told s new (λ hs. AllTell told x.devices → AreStored (told y.area.device) (copies (map (placed g) s.volumes) hs))
+abbrev pub AreLasting : {D : Type 0} → Ghosts D → Plan → List (GroupValue D) → List (GroupValue D) → ℕ → Type 0
+AreLasting {D = D} device s old new g = (x y : GroupValue D) → slice_get old g ≡ Some x → slice_get new g ≡ Some y
+    → (device.lasting y.area.device ≡ device.told y.area.device)
+    × IfStandFor device.told s new (λ hs. AllTell device.told x.devices → AreStored (device.told y.area.device) (copies (map (placed g) s.volumes) hs))
 
 -- each count is as it was; or that of the area's device of group g rose
 abbrev pub HasSyncCause : {D : Type 0} → (D → ℕ) → Plan → ℕ → Result Unit Cause → List (GroupValue D) → List (GroupValue D) → Type 0

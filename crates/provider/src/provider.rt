@@ -190,7 +190,7 @@ impl<D: Device> Provider<D> {
         ensures digest { IfOk result (IsDigestShown D.told scenario.now self.old.groups volume (Some set)) }
         ensures wide { IfOk result (λ digest. (length digest ≡ 32) × IsBytes digest) }
         ensures quiet { IsQuiet D.Device scenario.now self.old.groups self.new.groups volume }
-        ensures cause { HasImageCause D.told D.count scenario.now volume set (fault_of result) self.old.groups self.new.groups }
+        ensures cause { HasImageCause D.Device scenario.now volume set (fault_of result) self.old.groups self.new.groups }
         ensures set { self.new ≡ record self.old { groups = self.new.groups } }
     {
         let place = scenario.place(volume);
@@ -251,7 +251,7 @@ impl<D: Device> Provider<D> {
         requires whole { length out.old ≡ BLOCK }
         ensures shown { OnOk result (IsShown D.told scenario.now self.old.groups volume (Some set) block out.new) }
         ensures quiet { IsQuiet D.Device scenario.now self.old.groups self.new.groups volume }
-        ensures cause { HasImageCause D.told D.count scenario.now volume set (fault_of result) self.old.groups self.new.groups }
+        ensures cause { HasImageCause D.Device scenario.now volume set (fault_of result) self.old.groups self.new.groups }
         ensures set { self.new ≡ record self.old { groups = self.new.groups } }
     {
         let place = scenario.place(volume);
@@ -399,7 +399,7 @@ impl<D: Device> Provider<D> {
         ensures kept { AreKept D.Device self.old.groups self.new.groups }
         ensures cause { HasStepCause D.count scenario.now group volume result self.old.groups self.new.groups }
         ensures devices { (group ≢ Flush) → devices_of self.new.groups ≡ devices_of self.old.groups }
-        ensures lasts { group ≡ Flush → OnOk result (IfSome volume (λ v. LastsAt D.told D.lasting (volume_place scenario.now v) (devices_of self.new.groups))) }
+        ensures lasts { group ≡ Flush → OnOk result (IfSome volume (λ v. LastsAt D.Device (volume_place scenario.now v) (devices_of self.new.groups))) }
         ensures set { self.new ≡ record self.old { groups = self.new.groups } }
     {
         let Some(volume) = volume else {
@@ -422,7 +422,7 @@ impl<D: Device> Provider<D> {
         ensures quiet { IsQuiet D.Device scenario.now self.old.groups self.new.groups volume }
         ensures cause { HasCause D.count scenario.now volume (fault_of result) self.old.groups self.new.groups }
         ensures own { IfErr result (λ cause. cause ≡ Cause.Volume) }
-        ensures lasts { OnOk result (LastsAt D.told D.lasting (volume_place scenario.now volume) (devices_of self.new.groups)) }
+        ensures lasts { OnOk result (LastsAt D.Device (volume_place scenario.now volume) (devices_of self.new.groups)) }
         ensures set { self.new ≡ record self.old { groups = self.new.groups } }
     {
         let place = scenario.place(volume);
@@ -471,7 +471,7 @@ impl<D: Device> Provider<D> {
     pub fn sync(&mut self, group: u32) -> Result<(), Cause>
         requires { group < length self.old.groups }
         ensures synced { IsSynced D.Device self.old.groups self.new.groups group }
-        ensures lasting { OnOk result ((s : Plan) → AreLasting D.told D.lasting s self.old.groups self.new.groups group) }
+        ensures lasting { OnOk result ((s : Plan) → AreLasting D.Device s self.old.groups self.new.groups group) }
         ensures cause { (s : Plan) → HasGroups s self.old.groups → HasSyncCause D.count s group result self.old.groups self.new.groups }
         ensures set { self.new ≡ record self.old { groups = self.new.groups } }
     {

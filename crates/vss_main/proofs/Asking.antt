@@ -3,6 +3,7 @@ use Rattle.std.proofs.Common.{◌≡◌, ℕ, ◌-◌, ◌<◌, ◌≤◌, List,
 use Rattle.std.specs.Prelude.{◌↔◌, ◌⊎◌, is_some, IfSome}
 use Rattle.io_edge.specs.Streams.{Gave, IfGave}
 use Rattle.volume_device.specs.declared.store.Store.{Store}
+use Rattle.volume_device.specs.declared.device.Device.{Ghosts}
 use Rattle.area_listing.specs.declared.inspection.Inspection.{Inspection}
 use Rattle.area_listing.specs.declared.inspection.Inspection.TheVariants as ended
 use Rattle.scenario.specs.Grammar.{reading_of, IsScenario}
@@ -21,14 +22,14 @@ use Rattle.vss_main.specs.declared.status.Status.TheVariants.{Done, Usage, OutOf
 no_less : (a b : ℕ) → b ≡ a → a ≤ b
 no_less a b e = omega arith
 
-untouched : {D : Type 0} (told lasting : D → Option (List (List ℕ))) (tells : Store → Bool) (folder : Option (List ℕ)) (task : Task) (a : Around D) → IsUntouched a
-    → IsTask told lasting tells folder task a OutOfMemory
-untouched told lasting tells folder Run a h = record { reads = h.reads; later = no_less a.count_first a.count_last h.unmade.count; counted = inl h.unmade.count; unwritten = h.unwritten }
-untouched told lasting tells folder (Generate n) a h = (
+untouched : {D : Type 0} (ghosts : Ghosts D) (tells : Store → Bool) (folder : Option (List ℕ)) (task : Task) (a : Around D) → IsUntouched a
+    → IsTask ghosts tells folder task a OutOfMemory
+untouched ghosts tells folder Run a h = record { reads = h.reads; later = no_less a.count_first a.count_last h.unmade.count; counted = inl h.unmade.count; unwritten = h.unwritten }
+untouched ghosts tells folder (Generate n) a h = (
   record { left = h.left; reads = h.reads },
   record { later = no_less a.count_first a.count_last h.unmade.count; counted = inl h.unmade.count; nothing = record { taken = h.unwritten.taken; writes = h.unwritten.writes } },
 )
-untouched told lasting tells folder Inspect a h = record {
+untouched ghosts tells folder Inspect a h = record {
   ended = ended.OutOfMemory;
   status_is = refl;
   inspected = record { reads = h.reads; silent = record { taken = h.unwritten.taken; writes = h.unwritten.writes } };
@@ -36,10 +37,10 @@ untouched told lasting tells folder Inspect a h = record {
   unmade = h.unmade;
 }
 
-pub wants_memory : {D : Type 0} (told lasting : D → Option (List (List ℕ))) (tells : Store → Bool) (asked : Option Asked) (a : Around D) → is_some asked ≡ true → IsUntouched a
-    → IsAnswer told lasting tells asked a OutOfMemory
-wants_memory told lasting tells None a some h = absurd cc
-wants_memory told lasting tells (Some asked) a some h = untouched told lasting tells asked.folder asked.task a h
+pub wants_memory : {D : Type 0} (ghosts : Ghosts D) (tells : Store → Bool) (asked : Option Asked) (a : Around D) → is_some asked ≡ true → IsUntouched a
+    → IsAnswer ghosts tells asked a OutOfMemory
+wants_memory ghosts tells None a some h = absurd cc
+wants_memory ghosts tells (Some asked) a some h = untouched ghosts tells asked.folder asked.task a h
 
 -- no status but Usage where the words are a command
 pub asked_not_usage : {status : Status} (asked : Option Asked) → is_some asked ≡ true → (status ≡ Usage → ⊥) → (status ≡ Usage) ↔ (asked ≡ None)
@@ -66,14 +67,14 @@ not_usage ended.WriteFault h = cc
 not_usage ended.TooLong h = cc
 not_usage ended.OutOfMemory h = cc
 
-no_usage : {D : Type 0} (told lasting : D → Option (List (List ℕ))) (tells : Store → Bool) (folder : Option (List ℕ)) (task : Task) (a : Around D) → IsTask told lasting tells folder task a Usage → ⊥
-no_usage told lasting tells folder Run a h = h
-no_usage told lasting tells folder (Generate n) a h = h.1
-no_usage told lasting tells folder Inspect a h = not_usage h.ended h.status_is
+no_usage : {D : Type 0} (ghosts : Ghosts D) (tells : Store → Bool) (folder : Option (List ℕ)) (task : Task) (a : Around D) → IsTask ghosts tells folder task a Usage → ⊥
+no_usage ghosts tells folder Run a h = h
+no_usage ghosts tells folder (Generate n) a h = h.1
+no_usage ghosts tells folder Inspect a h = not_usage h.ended h.status_is
 
-pub never_usage : {D : Type 0} (told lasting : D → Option (List (List ℕ))) (tells : Store → Bool) (folder : Option (List ℕ)) (task : Task) (a : Around D) (status : Status)
-    → IsTask told lasting tells folder task a status → status ≡ Usage → ⊥
-never_usage told lasting tells folder task a status h e = no_usage told lasting tells folder task a (subst (λ (x : Status). IsTask told lasting tells folder task a x) e h)
+pub never_usage : {D : Type 0} (ghosts : Ghosts D) (tells : Store → Bool) (folder : Option (List ℕ)) (task : Task) (a : Around D) (status : Status)
+    → IsTask ghosts tells folder task a status → status ≡ Usage → ⊥
+never_usage ghosts tells folder task a status h e = no_usage ghosts tells folder task a (subst (λ (x : Status). IsTask ghosts tells folder task a x) e h)
 
 -- nothing was read
 pub nothing_given : (left : Option (List ℕ)) (most : ℕ) (A : Type 0) → (A → ⊥) → IfGave left left (λ n. A ↔ (most < n))
@@ -85,9 +86,9 @@ nothing_given (Some bytes) most A never = (λ a. absurd (never a), λ l. absurd 
 
 -- ## by the words
 
-pub answer_by : {D : Type 0} (told lasting : D → Option (List (List ℕ))) (tells : Store → Bool) (asked : Option Asked) (given : Asked) (a : Around D) (status : Status) → Some given ≡ asked
-    → IsTask told lasting tells given.folder given.task a status → IsAnswer told lasting tells asked a status
-answer_by told lasting tells asked given a status e h = subst (λ (o : Option Asked). IsAnswer told lasting tells o a status) e h
+pub answer_by : {D : Type 0} (ghosts : Ghosts D) (tells : Store → Bool) (asked : Option Asked) (given : Asked) (a : Around D) (status : Status) → Some given ≡ asked
+    → IsTask ghosts tells given.folder given.task a status → IsAnswer ghosts tells asked a status
+answer_by ghosts tells asked given a status e h = subst (λ (o : Option Asked). IsAnswer ghosts tells o a status) e h
 
 pub where_by : {D : Type 0} (asked : Option Asked) (given : Asked) (a : Around D) (status : Status) → Some given ≡ asked → IsTaskWhereItCan given.task a status → IsAnsweredWhereItCan asked a status
 where_by asked given a status e h = subst (λ (o : Option Asked). IsAnsweredWhereItCan o a status) e h
@@ -101,9 +102,9 @@ some_by asked given e = subst (λ (o : Option Asked). is_some o ≡ true) e refl
 
 -- ## by the task
 
-pub task_as : {D : Type 0} (told lasting : D → Option (List (List ℕ))) (tells : Store → Bool) (folder : Option (List ℕ)) (task other : Task) (a : Around D) (status : Status) → task ≡ other
-    → IsTask told lasting tells folder other a status → IsTask told lasting tells folder task a status
-task_as told lasting tells folder task other a status e h = subst (λ (t : Task). IsTask told lasting tells folder t a status) (sym e) h
+pub task_as : {D : Type 0} (ghosts : Ghosts D) (tells : Store → Bool) (folder : Option (List ℕ)) (task other : Task) (a : Around D) (status : Status) → task ≡ other
+    → IsTask ghosts tells folder other a status → IsTask ghosts tells folder task a status
+task_as ghosts tells folder task other a status e h = subst (λ (t : Task). IsTask ghosts tells folder t a status) (sym e) h
 
 pub where_as : {D : Type 0} (task other : Task) (a : Around D) (status : Status) → task ≡ other → IsTaskWhereItCan other a status → IsTaskWhereItCan task a status
 where_as task other a status e h = subst (λ (t : Task). IsTaskWhereItCan t a status) (sym e) h
@@ -113,9 +114,9 @@ pub most_as : (before after : Option (List ℕ)) (A : Type 0) (task other : Task
 most_as before after A task other e h = subst (λ (t : Task). IfGave before after (λ n. A ↔ (most_for_task t < n))) (sym e) h
 
 -- where a run was asked for, and ended well
-pub done_by : {D : Type 0} (told lasting : D → Option (List (List ℕ))) (tells : Store → Bool) (asked : Option Asked) (folder : Option (List ℕ)) (a : Around D) (status : Status)
-    → IsAnswer told lasting tells asked a status → asked ≡ Some (record { task = Run; folder = folder }) → status ≡ Done → IsDone told lasting tells folder a
-done_by told lasting tells asked folder a status h e f = subst (λ o. IsAnswer told lasting tells o a Done) e (subst (λ x. IsAnswer told lasting tells asked a x) f h)
+pub done_by : {D : Type 0} (ghosts : Ghosts D) (tells : Store → Bool) (asked : Option Asked) (folder : Option (List ℕ)) (a : Around D) (status : Status)
+    → IsAnswer ghosts tells asked a status → asked ≡ Some (record { task = Run; folder = folder }) → status ≡ Done → IsDone ghosts tells folder a
+done_by ghosts tells asked folder a status h e f = subst (λ o. IsAnswer ghosts tells o a Done) e (subst (λ x. IsAnswer ghosts tells asked a x) f h)
 
 -- ## by the input
 

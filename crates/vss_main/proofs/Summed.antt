@@ -6,6 +6,7 @@ use Rattle.std.proofs.lemmas.List.Sums.{sum_by-cons}
 use Rattle.std.proofs.lemmas.Option.{slice_get_past, slice_get_within}
 use Rattle.vss_names.specs.Faults.{Rose, most}
 use Rattle.block_data.specs.Digest.{sha256}
+use Rattle.volume_device.specs.declared.device.Device.{Ghosts}
 use Rattle.write_history.specs.declared.move_item.Move.{Move}
 use Rattle.write_history.specs.History.{Write, contents}
 use Rattle.scenario.specs.declared.volume_row.VolumeRow.{VolumeRow}
@@ -144,11 +145,11 @@ unmarked_as trail moves b same is e = no_mark trail (ap (list_any (λ m. is_faul
 -- ## the run
 
 -- a run that was begun, played to its end and digested
-pub whole-digested : {D : Type 0} {told lasting : D → Option (List (List ℕ))} {count : D → ℕ} {tells : Bool} {named_first named_last : Option (List (List ℕ))}
+pub whole-digested : {D : Type 0} {ghosts : Ghosts D} {tells : Bool} {named_first named_last : Option (List (List ℕ))}
     {kept_first kept_made kept_last : Option (List D)} {places first made last : ℕ} {s : Plan} {p q : Played D} {result : Result (List (List ℕ)) PlayFault}
-    → IsFresh told count tells s p → AreNamed (device_names s) named_first named_last → made ≡ first → IsPlayedOut told count p q → length p.devices ≤ places → kept_made ≡ kept_first
-    → (ended : IsDigested told lasting count q places kept_made kept_last made last result)
-    → IsWhole told count tells named_first named_last kept_first kept_made kept_last places first made last s p q ended.new
+    → IsFresh ghosts tells s p → AreNamed (device_names s) named_first named_last → made ≡ first → IsPlayedOut ghosts p q → length p.devices ≤ places → kept_made ≡ kept_first
+    → (ended : IsDigested ghosts q places kept_made kept_last made last result)
+    → IsWhole ghosts tells named_first named_last kept_first kept_made kept_last places first made last s p q ended.new
 whole-digested fresh named unmoved played enough kept_new ended = record {
   fresh = fresh;
   named = named;
@@ -162,26 +163,26 @@ whole-digested fresh named unmoved played enough kept_new ended = record {
   count_is = ended.count_is;
 }
 
-module _ {D : Type 0} {told : D → Option (List (List ℕ))} {count : D → ℕ} {tells : Bool} {named_first named_last : Option (List (List ℕ))}
+module _ {D : Type 0} {ghosts : Ghosts D} {tells : Bool} {named_first named_last : Option (List (List ℕ))}
     {kept_first kept_made kept_last : Option (List D)} {places first made last : ℕ} {s : Plan} {p q r : Played D}
-    (h : IsWhole told count tells named_first named_last kept_first kept_made kept_last places first made last s p q r) where
-  pub summed-of : {lasting : D → Option (List (List ℕ))} (n : ℕ) (digests : List (List ℕ)) (text : List ℕ) → IsOfNumber n s → IsDigestedTo told lasting count q r (Ok digests)
-      → text ≡ summary_with n digests → IsSummed told lasting tells named_first named_last kept_first kept_last first last n s text
+    (h : IsWhole ghosts tells named_first named_last kept_first kept_made kept_last places first made last s p q r) where
+  pub summed-of : (n : ℕ) (digests : List (List ℕ)) (text : List ℕ) → IsOfNumber n s → IsDigestedTo ghosts q r (Ok digests)
+      → text ≡ summary_with n digests → IsSummed ghosts tells named_first named_last kept_first kept_last first last n s text
   unfolding made-of
-  summed-of {lasting} n digests text of_number ends is =
+  summed-of n digests text of_number ends is =
       let same = same_plan h in
       let complete = ends_complete h in
       let legal = h.keeps.legal in
-      let are : AreDigests (tells_in told r) r.plan r.trail digests = ends.0 in
+      let are : AreDigests (tells_in ghosts.told r) r.plan r.trail digests = ends.0 in
       let unmarked : faults r.trail ≡ 0 = ends.2 in
       let eight : length digests ≡ 8 = ends.4 in
       let generated : IsGenerated n r.plan = subst (λ (x : Plan). IsGenerated n x) (sym same) of_number.generated in
-      subst (λ (x : Plan). IsSummed told lasting tells named_first named_last kept_first kept_last first last n x text) same (record {
+      subst (λ (x : Plan). IsSummed ghosts tells named_first named_last kept_first kept_last first last n x text) same (record {
         made = made-of h ends.3;
         unmarked = unmarked;
         ends_well = ends_well n r.plan r.trail generated legal complete unmarked;
         digests = digests;
-        are_digests = are_eight (tells_in told r) r.plan r.trail digests eight (eight_volumes n r.plan generated) are;
+        are_digests = are_eight (tells_in ghosts.told r) r.plan r.trail digests eight (eight_volumes n r.plan generated) are;
         is_text = is;
         only = λ t. is ∙ ap (summary_with n) (digests_final n r.plan r.trail digests generated legal complete unmarked
             (subst (λ (ts : List Bool). AreDigests ts r.plan r.trail digests) (all_told h t) are) eight);
@@ -190,16 +191,17 @@ module _ {D : Type 0} {told : D → Option (List (List ℕ))} {count : D → ℕ
       })
 
   -- no fault was counted
-  pub none_counted : {lasting : D → Option (List (List ℕ))} (digests : List (List ℕ)) → IsDigestedTo told lasting count q r (Ok digests) → (last ≡ first) ⊎ (last ≡ most)
+  pub none_counted : (digests : List (List ℕ)) → IsDigestedTo ghosts q r (Ok digests) → (last ≡ first) ⊎ (last ≡ most)
   unfolding made-of
   none_counted digests ends = (made-of h ends.3).clean ends.2
 
   -- ## a run without a summary
 
-  fault-by : (AnyRose (map count q.devices) (map count r.devices)) ⊎ (1 ≤ faults r.trail) → Rose first last
+  fault-by : (AnyRose (map ghosts.count q.devices) (map ghosts.count r.devices)) ⊎ (1 ≤ faults r.trail) → Rose first last
   fault-by (inl any) =
-      rose-counted first made last (map count r.devices) any.now (rose-positive any.before any.now any.rose) (member-le-sum (map count r.devices) any.at any.now any.is) (not_less h) h.count_is
-  fault-by (inr one) = rose-counted first made last (map count r.devices) (faults r.trail) (omega arith) (marks_below h) (not_less h) h.count_is
+      rose-counted first made last (map ghosts.count r.devices) any.now (rose-positive any.before any.now any.rose)
+      (member-le-sum (map ghosts.count r.devices) any.at any.now any.is) (not_less h) h.count_is
+  fault-by (inr one) = rose-counted first made last (map ghosts.count r.devices) (faults r.trail) (omega arith) (marks_below h) (not_less h) h.count_is
 
-  pub fault-of : (lasting : D → Option (List (List ℕ))) (result : Result (List (List ℕ)) PlayFault) (why : PlayFault) → IsDigestedTo told lasting count q r result → result ≡ Err why → Rose first last
-  fault-of lasting result why ends e = fault-by (subst (λ (o : Result (List (List ℕ)) PlayFault). IsDigestedTo told lasting count q r o) e ends)
+  pub fault-of : (result : Result (List (List ℕ)) PlayFault) (why : PlayFault) → IsDigestedTo ghosts q r result → result ≡ Err why → Rose first last
+  fault-of result why ends e = fault-by (subst (λ (o : Result (List (List ℕ)) PlayFault). IsDigestedTo ghosts q r o) e ends)

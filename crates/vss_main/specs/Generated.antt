@@ -6,6 +6,7 @@ use Rattle.hex.specs.Hex.{IsBytes}
 use Rattle.vss_names.specs.Faults.{Rose, most, all_counted}
 use Rattle.io_edge.specs.Streams.{Took, TookPart}
 use Rattle.volume_device.specs.declared.store.Store.{Store}
+use Rattle.volume_device.specs.declared.device.Device.{Ghosts}
 use Rattle.scenario.specs.Plan.{Plan}
 use Rattle.scenario.specs.Grammar.{reading_of, IsScenario}
 use Rattle.generator_text.specs.ScenarioText.{gen_text}
@@ -38,8 +39,9 @@ pub record AreEight (digests : List (List ℕ)) : Type 0 where
 
 -- The text is the summary of a run of this scenario: of its own trail, without a fault mark, over the devices that the maker then got
 -- back. Where the devices do not tell, any digests may stand in it.
-pub record IsSummed {D : Type 0} (told lasting : D → Option (List (List ℕ))) (tells : Bool) (named_first named_last : Option (List (List ℕ))) (kept_first kept_last : Option (List D)) (count_first count_last n : ℕ) (s : Plan) (text : List ℕ) : Type 0 where
-  pub made : MadeRun told named_first named_last kept_first kept_last count_first count_last s
+pub record IsSummed {D : Type 0} (ghosts : Ghosts D) (tells : Bool) (named_first named_last : Option (List (List ℕ))) (kept_first kept_last : Option (List D))
+    (count_first count_last n : ℕ) (s : Plan) (text : List ℕ) : Type 0 where
+  pub made : MadeRun ghosts.told named_first named_last kept_first kept_last count_first count_last s
   pub unmarked : faults made.trail ≡ 0
   -- its four sets are complete, nothing was evicted, and each volume has the contents whose digest stands in the summary
   pub ends_well : EndsWell n s made.trail
@@ -47,17 +49,18 @@ pub record IsSummed {D : Type 0} (told lasting : D → Option (List (List ℕ)))
   pub are_digests : AreEight digests
   pub is_text : text ≡ summary_with n digests
   pub only : IsTrue tells → text ≡ summary n
-  pub areas : AreasHold told s made.trail made.devices
+  pub areas : AreasHold ghosts.told s made.trail made.devices
   -- the device of each volume and of each area was flushed when it told what it tells
-  pub lasted : HaveLasted told lasting s made.devices
+  pub lasted : HaveLasted ghosts s made.devices
 
 -- a summary of a run of the generated scenario of n over devices in the folder of this name, or in memory where there is none
-pub record IsSummedIn {D : Type 0} (told lasting : D → Option (List (List ℕ))) (tells : Store → Bool) (folder : Option (List ℕ)) (named_first named_last : Option (List (List ℕ))) (kept_first kept_last : Option (List D)) (count_first count_last n : ℕ) (text : List ℕ) : Type 0 where
+pub record IsSummedIn {D : Type 0} (ghosts : Ghosts D) (tells : Store → Bool) (folder : Option (List ℕ)) (named_first named_last : Option (List (List ℕ)))
+    (kept_first kept_last : Option (List D)) (count_first count_last n : ℕ) (text : List ℕ) : Type 0 where
   pub plan : Plan
   pub is_plan : IsOfNumber n plan
   pub store : Store
   pub is_store : IsStoreOf folder store
-  pub summed : IsSummed told lasting (tells store) named_first named_last kept_first kept_last count_first count_last n plan text
+  pub summed : IsSummed ghosts (tells store) named_first named_last kept_first kept_last count_first count_last n plan text
 
 -- the devices of such a run were given back, though it has no summary
 pub record IsUnsummed {D : Type 0} (n : ℕ) (named_first named_last : Option (List (List ℕ))) (kept_first kept_last : Option (List D)) : Type 0 where
@@ -68,21 +71,23 @@ pub record IsUnsummed {D : Type 0} (n : ℕ) (named_first named_last : Option (L
 -- ## the end of a run
 
 -- its volumes were digested, its areas written, and it has no fault mark; or the count of some device rose, or it has one
-abbrev pub IsDigestedTo : {D : Type 0} → (D → Option (List (List ℕ))) → (D → Option (List (List ℕ))) → (D → ℕ) → Played D → Played D → Result (List (List ℕ)) PlayFault → Type 0
-IsDigestedTo told lasting count old new (Ok digests) =
-    AreDigests (tells_in told new) new.plan new.trail digests × AreasHold told new.plan new.trail new.devices × (faults new.trail ≡ 0) × (map count new.devices ≡ map count old.devices) × (length digests ≡ 8)
-    × HaveLasted told lasting new.plan new.devices
-IsDigestedTo told lasting count old new (Err why) = AnyRose (map count old.devices) (map count new.devices) ⊎ (1 ≤ faults new.trail)
+abbrev pub IsDigestedTo : {D : Type 0} → Ghosts D → Played D → Played D → Result (List (List ℕ)) PlayFault → Type 0
+IsDigestedTo ghosts old new (Ok digests) =
+    AreDigests (tells_in ghosts.told new) new.plan new.trail digests × AreasHold ghosts.told new.plan new.trail new.devices × (faults new.trail ≡ 0)
+    × (map ghosts.count new.devices ≡ map ghosts.count old.devices) × (length digests ≡ 8)
+    × HaveLasted ghosts new.plan new.devices
+IsDigestedTo ghosts old new (Err why) = AnyRose (map ghosts.count old.devices) (map ghosts.count new.devices) ⊎ (1 ≤ faults new.trail)
 
 -- a run was digested, and its devices were given back
-pub record IsDigested {D : Type 0} (told lasting : D → Option (List (List ℕ))) (count : D → ℕ) (old : Played D) (places : ℕ) (kept_before kept_now : Option (List D)) (count_before count_now : ℕ) (result : Result (List (List ℕ)) PlayFault) : Type 0 where
+pub record IsDigested {D : Type 0} (ghosts : Ghosts D) (old : Played D) (places : ℕ) (kept_before kept_now : Option (List D)) (count_before count_now : ℕ)
+    (result : Result (List (List ℕ)) PlayFault) : Type 0 where
   -- as it was given back
   pub new : Played D
-  pub quiet : IsQuietPlay told count old new
-  pub keeps : IsKept told new
-  pub ends : IsDigestedTo told lasting count old new result
+  pub quiet : IsQuietPlay ghosts old new
+  pub keeps : IsKept ghosts.told new
+  pub ends : IsDigestedTo ghosts old new result
   pub kept : length new.devices ≤ places → kept_now ≡ option_map (λ devices. devices ++ new.devices) kept_before
-  pub count_is : count_now ≡ all_counted count_before (map count new.devices)
+  pub count_is : count_now ≡ all_counted count_before (map ghosts.count new.devices)
 
 -- ## each status with its cause
 
@@ -90,16 +95,16 @@ pub record IsNothingTaken {D : Type 0} (o : SinkAndMaker D) : Type 0 where
   pub taken : o.taken_last ≡ o.taken_first
   pub writes : o.writes_last ≡ o.writes_first
 
-pub record IsSummaryWritten {D : Type 0} (told lasting : D → Option (List (List ℕ))) (tells : Store → Bool) (folder : Option (List ℕ)) (n : ℕ) (o : SinkAndMaker D) : Type 0 where
+pub record IsSummaryWritten {D : Type 0} (ghosts : Ghosts D) (tells : Store → Bool) (folder : Option (List ℕ)) (n : ℕ) (o : SinkAndMaker D) : Type 0 where
   pub text : List ℕ
-  pub summed : IsSummedIn told lasting tells folder o.named_first o.named_last o.kept_first o.kept_last o.count_first o.count_last n text
+  pub summed : IsSummedIn ghosts tells folder o.named_first o.named_last o.kept_first o.kept_last o.count_first o.count_last n text
   pub written : Took o.taken_first text o.taken_last
   pub writes : o.writes_last ≡ o.writes_first
 
 -- a first part of the summary was written
-pub record IsSummaryInPart {D : Type 0} (told lasting : D → Option (List (List ℕ))) (tells : Store → Bool) (folder : Option (List ℕ)) (n : ℕ) (o : SinkAndMaker D) : Type 0 where
+pub record IsSummaryInPart {D : Type 0} (ghosts : Ghosts D) (tells : Store → Bool) (folder : Option (List ℕ)) (n : ℕ) (o : SinkAndMaker D) : Type 0 where
   pub text : List ℕ
-  pub summed : IsSummedIn told lasting tells folder o.named_first o.named_last o.kept_first o.kept_last o.count_first o.count_last n text
+  pub summed : IsSummedIn ghosts tells folder o.named_first o.named_last o.kept_first o.kept_last o.count_first o.count_last n text
   pub part : TookPart o.taken_first text o.taken_last
   pub rose : Rose o.writes_first o.writes_last
 
@@ -115,12 +120,12 @@ pub record IsGeneratedWanting {D : Type 0} (o : SinkAndMaker D) : Type 0 where
   pub counted : (o.count_last ≡ o.count_first) ⊎ (o.count_last ≡ most)
   pub nothing : IsNothingTaken o
 
-abbrev pub IsGeneration : {D : Type 0} → (D → Option (List (List ℕ))) → (D → Option (List (List ℕ))) → (Store → Bool) → Option (List ℕ) → ℕ → SinkAndMaker D → Status → Type 0
-IsGeneration told lasting tells folder n o Done = IsSummaryWritten told lasting tells folder n o
-IsGeneration told lasting tells folder n o WriteFault = IsSummaryInPart told lasting tells folder n o
-IsGeneration told lasting tells folder n o DeviceFault = IsGeneratedFault n o
-IsGeneration told lasting tells folder n o OutOfMemory = IsGeneratedWanting o
-IsGeneration told lasting tells folder n o _ = ⊥
+abbrev pub IsGeneration : {D : Type 0} → Ghosts D → (Store → Bool) → Option (List ℕ) → ℕ → SinkAndMaker D → Status → Type 0
+IsGeneration ghosts tells folder n o Done = IsSummaryWritten ghosts tells folder n o
+IsGeneration ghosts tells folder n o WriteFault = IsSummaryInPart ghosts tells folder n o
+IsGeneration ghosts tells folder n o DeviceFault = IsGeneratedFault n o
+IsGeneration ghosts tells folder n o OutOfMemory = IsGeneratedWanting o
+IsGeneration ghosts tells folder n o _ = ⊥
 
 -- Where no count rises, the summary is written or memory is wanting.
 pub record NothingStops {D : Type 0} (o : SinkAndMaker D) : Type 0 where

@@ -1,6 +1,7 @@
 -- What the top call promises, by what the words ask for. (This project's own.)
 use Rattle.std.specs.Prelude.{ℕ, ◌≡◌, Bool, List, Option, Some, None}
 use Rattle.volume_device.specs.declared.store.Store.{Store}
+use Rattle.volume_device.specs.declared.device.Device.{Ghosts}
 use Rattle.command_words.specs.Command.{Asked}
 use Rattle.command_words.specs.declared.task.Task.{Task}
 use Rattle.command_words.specs.declared.task.Task.TheVariants.{Run, Generate, Inspect}
@@ -17,15 +18,15 @@ pub record IsUnread {D : Type 0} (a : Around D) : Type 0 where
   pub reads : a.reads_last ≡ a.reads_first
 
 -- a task was done, or ended with another status for its cause
-abbrev pub IsTask : {D : Type 0} → (D → Option (List (List ℕ))) → (D → Option (List (List ℕ))) → (Store → Bool) → Option (List ℕ) → Task → Around D → Status → Type 0
-IsTask told lasting tells folder Run a status = IsStatus told lasting tells folder a status
-IsTask told lasting tells folder (Generate n) a status = IsUnread a × IsGeneration told lasting tells folder n (sink_and_maker a) status
-IsTask told lasting tells folder Inspect a status = IsListing a status
+abbrev pub IsTask : {D : Type 0} → Ghosts D → (Store → Bool) → Option (List ℕ) → Task → Around D → Status → Type 0
+IsTask ghosts tells folder Run a status = IsStatus ghosts tells folder a status
+IsTask ghosts tells folder (Generate n) a status = IsUnread a × IsGeneration ghosts tells folder n (sink_and_maker a) status
+IsTask ghosts tells folder Inspect a status = IsListing a status
 
 -- where the words are no command, nothing is read, made or written
-abbrev pub IsAnswer : {D : Type 0} → (D → Option (List (List ℕ))) → (D → Option (List (List ℕ))) → (Store → Bool) → Option Asked → Around D → Status → Type 0
-IsAnswer told lasting tells None a status = (status ≡ Usage) × IsUntouched a
-IsAnswer told lasting tells (Some asked) a status = IsTask told lasting tells asked.folder asked.task a status
+abbrev pub IsAnswer : {D : Type 0} → Ghosts D → (Store → Bool) → Option Asked → Around D → Status → Type 0
+IsAnswer ghosts tells None a status = (status ≡ Usage) × IsUntouched a
+IsAnswer ghosts tells (Some asked) a status = IsTask ghosts tells asked.folder asked.task a status
 
 -- where no count rises
 abbrev pub IsTaskWhereItCan : {D : Type 0} → Task → Around D → Status → Type 0

@@ -60,7 +60,7 @@ fn digests_of<R: Threads + Sync, M: Maker>(
     maker: &mut M,
 ) -> Result<[[u8; 32]; 8], PlayFault>
     requires eight { length played.plan.volumes ≡ 8 }
-    ensures digested { IsDigested M.Made.told M.Made.lasting M.Made.count played (M.places maker.old) (M.kept maker.old) (M.kept maker.new) (M.count maker.old) (M.count maker.new) result }
+    ensures digested { IsDigested M.Made.Device played (M.places maker.old) (M.kept maker.old) (M.kept maker.new) (M.count maker.old) (M.count maker.new) result }
     ensures named { M.named maker.new ≡ M.named maker.old }
     ensures later { M.count maker.old ≤ M.count maker.new }
     ensures failed { IsErrOf result PlayFault.OutOfMemory → ⊥ }
@@ -94,7 +94,7 @@ fn summary_of_run<R: Threads + Wait + Sync, M: Maker, G: Gate>(
     gate: &G,
 ) -> Result<Text, PlayFault>
     requires of_number { IsOfNumber number scenario }
-    ensures summed { IfOk result (λ text. IsSummed M.Made.told M.Made.lasting (M.tells maker.old store.now) (M.named maker.old) (M.named maker.new) (M.kept maker.old) (M.kept maker.new) (M.count maker.old) (M.count maker.new) number scenario text.bytes) }
+    ensures summed { IfOk result (λ text. IsSummed M.Made.Device (M.tells maker.old store.now) (M.named maker.old) (M.named maker.new) (M.kept maker.old) (M.kept maker.new) (M.count maker.old) (M.count maker.new) number scenario text.bytes) }
     ensures later { M.count maker.old ≤ M.count maker.new }
     ensures given_back { IsErrOf result PlayFault.Failed → AreGivenBack scenario (M.named maker.old) (M.named maker.new) (M.kept maker.old) (M.kept maker.new) }
     ensures rose { IsErrOf result PlayFault.Failed → Rose (M.count maker.old) (M.count maker.new) }
@@ -121,7 +121,7 @@ pub fn run_generated<R: Threads + Wait + Sync, K: Sink, M: Maker, G: Gate>(
     maker: &mut M,
     gate: &G,
 ) -> Status
-    ensures status { IsGeneration M.Made.told M.Made.lasting (λ store. M.tells maker.old store) (option_map (λ s. s.now) folder.entry) number (sink_and_maker_of K.Sink M.Maker sink.old sink.new maker.old maker.new) result }
+    ensures status { IsGeneration M.Made.Device (λ store. M.tells maker.old store) (option_map (λ s. s.now) folder.entry) number (sink_and_maker_of K.Sink M.Maker sink.old sink.new maker.old maker.new) result }
     ensures answered { IsSummedWhereItCan (sink_and_maker_of K.Sink M.Maker sink.old sink.new maker.old maker.new) result }
 {
     let scenario = match scenario_of(alloc, number) {

@@ -30,7 +30,7 @@ fn report_of<R: Threads + Wait + Sync, M: Maker, G: Gate>(
     maker: &mut M,
     gate: &G,
 ) -> Result<Text, PlayFault>
-    ensures ran { IfOk result (λ report. Ran M.Made.told M.Made.lasting (M.tells maker.old store.now) (M.named maker.old) (M.named maker.new) (M.kept maker.old) (M.kept maker.new) (M.count maker.old) (M.count maker.new) scenario report.bytes) }
+    ensures ran { IfOk result (λ report. Ran M.Made.Device (M.tells maker.old store.now) (M.named maker.old) (M.named maker.new) (M.kept maker.old) (M.kept maker.new) (M.count maker.old) (M.count maker.new) scenario report.bytes) }
     ensures later { M.count maker.old ≤ M.count maker.new }
     ensures given_back { IsErrOf result PlayFault.Failed → AreGivenBack scenario (M.named maker.old) (M.named maker.new) (M.kept maker.old) (M.kept maker.new) }
     ensures rose { IsErrOf result PlayFault.Failed → Rose (M.count maker.old) (M.count maker.new) }
@@ -55,7 +55,7 @@ pub fn run_input<R: Threads + Wait + Sync, S: Source, K: Sink, M: Maker, G: Gate
     gate: &G,
 ) -> Status
     ensures too_long { IfGave (S.left source.old) (S.left source.new) (λ n. (result ≡ Status.TooLong) ↔ (most_bytes < n)) }
-    ensures status { IsStatus M.Made.told M.Made.lasting (λ store. M.tells maker.old store) (option_map (λ s. s.now) folder.entry) (around S.Source K.Sink M.Maker source.old source.new sink.old sink.new maker.old maker.new) result }
+    ensures status { IsStatus M.Made.Device (λ store. M.tells maker.old store) (option_map (λ s. s.now) folder.entry) (around S.Source K.Sink M.Maker source.old source.new sink.old sink.new maker.old maker.new) result }
     ensures answered { IsRunWhereItCan (around S.Source K.Sink M.Maker source.old source.new sink.old sink.new maker.old maker.new) result }
 {
     let text = match read_all(alloc, source, MOST_BYTES) {

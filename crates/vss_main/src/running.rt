@@ -31,7 +31,7 @@ fn run_task<R: Threads + Wait + Sync, S: Source, K: Sink, M: Maker, G: Gate>(
     gate: &G,
 ) -> Status
     ensures too_long { IfGave (S.left source.old) (S.left source.new) (λ n. (result ≡ Status.TooLong) ↔ (most_for_task command.entry.task < n)) }
-    ensures task { IsTask M.Made.told M.Made.lasting (λ store. M.tells maker.old store) (option_map (λ s. s.now) command.entry.folder) command.entry.task (around S.Source K.Sink M.Maker source.old source.new sink.old sink.new maker.old maker.new) result }
+    ensures task { IsTask M.Made.Device (λ store. M.tells maker.old store) (option_map (λ s. s.now) command.entry.folder) command.entry.task (around S.Source K.Sink M.Maker source.old source.new sink.old sink.new maker.old maker.new) result }
     ensures answered { IsTaskWhereItCan command.entry.task (around S.Source K.Sink M.Maker source.old source.new sink.old sink.new maker.old maker.new) result }
 {
     match command.task {
@@ -65,9 +65,9 @@ pub fn run<R: Threads + Wait + Sync, S: Source, K: Sink, M: Maker, G: Gate>(
     ensures words { (result ≡ Status.Usage) ↔ (asked_by words.now ≡ None) }
     ensures too_long { IfGave (S.left source.old) (S.left source.new) (λ n. (result ≡ Status.TooLong) ↔ (most_bytes_for (asked_by words.now) < n)) }
     ensures done { (folder : Option (List ℕ)) → asked_by words.now ≡ Some (record { task = Run; folder = folder }) → result ≡ Status.Done
-        → IsDone M.Made.told M.Made.lasting (λ store. M.tells maker.old store) folder
+        → IsDone M.Made.Device (λ store. M.tells maker.old store) folder
         (around S.Source K.Sink M.Maker source.old source.new sink.old sink.new maker.old maker.new) }
-    ensures otherwise { IsAnswer M.Made.told M.Made.lasting (λ store. M.tells maker.old store) (asked_by words.now) (around S.Source K.Sink M.Maker source.old source.new sink.old sink.new maker.old maker.new) result }
+    ensures otherwise { IsAnswer M.Made.Device (λ store. M.tells maker.old store) (asked_by words.now) (around S.Source K.Sink M.Maker source.old source.new sink.old sink.new maker.old maker.new) result }
     ensures completes { IsAnsweredWhereItCan (asked_by words.now) (around S.Source K.Sink M.Maker source.old source.new sink.old sink.new maker.old maker.new) result }
 {
     match command_of(alloc, words) {

@@ -2,6 +2,7 @@
 use Rattle.std.proofs.Common.{◌≡◌, ℕ, zero, suc, ◌+◌, ◌-◌, ◌<◌, ◌≤◌, List, [], ◌∷◌, length, refl, ap, sym, ◌∙◌, arith, Option, Some, None, subst, inl, inr}
 use Rattle.std.specs.Prelude.{◌⊎◌, slice_get, map, is_some}
 use Rattle.std.proofs.lemmas.Option.{slice_get_past}
+use Rattle.volume_device.specs.declared.device.Device.{Ghosts}
 use Rattle.write_history.specs.History.{History}
 use Rattle.write_history.specs.Slots.{copies}
 use Rattle.write_history.specs.declared.move_item.Move.{Move}
@@ -27,25 +28,26 @@ use Rattle.vss_play.proofs.OneMove.{IsShortLaw, few_of}
 pub stands_by : {D : Type 0} (told : D → Option (List (List ℕ))) (s : Plan) (w : WorldValue D) (cursors : List ℕ) (trail : List Move) (text : List ℕ) → IsShortLaw → IsPlay told s w cursors trail text → StandsAfter told w s trail
 stands_by told s w cursors trail text short kept = record { of = kept.of; few = few_of told s w cursors trail text short kept; stands = kept.stands }
 
-pub ending_same : {D : Type 0} (told : D → Option (List (List ℕ))) (count : D → ℕ) (w : WorldValue D) (s : Plan) → IsOf w s → IsEnding told count w w s
-ending_same told count w s of = record { stands_for = λ xs h. h; is_of = of; tells = refl; later = later-refl (map count w.devices) }
+pub ending_same : {D : Type 0} (ghosts : Ghosts D) (w : WorldValue D) (s : Plan) → IsOf w s → IsEnding ghosts w w s
+ending_same ghosts w s of = record { stands_for = λ xs h. h; is_of = of; tells = refl; later = later-refl (map ghosts.count w.devices) }
 
-pub ending_quiet : {D : Type 0} (told : D → Option (List (List ℕ))) (count : D → ℕ) (old new : WorldValue D) (s : Plan) → IsQuiet told count old new s → IsEnding told count old new s
-ending_quiet told count old new s q = record { stands_for = q.stands_for; is_of = q.is_of; tells = q.tells; later = q.later }
+pub ending_quiet : {D : Type 0} (ghosts : Ghosts D) (old new : WorldValue D) (s : Plan) → IsQuiet ghosts old new s → IsEnding ghosts old new s
+ending_quiet ghosts old new s q = record { stands_for = q.stands_for; is_of = q.is_of; tells = q.tells; later = q.later }
 
-pub ending_synced : {D : Type 0} (told : D → Option (List (List ℕ))) (count : D → ℕ) (old new : WorldValue D) (s : Plan) (g : ℕ) → IsSynced told count old new s g → IsEnding told count old new s
-ending_synced told count old new s g q = record { stands_for = q.stands_for; is_of = q.is_of; tells = q.tells; later = q.later }
+pub ending_synced : {D : Type 0} (ghosts : Ghosts D) (old new : WorldValue D) (s : Plan) (g : ℕ) → IsSynced ghosts old new s g → IsEnding ghosts old new s
+ending_synced ghosts old new s g q = record { stands_for = q.stands_for; is_of = q.is_of; tells = q.tells; later = q.later }
 
-pub ending_trans : {D : Type 0} (told : D → Option (List (List ℕ))) (count : D → ℕ) (u v w : WorldValue D) (s : Plan) → IsEnding told count u v s → IsEnding told count v w s → IsEnding told count u w s
-ending_trans told count u v w s a b = record {
+pub ending_trans : {D : Type 0} (ghosts : Ghosts D) (u v w : WorldValue D) (s : Plan) → IsEnding ghosts u v s → IsEnding ghosts v w s → IsEnding ghosts u w s
+ending_trans ghosts u v w s a b = record {
   stands_for = λ xs h. b.stands_for xs (a.stands_for xs h);
   is_of = b.is_of;
   tells = b.tells ∙ a.tells;
-  later = later-trans (map count u.devices) (map count v.devices) (map count w.devices) a.later b.later;
+  later = later-trans (map ghosts.count u.devices) (map ghosts.count v.devices) (map ghosts.count w.devices) a.later b.later;
 }
 
-pub still_ending : {D : Type 0} (told : D → Option (List (List ℕ))) (count : D → ℕ) (old new : WorldValue D) (s : Plan) (trail : List Move) → StandsAfter told old s trail → IsEnding told count old new s → StandsAfter told new s trail
-still_ending told count old new s trail h q = record { of = q.is_of; few = h.few; stands = q.stands_for (acts s trail) h.stands }
+pub still_ending : {D : Type 0} (ghosts : Ghosts D) (old new : WorldValue D) (s : Plan) (trail : List Move) → StandsAfter ghosts.told old s trail
+    → IsEnding ghosts old new s → StandsAfter ghosts.told new s trail
+still_ending ghosts old new s trail h q = record { of = q.is_of; few = h.few; stands = q.stands_for (acts s trail) h.stands }
 
 -- ## places
 
@@ -102,17 +104,24 @@ below_or_at (suc g) (suc k) l = up (below_or_at g k (omega arith))
     up (inl h) = inl (omega arith)
     up (inr h) = inr (ap suc h)
 
-pub one_holds : {D : Type 0} (told : D → Option (List (List ℕ))) (count : D → ℕ) (old new : WorldValue D) (s : Plan) (trail : List Move) (k : ℕ) → StandsAfter told old s trail → IsSynced told count old new s k → IsAreaHeld told new s k
-    → FirstHold told s trail old.devices k → FirstHold told s trail new.devices (k + 1)
-one_holds {D = D} told count old new s trail k stands synced held first g l = by_place (below_or_at g k l)
+pub one_holds : {D : Type 0} (ghosts : Ghosts D) (old new : WorldValue D) (s : Plan) (trail : List Move) (k : ℕ) → StandsAfter ghosts.told old s trail
+    → IsSynced ghosts old new s k → IsAreaHeld ghosts.told new s k
+    → FirstHold ghosts.told s trail old.devices k → FirstHold ghosts.told s trail new.devices (k + 1)
+one_holds {D = D} ghosts old new s trail k stands synced held first g l = by_place (below_or_at g k l)
   where
-    by_place : (g < k) ⊎ (g ≡ k) → AreaHolds told s (state s (acts s trail)).volumes new.devices g
+    by_place : (g < k) ⊎ (g ≡ k) → AreaHolds ghosts.told s (state s (acts s trail)).volumes new.devices g
     by_place (inl h) =
-        area_as told s (state s (acts s trail)).volumes old.devices new.devices g (λ u m. synced.elsewhere (first_place g s.volumes + u) (before_area g k u s.volumes h m)) (first g h)
-    by_place (inr h) = subst (λ n. AreaHolds told s (state s (acts s trail)).volumes new.devices n) (sym h) (held (acts s trail) (synced.stands_for (acts s trail) stands.stands))
+        area_as ghosts.told s (state s (acts s trail)).volumes old.devices new.devices g
+        (λ u m. synced.elsewhere (first_place g s.volumes + u) (before_area g k u s.volumes h m)) (first g h)
+    by_place (inr h) =
+        subst (λ n. AreaHolds ghosts.told s (state s (acts s trail)).volumes new.devices n) (sym h)
+        (held (acts s trail) (synced.stands_for (acts s trail) stands.stands))
 
 pub all_hold : {D : Type 0} (told : D → Option (List (List ℕ))) (s : Plan) (trail : List Move) (devices : List D) (k many : ℕ) → many ≡ length s.groups → many ≤ k → FirstHold told s trail devices k → AreasHold told s trail devices
 all_hold told s trail devices k many e l h = λ g m. h g (omega arith)
 
-pub areas_quiet : {D : Type 0} (told : D → Option (List (List ℕ))) (count : D → ℕ) (old new : WorldValue D) (s : Plan) (trail : List Move) → IsQuiet told count old new s → AreasHold told s trail old.devices → AreasHold told s trail new.devices
-areas_quiet told count old new s trail quiet h = λ g l. area_as told s (state s (acts s trail)).volumes old.devices new.devices g (λ u m. told_same told old.devices new.devices quiet.blocks (first_place g s.volumes + u)) (h g l)
+pub areas_quiet : {D : Type 0} (ghosts : Ghosts D) (old new : WorldValue D) (s : Plan) (trail : List Move) → IsQuiet ghosts old new s
+    → AreasHold ghosts.told s trail old.devices → AreasHold ghosts.told s trail new.devices
+areas_quiet ghosts old new s trail quiet h =
+    λ g l. area_as ghosts.told s (state s (acts s trail)).volumes old.devices new.devices g
+    (λ u m. told_same ghosts.told old.devices new.devices quiet.blocks (first_place g s.volumes + u)) (h g l)

@@ -3,6 +3,7 @@ use Rattle.std.proofs.Common.{◌≡◌, ℕ, ◌≤◌, List, ◌++◌, length,
 use Rattle.std.specs.Prelude.{map, option_map, Result, Ok, Err}
 use Rattle.vss_names.specs.Faults.{all_counted}
 use Rattle.vss_names.specs.TextValue.{TextValue}
+use Rattle.volume_device.specs.declared.device.Device.{Ghosts}
 use Rattle.write_history.specs.declared.move_item.Move.{Move}
 use Rattle.scenario.specs.Plan.{Plan}
 use Rattle.vss_report.specs.Report.{IsReportSoFar}
@@ -17,29 +18,33 @@ use Rattle.vss_play.specs.Lasting.{HaveLasted}
 use Rattle.vss_play.proofs.ClosingLines.{closed_as, play_ending}
 use Rattle.vss_play.proofs.Finishing.{play_kept}
 
-pub ended_as : {D : Type 0} (told lasting : D → Option (List (List ℕ))) (count : D → ℕ) (s : Plan) (old new : WorldValue D) (cursors : List ℕ) (trail : List Move) (text : List ℕ) (p : Played D) (ds : List D) (places : ℕ) (kept_first kept_last : Option (List D)) (count_first count_last : ℕ) (result : Result TextValue PlayFault)
-    → record { plan = s; trail = trail; devices = old.devices; lines = text } ≡ p → IsPlay told s old cursors trail text → IsEnding told count old new s → ds ≡ new.devices
-    → (length ds ≤ places → kept_last ≡ option_map (λ xs. xs ++ ds) kept_first) → count_last ≡ all_counted count_first (map count ds)
-    → IsEnd told lasting count (record { plan = s; trail = trail; devices = old.devices; lines = text }) (record { plan = s; trail = trail; devices = new.devices; lines = text }) result
-    → IsEnded told lasting count p places kept_first kept_last count_first count_last result
-ended_as {D} told lasting count s old new cursors trail text p ds places kept_first kept_last count_first count_last result is kept ending same given counts ends =
+pub ended_as : {D : Type 0} (ghosts : Ghosts D) (s : Plan) (old new : WorldValue D) (cursors : List ℕ) (trail : List Move) (text : List ℕ) (p : Played D)
+    (ds : List D) (places : ℕ) (kept_first kept_last : Option (List D)) (count_first count_last : ℕ) (result : Result TextValue PlayFault)
+    → record { plan = s; trail = trail; devices = old.devices; lines = text } ≡ p → IsPlay ghosts.told s old cursors trail text → IsEnding ghosts old new s
+    → ds ≡ new.devices → (length ds ≤ places → kept_last ≡ option_map (λ xs. xs ++ ds) kept_first) → count_last ≡ all_counted count_first (map ghosts.count ds)
+    → IsEnd ghosts (record { plan = s; trail = trail; devices = old.devices; lines = text })
+    (record { plan = s; trail = trail; devices = new.devices; lines = text }) result
+    → IsEnded ghosts p places kept_first kept_last count_first count_last result
+ended_as {D} ghosts s old new cursors trail text p ds places kept_first kept_last count_first count_last result is kept ending same given counts ends =
     let r : Played D = record { plan = s; trail = trail; devices = new.devices; lines = text } in
-    subst (λ (q : Played D). IsEnded told lasting count q places kept_first kept_last count_first count_last result) is (record {
+    subst (λ (q : Played D). IsEnded ghosts q places kept_first kept_last count_first count_last result) is (record {
       new = r;
       quiet = record { plan = refl; trail = refl; lines = refl; tells = ending.tells; later = ending.later };
-      keeps = play_kept told s new cursors trail text r refl (play_ending told count s old new cursors trail text kept ending);
+      keeps = play_kept ghosts.told s new cursors trail text r refl (play_ending ghosts s old new cursors trail text kept ending);
       ends = ends;
       kept = subst (λ (xs : List D). length xs ≤ places → kept_last ≡ option_map (λ ys. ys ++ xs) kept_first) same given;
-      count_is = counts ∙ ap (λ (xs : List D). all_counted count_first (map count xs)) same;
+      count_is = counts ∙ ap (λ (xs : List D). all_counted count_first (map ghosts.count xs)) same;
     })
 
 -- its report is whole
-pub reported : {D : Type 0} (told lasting : D → Option (List (List ℕ))) (count : D → ℕ) (s : Plan) (old new : WorldValue D) (cursors : List ℕ) (trail : List Move) (text : List ℕ) (report : TextValue) → IsPlay told s old cursors trail text → IsEnding told count old new s
-    → HasClosing (tells_of told s old.devices) s trail text report.bytes → AreasHold told s trail new.devices → map count new.devices ≡ map count old.devices
-    → HaveLasted told lasting s new.devices
-    → IsEnd told lasting count (record { plan = s; trail = trail; devices = old.devices; lines = text }) (record { plan = s; trail = trail; devices = new.devices; lines = text }) (Ok report)
-reported {D} told lasting count s old new cursors trail text report kept ending closing areas same lasted =
-    let closed = closed_as told s trail new.devices text (tells_of told s old.devices) text report.bytes ending.tells areas closing in (
+pub reported : {D : Type 0} (ghosts : Ghosts D) (s : Plan) (old new : WorldValue D) (cursors : List ℕ) (trail : List Move) (text : List ℕ) (report : TextValue)
+    → IsPlay ghosts.told s old cursors trail text → IsEnding ghosts old new s
+    → HasClosing (tells_of ghosts.told s old.devices) s trail text report.bytes → AreasHold ghosts.told s trail new.devices
+    → map ghosts.count new.devices ≡ map ghosts.count old.devices → HaveLasted ghosts s new.devices
+    → IsEnd ghosts (record { plan = s; trail = trail; devices = old.devices; lines = text })
+    (record { plan = s; trail = trail; devices = new.devices; lines = text }) (Ok report)
+reported {D} ghosts s old new cursors trail text report kept ending closing areas same lasted =
+    let closed = closed_as ghosts.told s trail new.devices text (tells_of ghosts.told s old.devices) text report.bytes ending.tells areas closing in (
       record {
         so_far = text;
         closing = closed.closing;
@@ -54,7 +59,9 @@ reported {D} told lasting count s old new cursors trail text report kept ending 
     )
 
 -- it has none, by which fault
-pub unreported : {D : Type 0} (told lasting : D → Option (List (List ℕ))) (count : D → ℕ) (s : Plan) (trail : List Move) (old new : List D) (text : List ℕ) (fault : PlayFault) → (fault ≡ OutOfMemory → map count new ≡ map count old) → (fault ≡ Failed → AnyRose (map count old) (map count new))
-    → IsEnd told lasting count (record { plan = s; trail = trail; devices = old; lines = text }) (record { plan = s; trail = trail; devices = new; lines = text }) (Err fault)
-unreported told lasting count s trail old new text Failed wanting rose = rose refl
-unreported told lasting count s trail old new text OutOfMemory wanting rose = wanting refl
+pub unreported : {D : Type 0} (ghosts : Ghosts D) (s : Plan) (trail : List Move) (old new : List D) (text : List ℕ) (fault : PlayFault)
+    → (fault ≡ OutOfMemory → map ghosts.count new ≡ map ghosts.count old) → (fault ≡ Failed → AnyRose (map ghosts.count old) (map ghosts.count new))
+    → IsEnd ghosts (record { plan = s; trail = trail; devices = old; lines = text }) (record { plan = s; trail = trail; devices = new; lines = text })
+    (Err fault)
+unreported ghosts s trail old new text Failed wanting rose = rose refl
+unreported ghosts s trail old new text OutOfMemory wanting rose = wanting refl

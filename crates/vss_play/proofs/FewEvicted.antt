@@ -5,6 +5,7 @@ use Rattle.std.specs.List.{flat_map, range_with_len}
 use Rattle.std.proofs.lemmas.List.{length-map}
 use Rattle.std.proofs.lemmas.List.Sums.{length-filter, count_by-le-length}
 use Rattle.std.proofs.lemmas.Option.{slice_get_within}
+use Rattle.volume_device.specs.declared.device.Device.{Ghosts}
 use Rattle.write_history.specs.declared.evicted.Evicted.{Evicted}
 use Rattle.write_history.specs.History.{History, Image, sets_of}
 use Rattle.write_history.specs.Slots.{Placed, evicted_of}
@@ -119,10 +120,12 @@ few_event told s w acts Provider of stands = omega arith
 few_event told s w acts Idle of stands = omega arith
 
 -- so there is room for its lines, where that was reserved
-pub room_for : {D T E : Type 0} (told : D → Option (List (List ℕ))) (count : D → ℕ) (s : Plan) (old new : WorldValue D) (acts : List Act) (event : Event) (o : Outcome) (n room : ℕ) (r : Result T E)
-    → IsOf old s → Stands told old s acts → IsMoved told count old new s event o → n ≡ bytes_for s event → is_err r ≡ false → OnOk r (n ≤ room) → most_bytes (length new.evicted) ≤ room
-room_for told count s old new acts event o n room (Err e) of stands moves is done fits = absurd cc
-room_for told count s old new acts event o n room (Ok x) of stands moves is done fits =
-    let few = few_event told s old acts event of stands in
+pub room_for : {D T E : Type 0} (ghosts : Ghosts D) (s : Plan) (old new : WorldValue D) (acts : List Act) (event : Event) (o : Outcome) (n room : ℕ)
+    (r : Result T E)
+    → IsOf old s → Stands ghosts.told old s acts → IsMoved ghosts old new s event o → n ≡ bytes_for s event → is_err r ≡ false → OnOk r (n ≤ room)
+    → most_bytes (length new.evicted) ≤ room
+room_for ghosts s old new acts event o n room (Err e) of stands moves is done fits = absurd cc
+room_for ghosts s old new acts event o n room (Ok x) of stands moves is done fits =
+    let few = few_event ghosts.told s old acts event of stands in
     let same = ap length (moves.outcome acts _ stands refl).evicts in
     omega (arith, few, same, is, fits)

@@ -6,6 +6,7 @@ use Rattle.std.proofs.lemmas.List.{length-map}
 use Rattle.std.proofs.Math.Seq.{take-append_seam}
 use Rattle.std.proofs.lemmas.Option.{slice_get_within}
 use Rattle.vss_names.specs.declared.out_of_memory.OutOfMemory.{OutOfMemory}
+use Rattle.volume_device.specs.declared.device.Device.{Ghosts}
 use Rattle.write_history.specs.declared.actor.Actor.{Actor}
 use Rattle.turn_cell.specs.declared.view.Known.{Known}
 use Rattle.turn_cell.specs.History.{Leads, entries_of}
@@ -53,18 +54,19 @@ pub all_of : {X Y : Type 0} (f : X → Y) (P : Y → Type 0) (n : ℕ) (xs ys : 
 all_of f P n xs ys is h = subst (λ (l : List _). All P (map f l)) (ap (λ k. take k (xs ++ ys)) (sym is) ∙ take-append_seam xs ys) h
 
 -- so the run went on in threads, and then in turn
-pub played_in_threads : {D C : Type 0} (told : D → Option (List (List ℕ))) (count : D → ℕ) (standing : C → Known Actor Stepped) (first play middle : Played D) (actors : List Actor) (olds news : List C) (history : List Turn) (seats : ℕ)
+pub played_in_threads : {D C : Type 0} (ghosts : Ghosts D) (standing : C → Known Actor Stepped) (first play middle : Played D) (actors : List Actor)
+    (olds news : List C) (history : List Turn) (seats : ℕ)
     → first ≡ play → actors ≡ actors_in_threads play.plan → seats ≡ length actors → length news ≡ length olds → length olds ≡ length actors
-    → Leads (steps_of told count) first history middle → All (λ e. e.caller < seats) history
+    → Leads (steps_of ghosts) first history middle → All (λ e. e.caller < seats) history
     → ((i : ℕ) (d : C) → i < length olds → standing (slice_index_or olds i d) ≡ newcomer i)
     → ((i : ℕ) (d : C) → i < length olds → HasActed (slice_get actors i) (standing (slice_index_or olds i d)) (standing (slice_index_or news i d)))
-    → All (Stands history) (map standing news) → (r : Result (Played D) OutOfMemory) → IfOk r (IsPlayedInTurn told count middle) → IfOk r (IsPlayedInThreads told count play)
-played_in_threads {D} told count standing first play middle actors olds news history seats start are seated same many leads numbered new acted stands (Ok last) in_turn = record {
+    → All (Stands history) (map standing news) → (r : Result (Played D) OutOfMemory) → IfOk r (IsPlayedInTurn ghosts middle) → IfOk r (IsPlayedInThreads ghosts play)
+played_in_threads {D} ghosts standing first play middle actors olds news history seats start are seated same many leads numbered new acted stands (Ok last) in_turn = record {
   history = history;
   middle = middle;
-  leads = subst (λ (p : Played D). Leads (steps_of told count) p history middle) start leads;
+  leads = subst (λ (p : Played D). Leads (steps_of ghosts) p history middle) start leads;
   callers = subst (λ (n : ℕ). All (λ e. e.caller < n) history) (seated ∙ ap length are) numbered;
   each = λ i actor at. all_played standing actors olds news history same many new acted stands i actor (ap (λ (xs : List Actor). slice_get xs i) are ∙ at);
   in_turn = in_turn;
 }
-played_in_threads told count standing first play middle actors olds news history seats start are seated same many leads numbered new acted stands (Err e) in_turn = tt
+played_in_threads ghosts standing first play middle actors olds news history seats start are seated same many leads numbered new acted stands (Err e) in_turn = tt

@@ -5,6 +5,7 @@ use Rattle.std.proofs.lemmas.Bool.Decides.{nat_tests}
 use Rattle.std.proofs.lemmas.List.Sums.{sum_by-cons}
 use Rattle.vss_names.specs.Faults.{Rose, most, counted, all_counted}
 use Rattle.vss_names.specs.TextValue.{TextValue}
+use Rattle.volume_device.specs.declared.device.Device.{Ghosts}
 use Rattle.write_history.specs.declared.move_item.Move.{Move}
 use Rattle.scenario.specs.Plan.{Plan}
 use Rattle.vss_model.specs.GoesOn.{most_moves}
@@ -52,32 +53,33 @@ rose-counted first made last ns n some below later counts = elim (all_counted-su
 
 -- ## the end
 
-pub complete_moved : {D : Type 0} → (told : D → Option (List (List ℕ))) (count : D → ℕ) (q r : Played D) → IsQuietPlay told count q r
+pub complete_moved : {D : Type 0} → (ghosts : Ghosts D) (q r : Played D) → IsQuietPlay ghosts q r
     → is_complete q.plan q.trail ≡ true → is_complete r.plan r.trail ≡ true
-complete_moved told count q r quiet h =
+complete_moved ghosts q r quiet h =
     subst (λ (ms : List Move). is_complete r.plan ms ≡ true) (sym quiet.trail) (subst (λ (x : Plan). is_complete x q.trail ≡ true) (sym quiet.plan) h)
 
 -- a device's fault is a fault of the maker that gets it back
-fault-by : {D : Type 0} {lasting : D → Option (List (List ℕ))} → (told : D → Option (List (List ℕ))) (count : D → ℕ) (q : Played D)
+fault-by : {D : Type 0} → (ghosts : Ghosts D) (q : Played D)
     (places first made last : ℕ) (kept_first kept_last : Option (List D)) → first ≤ made
-    → IsEnded told lasting count q places kept_first kept_last made last (Err Failed) → Rose first last
-fault-by told count q places first made last kept_first kept_last later ended =
+    → IsEnded ghosts q places kept_first kept_last made last (Err Failed) → Rose first last
+fault-by ghosts q places first made last kept_first kept_last later ended =
     let any = ended.ends in
-    rose-counted first made last (map count ended.new.devices) any.now
-    (rose-positive any.before any.now any.rose) (member-le-sum (map count ended.new.devices) any.at any.now any.is) later ended.count_is
+    rose-counted first made last (map ghosts.count ended.new.devices) any.now
+    (rose-positive any.before any.now any.rose) (member-le-sum (map ghosts.count ended.new.devices) any.at any.now any.is) later ended.count_is
 
-pub fault-of : {D : Type 0} {lasting : D → Option (List (List ℕ))} → (told : D → Option (List (List ℕ))) (count : D → ℕ) (q : Played D)
+pub fault-of : {D : Type 0} → (ghosts : Ghosts D) (q : Played D)
     (places first made last : ℕ) (kept_first kept_last : Option (List D))
-    (result : Result TextValue PlayFault) → first ≤ made → IsEnded told lasting count q places kept_first kept_last made last result → IsErrOf result Failed → Rose first last
-fault-of {D} {lasting} told count q places first made last kept_first kept_last result later ended e =
-    fault-by told count q places first made last kept_first kept_last later (subst (λ (r : Result TextValue PlayFault). IsEnded told lasting count q places kept_first kept_last made last r) e ended)
+    (result : Result TextValue PlayFault) → first ≤ made → IsEnded ghosts q places kept_first kept_last made last result → IsErrOf result Failed → Rose first last
+fault-of {D} ghosts q places first made last kept_first kept_last result later ended e =
+    fault-by ghosts q places first made last kept_first kept_last later (subst (λ (r : Result TextValue PlayFault). IsEnded ghosts q places kept_first kept_last made last r) e ended)
 
 -- the fault marks of a run are at most the faults that its devices counted
-pub faults-below : {D : Type 0} (told : D → Option (List (List ℕ))) (count : D → ℕ) (tells : Bool) (s : Plan) (p q r : Played D) → IsFresh told count tells s p → IsOnward told count p q → IsQuietPlay told count q r → IsKept told r
-    → faults r.trail ≤ sum (map count r.devices)
-faults-below told count tells s p q r fresh onward quiet kept =
+pub faults-below : {D : Type 0} (ghosts : Ghosts D) (tells : Bool) (s : Plan) (p q r : Played D) → IsFresh ghosts tells s p → IsOnward ghosts p q → IsQuietPlay ghosts q r → IsKept ghosts.told r
+    → faults r.trail ≤ sum (map ghosts.count r.devices)
+faults-below ghosts tells s p q r fresh onward quiet kept =
     let rest : r.trail ≡ onward.rest = quiet.trail ∙ onward.trail ∙ ap (λ (ms : List Move). ms ++ onward.rest) fresh.trail in
     let short = subst (λ (ms : List Move). length ms ≤ most_moves) rest (trail_is_short r.plan r.trail kept.plan kept.legal) in
-    let below = subst (λ (ms : List Move). faults ms ≤ sum (map count q.devices)) (sym rest) (counted_all onward.rest (map count p.devices) (map count q.devices) fresh.counts short onward.faults) in
-    let more = sum-later (map count q.devices) (map count r.devices) quiet.later in
+    let below = subst (λ (ms : List Move). faults ms ≤ sum (map ghosts.count q.devices)) (sym rest)
+    (counted_all onward.rest (map ghosts.count p.devices) (map ghosts.count q.devices) fresh.counts short onward.faults) in
+    let more = sum-later (map ghosts.count q.devices) (map ghosts.count r.devices) quiet.later in
     omega arith

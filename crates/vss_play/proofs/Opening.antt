@@ -6,6 +6,7 @@ use Rattle.std.proofs.lemmas.Bool.Decides.{nat_tests}
 use Rattle.std.proofs.lemmas.List.{length-map}
 use Rattle.std.proofs.lemmas.List.Elements.{All-append, All-cons, All-head, All-tail, All-nil, All-weaker}
 use Rattle.std.proofs.lemmas.Option.{slice_get_past, slice_get-map}
+use Rattle.volume_device.specs.declared.device.Device.{Ghosts}
 use Rattle.write_history.specs.declared.move_item.Move.{Move}
 use Rattle.scenario.specs.declared.volume_row.VolumeRow.{VolumeRow}
 use Rattle.scenario.specs.Plan.{Plan, GroupPlan}
@@ -367,29 +368,38 @@ all_volumes_tell told s ds plan many all =
 
 -- ## the beginning of a run
 
-pub made_fresh : {D : Type 0} (told : D → Option (List (List ℕ))) (size count : D → ℕ) (tells : Bool) (s : Plan) (made ds : List D) (groups : List (GroupValue D)) (moves : List Move) (text : List ℕ) → IsPlan s → moves ≡ [] → ds ≡ devices_of groups → AreMade told size count tells (device_sizes s) made
-    → AreOpened told s.volumes (groups_of_devices s) made 0 s.groups groups → IsFresh told count tells s (record { plan = s; trail = moves; devices = ds; lines = text })
-made_fresh {D} told size count tells s made ds groups moves text plan none same h opened =
-    let all : All (IsNewDevice told size count tells) (devices_of groups) = all_opened_devices (IsNewDevice told size count tells) told s.volumes (groups_of_devices s) made 0 s.groups groups h.each opened in
-    let many : length ds ≡ first_place (length s.groups) s.volumes = ap (λ (xs : List D). length xs) same ∙ many_opened told s made groups opened in
-    let fresh_ds : All (IsNewDevice told size count tells) ds = subst (λ (xs : List D). All (IsNewDevice told size count tells) xs) (sym same) all in
+pub made_fresh : {D : Type 0} (ghosts : Ghosts D) (tells : Bool) (s : Plan) (made ds : List D) (groups : List (GroupValue D)) (moves : List Move)
+    (text : List ℕ) → IsPlan s → moves ≡ [] → ds ≡ devices_of groups → AreMade ghosts tells (device_sizes s) made
+    → AreOpened ghosts.told s.volumes (groups_of_devices s) made 0 s.groups groups
+    → IsFresh ghosts tells s (record { plan = s; trail = moves; devices = ds; lines = text })
+made_fresh {D} ghosts tells s made ds groups moves text plan none same h opened =
+    let all : All (IsNewDevice ghosts tells) (devices_of groups) = all_opened_devices (IsNewDevice ghosts tells) ghosts.told s.volumes
+    (groups_of_devices s) made 0 s.groups groups h.each opened in
+    let many : length ds ≡ first_place (length s.groups) s.volumes = ap (λ (xs : List D). length xs) same ∙ many_opened ghosts.told s made groups opened in
+    let fresh_ds : All (IsNewDevice ghosts tells) ds = subst (λ (xs : List D). All (IsNewDevice ghosts tells) xs) (sym same) all in
     record {
       plan = refl;
       trail = none;
       many = many ∙ total_places (length s.groups) s.volumes (groups_in s plan) ∙ sym (many_names s);
-      counts = new_counts told size count tells ds fresh_ds;
-      tell = λ t. all_volumes_tell told s ds plan many (All-weaker (IsNewDevice told size count tells) (λ d. IsSome (told d)) (λ d is. is.tell t) ds fresh_ds);
+      counts = new_counts ghosts tells ds fresh_ds;
+      tell =
+          λ t. all_volumes_tell ghosts.told s ds plan many
+          (All-weaker (IsNewDevice ghosts tells) (λ d. IsSome (ghosts.told d)) (λ d is. is.tell t) ds fresh_ds);
     }
 
 -- the lists of the groups have the sizes and the zeros of the devices
 pub sorted_sizes : {D : Type 0} (size : D → ℕ) (s : Plan) (devices : List D) (sorted : List (List D)) → map size devices ≡ device_sizes s → AreSorted s sorted devices → (g : ℕ) (ds : List D) → slice_get sorted g ≡ Some ds → map size ds ≡ in_group g (groups_of_devices s) (device_sizes s)
 sorted_sizes {D} size s devices sorted sizes each g ds at = ap (map size) (each g ds at) ∙ map_in_group size g (groups_of_devices s) devices ∙ ap (in_group g (groups_of_devices s)) sizes
 
-pub sorted_zeros : {D : Type 0} (told : D → Option (List (List ℕ))) (size : D → ℕ) (s : Plan) (devices : List D) (sorted : List (List D)) → All (IsZero told size) devices → AreSorted s sorted devices → (g : ℕ) (ds : List D) → slice_get sorted g ≡ Some ds → All (IsZero told size) ds
-sorted_zeros {D} told size s devices sorted zeros each g ds at = subst (λ (xs : List D). All (IsZero told size) xs) (sym (each g ds at)) (all_in_group (IsZero told size) g (groups_of_devices s) devices zeros)
+pub sorted_zeros : {D : Type 0} (ghosts : Ghosts D) (s : Plan) (devices : List D) (sorted : List (List D)) → All (IsZero ghosts) devices
+    → AreSorted s sorted devices → (g : ℕ) (ds : List D) → slice_get sorted g ≡ Some ds → All (IsZero ghosts) ds
+sorted_zeros {D} ghosts s devices sorted zeros each g ds at =
+    subst (λ (xs : List D). All (IsZero ghosts) xs) (sym (each g ds at)) (all_in_group (IsZero ghosts) g (groups_of_devices s) devices zeros)
 
 -- each device that was made is in a group
-pub as_many : {D : Type 0} (told : D → Option (List (List ℕ))) (size count : D → ℕ) (tells : Bool) (s : Plan) (made ds : List D) (groups : List (GroupValue D)) → IsPlan s → ds ≡ devices_of groups → AreMade told size count tells (device_sizes s) made → AreOpened told s.volumes (groups_of_devices s) made 0 s.groups groups
+pub as_many : {D : Type 0} (ghosts : Ghosts D) (tells : Bool) (s : Plan) (made ds : List D) (groups : List (GroupValue D)) → IsPlan s → ds ≡ devices_of groups
+    → AreMade ghosts tells (device_sizes s) made → AreOpened ghosts.told s.volumes (groups_of_devices s) made 0 s.groups groups
     → length ds ≡ length made
-as_many {D} told size count tells s made ds groups plan same h opened =
-    ap (λ (xs : List D). length xs) same ∙ many_opened told s made groups opened ∙ total_places (length s.groups) s.volumes (groups_in s plan) ∙ sym (made_many told size count tells (device_sizes s) made h ∙ many_sizes s)
+as_many {D} ghosts tells s made ds groups plan same h opened =
+    ap (λ (xs : List D). length xs) same ∙ many_opened ghosts.told s made groups opened ∙ total_places (length s.groups) s.volumes (groups_in s plan)
+    ∙ sym (made_many ghosts tells (device_sizes s) made h ∙ many_sizes s)

@@ -1,6 +1,7 @@
 -- What a core that its caller drives keeps.
 use Rattle.std.proofs.Common.{◌≡◌, ℕ, ◌+◌, ◌<◌, List, [], ◌∷◌, ◌++◌, Option, Some, arith, length-append}
 use Rattle.std.specs.Prelude.{slice_get}
+use Rattle.volume_device.specs.declared.device.Device.{Ghosts}
 use Rattle.scenario.specs.Plan.{Plan, LaneLine, lines_of}
 use Rattle.scenario.specs.Bounds.{IsPlan}
 use Rattle.vss_model.specs.declared.event.Event.{Event}
@@ -21,9 +22,9 @@ serving_new told s w of stands =
     record { of = of; standing = record { acts = []; few = omega arith; stands = stands }; many = omega arith; most = omega arith }
 
 -- and after a move
-pub serving_on : {D : Type 0} (told : D → Option (List (List ℕ))) (count : D → ℕ) (s : Plan) (old new : WorldValue D) (n m : ℕ) (event : Event) (o : Outcome)
-    → n < 2097151 → m ≡ n + 1 → IsServing told s old n → IsMoved told count old new s event o → IsServing told s new m
-serving_on told count s old new n m event o few next k moves =
+pub serving_on : {D : Type 0} (ghosts : Ghosts D) (s : Plan) (old new : WorldValue D) (n m : ℕ) (event : Event) (o : Outcome)
+    → n < 2097151 → m ≡ n + 1 → IsServing ghosts.told s old n → IsMoved ghosts old new s event o → IsServing ghosts.told s new m
+serving_on ghosts s old new n m event o few next k moves =
     let acts = k.standing.acts in
     let more = length-append acts (told_act event o.told ∷ []) in
     let many = k.many in
@@ -50,7 +51,7 @@ actor_of s Provider h = tt
 actor_of s Idle h = tt
 
 -- the numbers of its outcome are in the scenario's range
-pub numbers_of : {D : Type 0} (told : D → Option (List (List ℕ))) (count : D → ℕ) (s : Plan) (old new : WorldValue D) (event : Event) (o : Outcome)
-    → IsEvent s event → IsStanding told old s → IsMoved told count old new s event o → AreInPlan s (actor_by event) o new.evicted
-numbers_of told count s old new event o is standing moves =
-    numbers_by told count s old new standing.acts (actor_by event) event o (actor_of s event is) standing.stands moves
+pub numbers_of : {D : Type 0} (ghosts : Ghosts D) (s : Plan) (old new : WorldValue D) (event : Event) (o : Outcome)
+    → IsEvent s event → IsStanding ghosts.told old s → IsMoved ghosts old new s event o → AreInPlan s (actor_by event) o new.evicted
+numbers_of ghosts s old new event o is standing moves =
+    numbers_by ghosts s old new standing.acts (actor_by event) event o (actor_of s event is) standing.stands moves

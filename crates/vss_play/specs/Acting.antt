@@ -3,6 +3,7 @@
 use Rattle.std.specs.Prelude.{ℕ, ◌≡◌, ◌<◌, List, [], ◌∷◌, ◌++◌, length, map, slice_get, Option, Some, None, Result, Ok, Err, IsErr, ◌⊎◌}
 use Rattle.std.specs.List.{All, range_with_len}
 use Rattle.vss_names.specs.declared.out_of_memory.OutOfMemory.{OutOfMemory}
+use Rattle.volume_device.specs.declared.device.Device.{Ghosts}
 use Rattle.write_history.specs.declared.actor.Actor.{Actor}
 use Rattle.write_history.specs.declared.actor.Actor.TheVariants.{Lane, Writer, Advance}
 use Rattle.write_history.specs.declared.move_item.Move.{Move}
@@ -30,8 +31,8 @@ outcome_of stepped.Finished = Ok Finished
 outcome_of stepped.TrailFull = Err TrailFull
 
 -- a move of the machine
-abbrev pub IsStep : {D : Type 0} → (D → Option (List (List ℕ))) → (D → ℕ) → Played D → Actor → Stepped → Played D → Type 0
-IsStep told count before actor reply after = IsTurn told count before after actor (outcome_of reply)
+abbrev pub IsStep : {D : Type 0} → Ghosts D → Played D → Actor → Stepped → Played D → Type 0
+IsStep ghosts before actor reply after = IsTurn ghosts before after actor (outcome_of reply)
 
 -- an entry of the history
 abbrev pub Turn : Type 0
@@ -51,14 +52,14 @@ movers [] = []
 movers (e ∷ es) = mover_if e.call e.answer ++ movers es
 
 -- a run that went on by one move for each of these actors, in order
-pub record IsLedBy {D : Type 0} (told : D → Option (List (List ℕ))) (count : D → ℕ) (old : Played D) (actors : List Actor) (new : Played D) : Type 0 where
-  pub onward : IsOnward told count old new
+pub record IsLedBy {D : Type 0} (ghosts : Ghosts D) (old : Played D) (actors : List Actor) (new : Played D) : Type 0 where
+  pub onward : IsOnward ghosts old new
   pub by : map (λ (m : Move). m.actor) onward.rest ≡ actors
 
 -- a run that went on by these entries: its trail grew by one move for each entry by which a move was made, in order,
 -- with that entry's actor
-abbrev pub IsLed : {D : Type 0} → (D → Option (List (List ℕ))) → (D → ℕ) → Played D → List Turn → Played D → Type 0
-IsLed told count old entries new = IsLedBy told count old (movers entries) new
+abbrev pub IsLed : {D : Type 0} → Ghosts D → Played D → List Turn → Played D → Type 0
+IsLed ghosts old entries new = IsLedBy ghosts old (movers entries) new
 
 -- ## an actor's loop
 
@@ -122,10 +123,10 @@ HasActed (Some actor) old new = (new.number ≡ old.number) × HasTurns actor ol
 
 -- The run went on by a history that has the entries of one caller for each actor, and no others, each of which called for its actor alone
 -- until it left; the rest was made in turn.
-pub record IsPlayedInThreads {D : Type 0} (told : D → Option (List (List ℕ))) (count : D → ℕ) (old new : Played D) : Type 0 where
+pub record IsPlayedInThreads {D : Type 0} (ghosts : Ghosts D) (old new : Played D) : Type 0 where
   pub history : List Turn
   pub middle : Played D
-  pub leads : Leads (λ before caller actor reply after. IsStep told count before actor reply after) old history middle
+  pub leads : Leads (λ before caller actor reply after. IsStep ghosts before actor reply after) old history middle
   pub callers : All (λ e. e.caller < length (actors_in_threads old.plan)) history
   pub each : (i : ℕ) (actor : Actor) → slice_get (actors_in_threads old.plan) i ≡ Some actor → HasPlayed actor (entries_of i history)
-  pub in_turn : IsPlayedInTurn told count middle new
+  pub in_turn : IsPlayedInTurn ghosts middle new

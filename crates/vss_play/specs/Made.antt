@@ -3,6 +3,7 @@
 use Rattle.std.specs.Prelude.{ℕ, suc, ◌≡◌, ◌≤◌, ◌==◌, Bool, drop, take, slice_get, Some, List, [], ◌∷◌, ◌++◌, length, map, All, IfSome, IsSome, IsTrue, replicate, if◌then◌else◌, Option}
 use Rattle.std.specs.List.{range_with_len}
 use Rattle.block_data.specs.Runs.{zeros}
+use Rattle.volume_device.specs.declared.device.Device.{Ghosts}
 use Rattle.write_history.specs.History.{fresh}
 use Rattle.scenario.specs.declared.volume_row.VolumeRow.{VolumeRow}
 use Rattle.scenario.specs.Plan.{Plan, GroupPlan}
@@ -13,25 +14,25 @@ use Rattle.scenario.specs.Places.{blocks_in_group}
 -- ## devices
 
 -- zeros, where it tells its blocks
-abbrev pub IsZero : {D : Type 0} → (D → Option (List (List ℕ))) → (D → ℕ) → D → Type 0
-IsZero told size d = IfSome (told d) (λ blocks. blocks ≡ replicate (size d) zeros)
+abbrev pub IsZero : {D : Type 0} → Ghosts D → D → Type 0
+IsZero ghosts d = IfSome (ghosts.told d) (λ blocks. blocks ≡ replicate (ghosts.size d) zeros)
 
 -- which it does where the maker says so; and no fault yet
-pub record IsNewDevice {D : Type 0} (told : D → Option (List (List ℕ))) (size count : D → ℕ) (tells : Bool) (d : D) : Type 0 where
-  pub zero : IsZero told size d
-  pub tell : IsTrue tells → IsSome (told d)
-  pub fresh : count d ≡ 0
+pub record IsNewDevice {D : Type 0} (ghosts : Ghosts D) (tells : Bool) (d : D) : Type 0 where
+  pub zero : IsZero ghosts d
+  pub tell : IsTrue tells → IsSome (ghosts.told d)
+  pub fresh : ghosts.count d ≡ 0
 
 -- one for each of these numbers of blocks
-pub record AreMade {D : Type 0} (told : D → Option (List (List ℕ))) (size count : D → ℕ) (tells : Bool) (sizes : List ℕ) (ds : List D) : Type 0 where
-  pub sizes_are : map size ds ≡ sizes
-  pub each : All (IsNewDevice told size count tells) ds
+pub record AreMade {D : Type 0} (ghosts : Ghosts D) (tells : Bool) (sizes : List ℕ) (ds : List D) : Type 0 where
+  pub sizes_are : map ghosts.size ds ≡ sizes
+  pub each : All (IsNewDevice ghosts tells) ds
 
 -- one more was made, with so many blocks
-pub record HasOneMore {D : Type 0} (told : D → Option (List (List ℕ))) (size count : D → ℕ) (tells : Bool) (blocks : ℕ) (old new : List D) : Type 0 where
+pub record HasOneMore {D : Type 0} (ghosts : Ghosts D) (tells : Bool) (blocks : ℕ) (old new : List D) : Type 0 where
   pub device : D
-  pub size_is : size device ≡ blocks
-  pub made : IsNewDevice told size count tells device
+  pub size_is : ghosts.size device ≡ blocks
+  pub made : IsNewDevice ghosts tells device
   pub items : new ≡ old ++ device ∷ []
 
 -- ## sorted by their groups

@@ -29,7 +29,7 @@ fn digest_volumes<D: Device>(
     requires stands { StandsAfter D.told world.old scenario.now trail.now.moves }
     requires ready { AreReady (tells_of D.told scenario.now world.old.devices) scenario.now trail.now.moves ready.old.rows.items }
     ensures digests { OnOk result (AreDigests (tells_of D.told scenario.now world.old.devices) scenario.now trail.now.moves out.new) }
-    ensures quiet { IsQuiet D.told D.count world.old world.new scenario.now }
+    ensures quiet { IsQuiet D.Device world.old world.new scenario.now }
     ensures same { OnOk result (map D.count world.new.devices ≡ map D.count world.old.devices) }
     ensures rose { IsErr result → AnyRose (map D.count world.old.devices) (map D.count world.new.devices) }
 {
@@ -56,8 +56,8 @@ pub fn digest_all<D: Device>(
     requires ready { AreReady (tells_of D.told scenario.now world.old.devices) scenario.now trail.now.moves ready.old.rows.items }
     ensures digests { OnOk result (AreDigests (tells_of D.told scenario.now world.old.devices) scenario.now trail.now.moves out.new) }
     ensures areas { OnOk result (AreasHold D.told scenario.now trail.now.moves world.new.devices) }
-    ensures lasted { OnOk result (HaveLasted D.told D.lasting scenario.now world.new.devices) }
-    ensures ending { IsEnding D.told D.count world.old world.new scenario.now }
+    ensures lasted { OnOk result (HaveLasted D.Device scenario.now world.new.devices) }
+    ensures ending { IsEnding D.Device world.old world.new scenario.now }
     ensures same { OnOk result (map D.count world.new.devices ≡ map D.count world.old.devices) }
     ensures rose { IsErr result → AnyRose (map D.count world.old.devices) (map D.count world.new.devices) }
 {

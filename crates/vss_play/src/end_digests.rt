@@ -50,7 +50,7 @@ pub(crate) fn digest_volume<D: Device>(
     requires ready { AreReady (tells_of D.told scenario.now world.old.devices) scenario.now trail.now.moves ready.old.rows.items }
     ensures digest { IfOk result (IsDigestOf (tells_of D.told scenario.now world.old.devices) scenario.now (state_after scenario.now trail.now.moves) volume None) }
     ensures rows { ready.new.rows ≡ ready.old.rows }
-    ensures quiet { IsQuiet D.told D.count world.old world.new scenario.now }
+    ensures quiet { IsQuiet D.Device world.old world.new scenario.now }
     ensures same { OnOk result (map D.count world.new.devices ≡ map D.count world.old.devices) }
     ensures rose { IsErr result → AnyRose (map D.count world.old.devices) (map D.count world.new.devices) }
 {
@@ -78,7 +78,7 @@ pub(crate) fn digest_image<D: Device>(
     requires ready { AreReady (tells_of D.told scenario.now world.old.devices) scenario.now trail.now.moves ready.old.rows.items }
     ensures digest { IfOk result (IsDigestOf (tells_of D.told scenario.now world.old.devices) scenario.now (state_after scenario.now trail.now.moves) volume (Some set)) }
     ensures rows { ready.new.rows ≡ ready.old.rows }
-    ensures quiet { IsQuiet D.told D.count world.old world.new scenario.now }
+    ensures quiet { IsQuiet D.Device world.old world.new scenario.now }
     ensures same { OnOk result (map D.count world.new.devices ≡ map D.count world.old.devices) }
     ensures rose { IsErr result → AnyRose (map D.count world.old.devices) (map D.count world.new.devices) }
 {

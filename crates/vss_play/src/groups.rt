@@ -84,7 +84,7 @@ fn open_over<D: Device>(
     requires few { slots ≤ MOST_SLOTS }
     requires volumes { AreVolumes blocks.now }
     requires sizes { map D.size devices.items ≡ blocks.now ++ blocks_for slots ∷ [] }
-    requires zeros { All (IsZero D.told D.size) devices.items }
+    requires zeros { All (IsZero D.Device) devices.items }
     ensures { IfOk result (IsOpened D.told blocks.now slots devices.items) }
 {
     let mut volumes = devices;
@@ -106,7 +106,7 @@ fn open_group<D: Device>(
 ) -> Result<CowGroup<D>, OutOfMemory>
     requires group { group < length scenario.now.groups }
     requires sizes { map D.size devices.items ≡ in_group group (groups_of_devices scenario.now) (device_sizes scenario.now) }
-    requires zeros { All (IsZero D.told D.size) devices.items }
+    requires zeros { All (IsZero D.Device) devices.items }
     ensures { IfOk result (λ opened. (p : GroupPlan) → slice_get scenario.now.groups group ≡ Some p → IsOpened D.told (blocks_in_group group scenario.now.volumes) p.slots devices.items opened) }
 {
     let _facts = scenario.volumes();
@@ -122,7 +122,7 @@ fn open_sorted<D: Device>(
 ) -> Result<Vec<CowGroup<D>>, OutOfMemory>
     requires many { length sorted.items ≡ length scenario.now.groups }
     requires sizes { (g : ℕ) (ds : List D) → slice_get (map (λ v. v.items) sorted.items) g ≡ Some ds → map D.size ds ≡ in_group g (groups_of_devices scenario.now) (device_sizes scenario.now) }
-    requires zeros { (g : ℕ) (ds : List D) → slice_get (map (λ v. v.items) sorted.items) g ≡ Some ds → All (IsZero D.told D.size) ds }
+    requires zeros { (g : ℕ) (ds : List D) → slice_get (map (λ v. v.items) sorted.items) g ≡ Some ds → All (IsZero D.Device) ds }
     ensures { IfOk result (λ groups. (devices : List D) → AreSorted scenario.now (map (λ v. v.items) sorted.items) devices → AreOpened D.told scenario.now.volumes (groups_of_devices scenario.now) devices 0 scenario.now.groups groups.items) }
 {
     let _facts = scenario.volumes();
@@ -143,7 +143,7 @@ pub fn open_groups<D: Device>(
     devices: Vec<D>,
 ) -> Result<Vec<CowGroup<D>>, OutOfMemory>
     requires sizes { map D.size devices.items ≡ device_sizes scenario.now }
-    requires zeros { All (IsZero D.told D.size) devices.items }
+    requires zeros { All (IsZero D.Device) devices.items }
     ensures { IfOk result (λ groups. AreOpened D.told scenario.now.volumes (groups_of_devices scenario.now) devices.items 0 scenario.now.groups groups.items) }
 {
     let sorted = sort_devices(alloc, scenario, devices)?;

@@ -76,8 +76,8 @@ pub fn play_all<R: Threads + Wait + Sync, D: Device + Send, G: Gate>(
     play: Play<D>,
     gate: &G,
 ) -> Result<Play<D>, OutOfMemory>
-    ensures played { IfOk result (IsPlayedOut D.told D.count play) }
-    ensures threads { IfOk result (IsPlayedInThreads D.told D.count play) }
+    ensures played { IfOk result (IsPlayedOut D.Device play) }
+    ensures threads { IfOk result (IsPlayedInThreads D.Device play) }
 {
     let actors = actors_of(alloc, &play)?;
     let room = Room::new(alloc, actors.len())?;

@@ -1,4 +1,4 @@
-ghost use Rattle.std.specs.Prelude.{◌≡◌, ◌+◌, ◌≤◌, ◌++◌, ◌⊎◌, Some, false, length, map, OnOk, OnErr, IfOk, IsErr, IsErrOf, option_map, is_some};
+ghost use Rattle.std.specs.Prelude.{◌≡◌, ◌+◌, ◌≤◌, ◌++◌, ◌⊎◌, Some, true, false, length, map, OnOk, OnErr, IfOk, IsErr, IsErrOf, option_map, is_some};
 ghost use Rattle.vss_names.specs.Faults.{Rose, all_counted};
 ghost use Rattle.vss_model.specs.Trail.{event_of};
 ghost use Rattle.vss_report.specs.ToldLines.{IsLineOf};
@@ -6,7 +6,7 @@ ghost use Rattle.vss_play.specs.Digested.{AreDigests};
 ghost use Rattle.vss_play.specs.Lasting.{HaveLasted};
 ghost use Rattle.vss_play.specs.Running.{MayIfCan};
 ghost use Rattle.write_history.specs.declared.mark.Mark.{Mark};
-ghost use Rattle.cow_volume.specs.Calls.{NeverFails, counted_by, uncounted};
+ghost use Rattle.cow_volume.specs.Calls.{NeverFails, counted_as};
 ghost use Rattle.vss_play.specs.Played.{run_of, is_finished, tells_in, IsKept, IsTurn, IsMarkedTurn, IsFresh, IsUndone, IsDropped, IsQuietPlay, IsClosed, IsEnded, AnyRose, AreNamed, AreasHold, device_names};
 
 use crate::closing::close_all;
@@ -68,7 +68,7 @@ impl<D: Device> Play<D> {
         store: &Store,
         maker: &mut M,
     ) -> Result<Play<D>, PlayFault>
-        ensures fresh { IfOk result (IsFresh D.told D.count (M.tells maker.old store.now) scenario) }
+        ensures fresh { IfOk result (IsFresh D.Device (M.tells maker.old store.now) scenario) }
         ensures tells { M.tells maker.new ≡ M.tells maker.old }
         ensures named { OnOk result (AreNamed (device_names scenario) (M.named maker.old) (M.named maker.new)) }
         ensures kept { OnOk result (M.kept maker.new ≡ M.kept maker.old) }
@@ -106,7 +106,7 @@ impl<D: Device> Play<D> {
     /// Makes the next move of an actor, where it may come. Time passes idly only where nothing else can move. An actor that has no move
     /// any more is told so without memory.
     pub fn step(&mut self, alloc: Global, actor: Actor) -> Result<Moved, StepFault>
-        ensures { IsTurn D.told D.count self.old self.new actor result }
+        ensures { IsTurn D.Device self.old self.new actor result }
     {
         self.turn(alloc, actor, None)
     }
@@ -114,7 +114,7 @@ impl<D: Device> Play<D> {
     /// Makes the next move of an actor as `step` does, with the mark of a move that is told: what a call of a device leaves that fails so,
     /// though no such call is made. Where the move may not come with this mark, its mark is as the devices give it.
     pub fn step_marked(&mut self, alloc: Global, item: Move) -> Result<Moved, StepFault>
-        ensures moved { IsTurn D.told uncounted self.old self.new item.actor result }
+        ensures moved { IsTurn (counted_as D.Device true) self.old self.new item.actor result }
         ensures marked { NeverFails D.count → IsMarkedTurn self.old self.new item result }
     {
         self.turn(alloc, item.actor, Some(item.mark))
@@ -122,7 +122,7 @@ impl<D: Device> Play<D> {
 
     /// The next move of an actor, by the calls of the devices or with a mark that is told.
     fn turn(&mut self, alloc: Global, actor: Actor, given: Option<Mark>) -> Result<Moved, StepFault>
-        ensures moved { IsTurn D.told (counted_by D.count (is_some given)) self.old self.new actor result }
+        ensures moved { IsTurn (counted_as D.Device (is_some given)) self.old self.new actor result }
         ensures marked { NeverFails D.count → (mark : Mark) → given ≡ Some mark → IsMarkedTurn self.old self.new (record { actor = actor; mark = mark }) result }
     {
         match actor {
@@ -183,7 +183,7 @@ impl<D: Device> Play<D> {
         requires may { MayIfCan self.old.plan (run_of self.old) actor }
         requires line { IsLineOf self.old.plan (run_of self.old) actor line }
         requires going { is_finished self.old.plan self.old.trail actor ≡ false }
-        ensures moved { IsTurn D.told (counted_by D.count (is_some given)) self.old self.new actor result }
+        ensures moved { IsTurn (counted_as D.Device (is_some given)) self.old self.new actor result }
         ensures marked { NeverFails D.count → (mark : Mark) → given ≡ Some mark → IsMarkedTurn self.old self.new (record { actor = actor; mark = mark }) result }
     {
         turns_come_to_an_end();
@@ -264,9 +264,9 @@ impl<D: Device> Play<D> {
     where
         D: Sync,
         ensures closed { OnOk result (IsClosed D.told self.new out.old.bytes out.new.bytes) }
-        ensures lasted { OnOk result (HaveLasted D.told D.lasting self.new.plan self.new.devices) }
+        ensures lasted { OnOk result (HaveLasted D.Device self.new.plan self.new.devices) }
         ensures same { OnErr result (out.new.bytes ≡ out.old.bytes) }
-        ensures quiet { IsQuietPlay D.told D.count self.old self.new }
+        ensures quiet { IsQuietPlay D.Device self.old self.new }
         ensures kept { IsKept D.told self.new }
         ensures unfailed { OnOk result (map D.count self.new.devices ≡ map D.count self.old.devices) }
         ensures wanting { IsErrOf result PlayFault.OutOfMemory → map D.count self.new.devices ≡ map D.count self.old.devices }
@@ -306,8 +306,8 @@ impl<D: Device> Play<D> {
         requires many { length out.old ≡ length self.old.plan.volumes }
         ensures digests { OnOk result (AreDigests (tells_in D.told self.new) self.new.plan self.new.trail out.new) }
         ensures areas { OnOk result (AreasHold D.told self.new.plan self.new.trail self.new.devices) }
-        ensures lasted { OnOk result (HaveLasted D.told D.lasting self.new.plan self.new.devices) }
-        ensures quiet { IsQuietPlay D.told D.count self.old self.new }
+        ensures lasted { OnOk result (HaveLasted D.Device self.new.plan self.new.devices) }
+        ensures quiet { IsQuietPlay D.Device self.old self.new }
         ensures kept { IsKept D.told self.new }
         ensures unfailed { OnOk result (map D.count self.new.devices ≡ map D.count self.old.devices) }
         ensures rose { IsErr result → AnyRose (map D.count self.old.devices) (map D.count self.new.devices) }
@@ -340,7 +340,7 @@ impl<D: Device> Play<D> {
     ) -> Result<Text, PlayFault>
     where
         D: Sync,
-        ensures ended { IsEnded D.told D.lasting D.count self (M.places maker.old) (M.kept maker.old) (M.kept maker.new) (M.count maker.old) (M.count maker.new) result }
+        ensures ended { IsEnded D.Device self (M.places maker.old) (M.kept maker.old) (M.kept maker.new) (M.count maker.old) (M.count maker.new) result }
         ensures tells { M.tells maker.new ≡ M.tells maker.old }
         ensures named { M.named maker.new ≡ M.named maker.old }
         ensures later { M.count maker.old ≤ M.count maker.new }

@@ -161,7 +161,7 @@ impl<D: Device> Service<D> {
         ensures moves { self.new.moves ≤ self.old.moves + 1 }
         ensures full { IsErrOf result StepFault.TrailFull → self.old.moves ≡ 2097151 }
         ensures takes { IsErrOf result StepFault.OutOfMemory → takes_memory event ≡ true }
-        ensures stepped { IfOk result (IsStepped D.told D.count self.old.world self.new.world self.old.plan event) }
+        ensures stepped { IfOk result (IsStepped D.Device self.old.world self.new.world self.old.plan event) }
         ensures listed { IfOk result (λ reply. AreListed reply self.new.world.listed) }
     {
         if self.moves >= MOST_MOVES {
@@ -191,7 +191,7 @@ impl<D: Device> Service<D> {
         ensures untold { OnErr result (out.new.bytes ≡ out.old.bytes) }
         ensures plan { self.new.plan ≡ self.old.plan }
         ensures full { IsErrOf result StepFault.TrailFull → self.old.moves ≡ 2097151 }
-        ensures stepped { IfOk result (IsStepped D.told D.count self.old.world self.new.world self.old.plan event) }
+        ensures stepped { IfOk result (IsStepped D.Device self.old.world self.new.world self.old.plan event) }
         ensures lines { IfOk result (λ reply. AreToldOf D.told self.new.plan self.new.world self.new.moves line event reply out.old.bytes out.new.bytes) }
     {
         let _kept = self.world();

@@ -82,7 +82,7 @@ module _ {D : Type 0} (device : Ghosts D) (s : Plan) {lane v : ℕ} {verdict : V
   -- an answer, from what it leaves of the provider
   answers : {q : ProviderValue D} (t : Told) → is_fault (mark_of t) ≡ false → q.groups ≡ p.groups → IsMove Adding s x (Line lane (op.Add v)) (told_alone t)
       → ((st : State) → Adding st → IsProviderAt device.told s q (line s lane (op.Add v) (mark_of t) st).1)
-      → IsMoved device.told device.count (world_of p x l e) (world_of q x l f) s (Line lane (op.Add v)) (simple_outcome t)
+      → IsMoved device (world_of p x l e) (world_of q x l f) s (Line lane (op.Add v)) (simple_outcome t)
   answers {q = q} t clean same move left =
       let to : (st : State) → Adding st → after s st (told_act (Line lane (op.Add v)) t) ≡ (line s lane (op.Add v) (mark_of t) st).1
       = λ st at. after_line s st lane (op.Add v) (mark_of t) (move.is_enabled st at) in
@@ -96,7 +96,7 @@ module _ {D : Type 0} (device : Ghosts D) (s : Plan) {lane v : ℕ} {verdict : V
   -- one that changes nothing
   unchanged : {q : ProviderValue D} (t : Told) → is_fault (mark_of t) ≡ false → q ≡ p → IsMove Adding s x (Line lane (op.Add v)) (told_alone t)
       → ((st : State) → Adding st → (line s lane (op.Add v) (mark_of t) st).1 ≡ st)
-      → IsMoved device.told device.count (world_of p x l e) (world_of q x l f) s (Line lane (op.Add v)) (simple_outcome t)
+      → IsMoved device (world_of p x l e) (world_of q x l f) s (Line lane (op.Add v)) (simple_outcome t)
   unchanged {q = q} t clean is move to =
       answers t clean (ap (λ (z : ProviderValue D). z.groups) is) move
       (λ st at. subst (λ (z : State). IsProviderAt device.told s q z) (sym (to st at)) (subst (λ (z : ProviderValue D). IsProviderAt device.told s z st) (sym is) at.provider))
@@ -124,7 +124,7 @@ module _ {D : Type 0} (device : Ghosts D) (s : Plan) {lane v : ℕ} {verdict : V
     comes_to mark st at = add_line s lane v mark st (may st at).row (goes st at) (may st at).is_in_progress ∙ ap (λ (o : Option VssResult). add_to v (may st at).row o st) (refuses st at)
 
     pub joined : {q : ProviderValue D} → result ≡ Ok tt → q ≡ record p { volumes = p.volumes ++ v ∷ [] }
-        → IsMoved device.told device.count (world_of p x l e) (world_of q x l f) s (Line lane (op.Add v)) (simple_outcome told.Ok)
+        → IsMoved device (world_of p x l e) (world_of q x l f) s (Line lane (op.Add v)) (simple_outcome told.Ok)
     joined {q = q} ok is =
         answers told.Ok refl (ap (λ (z : ProviderValue D). z.groups) is)
         (happens_moves Adding s x (Line lane (op.Add v)) (told_alone told.Ok)
@@ -147,7 +147,7 @@ module _ {D : Type 0} (device : Ghosts D) (s : Plan) {lane v : ℕ} {verdict : V
         )))
 
     pub not_joined : {q : ProviderValue D} (why : VssResult) → result ≡ Err why → q ≡ p
-        → IsMoved device.told device.count (world_of p x l e) (world_of q x l f) s (Line lane (op.Add v)) (simple_outcome (told.Result why))
+        → IsMoved device (world_of p x l e) (world_of q x l f) s (Line lane (op.Add v)) (simple_outcome (told.Result why))
     not_joined {q = q} why why_not is =
         unchanged (told.Result why) refl is
         (happens_moves Adding s x (Line lane (op.Add v)) (told_alone (told.Result why))
@@ -155,7 +155,7 @@ module _ {D : Type 0} (device : Ghosts D) (s : Plan) {lane v : ℕ} {verdict : V
         (λ st at. ap (λ (z : Replied). z.1) (comes_to (mark_of (told.Result why)) st at ∙ ap (λ (t : Result Unit VssResult). add_to v (may st at).row (fault_of t) st) why_not))
 
   pub check_refuses : {q : ProviderValue D} (why : VssResult) → verdict ≡ Refused why → q ≡ p
-      → IsMoved device.told device.count (world_of p x l e) (world_of q x l f) s (Line lane (op.Add v)) (simple_outcome (told.Result why))
+      → IsMoved device (world_of p x l e) (world_of q x l f) s (Line lane (op.Add v)) (simple_outcome (told.Result why))
   check_refuses {q = q} why why_not is =
       let refused : (st : State) → Adding st → check st.session (runs st) lane call.Add ≡ Refused why = λ st at. sym (kept st at.at.keeps) ∙ why_not in
       unchanged (told.Result why) refl is

@@ -131,7 +131,7 @@ pub call_moves : {D : Type 0} (device : Ghosts D) (s : Plan) (lane : ℕ) (op : 
     {l : List ℕ} {e f : List Evicted} → IsOf (world_of p x l e) s → IsStanding device.told (world_of p x l e) s → is_some (call_of op) ≡ true → is_add op ≡ false → IsOp s op
     → set ≡ current_of x.sets → f ≡ [] → IsMove (IsAtOver p.volumes x s) s y (Line lane op) m → IsSettled device m p q
     → IsEndPrepared (begins_snapshot op m.outcome.told) set q r → Leaves x y
-    → IsMoved device.told device.count (world_of p x l e) (world_of r y l f) s (Line lane op) m.outcome
+    → IsMoved device (world_of p x l e) (world_of r y l f) s (Line lane op) m.outcome
 call_moves device s lane op q {m = m} {set = set} {p = p} {r = r} {x = x} {y = y} {l = l} {e = e} {f = f} of standing call no_add is_op set_is none move settled ended leaves =
     let mark = mark_of m.outcome.told in
     let to : IfStands device.told (world_of p x l e) s (λ st. after_move s st (Line lane op) m ≡ (line s lane op mark st).1)

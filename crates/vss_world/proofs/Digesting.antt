@@ -27,7 +27,7 @@ module _ {D : Type 0} (device : Ghosts D) {s : Plan} {p q : ProviderValue D} {x 
   pub devices_alone : AreDevicesAlone (world_of p x l e) (world_of q x l e)
   devices_alone = ap (λ (r : ProviderValue D). record { devices = devices_of q.groups; listed = l; evicted = e; provider = r; sessions = x }) same
 
-  pub quiet_is : {v : ℕ} → IsGroupsQuiet device s p.groups q.groups v → IsQuiet device.told device.count (world_of p x l e) (world_of q x l e) s
+  pub quiet_is : {v : ℕ} → IsGroupsQuiet device s p.groups q.groups v → IsQuiet device (world_of p x l e) (world_of q x l e) s
   quiet_is quiet = record {
     stands_for = stands_still quiet.stands;
     is_of = of_kept device s p q x x l l e e of quiet.call.kept of.writers;

@@ -90,11 +90,11 @@ ends_of {s = s} {event = event} {m = m} st move here = (move.outcome st [] [] (a
 module _ {D : Type 0} (device : Ghosts D) (s : Plan) (event : Event) (m : SessionMove) (P : State → Type 0) {p : ProviderValue D} {x y : SessionsValue} {l : List ℕ}
     {e f : List Evicted} (none : f ≡ []) (move : IsMove P s y event m) (at : IfStands device.told (world_of p x l e) s P) where
   -- a move, from what it leaves of the devices and of the provider
-  pub session_comes : {q : ProviderValue D} → OfDevices device.told device.count s event m.outcome (world_of p x l e) (world_of q y l f) → Goes x y
+  pub session_comes : {q : ProviderValue D} → OfDevices device s event m.outcome (world_of p x l e) (world_of q y l f) → Goes x y
       → IfStands device.told (world_of p x l e) s (λ st. IsProviderAt device.told s q (after_move s st event m))
-      → IsOf (world_of p x l e) s → IsEventIn s event → IsMoved device.told device.count (world_of p x l e) (world_of q y l f) s event m.outcome
+      → IsOf (world_of p x l e) s → IsEventIn s event → IsMoved device (world_of p x l e) (world_of q y l f) s event m.outcome
   session_comes {q = q} devices goes comes of within =
-      moved device.told device.count s event m.outcome p q x y l l e f devices goes
+      moved device s event m.outcome p q x y l l e f devices goes
       (λ acts stands.
       let st = state s acts in
       let here = at acts stands in
@@ -115,7 +115,7 @@ module _ {D : Type 0} (device : Ghosts D) (s : Plan) (event : Event) (m : Sessio
   pub session_moves : {q : ProviderValue D} → IsOf (world_of p x l e) s → ((st : State) → event_volumes event m.outcome.told st ≡ st.volumes) → IsSettled device m p q
       → IsSessionsOf y s → Goes x y → is_fault (mark_of m.outcome.told) ≡ false
       → IfStands device.told (world_of p x l e) s (λ st. GoesOn st (after_move s st event m)) → IsEventIn s event
-      → IsMoved device.told device.count (world_of p x l e) (world_of q y l f) s event m.outcome
+      → IsMoved device (world_of p x l e) (world_of q y l f) s event m.outcome
   session_moves {q = q} of still settled writers goes clean on within =
       let kept = settled_keeps device m p q settled in
       session_comes (clean_devices device s event m.outcome p q x y l l e f of kept.0 writers kept.1 clean) goes

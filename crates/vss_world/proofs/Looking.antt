@@ -115,7 +115,7 @@ properties_line {s = s} {v = v} = record {
 
 module _ {D : Type 0} (device : Ghosts D) {s : Plan} {p : ProviderValue D} {x : SessionsValue} {l : List ℕ} {e f : List Evicted} (of : IsOf (world_of p x l e) s) (none : f ≡ []) where
   pub read_moves : {lane v b : ℕ} {answer : Told} {q : ProviderValue D} → IsBlock s v b → IsBlockSeen device s p q v None b answer
-      → IsMoved device.told device.count (world_of p x l e) (world_of q x l f) s (Line lane (Read v b)) (simple_outcome answer)
+      → IsMoved device (world_of p x l e) (world_of q x l f) s (Line lane (Read v b)) (simple_outcome answer)
   read_moves {v = v} {b = b} {answer = answer} within seen =
       block_moves device of none (record { on = λ st. refl; clean = λ st. refl; none = λ st. refl; nobody = λ st. refl }) refl b answer within.0
       (λ acts stands. let st = state s acts in record {
@@ -126,7 +126,7 @@ module _ {D : Type 0} (device : Ghosts D) {s : Plan} {p : ProviderValue D} {x : 
       }) seen
 
   pub query_moves : {lane v : ℕ} {k : List ℕ} → IfStands device.told (world_of p x l e) s (λ st. k ≡ sets_of (kept st (history_of st v)))
-      → IsMoved device.told device.count (world_of p x l e) (world_of p x k f) s (Line lane (Query v)) (simple_outcome told.Images)
+      → IsMoved device (world_of p x l e) (world_of p x k f) s (Line lane (Query v)) (simple_outcome told.Images)
   query_moves {v = v} are =
       answered_moves device of none told.Images (record { on = λ st. refl; clean = λ st. refl; none = λ st. refl; nobody = λ st. refl }) refl
       (λ acts stands. let st = state s acts in record {
@@ -143,20 +143,20 @@ module _ {D : Type 0} (device : Ghosts D) {s : Plan} {p : ProviderValue D} {x : 
 
   -- where that is not kept
   pub not_kept_moves : {lane n v : ℕ} {op : Op} {b : Bool} → IsOnImage s lane n v op → IsKeptIf device.told (world_of p x l e) s n v b → b ≡ false
-      → IsMoved device.told device.count (world_of p x l e) (world_of p x l f) s (Line lane op) (simple_outcome (told.Result ObjectNotFound))
+      → IsMoved device (world_of p x l e) (world_of p x l f) s (Line lane op) (simple_outcome (told.Result ObjectNotFound))
   not_kept_moves {n = n} {v = v} on is not_so =
       refused_moves device of none ObjectNotFound on.plain (λ acts stands. on.absent (state s acts) (none_is (kept_image (state s acts) n v) (is acts stands ∙ not_so)))
 
   -- where the provider does not have it
   pub absent_moves : {lane n v : ℕ} {op : Op} {q : ProviderValue D} → IsOnImage s lane n v op → HasImage device.told s p.groups v n false → q ≡ p
-      → IsMoved device.told device.count (world_of p x l e) (world_of q x l f) s (Line lane op) (simple_outcome (told.Result ObjectNotFound))
+      → IsMoved device (world_of p x l e) (world_of q x l f) s (Line lane op) (simple_outcome (told.Result ObjectNotFound))
   absent_moves {lane = lane} {n = n} {v = v} {op = op} on has same =
-      subst (λ (z : ProviderValue D). IsMoved device.told device.count (world_of p x l e) (world_of z x l f) s (Line lane op) (simple_outcome (told.Result ObjectNotFound))) (sym same)
+      subst (λ (z : ProviderValue D). IsMoved device (world_of p x l e) (world_of z x l f) s (Line lane op) (simple_outcome (told.Result ObjectNotFound))) (sym same)
       (not_kept_moves on (none_stands n v has) refl)
 
   pub image_moves : {lane n v b : ℕ} {c : Bool} {answer : Told} {q : ProviderValue D} → IsBlock s v b → IsKeptIf device.told (world_of p x l e) s n v c → c ≡ true
       → IsBlockSeen device s p q v (Some n) b answer
-      → IsMoved device.told device.count (world_of p x l e) (world_of q x l f) s (Line lane (ImageBlock n v b)) (simple_outcome answer)
+      → IsMoved device (world_of p x l e) (world_of q x l f) s (Line lane (ImageBlock n v b)) (simple_outcome answer)
   image_moves {n = n} {v = v} {b = b} {answer = answer} within is so seen =
       block_moves device of none (block_line {n = n} {v = v} {b = b}).plain refl b answer within.0
       (λ acts stands. let st = state s acts in let k = some_is (kept_image st n v) (is acts stands ∙ so) in record {
@@ -168,7 +168,7 @@ module _ {D : Type 0} (device : Ghosts D) {s : Plan} {p : ProviderValue D} {x : 
 
   pub image_digest_moves : {lane n v : ℕ} {c : Bool} {answer : Told} {q : ProviderValue D} → v < length s.volumes → IsKeptIf device.told (world_of p x l e) s n v c → c ≡ true
       → IsDigestSeen device s p q v (Some n) answer
-      → IsMoved device.told device.count (world_of p x l e) (world_of q x l f) s (Line lane (ImageDigest n v)) (simple_outcome answer)
+      → IsMoved device (world_of p x l e) (world_of q x l f) s (Line lane (ImageDigest n v)) (simple_outcome answer)
   image_digest_moves {n = n} {v = v} {answer = answer} within is so seen =
       digest_moves device of none {set = Some n} (digest_line {n = n} {v = v}).plain refl answer within
       (λ acts stands. let st = state s acts in let k = some_is (kept_image st n v) (is acts stands ∙ so) in record {
@@ -181,7 +181,7 @@ module _ {D : Type 0} (device : Ghosts D) {s : Plan} {p : ProviderValue D} {x : 
   pub properties_moves : {lane n v : ℕ} {c : Bool} {facts : SetFacts} {cut used : ℕ} → IsKeptIf device.told (world_of p x l e) s n v c → c ≡ true
       → ((st : State) → Keeps x st → Some facts ≡ option_map facts_of (row_of st n))
       → cut ≡ unwrap_or facts.cut_at 0 → IfStandFor device.told s p.groups (λ hs. used ≡ unwrap_or (used_by (blocks_of s v) (provided_at hs v).writes (provided_at hs v).images n) 0)
-      → IsMoved device.told device.count (world_of p x l e) (world_of p x l f) s (Line lane (Properties n v)) (simple_outcome (told.Properties facts.context cut used))
+      → IsMoved device (world_of p x l e) (world_of p x l f) s (Line lane (Properties n v)) (simple_outcome (told.Properties facts.context cut used))
   properties_moves {n = n} {v = v} {facts = facts} {cut = cut} {used = used} is so told_facts cut_is used_is =
       answered_moves device of none (told.Properties facts.context cut used) (properties_line {n = n} {v = v}).plain refl
       (λ acts stands.

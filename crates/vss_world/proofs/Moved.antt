@@ -47,12 +47,12 @@ leaves_of s x y of leaves = record {
 
 -- ## the devices
 
-pub record OfDevices {D : Type 0} (told : D → Option (List (List ℕ))) (count : D → ℕ) (s : Plan) (event : Event) (o : Outcome) (old new : WorldValue D) : Type 0 where
+pub record OfDevices {D : Type 0} (device : Ghosts D) (s : Plan) (event : Event) (o : Outcome) (old new : WorldValue D) : Type 0 where
   pub is_of : IsOf new s
-  pub tells : tells_of told s new.devices ≡ tells_of told s old.devices
-  pub later : AreLater (map count old.devices) (map count new.devices)
-  pub rose : is_fault (mark_of o.told) ≡ true → RoseFor s (volume_of event o.told) (map count old.devices) (map count new.devices)
-  pub unfailed : is_fault (mark_of o.told) ≡ false → map count new.devices ≡ map count old.devices
+  pub tells : tells_of device.told s new.devices ≡ tells_of device.told s old.devices
+  pub later : AreLater (map device.count old.devices) (map device.count new.devices)
+  pub rose : is_fault (mark_of o.told) ≡ true → RoseFor s (volume_of event o.told) (map device.count old.devices) (map device.count new.devices)
+  pub unfailed : is_fault (mark_of o.told) ≡ false → map device.count new.devices ≡ map device.count old.devices
 
 pub rose_for : {D : Type 0} (count : D → ℕ) (s : Plan) (v : ℕ) (fault : Cause) (old new : List (GroupValue D)) → HasCause count s v (Some fault) old new
     → RoseFor s (Some v) (counts_of count old) (counts_of count new)
@@ -73,7 +73,7 @@ of_kept device s p q x y l k e f of kept writers = record {
 -- no device failed
 pub clean_devices : {D : Type 0} (device : Ghosts D) (s : Plan) (event : Event) (o : Outcome) (p q : ProviderValue D) (x y : SessionsValue) (l k : List ℕ) (e f : List Evicted)
     → IsOf (world_of p x l e) s → AreKept device p.groups q.groups → IsSessionsOf y s → counts_of device.count q.groups ≡ counts_of device.count p.groups → is_fault (mark_of o.told) ≡ false
-    → OfDevices device.told device.count s event o (world_of p x l e) (world_of q y k f)
+    → OfDevices device s event o (world_of p x l e) (world_of q y k f)
 clean_devices device s event o p q x y l k e f of kept writers same clean = record {
   is_of = of_kept device s p q x y l k e f of kept writers;
   tells = kept.tells s;
@@ -86,7 +86,7 @@ clean_devices device s event o p q x y l k e f of kept writers same clean = reco
 pub failed_devices : {D : Type 0} (device : Ghosts D) (s : Plan) (event : Event) (o : Outcome) (p q : ProviderValue D) (x y : SessionsValue) (l k : List ℕ) (e f : List Evicted)
     → IsOf (world_of p x l e) s → AreKept device p.groups q.groups → IsSessionsOf y s → RoseFor s (volume_of event o.told) (counts_of device.count p.groups) (counts_of device.count q.groups)
     → is_fault (mark_of o.told) ≡ true
-    → OfDevices device.told device.count s event o (world_of p x l e) (world_of q y k f)
+    → OfDevices device s event o (world_of p x l e) (world_of q y k f)
 failed_devices device s event o p q x y l k e f of kept writers rose fault = record {
   is_of = of_kept device s p q x y l k e f of kept writers;
   tells = kept.tells s;
@@ -108,11 +108,12 @@ pub record Comes {D : Type 0} (told : D → Option (List (List ℕ))) (s : Plan)
 one_more : (acts : List Act) (act : Act) → length (acts ++ act ∷ []) ≡ length acts + 1
 one_more acts act = length-append acts (act ∷ [])
 
-pub moved : {D : Type 0} (told : D → Option (List (List ℕ))) (count : D → ℕ) (s : Plan) (event : Event) (o : Outcome) (p q : ProviderValue D) (x y : SessionsValue) (l k : List ℕ) (e f : List Evicted)
-    → OfDevices told count s event o (world_of p x l e) (world_of q y k f) → Goes x y
-    → ((acts : List Act) → Stands told (world_of p x l e) s acts → Comes told s event o (tells_of told s (devices_of p.groups)) q y k f (state s acts))
-    → IsMoved told count (world_of p x l e) (world_of q y k f) s event o
-moved told count s event o p q x y l k e f devices goes comes = record {
+pub moved : {D : Type 0} (device : Ghosts D) (s : Plan) (event : Event) (o : Outcome) (p q : ProviderValue D) (x y : SessionsValue) (l k : List ℕ)
+    (e f : List Evicted)
+    → OfDevices device s event o (world_of p x l e) (world_of q y k f) → Goes x y → ((acts : List Act) → Stands device.told (world_of p x l e) s acts
+    → Comes device.told s event o (tells_of device.told s (devices_of p.groups)) q y k f (state s acts))
+    → IsMoved device (world_of p x l e) (world_of q y k f) s event o
+moved device s event o p q x y l k e f devices goes comes = record {
   is_enabled = λ acts stands. (comes acts stands).is_enabled;
   is_allowed = λ acts stands. (comes acts stands).is_allowed;
   outcome = λ acts rows stands are. (comes acts stands).outcome rows are;
@@ -127,7 +128,7 @@ moved told count s event o p q x y l k e f devices goes comes = record {
       let go_posts = goes.posts in
       let go_clock = goes.clock in
       record {
-        at = subst (λ (z : State). StandsAt told q y s z) (sym more) c.parts;
+        at = subst (λ (z : State). StandsAt device.told q y s z) (sym more) c.parts;
         sets = omega (arith, long, sets, go_sets);
         posts = omega (arith, long, posts, go_posts);
         early = omega (arith, long, early, go_clock);

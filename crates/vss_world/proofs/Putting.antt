@@ -122,7 +122,7 @@ outcome_as done set result = record { told = told_if done; lost = 0; lost_order 
 put_devices : {D : Type 0} {device : Ghosts D} {s : Plan} {lane : ℕ} {op : Op} {v : ℕ} {w : Write} {m : ℕ} {p q r z : ProviderValue D} {x y : SessionsValue} {l : List ℕ} {e f : List Evicted}
     (set : ℕ) (result : SetOutcome) (done : Result Unit Cause) → IsMade device s lane op v w done m p q r x f → IsOf (world_of p x l e) s → IsSessionsOf y s → AreKept device r.groups z.groups
     → devices_of z.groups ≡ devices_of r.groups
-    → OfDevices device.told device.count s (Line lane op) (outcome_as done set result) (world_of p x l e) (world_of z y l f)
+    → OfDevices device s (Line lane op) (outcome_as done set result) (world_of p x l e) (world_of z y l f)
 put_devices {device = device} {s = s} {lane = lane} {op = op} {v = v} {p = p} {q = q} {r = r} {z = z} {x = x} {y = y} {l = l} {e = e}
     {f = f} set result done h of writers kept same = by_result done h.puts.cause
   where
@@ -136,7 +136,7 @@ put_devices {device = device} {s = s} {lane = lane} {op = op} {v = v} {p = p} {q
     last = ap (map device.count) same
 
     by_result : (done : Result Unit Cause) → HasCause device.count s v (fault_of done) q.groups r.groups
-        → OfDevices device.told device.count s (Line lane op) (outcome_as done set result) (world_of p x l e) (world_of z y l f)
+        → OfDevices device s (Line lane op) (outcome_as done set result) (world_of p x l e) (world_of z y l f)
     by_result (Ok tt) cause = clean_devices device s (Line lane op) (outcome_as (Ok tt) set result) p z x y l l e f of all_kept writers (last ∙ cause ∙ first) refl
     by_result (Err fault) cause = failed_devices device s (Line lane op) (outcome_as (Err fault) set result) p z x y l l e f of all_kept writers
         (subst (λ (o : Option ℕ). RoseFor s o (counts_of device.count p.groups) (counts_of device.count z.groups)) (sym h.is.of_volume)
@@ -352,15 +352,15 @@ module _ {D : Type 0} {device : Ghosts D} {s : Plan} {lane : ℕ} {op : Op} {v :
     (h : IsMade device s lane op v w done m p q r x f) (of : IsOf (world_of p x l e) s) where
   pub kept_moves : ((acts : List Act) → Stands device.told (world_of p x l e) s acts
       → LineComes device.told s lane op (told_if done) (tells_of device.told s (devices_of p.groups)) r x l f (state s acts))
-      → IsMoved device.told device.count (world_of p x l e) (world_of r x l f) s (Line lane op) (simple_outcome (told_if done))
-  kept_moves comes = line_moves device.told device.count s lane op (told_if done) p r x l l e f (put_devices 0 Running done h of of.writers (kept_same device r.groups) refl) comes
+      → IsMoved device (world_of p x l e) (world_of r x l f) s (Line lane op) (simple_outcome (told_if done))
+  kept_moves comes = line_moves device s lane op (told_if done) p r x l l e f (put_devices 0 Running done h of of.writers (kept_same device r.groups) refl) comes
 
   pub lost_moves : {n k : ℕ} {y : SessionsValue} {z : ProviderValue D} → AreWithout device r.groups z.groups r.set k → Leaves x y
       → ((acts : List Act) → Stands device.told (world_of p x l e) s acts
       → Comes device.told s (Line lane op) (outcome_as done n (Failed InsufficientStorage)) (tells_of device.told s (devices_of p.groups)) z y l f (state s acts))
-      → IsMoved device.told device.count (world_of p x l e) (world_of z y l f) s (Line lane op) (outcome_as done n (Failed InsufficientStorage))
+      → IsMoved device (world_of p x l e) (world_of z y l f) s (Line lane op) (outcome_as done n (Failed InsufficientStorage))
   lost_moves {n = n} {y = y} {z = z} without leaves comes =
-      moved device.told device.count s (Line lane op) (outcome_as done n (Failed InsufficientStorage)) p z x y l l e f
+      moved device s (Line lane op) (outcome_as done n (Failed InsufficientStorage)) p z x y l l e f
       (put_devices n (Failed InsufficientStorage) done h of (leaves_of s x y of.writers leaves) without.kept without.devices) (goes_on x y leaves) comes
 
 -- the volume is held, or the writer is frozen: the line waits

@@ -124,7 +124,7 @@ module _ {D : Type 0} (device : Ghosts D) {s : Plan} {p : ProviderValue D} {x : 
   set_plain = record { on = λ st. refl; clean = λ st. refl; none = λ st. refl; nobody = λ st. refl }
 
   pub set_refused : {lane n : ℕ} → ((st : State) → Keeps x st → is_kept_set st n ≡ false)
-      → IsMoved device.told device.count (world_of p x l e) (world_of p x l f) s (Line lane (DeleteSet n)) (simple_outcome (told.Result ObjectNotFound))
+      → IsMoved device (world_of p x l e) (world_of p x l f) s (Line lane (DeleteSet n)) (simple_outcome (told.Result ObjectNotFound))
   set_refused {n = n} is = refused_moves device of none ObjectNotFound set_plain
       (λ acts stands. let st = state s acts in deleted_if n st false (nat_lt 0 (count_images n st.volumes)) (is st stands.at.sessions) refl)
 
@@ -133,14 +133,14 @@ module _ {D : Type 0} (device : Ghosts D) {s : Plan} {p : ProviderValue D} {x : 
     number_at : (acts : List Act) → Stands device.told (world_of p x l e) s acts → k ≡ count_images n (state s acts).volumes
     number_at acts stands = let st = state s acts in without.number s of.groups (provided st) stands.at.groups ∙ count_at s acts n (is st stands.at.sessions)
 
-    pub set_none : {lane : ℕ} → k ≡ 0 → IsMoved device.told device.count (world_of p x l e) (world_of q x l f) s (Line lane (DeleteSet n)) (simple_outcome (told.Result ObjectNotFound))
+    pub set_none : {lane : ℕ} → k ≡ 0 → IsMoved device (world_of p x l e) (world_of q x l f) s (Line lane (DeleteSet n)) (simple_outcome (told.Result ObjectNotFound))
     set_none {lane = lane} zero_is =
-        subst (λ (z : ProviderValue D). IsMoved device.told device.count (world_of p x l e) (world_of z x l f) s (Line lane (DeleteSet n)) (simple_outcome (told.Result ObjectNotFound)))
+        subst (λ (z : ProviderValue D). IsMoved device (world_of p x l e) (world_of z x l f) s (Line lane (DeleteSet n)) (simple_outcome (told.Result ObjectNotFound)))
         (sym (same_provider p q rest (without.none zero_is)))
         (refused_moves device of none ObjectNotFound set_plain
         (λ acts stands. let st = state s acts in deleted_if n st true false (is st stands.at.sessions) (ap (nat_lt 0) (sym (number_at acts stands) ∙ zero_is))))
 
-    pub set_gone : {lane : ℕ} → 0 < k → IsMoved device.told device.count (world_of p x l e) (world_of q x l f) s (Line lane (DeleteSet n)) (simple_outcome (told.Deleted k))
+    pub set_gone : {lane : ℕ} → 0 < k → IsMoved device (world_of p x l e) (world_of q x l f) s (Line lane (DeleteSet n)) (simple_outcome (told.Deleted k))
     set_gone some =
         clean_moves device of none (told.Deleted k) set_plain without.kept (ap (map device.count) without.devices) refl rest
         (λ acts stands. let st = state s acts in let number = number_at acts stands in record {
@@ -156,7 +156,7 @@ module _ {D : Type 0} (device : Ghosts D) {s : Plan} {p : ProviderValue D} {x : 
         })
 
   pub image_gone : {lane n v : ℕ} {q : ProviderValue D} → IsKeptIf device.told (world_of p x l e) s n v true → IsDropped device s p.groups q.groups v n true → q ≡ record p { groups = q.groups }
-      → IsMoved device.told device.count (world_of p x l e) (world_of q x l f) s (Line lane (DeleteImage n v)) (simple_outcome (told.Deleted 1))
+      → IsMoved device (world_of p x l e) (world_of q x l f) s (Line lane (DeleteImage n v)) (simple_outcome (told.Deleted 1))
   image_gone {n = n} {v = v} kept drop rest =
       clean_moves device of none (told.Deleted 1) (delete_line {n = n} {v = v}).plain drop.1.kept (ap (map device.count) drop.2) refl rest
       (λ acts stands.
@@ -192,13 +192,13 @@ module _ {D : Type 0} (device : Ghosts D) {s : Plan} {p : ProviderValue D} {x : 
         }
 
     pub revert_refused : {lane : ℕ} (why : VssResult) → refusal_if backup preparing ≡ Some why
-        → IsMoved device.told device.count (world_of p x l e) (world_of p x l f) s (Line lane (Revert n v)) (simple_outcome (told.Result why))
+        → IsMoved device (world_of p x l e) (world_of p x l f) s (Line lane (Revert n v)) (simple_outcome (told.Result why))
     revert_refused why so =
         refused_moves device of none why (revert_line {n = n} {v = v}).plain
         (λ acts stands. let k = there acts stands in revert_is s n v Clean (state s acts) (Some k.kept) (Some why) k.is (k.refusal ∙ so))
 
     pub revert_done : {lane : ℕ} {q : ProviderValue D} {done : Unit} → refusal_if backup preparing ≡ None → IsRevert device s p.groups q.groups v n (Ok done) → q ≡ record p { groups = q.groups }
-        → IsMoved device.told device.count (world_of p x l e) (world_of q x l f) s (Line lane (Revert n v)) (simple_outcome told.Ok)
+        → IsMoved device (world_of p x l e) (world_of q x l f) s (Line lane (Revert n v)) (simple_outcome told.Ok)
     revert_done free back rest =
         clean_moves device of none told.Ok (revert_line {n = n} {v = v}).plain back.1.kept back.2 refl rest
         (λ acts stands. let st = state s acts in let k = there acts stands in record {
@@ -213,7 +213,7 @@ module _ {D : Type 0} (device : Ghosts D) {s : Plan} {p : ProviderValue D} {x : 
 
     pub revert_stopped : {lane m : ℕ} {q : ProviderValue D} (fault : Cause) → refusal_if backup preparing ≡ None → IsRevert device s p.groups q.groups v n (Err (Fault m fault))
         → q ≡ record p { groups = q.groups }
-        → IsMoved device.told device.count (world_of p x l e) (world_of q x l f) s (Line lane (Revert n v)) (simple_outcome (told.FaultAfter m))
+        → IsMoved device (world_of p x l e) (world_of q x l f) s (Line lane (Revert n v)) (simple_outcome (told.FaultAfter m))
     revert_stopped {m = m} fault free back rest =
         failed_moves device of none (told.FaultAfter m) v fault refl (revert_line {n = n} {v = v}).plain back.1.kept back.2 refl rest
         (λ acts stands.

@@ -69,11 +69,11 @@ pub record Shows {X : Type 0} (s : Plan) (lane : ℕ) (op : Op) (reply_of : X �
 
 module _ {D : Type 0} (device : Ghosts D) {s : Plan} {p : ProviderValue D} {x : SessionsValue} {l : List ℕ} {e f : List Evicted} (of : IsOf (world_of p x l e) s) (none : f ≡ []) where
   said_moves : {lane : ℕ} {op : Op} {q : ProviderValue D} {k : List ℕ} (answer : Told) → IsPlain s lane op
-      → OfDevices device.told device.count s (Line lane op) (simple_outcome answer) (world_of p x l e) (world_of q x k f) → q ≡ record p { groups = q.groups }
+      → OfDevices device s (Line lane op) (simple_outcome answer) (world_of p x l e) (world_of q x k f) → q ≡ record p { groups = q.groups }
       → IfStands device.told (world_of p x l e) s (Says device.told s lane op answer p q k)
-      → IsMoved device.told device.count (world_of p x l e) (world_of q x k f) s (Line lane op) (simple_outcome answer)
+      → IsMoved device (world_of p x l e) (world_of q x k f) s (Line lane op) (simple_outcome answer)
   said_moves {lane = lane} {op = op} {q = q} {k = k} answer plain devices same says =
-      line_moves device.told device.count s lane op answer p q x l k e f devices
+      line_moves device s lane op answer p q x l k e f devices
       (λ acts stands. let st = state s acts in let said = says acts stands in record {
         on = plain.on st;
         allowed = said.allowed;
@@ -92,7 +92,7 @@ module _ {D : Type 0} (device : Ghosts D) {s : Plan} {p : ProviderValue D} {x : 
   pub clean_moves : {lane : ℕ} {op : Op} {q : ProviderValue D} {k : List ℕ} (answer : Told) → IsPlain s lane op → AreKept device p.groups q.groups
       → counts_of device.count q.groups ≡ counts_of device.count p.groups
       → is_fault (mark_of answer) ≡ false → q ≡ record p { groups = q.groups } → IfStands device.told (world_of p x l e) s (Says device.told s lane op answer p q k)
-      → IsMoved device.told device.count (world_of p x l e) (world_of q x k f) s (Line lane op) (simple_outcome answer)
+      → IsMoved device (world_of p x l e) (world_of q x k f) s (Line lane op) (simple_outcome answer)
   clean_moves {lane = lane} {op = op} {q = q} {k = k} answer plain kept same clean rest says =
       said_moves answer plain (clean_devices device s (Line lane op) (simple_outcome answer) p q x x l k e f of kept of.writers same clean) rest says
 
@@ -100,7 +100,7 @@ module _ {D : Type 0} (device : Ghosts D) {s : Plan} {p : ProviderValue D} {x : 
   pub failed_moves : {lane : ℕ} {op : Op} {q : ProviderValue D} (answer : Told) (v : ℕ) (fault : Cause) → volume_by (line_of op) ≡ Some v → IsPlain s lane op → AreKept device p.groups q.groups
       → HasCause device.count s v (Some fault) p.groups q.groups → is_fault (mark_of answer) ≡ true → q ≡ record p { groups = q.groups }
       → IfStands device.told (world_of p x l e) s (Says device.told s lane op answer p q l)
-      → IsMoved device.told device.count (world_of p x l e) (world_of q x l f) s (Line lane op) (simple_outcome answer)
+      → IsMoved device (world_of p x l e) (world_of q x l f) s (Line lane op) (simple_outcome answer)
   failed_moves {lane = lane} {op = op} {q = q} answer v fault at plain kept cause fails rest says =
       said_moves answer plain
       (failed_devices device s (Line lane op) (simple_outcome answer) p q x x l l e f of kept of.writers
@@ -109,11 +109,11 @@ module _ {D : Type 0} (device : Ghosts D) {s : Plan} {p : ProviderValue D} {x : 
   -- nothing changes
   pub answered_moves : {lane : ℕ} {op : Op} {k : List ℕ} (answer : Told) → IsPlain s lane op → is_fault (mark_of answer) ≡ false
       → IfStands device.told (world_of p x l e) s (Says device.told s lane op answer p p k)
-      → IsMoved device.told device.count (world_of p x l e) (world_of p x k f) s (Line lane op) (simple_outcome answer)
+      → IsMoved device (world_of p x l e) (world_of p x k f) s (Line lane op) (simple_outcome answer)
   answered_moves answer plain clean says = clean_moves answer plain (kept_same device p.groups) refl clean refl says
 
   pub refused_moves : {lane : ℕ} {op : Op} (why : VssResult) → IsPlain s lane op → IfStands device.told (world_of p x l e) s (λ st. line s lane op Clean st ≡ (Coded why, st))
-      → IsMoved device.told device.count (world_of p x l e) (world_of p x l f) s (Line lane op) (simple_outcome (told.Result why))
+      → IsMoved device (world_of p x l e) (world_of p x l f) s (Line lane op) (simple_outcome (told.Result why))
   refused_moves why plain is =
       answered_moves (told.Result why) plain refl
       (λ acts stands. let st = state s acts
@@ -124,7 +124,7 @@ module _ {D : Type 0} (device : Ghosts D) {s : Plan} {p : ProviderValue D} {x : 
   module _ {lane : ℕ} {op : Op} {q : ProviderValue D} {v : ℕ} {set : Option ℕ} (plain : IsPlain s lane op) (at : volume_by (line_of op) ≡ Some v) where
     fault_moves : {X : Type 0} {reply_of : X → Reply} {of : List Write → ℕ → X} (fault : Cause) → IfStands device.told (world_of p x l e) s (Shows s lane op reply_of of v set)
         → IsReading device s p q v (Some fault)
-        → IsMoved device.told device.count (world_of p x l e) (world_of q x l f) s (Line lane op) (simple_outcome told.Fault)
+        → IsMoved device (world_of p x l e) (world_of q x l f) s (Line lane op) (simple_outcome told.Fault)
     fault_moves fault shows reading =
         failed_moves told.Fault v fault at plain reading.quiet.call.kept reading.cause refl reading.rest
         (λ acts stands. let st = state s acts in let shown = shows acts stands in record {
@@ -139,7 +139,7 @@ module _ {D : Type 0} (device : Ghosts D) {s : Plan} {p : ProviderValue D} {x : 
 
     pub block_moves : (b : ℕ) (answer : Told) → v < length s.volumes → IfStands device.told (world_of p x l e) s (Shows s lane op (BlockOf v) (λ ws point. content ws point b) v set)
         → IsBlockSeen device s p q v set b answer
-        → IsMoved device.told device.count (world_of p x l e) (world_of q x l f) s (Line lane op) (simple_outcome answer)
+        → IsMoved device (world_of p x l e) (world_of q x l f) s (Line lane op) (simple_outcome answer)
     block_moves b (told.Block first digest) within shows seen =
         clean_moves (told.Block first digest) plain seen.0.quiet.call.kept seen.0.cause refl seen.0.rest
         (λ acts stands. let st = state s acts in let shown = shows acts stands in record {
@@ -156,7 +156,7 @@ module _ {D : Type 0} (device : Ghosts D) {s : Plan} {p : ProviderValue D} {x : 
 
     pub digest_moves : (answer : Told) → v < length s.volumes → IfStands device.told (world_of p x l e) s (Shows s lane op (BlocksOf v) (contents (blocks_of s v)) v set)
         → IsDigestSeen device s p q v set answer
-        → IsMoved device.told device.count (world_of p x l e) (world_of q x l f) s (Line lane op) (simple_outcome answer)
+        → IsMoved device (world_of p x l e) (world_of q x l f) s (Line lane op) (simple_outcome answer)
     digest_moves (told.Digest digest) within shows seen =
         clean_moves (told.Digest digest) plain seen.0.quiet.call.kept seen.0.cause refl seen.0.rest
         (λ acts stands. let st = state s acts in let shown = shows acts stands in record {

@@ -1,8 +1,8 @@
 -- Lines that begin or end nothing: they are answered, and at most the volumes change.
 use Rattle.std.proofs.Common.{◌≡◌, ℕ, List, [], refl, ap, sym, ◌∙◌, subst, Bool, true, Option}
-use Rattle.vss_world.proofs.Words.{Act, AreGroups, EndsAs, Event, Evicted, Fits, HasLists, History, IsInPlan, IsMoved, IsPrepared, Keeps, Line, Mark, NumberedFrom, Op, Plan, ProviderValue, Replied}
-use Rattle.vss_world.proofs.Words.{Running, SessionsValue, SetRow, Stands, StandsAt, State, Told, WriterRow, act_of, after_if, devices_of, enabled, ended_of, evicted, happens, in_progress, left_now}
-use Rattle.vss_world.proofs.Words.{line, line_allows, line_enabled, lost, lost_order_if, mark_of, new-is, none_ends, order_now, provided, reply, simple_outcome, state, tells_of, told_act}
+use Rattle.vss_world.proofs.Words.{Act, AreGroups, EndsAs, Event, Evicted, Fits, Ghosts, HasLists, History, IsInPlan, IsMoved, IsPrepared, Keeps, Line, Mark, NumberedFrom, Op, Plan, ProviderValue}
+use Rattle.vss_world.proofs.Words.{Replied, Running, SessionsValue, SetRow, Stands, StandsAt, State, Told, WriterRow, act_of, after_if, devices_of, enabled, ended_of, evicted, happens, in_progress}
+use Rattle.vss_world.proofs.Words.{left_now, line, line_allows, line_enabled, lost, lost_order_if, mark_of, new-is, none_ends, order_now, provided, reply, simple_outcome, state, tells_of, told_act}
 use Rattle.vss_model.specs.Words.{Reply}
 use Rattle.vss_model.specs.Acts.{after}
 use Rattle.vss_world.proofs.Prepared.{prepared_same}
@@ -50,14 +50,16 @@ comes_so told s lane op answer tells q x l e st numbered c =
       parts = subst (λ (z : State). StandsAt told q x s z) (sym to) c.parts;
     }
 
-pub line_moves : {D : Type 0} (told : D → Option (List (List ℕ))) (count : D → ℕ) (s : Plan) (lane : ℕ) (op : Op) (answer : Told) (p q : ProviderValue D) (x : SessionsValue) (l k : List ℕ)
+pub line_moves : {D : Type 0} (device : Ghosts D) (s : Plan) (lane : ℕ) (op : Op) (answer : Told) (p q : ProviderValue D) (x : SessionsValue) (l k : List ℕ)
     (e f : List Evicted)
-    → OfDevices told count s (Line lane op) (simple_outcome answer) (world_of p x l e) (world_of q x k f)
-    → ((acts : List Act) → Stands told (world_of p x l e) s acts → LineComes told s lane op answer (tells_of told s (devices_of p.groups)) q x k f (state s acts))
-    → IsMoved told count (world_of p x l e) (world_of q x k f) s (Line lane op) (simple_outcome answer)
-line_moves told count s lane op answer p q x l k e f devices comes =
-    moved told count s (Line lane op) (simple_outcome answer) p q x x l k e f devices (goes_nowhere x)
-    (λ acts stands. comes_so told s lane op answer (tells_of told s (devices_of p.groups)) q x k f (state s acts) (in_order s acts).numbered (comes acts stands))
+    → OfDevices device s (Line lane op) (simple_outcome answer) (world_of p x l e) (world_of q x k f)
+    → ((acts : List Act) → Stands device.told (world_of p x l e) s acts
+    → LineComes device.told s lane op answer (tells_of device.told s (devices_of p.groups)) q x k f (state s acts))
+    → IsMoved device (world_of p x l e) (world_of q x k f) s (Line lane op) (simple_outcome answer)
+line_moves device s lane op answer p q x l k e f devices comes =
+    moved device s (Line lane op) (simple_outcome answer) p q x x l k e f devices (goes_nowhere x)
+    (λ acts stands. comes_so device.told s lane op answer (tells_of device.told s (devices_of p.groups)) q x k f (state s acts) (in_order s acts).numbered
+    (comes acts stands))
 
 -- ## the parts, where at most the volumes change
 

@@ -180,7 +180,7 @@ module _ {D : Type 0} (device : Ghosts D) (s : Plan) {m : SessionMove} {p q r : 
 
   pub made_moves : (group : Group) (volume : Option ℕ) → IsNextStep x group volume → m.outcome.told ≡ told.Step group volume false
       → IfStandFor device.told s p.groups (λ hs. AreGroups device.told s q.groups (step_taken group p.set volume hs)) → AreKept device p.groups q.groups
-      → counts_of device.count q.groups ≡ counts_of device.count p.groups → IsMoved device.told device.count (world_of p x l e) (world_of r y l f) s Provider m.outcome
+      → counts_of device.count q.groups ≡ counts_of device.count p.groups → IsMoved device (world_of p x l e) (world_of r y l f) s Provider m.outcome
   made_moves group volume next told_is stands_so kept counts =
       let after_settle = settled_keeps device m q r settled in
       let marked : mark_of m.outcome.told ≡ Clean = ap mark_of told_is in
@@ -207,7 +207,7 @@ module _ {D : Type 0} (device : Ghosts D) (s : Plan) {m : SessionMove} {p q r : 
   pub failed_moves : (v : ℕ) → IsNextStep x Flush (Some v) → m.outcome.told ≡ told.Step Flush (Some v) true
       → IfStandFor device.told s p.groups (AreGroups device.told s q.groups) → AreKept device p.groups q.groups
       → RoseAlone (volume_place s v) (counts_of device.count p.groups) (counts_of device.count q.groups)
-      → IsMoved device.told device.count (world_of p x l e) (world_of r y l f) s Provider m.outcome
+      → IsMoved device (world_of p x l e) (world_of r y l f) s Provider m.outcome
   failed_moves v next told_is stands_so kept rose =
       let after_settle = settled_keeps device m q r settled in
       let marked : mark_of m.outcome.told ≡ Fault = ap mark_of told_is in
@@ -232,7 +232,7 @@ module _ {D : Type 0} (device : Ghosts D) (s : Plan) {m : SessionMove} {p q r : 
   pub step_moves : (group : Group) (volume : Option ℕ) (made : Result Unit Cause) (ok : Bool) → IsNextStep x group volume
       → m.outcome.told ≡ told.Step group volume (not ok && is_flush (Some group)) → ok ≡ is_ok made
       → IfStandFor device.told s p.groups (λ hs. AreGroups device.told s q.groups (step_taken group p.set volume hs)) → AreKept device p.groups q.groups
-      → HasStepCause device.count s group volume made p.groups q.groups → IsMoved device.told device.count (world_of p x l e) (world_of r y l f) s Provider m.outcome
+      → HasStepCause device.count s group volume made p.groups q.groups → IsMoved device (world_of p x l e) (world_of r y l f) s Provider m.outcome
   step_moves group volume (Ok done) true next told_is is stands_so kept cause = made_moves group volume next told_is stands_so kept cause
   step_moves group volume (Ok done) false next told_is is stands_so kept cause = cc
   step_moves group volume (Err fault) true next told_is is stands_so kept cause = cc
@@ -246,13 +246,13 @@ module _ {D : Type 0} (device : Ghosts D) (s : Plan) {m : SessionMove} {p q r : 
 -- what a flush wrote lasts
 pub step_lasts : {D : Type 0} (device : Ghosts D) (s : Plan) (group : Group) (volume : Option ℕ) (made : Result Unit Cause) (ok : Bool) (m : SessionMove) (q r : ProviderValue D)
     → m.outcome.told ≡ told.Step group volume (not ok && is_flush (Some group)) → ok ≡ is_ok made → IsSettled device m q r
-    → (group ≡ Flush → OnOk made (IfSome volume (λ v. LastsAt device.told device.lasting (volume_place s v) (devices_of q.groups))))
+    → (group ≡ Flush → OnOk made (IfSome volume (λ v. LastsAt device (volume_place s v) (devices_of q.groups))))
     → (v : ℕ) (d : D) → m.outcome.told ≡ told.Step Flush (Some v) false → slice_get (devices_of r.groups) (volume_place s v) ≡ Some d → device.lasting d ≡ device.told d
 step_lasts device s group volume (Ok done) true m q r told_is is settled lasts v d said here =
     let t : told.Step group volume false ≡ told.Step Flush (Some v) false = sym told_is ∙ said in
     let flush : group ≡ Flush = cc in
     let at : volume ≡ Some v = cc in
-    (subst (λ (o : Option ℕ). IfSome o (λ u. LastsAt device.told device.lasting (volume_place s u) (devices_of q.groups))) at (lasts flush)) d
+    (subst (λ (o : Option ℕ). IfSome o (λ u. LastsAt device (volume_place s u) (devices_of q.groups))) at (lasts flush)) d
     (ap (λ ds. slice_get ds (volume_place s v)) (sym (settled_devices device m q r settled)) ∙ here)
 step_lasts device s group volume (Ok done) false m q r told_is is settled lasts v d said here = cc
 step_lasts device s group volume (Err fault) true m q r told_is is settled lasts v d said here = cc

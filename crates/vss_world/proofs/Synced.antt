@@ -45,7 +45,7 @@ told_as told ds es place e = by_place (slice_get ds place) (slice_get es place) 
 
 pub synced_is : {D : Type 0} (device : Ghosts D) {s : Plan} {group : ℕ} {p q : ProviderValue D} {x : SessionsValue} {l : List ℕ} {e : List Evicted}
     → IsOf (world_of p x l e) s → group < length s.groups → AreSynced device p.groups q.groups group → q ≡ record p { groups = q.groups }
-    → IsSynced device.told device.count (world_of p x l e) (world_of q x l e) s group
+    → IsSynced device (world_of p x l e) (world_of q x l e) s group
 synced_is device {s = s} {group = group} {p = p} {q = q} {x = x} {l = l} {e = e} of within synced same =
     let number = of.number in
     let more = synced.kept.number in
@@ -73,17 +73,17 @@ copies_same s acts g =
     copies_without_all (comes (in_progress st) st.course.agenda) (number_of (in_progress st)) 0 (map (placed g) s.volumes) st.volumes (all_unnamed s acts) ∙ copies_in_group g 0 s.volumes st.volumes
 
 -- what a sync comes to, whatever it answers
-pub record IsSyncOf {D : Type 0} (told lasting : D → Option (List (List ℕ))) (count : D → ℕ) (s : Plan) (group : ℕ) (result : Result Unit Cause) (old new : WorldValue D) : Type 0 where
-  pub held : OnOk result (IsAreaHeld told new s group)
-  pub lasts : OnOk result (LastsAt told lasting (area_place group s.volumes) new.devices)
-  pub same : OnOk result (map count new.devices ≡ map count old.devices)
+pub record IsSyncOf {D : Type 0} (device : Ghosts D) (s : Plan) (group : ℕ) (result : Result Unit Cause) (old new : WorldValue D) : Type 0 where
+  pub held : OnOk result (IsAreaHeld device.told new s group)
+  pub lasts : OnOk result (LastsAt device (area_place group s.volumes) new.devices)
+  pub same : OnOk result (map device.count new.devices ≡ map device.count old.devices)
   pub fault : IfErr result (λ f. f ≡ Area)
-  pub cause : IsErr result → RoseAlone (area_place group s.volumes) (map count old.devices) (map count new.devices)
+  pub cause : IsErr result → RoseAlone (area_place group s.volumes) (map device.count old.devices) (map device.count new.devices)
 
 module _ {D : Type 0} (device : Ghosts D) {s : Plan} {group : ℕ} {p : ProviderValue D} (q : ProviderValue D) {x : SessionsValue} {l : List ℕ} {e : List Evicted} (of : IsOf (world_of p x l e) s)
     (within : group < length s.groups)
     (synced : AreSynced device p.groups q.groups group) where
-  module _ (lasts : AreLasting device.told device.lasting s p.groups q.groups group) where
+  module _ (lasts : AreLasting device s p.groups q.groups group) where
     held_is : IsAreaHeld device.told (world_of q x l e) s group
     held_is acts stands tells =
         let st = state s acts in
@@ -106,7 +106,7 @@ module _ {D : Type 0} (device : Ghosts D) {s : Plan} {group : ℕ} {p : Provider
         (subst (AreStored (device.told is.0.area.device)) (copies_same s acts group) stored)
 
     -- what the area's device tells lasts
-    area_lasts : LastsAt device.told device.lasting (area_place group s.volumes) (devices_of q.groups)
+    area_lasts : LastsAt device (area_place group s.volumes) (devices_of q.groups)
     area_lasts d at =
         let number = of.number in
         let more = synced.kept.number in
@@ -116,8 +116,8 @@ module _ {D : Type 0} (device : Ghosts D) {s : Plan} {group : ℕ} {p : Provider
         let same : is.0.area.device ≡ d = cc in
         subst (λ (z : D). device.lasting z ≡ device.told z) same (lasts was.0 is.0 was.1 is.1).0
 
-  pub sync_is : (result : Result Unit Cause) → OnOk result ((r : Plan) → AreLasting device.told device.lasting r p.groups q.groups group)
+  pub sync_is : (result : Result Unit Cause) → OnOk result ((r : Plan) → AreLasting device r p.groups q.groups group)
       → ((r : Plan) → HasGroups r p.groups → HasSyncCause device.count r group result p.groups q.groups)
-      → IsSyncOf device.told device.lasting device.count s group result (world_of p x l e) (world_of q x l e)
+      → IsSyncOf device s group result (world_of p x l e) (world_of q x l e)
   sync_is (Ok done) lasts cause = record { held = held_is (lasts s); lasts = area_lasts (lasts s); same = cause s of.groups; fault = tt; cause = λ none. cc }
   sync_is (Err fault) lasts cause = record { held = tt; lasts = tt; same = tt; fault = (cause s of.groups).0; cause = λ is. (cause s of.groups).1 }

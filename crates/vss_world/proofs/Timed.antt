@@ -38,7 +38,7 @@ module _ {D : Type 0} (device : Ghosts D) (s : Plan) {p q : ProviderValue D} {x 
       → ((st : State) → event_allows s st event (mark_of m.outcome.told) ≡ true → is_fault (mark_of m.outcome.told) ≡ false)
       → ((st : State) → (happens s event (mark_of m.outcome.told) st).1 ≡ next st)
       → ((acts : List Act) → GoesOn (state s acts) (next (state s acts))) → IsEventIn s event
-      → IsMoved device.told device.count (world_of p x l e) (world_of q y l f) s event m.outcome
+      → IsMoved device (world_of p x l e) (world_of q y l f) s event m.outcome
   comes event next move still writers goes clean is on within =
       let to : IfStands device.told (world_of p x l e) s (λ st. after_move s st event m ≡ next st)
       = λ acts stands. after_on s (state s acts) event (mark_of m.outcome.told) (move.is_enabled (state s acts) (at_of of acts stands)) ∙ is (state s acts) in
@@ -47,18 +47,18 @@ module _ {D : Type 0} (device : Ghosts D) (s : Plan) {p q : ProviderValue D} {x 
       (λ acts stands. subst (GoesOn (state s acts)) (sym (to acts stands)) (on acts)) within
 
   pub tick_moves : (lane n : ℕ) → n ≤ 1000000000 → IsMove (IsAt x s) s y (Line lane (Tick n)) m → Leaves (later_by n x) y
-      → IsMoved device.told device.count (world_of p x l e) (world_of q y l f) s (Line lane (Tick n)) m.outcome
+      → IsMoved device (world_of p x l e) (world_of q y l f) s (Line lane (Tick n)) m.outcome
   tick_moves lane n few move leaves =
       comes (Line lane (Tick n)) (ticked n) move (λ st. refl) (leaves_of s (later_by n x) y (later_of s n x of.writers) leaves) (goes_later n x y few leaves)
       (λ st. fault_free (event_allows s st (Line lane (Tick n))) refl (λ k. refl) (mark_of m.outcome.told)) (λ st. refl) (λ acts. ticked_goes s acts n) few
 
   pub answer_moves : (w : ℕ) (answer : Answer) → IsMove (IsAt x s) s y (AnswerEvent w answer) m → Leaves x y
-      → IsMoved device.told device.count (world_of p x l e) (world_of q y l f) s (AnswerEvent w answer) m.outcome
+      → IsMoved device (world_of p x l e) (world_of q y l f) s (AnswerEvent w answer) m.outcome
   answer_moves w answer move leaves =
       comes (AnswerEvent w answer) (answered w (said_of answer)) move (λ st. refl) (leaves_of s x y of.writers leaves) (goes_on x y leaves)
       (λ st. fault_free (event_allows s st (AnswerEvent w answer)) refl (λ k. refl) (mark_of m.outcome.told)) (λ st. refl) (said_goes s w answer) tt
 
-  pub idle_moves : IsMove (IsAt x s) s y Idle m → LeavesWithin (300000 + 1) x y → IsMoved device.told device.count (world_of p x l e) (world_of q y l f) s Idle m.outcome
+  pub idle_moves : IsMove (IsAt x s) s y Idle m → LeavesWithin (300000 + 1) x y → IsMoved device (world_of p x l e) (world_of q y l f) s Idle m.outcome
   idle_moves move within =
       let few = within.few in
       comes Idle (λ st. ticked (idle_now st) st) move (λ st. refl) (leaves_of s (later_by within.ticks x) y (later_of s within.ticks x of.writers) within.leaves)

@@ -7,7 +7,7 @@ use Rattle.vss_world.proofs.Words.{Replied, Revert, SessionMove, SessionsValue, 
 use Rattle.vss_world.proofs.Words.{image_blocks, is_flush, is_over_volumes, kept_image, kept_same, line, line_allows, mark_of, may_stop_after, nat_tests, next_volume, open_group}
 use Rattle.vss_world.proofs.Words.{provided, restorable, revert_refusal, reverted_as, simple_outcome, state, target_in, tells_of, to_restore, told_act, told_if, volume_by, volume_if}
 use Rattle.vss_model.specs.Words.{Reads, ShowsBlock, ShowsImage, allows_by, does, evicted_at, line_of, lost_after, may_do, ticks_by}
-use Rattle.provider.specs.Words.{uncounted}
+use Rattle.provider.specs.Words.{counted_as}
 use Rattle.provider.proofs.Words.{IsPut}
 use Rattle.scenario.specs.declared.line.Line.{Line as Does}
 use Rattle.scenario.specs.Bounds.{IsRangedBy}
@@ -74,7 +74,7 @@ look_faults s lane op v _ e look st allowed = absurd look
 module _ {D : Type 0} (device : Ghosts D) {s : Plan} {p : ProviderValue D} {x : SessionsValue} {l : List ℕ} {e f : List Evicted} (of : IsOf (world_of p x l e) s) where
   pub look_fails : {lane : ℕ} {op : Op} (none : f ≡ []) (v : ℕ) (looks : Does) → line_of op ≡ looks → LooksAt v looks → v < length s.volumes
       → IfStands device.told (world_of p x l e) s (λ st. allows_by s st looks Fault ≡ true)
-      → IsMoved device.told uncounted (world_of p x l e) (world_of p x l f) s (Line lane op) (simple_outcome told.Fault)
+      → IsMoved (counted_as device true) (world_of p x l e) (world_of p x l f) s (Line lane op) (simple_outcome told.Fault)
   look_fails {lane = lane} {op = op} none v looks is look within allowed =
       failed_moves (unsaid device) of none told.Fault v Volume (ap volume_by is ∙ look_volume v looks look) (look_plain s lane op v looks is look) (kept_same (unsaid device) p.groups)
       (rose_at s p.groups v of.groups within) refl refl
@@ -90,10 +90,11 @@ module _ {D : Type 0} (device : Ghosts D) {s : Plan} {p : ProviderValue D} {x : 
 
 -- a core whose devices are those of its groups
 pub looked : {D : Type 0} (device : Ghosts D) (s : Plan) (w : WorldValue D) (lane : ℕ) (op : Op) (v : ℕ) (looks : Does) → IsOf w s → line_of op ≡ looks → LooksAt v looks → IsOp s op
-    → IfStands device.told w s (λ st. allows_by s st looks Fault ≡ true) → IsMoved device.told uncounted w (record w { evicted = [] }) s (Line lane op) (simple_outcome told.Fault)
+    → IfStands device.told w s (λ st. allows_by s st looks Fault ≡ true)
+    → IsMoved (counted_as device true) w (record w { evicted = [] }) s (Line lane op) (simple_outcome told.Fault)
 looked {D} device s w lane op v looks of is look range allowed =
     let same : world_of w.provider w.sessions w.listed w.evicted ≡ w = ap (λ (ds : List D). record w { devices = ds }) (sym of.devices) in
-    subst (λ (x : WorldValue D). IsMoved device.told uncounted x (record x { evicted = [] }) s (Line lane op) (simple_outcome told.Fault)) same
+    subst (λ (x : WorldValue D). IsMoved (counted_as device true) x (record x { evicted = [] }) s (Line lane op) (simple_outcome told.Fault)) same
     (look_fails device (subst (λ (x : WorldValue D). IsOf x s) (sym same) of) refl v looks is look
     (look_within s op v looks look (subst (IsRangedBy (length s.source) s.volumes (length s.writers) op) is range))
     (λ acts stands. allowed acts (subst (λ (x : WorldValue D). Stands device.told x s acts) same stands)))
@@ -129,7 +130,7 @@ module _ {D : Type 0} (device : Ghosts D) (s : Plan) {m : SessionMove} {p r : Pr
     (of : IsOf (world_of p x l e) s) (none : f ≡ [])
     (settled : IsSettled device m p r) (move : IsMove (IsAt x s) s y Provider m) (leaves : Leaves x y) where
   pub flush_fails : (volume : Option ℕ) → is_some volume ≡ true → IfSome volume (λ v. v < length s.volumes) → IsNextStep x Flush volume → m.outcome.told ≡ told.Step Flush volume true
-      → IsMoved device.told uncounted (world_of p x l e) (world_of r y l f) s Provider m.outcome
+      → IsMoved (counted_as device true) (world_of p x l e) (world_of r y l f) s Provider m.outcome
   flush_fails None some within next told_is = cc
   flush_fails (Some v) some within next told_is =
       step_failed (unsaid device) s of none refl (settled_unsaid device m p r settled) move leaves v next told_is (λ hs are. are) (kept_same (unsaid device) p.groups)
@@ -165,14 +166,14 @@ may_stop s st n v k (Some image) e allowed =
 too_few : (k n : ℕ) → nat_lt k n ≡ true → n ≤ k → ⊥
 too_few k n e l = grind (arith, nat_tests)
 
-module _ {D : Type 0} (blocks_told : D → Option (List (List ℕ))) (count : D → ℕ) (s : Plan) (old new : WorldValue D) (lane n v k : ℕ) (o : Outcome)
-    (moves : IsMoved blocks_told count old new s (Line lane (Revert n v)) o) (stops : StopsAs blocks_told old s n v k o.told) {acts : List Act} (stands : Stands blocks_told old s acts)
+module _ {D : Type 0} (device : Ghosts D) (s : Plan) (old new : WorldValue D) (lane n v k : ℕ) (o : Outcome)
+    (moves : IsMoved device old new s (Line lane (Revert n v)) o) (stops : StopsAs device.told old s n v k o.told) {acts : List Act} (stands : Stands device.told old s acts)
     (allowed : may_stop_after s (state s acts) v (kept_image (state s acts) n v) k ≡ true) where
   abbrev st : State
   st = state s acts
 
   abbrev tells : List Bool
-  tells = tells_of blocks_told s old.devices
+  tells = tells_of device.told s old.devices
 
   free : MayStop s st n v k
   free = may_stop s st n v k (kept_image st n v) refl allowed
@@ -180,8 +181,8 @@ module _ {D : Type 0} (blocks_told : D → Option (List (List ℕ))) (count : D 
   reverts : (mark : Mark) → revert s n v mark st ≡ reverted_as s v free.image mark st
   reverts mark = revert_is s n v mark st (Some free.image) None free.is free.free
 
-  as_told : (t : Told) → o.told ≡ t → StopsAs blocks_told old s n v k t
-  as_told t e = subst (StopsAs blocks_told old s n v k) e stops
+  as_told : (t : Told) → o.told ≡ t → StopsAs device.told old s n v k t
+  as_told t e = subst (StopsAs device.told old s n v k) e stops
 
   clash : false ≡ true → ⊥
   clash f = cc
@@ -202,8 +203,8 @@ module _ {D : Type 0} (blocks_told : D → Option (List (List ℕ))) (count : D 
       by_mark (mark_of o.told) refl (moves.is_allowed acts stands) (moves.outcome acts (after s st act).course.rows stands refl).fits
 
 -- a revert that may stop there stopped there
-pub stop_mark : {D : Type 0} (blocks_told : D → Option (List (List ℕ))) (count : D → ℕ) (s : Plan) (old new : WorldValue D) (lane n v k : ℕ) (reply : Answer)
-    → IsStepped blocks_told count old new s (Line lane (Revert n v)) reply → StopsAfter blocks_told old s n v k reply
-    → IfStands blocks_told old s (λ st. may_stop_after s st v (kept_image st n v) k ≡ true → HasMark (FaultAfter k) reply)
-stop_mark blocks_told count s old new lane n v k Blocked step stops acts stands allowed = tt
-stop_mark blocks_told count s old new lane n v k (Moved o) moves stops acts stands allowed = has_stopped blocks_told count s old new lane n v k o moves stops stands allowed
+pub stop_mark : {D : Type 0} (device : Ghosts D) (s : Plan) (old new : WorldValue D) (lane n v k : ℕ) (reply : Answer)
+    → IsStepped device old new s (Line lane (Revert n v)) reply → StopsAfter device.told old s n v k reply
+    → IfStands device.told old s (λ st. may_stop_after s st v (kept_image st n v) k ≡ true → HasMark (FaultAfter k) reply)
+stop_mark device s old new lane n v k Blocked step stops acts stands allowed = tt
+stop_mark device s old new lane n v k (Moved o) moves stops acts stands allowed = has_stopped device s old new lane n v k o moves stops stands allowed

@@ -87,16 +87,18 @@ never_alone count (x ∷ xs) [] (suc k) never rose = rose
 never_alone count (x ∷ xs) (y ∷ ys) zero never rose = no_rise (count x) (count y) (never y) rose.0
 never_alone count (x ∷ xs) (y ∷ ys) (suc k) never rose = never_alone count xs ys k never rose.1
 
-module _ {D : Type 0} (told : D → Option (List (List ℕ))) (count : D → ℕ) where
-  rose_for : (s : Plan) (v : Option ℕ) (xs ys : List D) → RoseFor s v (map count xs) (map count ys) → RoseFor s v (map (λ (d : D). uncounted d) xs) (map (λ (d : D). uncounted d) ys)
+module _ {D : Type 0} (device : Ghosts D) where
+  rose_for : (s : Plan) (v : Option ℕ) (xs ys : List D) → RoseFor s v (map device.count xs) (map device.count ys)
+      → RoseFor s v (map (λ (d : D). uncounted d) xs) (map (λ (d : D). uncounted d) ys)
   rose_for s None xs ys rose = rose
-  rose_for s (Some v) xs ys (inl rose) = inl (rose_unsaid count xs ys _ rose)
-  rose_for s (Some v) xs ys (inr rose) = inr (rose_unsaid count xs ys _ rose)
+  rose_for s (Some v) xs ys (inl rose) = inl (rose_unsaid device.count xs ys _ rose)
+  rose_for s (Some v) xs ys (inr rose) = inr (rose_unsaid device.count xs ys _ rose)
 
-  pub step_unsaid : (old new : WorldValue D) (s : Plan) (event : Event) (reply : Reply) → IsStepped told count old new s event reply → IsStepped told uncounted old new s event reply
+  pub step_unsaid : (old new : WorldValue D) (s : Plan) (event : Event) (reply : Reply) → IsStepped device old new s event reply
+      → IsStepped (unsaid device) old new s event reply
   step_unsaid old new s event Blocked step = step
   step_unsaid old new s event (Moved o) moves =
-      let same = same_counts old.devices new.devices (as_many count old.devices new.devices moves.later) in
+      let same = same_counts old.devices new.devices (as_many device.count old.devices new.devices moves.later) in
       record {
         is_enabled = moves.is_enabled;
         is_allowed = moves.is_allowed;
@@ -110,14 +112,15 @@ module _ {D : Type 0} (told : D → Option (List (List ℕ))) (count : D → ℕ
       }
 
   -- over devices of which no call fails it is clean
-  pub step_clean : (old new : WorldValue D) (s : Plan) (event : Event) (reply : Reply) → NeverFails count → IsStepped told count old new s event reply → HasMark Clean reply
+  pub step_clean : (old new : WorldValue D) (s : Plan) (event : Event) (reply : Reply) → NeverFails device.count → IsStepped device old new s event reply
+      → HasMark Clean reply
   step_clean old new s event Blocked never step = tt
   step_clean old new s event (Moved o) never moves = by_mark (mark_of o.told) refl
     where
-      none : (v : Option ℕ) → RoseFor s v (map count old.devices) (map count new.devices) → ⊥
+      none : (v : Option ℕ) → RoseFor s v (map device.count old.devices) (map device.count new.devices) → ⊥
       none None rose = rose
-      none (Some v) (inl rose) = never_alone count old.devices new.devices _ never rose
-      none (Some v) (inr rose) = never_alone count old.devices new.devices _ never rose
+      none (Some v) (inl rose) = never_alone device.count old.devices new.devices _ never rose
+      none (Some v) (inr rose) = never_alone device.count old.devices new.devices _ never rose
 
       by_mark : (mark : Mark) → mark_of o.told ≡ mark → mark_of o.told ≡ Clean
       by_mark Clean e = e
@@ -125,11 +128,12 @@ module _ {D : Type 0} (told : D → Option (List (List ℕ))) (count : D → ℕ
       by_mark (FaultAfter k) e = absurd (none _ (moves.rose (ap is_fault e)))
 
   -- the same where memory may be wanting
-  pub made_unsaid : (old new : WorldValue D) (s : Plan) (event : Event) (r : Result Reply OutOfMemory) → IfOk r (IsStepped told count old new s event)
-      → IfOk r (IsStepped told uncounted old new s event)
+  pub made_unsaid : (old new : WorldValue D) (s : Plan) (event : Event) (r : Result Reply OutOfMemory) → IfOk r (IsStepped device old new s event)
+      → IfOk r (IsStepped (unsaid device) old new s event)
   made_unsaid old new s event (Ok reply) step = step_unsaid old new s event reply step
   made_unsaid old new s event (Err e) step = tt
 
-  pub made_clean : (old new : WorldValue D) (s : Plan) (event : Event) (r : Result Reply OutOfMemory) → NeverFails count → IfOk r (IsStepped told count old new s event) → IfOk r (HasMark Clean)
+  pub made_clean : (old new : WorldValue D) (s : Plan) (event : Event) (r : Result Reply OutOfMemory) → NeverFails device.count
+      → IfOk r (IsStepped device old new s event) → IfOk r (HasMark Clean)
   made_clean old new s event (Ok reply) never step = step_clean old new s event reply never step
   made_clean old new s event (Err e) never step = tt

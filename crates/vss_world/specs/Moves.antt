@@ -1,6 +1,7 @@
 -- What a step of the core promises: it waits exactly where the event is not enabled, and else it is answered as defined, and stands for
 -- the acts with this one. (This project's own.)
 use Rattle.std.specs.Prelude.{ℕ, ◌≡◌, ◌<◌, ◌≤◌, Bool, true, false, List, [], ◌∷◌, ◌++◌, length, map, if◌then◌else◌, Option, Some, None, slice_get}
+use Rattle.volume_device.specs.declared.device.Device.{Ghosts}
 use Rattle.vss_model.specs.Words.{Act, Flush, IsOp, IsOutcome, Kept, Mark, Plan, Reads, Reverts, Running, ShowsBlock, ShowsImage, WriterRow, Writes, after, enabled, event_allows, is_fault}
 use Rattle.vss_model.specs.Words.{kept_image, line_of, mark_of, restorable, state, told_act}
 use Rattle.vss_world.specs.Words.{Answer as AnswerEvent, AreLater, Event, Line, Outcome, Provider, Told, takes_memory as takes_for, volume_place}
@@ -53,21 +54,21 @@ pub record IsBlocked {D : Type 0} (blocks_told : D → Option (List (List ℕ)))
 -- with this act. The rows of the writers that may be told are those after it. A mark other than Clean comes only where the count of the
 -- device of the act's volume, or that of its area's, rose and each other count is as it was, and Clean only where each count is as it
 -- was.
-pub record IsMoved {D : Type 0} (blocks_told : D → Option (List (List ℕ))) (count : D → ℕ) (old new : WorldValue D) (s : Plan) (event : Event) (o : Outcome) : Type 0 where
-  pub is_enabled : (acts : List Act) → Stands blocks_told old s acts → enabled s (state s acts) event ≡ true
-  pub is_allowed : (acts : List Act) → Stands blocks_told old s acts → event_allows s (state s acts) event (mark_of o.told) ≡ true
-  pub outcome : (acts : List Act) (rows : List WriterRow) → Stands blocks_told old s acts → rows ≡ (after s (state s acts) (told_act event o.told)).course.rows
-      → IsOutcome (tells_of blocks_told s old.devices) s (state s acts) event o new.listed new.evicted rows
-  pub stands_for : (acts : List Act) → Stands blocks_told old s acts → Stands blocks_told new s (acts ++ told_act event o.told ∷ [])
+pub record IsMoved {D : Type 0} (device : Ghosts D) (old new : WorldValue D) (s : Plan) (event : Event) (o : Outcome) : Type 0 where
+  pub is_enabled : (acts : List Act) → Stands device.told old s acts → enabled s (state s acts) event ≡ true
+  pub is_allowed : (acts : List Act) → Stands device.told old s acts → event_allows s (state s acts) event (mark_of o.told) ≡ true
+  pub outcome : (acts : List Act) (rows : List WriterRow) → Stands device.told old s acts → rows ≡ (after s (state s acts) (told_act event o.told)).course.rows
+      → IsOutcome (tells_of device.told s old.devices) s (state s acts) event o new.listed new.evicted rows
+  pub stands_for : (acts : List Act) → Stands device.told old s acts → Stands device.told new s (acts ++ told_act event o.told ∷ [])
   pub is_of : IsOf new s
-  pub tells : tells_of blocks_told s new.devices ≡ tells_of blocks_told s old.devices
-  pub later : AreLater (map count old.devices) (map count new.devices)
-  pub rose : is_fault (mark_of o.told) ≡ true → RoseFor s (volume_of event o.told) (map count old.devices) (map count new.devices)
-  pub unfailed : is_fault (mark_of o.told) ≡ false → map count new.devices ≡ map count old.devices
+  pub tells : tells_of device.told s new.devices ≡ tells_of device.told s old.devices
+  pub later : AreLater (map device.count old.devices) (map device.count new.devices)
+  pub rose : is_fault (mark_of o.told) ≡ true → RoseFor s (volume_of event o.told) (map device.count old.devices) (map device.count new.devices)
+  pub unfailed : is_fault (mark_of o.told) ≡ false → map device.count new.devices ≡ map device.count old.devices
 
-abbrev pub IsStepped : {D : Type 0} → (D → Option (List (List ℕ))) → (D → ℕ) → WorldValue D → WorldValue D → Plan → Event → Reply → Type 0
-IsStepped blocks_told count old new s event Blocked = IsBlocked blocks_told old new s event
-IsStepped blocks_told count old new s event (Moved o) = IsMoved blocks_told count old new s event o
+abbrev pub IsStepped : {D : Type 0} → Ghosts D → WorldValue D → WorldValue D → Plan → Event → Reply → Type 0
+IsStepped device old new s event Blocked = IsBlocked device.told old new s event
+IsStepped device old new s event (Moved o) = IsMoved device old new s event o
 
 -- a move has this mark
 abbrev pub HasMark : Mark → Reply → Type 0
@@ -85,9 +86,9 @@ StopsAfter blocks_told w s n v k Blocked = Unit {0}
 StopsAfter blocks_told w s n v k (Moved o) = StopsAs blocks_told w s n v k o.told
 
 -- where a step of the Flush group is told clean, what its volume's device tells lasts
-abbrev pub StepLasts : {D : Type 0} → (D → Option (List (List ℕ))) → (D → Option (List (List ℕ))) → WorldValue D → Plan → Reply → Type 0
-StepLasts blocks_told lasting new s Blocked = Unit {0}
-StepLasts {D = D} blocks_told lasting new s (Moved o) = (v : ℕ) (d : D) → o.told ≡ told.Step Flush (Some v) false → slice_get new.devices (volume_place s v) ≡ Some d → lasting d ≡ blocks_told d
+abbrev pub StepLasts : {D : Type 0} → Ghosts D → WorldValue D → Plan → Reply → Type 0
+StepLasts device new s Blocked = Unit {0}
+StepLasts {D = D} device new s (Moved o) = (v : ℕ) (d : D) → o.told ≡ told.Step Flush (Some v) false → slice_get new.devices (volume_place s v) ≡ Some d → device.lasting d ≡ device.told d
 
 -- an answer beside which sets are listed
 abbrev pub lists_sets : Told → Bool

@@ -1,6 +1,7 @@
 -- The beginning: the groups and the sessions before any act, with the scenario's writers, who are registered one after another. And the
 -- calls that are no acts: they leave what the core stands for as it was. (This project's own.)
 use Rattle.std.specs.Prelude.{ℕ, ◌≡◌, List, [], length, map, take, Option, Some, None, slice_get}
+use Rattle.volume_device.specs.declared.device.Device.{Ghosts}
 use Rattle.vss_model.specs.Words.{Act, GroupPlan, History, Plan, VolumeRow, WriterPlan, blocks_in_group, contents, course_start, fresh, history_of, kept, row_of_writer, sets_of, start, state, token}
 use Rattle.vss_model.specs.Words.{used}
 use Rattle.provider.specs.Words.{GroupValue, StandsFor}
@@ -45,21 +46,21 @@ abbrev pub AreDevicesAlone : {D : Type 0} → WorldValue D → WorldValue D → 
 AreDevicesAlone old new = new ≡ record old { devices = new.devices; provider = record old.provider { groups = new.provider.groups } }
 
 -- what it stands for, which devices tell, and what they tell are as they were
-pub record IsQuiet {D : Type 0} (told : D → Option (List (List ℕ))) (count : D → ℕ) (old new : WorldValue D) (s : Plan) : Type 0 where
-  pub stands_for : (acts : List Act) → Stands told old s acts → Stands told new s acts
+pub record IsQuiet {D : Type 0} (device : Ghosts D) (old new : WorldValue D) (s : Plan) : Type 0 where
+  pub stands_for : (acts : List Act) → Stands device.told old s acts → Stands device.told new s acts
   pub is_of : IsOf new s
-  pub blocks : map told new.devices ≡ map told old.devices
-  pub tells : tells_of told s new.devices ≡ tells_of told s old.devices
-  pub later : AreLater (map count old.devices) (map count new.devices)
+  pub blocks : map device.told new.devices ≡ map device.told old.devices
+  pub tells : tells_of device.told s new.devices ≡ tells_of device.told s old.devices
+  pub later : AreLater (map device.count old.devices) (map device.count new.devices)
   pub rest : AreDevicesAlone old new
 
 -- the area of group g was written to its device: what it stands for is as it was, and so is what every other device tells
-pub record IsSynced {D : Type 0} (told : D → Option (List (List ℕ))) (count : D → ℕ) (old new : WorldValue D) (s : Plan) (g : ℕ) : Type 0 where
-  pub stands_for : (acts : List Act) → Stands told old s acts → Stands told new s acts
+pub record IsSynced {D : Type 0} (device : Ghosts D) (old new : WorldValue D) (s : Plan) (g : ℕ) : Type 0 where
+  pub stands_for : (acts : List Act) → Stands device.told old s acts → Stands device.told new s acts
   pub is_of : IsOf new s
-  pub elsewhere : (place : ℕ) → (place ≡ area_place g s.volumes → ⊥) → told_by told new.devices place ≡ told_by told old.devices place
-  pub tells : tells_of told s new.devices ≡ tells_of told s old.devices
-  pub later : AreLater (map count old.devices) (map count new.devices)
+  pub elsewhere : (place : ℕ) → (place ≡ area_place g s.volumes → ⊥) → told_by device.told new.devices place ≡ told_by device.told old.devices place
+  pub tells : tells_of device.told s new.devices ≡ tells_of device.told s old.devices
+  pub later : AreLater (map device.count old.devices) (map device.count new.devices)
   pub rest : AreDevicesAlone old new
 
 -- after a sync the area's device holds the copies, at each list of acts that the core stands for

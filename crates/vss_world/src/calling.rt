@@ -39,7 +39,7 @@ impl<D: Device> World<D> {
         requires no_add { is_add op ≡ false }
         ensures memory { OnErr result (self.new ≡ self.old) }
         ensures takes { IsErr result → takes_memory op ≡ true }
-        ensures stepped { IfOk result (IsStepped D.told D.count self.old self.new scenario.now (Line lane op)) }
+        ensures stepped { IfOk result (IsStepped D.Device self.old self.new scenario.now (Line lane op)) }
     {
         let set = self.sessions.current();
         match self
@@ -65,7 +65,7 @@ impl<D: Device> World<D> {
         requires of { IsOf self.old scenario.now }
         requires standing { IsStanding D.told self.old scenario.now }
         requires in_range { volume < length scenario.now.volumes }
-        ensures { IsStepped D.told D.count self.old self.new scenario.now (Line lane (Add volume)) result }
+        ensures { IsStepped D.Device self.old self.new scenario.now (Line lane (Add volume)) result }
     {
         match self.sessions.check(lane, SessionCall::Add) {
             Verdict::Blocked => return Reply::Blocked,

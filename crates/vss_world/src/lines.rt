@@ -29,7 +29,7 @@ impl<D: Device> World<D> {
         requires in_range { IsOp scenario.now op }
         ensures memory { OnErr result (self.new ≡ self.old) }
         ensures takes { IsErr result → takes_memory op ≡ true }
-        ensures stepped { IfOk result (IsStepped D.told D.count self.old self.new scenario.now (LineEvent lane op)) }
+        ensures stepped { IfOk result (IsStepped D.Device self.old self.new scenario.now (LineEvent lane op)) }
     {
         if let Line::Writes {
             volume,

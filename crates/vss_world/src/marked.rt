@@ -6,7 +6,7 @@ ghost use Rattle.write_history.specs.declared.mark.Mark.TheVariants as mark;
 ghost use Rattle.vss_model.specs.Acts.{event_allows, line_allows};
 ghost use Rattle.vss_model.specs.declared.event.Event.TheVariants.{Line as LineEvent, Provider as ProviderEvent};
 ghost use Rattle.vss_model.specs.declared.told.Told.TheVariants as told;
-ghost use Rattle.provider.specs.Words.{NeverFails, uncounted};
+ghost use Rattle.provider.specs.Words.{NeverFails, counted_as};
 ghost use Rattle.vss_world.specs.declared.reply.Reply.TheVariants.{Moved};
 ghost use Rattle.vss_world.specs.Stands.{IsOf, IsStanding, IfStands};
 ghost use Rattle.vss_world.specs.Moves.{IsEvent, IsStepped, HasMark, simple_outcome};
@@ -37,7 +37,7 @@ impl<D: Device> World<D> {
         requires standing { IsStanding D.told self.old scenario.now }
         requires in_range { IsEvent scenario.now event }
         ensures memory { OnErr result (self.new ≡ self.old) }
-        ensures stepped { IfOk result (IsStepped D.told uncounted self.old self.new scenario.now event) }
+        ensures stepped { IfOk result (IsStepped (counted_as D.Device true) self.old self.new scenario.now event) }
         ensures marked { NeverFails D.count → IfStands D.told self.old scenario.now (λ st. event_allows scenario.now st event mark ≡ true → IfOk result (HasMark mark)) }
     {
         let reply = self.make_marked(alloc, scenario, event, mark)?;
@@ -57,7 +57,7 @@ impl<D: Device> World<D> {
         requires standing { IsStanding D.told self.old scenario.now }
         requires in_range { IsEvent scenario.now event }
         ensures memory { OnErr result (self.new ≡ self.old) }
-        ensures stepped { IfOk result (IsStepped D.told uncounted self.old self.new scenario.now event) }
+        ensures stepped { IfOk result (IsStepped (counted_as D.Device true) self.old self.new scenario.now event) }
         ensures marked { NeverFails D.count → IfStands D.told self.old scenario.now (λ st. event_allows scenario.now st event mark ≡ true → IfOk result (HasMark mark)) }
     {
         match mark {
@@ -78,7 +78,7 @@ impl<D: Device> World<D> {
         requires standing { IsStanding D.told self.old scenario.now }
         requires in_range { IsEvent scenario.now event }
         ensures memory { OnErr result (self.new ≡ self.old) }
-        ensures stepped { IfOk result (IsStepped D.told uncounted self.old self.new scenario.now event) }
+        ensures stepped { IfOk result (IsStepped (counted_as D.Device true) self.old self.new scenario.now event) }
         ensures marked { NeverFails D.count → IfOk result (HasMark mark.Clean) }
     {
         self.make(alloc, scenario, event)
@@ -95,7 +95,7 @@ impl<D: Device> World<D> {
         requires standing { IsStanding D.told self.old scenario.now }
         requires in_range { IsEvent scenario.now event }
         ensures memory { OnErr result (self.new ≡ self.old) }
-        ensures stepped { IfOk result (IsStepped D.told uncounted self.old self.new scenario.now event) }
+        ensures stepped { IfOk result (IsStepped (counted_as D.Device true) self.old self.new scenario.now event) }
         ensures marked { IfStands D.told self.old scenario.now (λ st. event_allows scenario.now st event mark.Fault ≡ true → IfOk result (HasMark mark.Fault)) }
     {
         match event {
@@ -117,7 +117,7 @@ impl<D: Device> World<D> {
         requires standing { IsStanding D.told self.old scenario.now }
         requires in_range { IsEvent scenario.now event }
         ensures memory { OnErr result (self.new ≡ self.old) }
-        ensures stepped { IfOk result (IsStepped D.told uncounted self.old self.new scenario.now event) }
+        ensures stepped { IfOk result (IsStepped (counted_as D.Device true) self.old self.new scenario.now event) }
         ensures marked { NeverFails D.count → IfStands D.told self.old scenario.now (λ st. event_allows scenario.now st event (mark.FaultAfter restored) ≡ true → IfOk result (HasMark (mark.FaultAfter restored))) }
     {
         match event {
@@ -142,7 +142,7 @@ impl<D: Device> World<D> {
         requires lane { lane < length scenario.now.lanes }
         requires in_range { IsOp scenario.now op }
         ensures memory { OnErr result (self.new ≡ self.old) }
-        ensures stepped { IfOk result (IsStepped D.told uncounted self.old self.new scenario.now (LineEvent lane op)) }
+        ensures stepped { IfOk result (IsStepped (counted_as D.Device true) self.old self.new scenario.now (LineEvent lane op)) }
         ensures marked { IfStands D.told self.old scenario.now (λ st. line_allows scenario.now st op mark.Fault ≡ true → IfOk result (HasMark mark.Fault)) }
     {
         let event = Event::Line { lane, op };
@@ -182,7 +182,7 @@ impl<D: Device> World<D> {
     fn fail_step(&mut self, scenario: &Scenario) -> Reply
         requires of { IsOf self.old scenario.now }
         requires standing { IsStanding D.told self.old scenario.now }
-        ensures stepped { IsStepped D.told uncounted self.old self.new scenario.now ProviderEvent result }
+        ensures stepped { IsStepped (counted_as D.Device true) self.old self.new scenario.now ProviderEvent result }
         ensures marked { IfStands D.told self.old scenario.now (λ st. event_allows scenario.now st ProviderEvent mark.Fault ≡ true → HasMark mark.Fault result) }
     {
         let Some(next) = self.sessions.next_step() else {

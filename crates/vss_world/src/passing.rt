@@ -20,7 +20,7 @@ impl<D: Device> World<D> {
         requires of { IsOf self.old scenario.now }
         requires standing { IsStanding D.told self.old scenario.now }
         requires in_range { ticks ≤ 1000000000 }
-        ensures { IsStepped D.told D.count self.old self.new scenario.now (Line lane (Tick ticks)) result }
+        ensures { IsStepped D.Device self.old self.new scenario.now (Line lane (Tick ticks)) result }
     {
         let item = self.sessions.time(ticks);
         settle(&mut self.provider, item);
@@ -33,7 +33,7 @@ impl<D: Device> World<D> {
         requires of { IsOf self.old scenario.now }
         requires standing { IsStanding D.told self.old scenario.now }
         requires in_range { writer < length scenario.now.writers }
-        ensures { IsStepped D.told D.count self.old self.new scenario.now (AnswerEvent writer answer) result }
+        ensures { IsStepped D.Device self.old self.new scenario.now (AnswerEvent writer answer) result }
     {
         match self.sessions.answer(writer, answer) {
             Called::Waits => Reply::Blocked,
@@ -49,7 +49,7 @@ impl<D: Device> World<D> {
     pub(crate) fn idle(&mut self, scenario: &Scenario) -> Reply
         requires of { IsOf self.old scenario.now }
         requires standing { IsStanding D.told self.old scenario.now }
-        ensures { IsStepped D.told D.count self.old self.new scenario.now Idle result }
+        ensures { IsStepped D.Device self.old self.new scenario.now Idle result }
     {
         match self.sessions.idle() {
             Called::Waits => Reply::Blocked,

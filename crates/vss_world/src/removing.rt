@@ -5,7 +5,7 @@ ghost use Rattle.scenario.specs.declared.op.Op.TheVariants as op;
 ghost use Rattle.vss_model.specs.declared.event.Event.TheVariants.{Line};
 ghost use Rattle.vss_model.specs.Images.{is_backup};
 ghost use Rattle.vss_world.specs.Stands.{IsOf, IsStanding};
-ghost use Rattle.provider.specs.Words.{NeverFails, counted_by};
+ghost use Rattle.provider.specs.Words.{NeverFails, counted_as};
 ghost use Rattle.vss_world.specs.Moves.{IsStepped, StopsAfter};
 
 use crate::outcomes::{coded, told};
@@ -22,7 +22,7 @@ impl<D: Device> World<D> {
     pub(crate) fn delete_set(&mut self, scenario: &Scenario, lane: u32, set: u32) -> Reply
         requires of { IsOf self.old scenario.now }
         requires standing { IsStanding D.told self.old scenario.now }
-        ensures { IsStepped D.told D.count self.old self.new scenario.now (Line lane (op.DeleteSet set)) result }
+        ensures { IsStepped D.Device self.old self.new scenario.now (Line lane (op.DeleteSet set)) result }
     {
         let _facts = scenario.volumes();
         self.evicted.clear();
@@ -47,7 +47,7 @@ impl<D: Device> World<D> {
     ) -> Reply
         requires of { IsOf self.old scenario.now }
         requires in_range { volume < length scenario.now.volumes }
-        ensures { IsStepped D.told D.count self.old self.new scenario.now (Line lane (op.DeleteImage set volume)) result }
+        ensures { IsStepped D.Device self.old self.new scenario.now (Line lane (op.DeleteImage set volume)) result }
     {
         self.evicted.clear();
         if !self.sessions.is_complete(set) {
@@ -71,7 +71,7 @@ impl<D: Device> World<D> {
     ) -> Reply
         requires of { IsOf self.old scenario.now }
         requires in_range { volume < length scenario.now.volumes }
-        ensures stepped { IsStepped D.told (counted_by D.count (is_some stop)) self.old self.new scenario.now (Line lane (op.Revert set volume)) result }
+        ensures stepped { IsStepped (counted_as D.Device (is_some stop)) self.old self.new scenario.now (Line lane (op.Revert set volume)) result }
         ensures stops { NeverFails D.count → (k : ℕ) → stop ≡ Some k → StopsAfter D.told self.old scenario.now set volume k result }
     {
         let kept = self.is_kept(scenario, set, volume);

@@ -38,7 +38,7 @@ impl<D: Device> World<D> {
     pub(crate) fn read(&mut self, scenario: &Scenario, lane: u32, volume: u32, block: u32) -> Reply
         requires of { IsOf self.old scenario.now }
         requires in_range { IsBlock scenario.now volume block }
-        ensures { IsStepped D.told D.count self.old self.new scenario.now (Line lane (op.Read volume block)) result }
+        ensures { IsStepped D.Device self.old self.new scenario.now (Line lane (op.Read volume block)) result }
     {
         let answer = read_block(&mut self.provider, &mut self.block, scenario, volume, block);
         self.evicted.clear();
@@ -56,7 +56,7 @@ impl<D: Device> World<D> {
     ) -> Reply
         requires of { IsOf self.old scenario.now }
         requires in_range { IsBlock scenario.now volume block }
-        ensures { IsStepped D.told D.count self.old self.new scenario.now (Line lane (op.ImageBlock set volume block)) result }
+        ensures { IsStepped D.Device self.old self.new scenario.now (Line lane (op.ImageBlock set volume block)) result }
     {
         let kept = self.is_kept(scenario, set, volume);
         self.evicted.clear();
@@ -86,7 +86,7 @@ impl<D: Device> World<D> {
     ) -> Reply
         requires of { IsOf self.old scenario.now }
         requires in_range { volume < length scenario.now.volumes }
-        ensures { IsStepped D.told D.count self.old self.new scenario.now (Line lane (op.ImageDigest set volume)) result }
+        ensures { IsStepped D.Device self.old self.new scenario.now (Line lane (op.ImageDigest set volume)) result }
     {
         let kept = self.is_kept(scenario, set, volume);
         self.evicted.clear();
@@ -103,7 +103,7 @@ impl<D: Device> World<D> {
     pub(crate) fn query(&mut self, scenario: &Scenario, lane: u32, volume: u32) -> Reply
         requires of { IsOf self.old scenario.now }
         requires in_range { volume < length scenario.now.volumes }
-        ensures { IsStepped D.told D.count self.old self.new scenario.now (Line lane (op.Query volume)) result }
+        ensures { IsStepped D.Device self.old self.new scenario.now (Line lane (op.Query volume)) result }
     {
         let sets = kept_sets(&self.provider, &self.sessions, scenario, volume);
         self.listed.list(sets);
@@ -121,7 +121,7 @@ impl<D: Device> World<D> {
     ) -> Reply
         requires of { IsOf self.old scenario.now }
         requires in_range { volume < length scenario.now.volumes }
-        ensures { IsStepped D.told D.count self.old self.new scenario.now (Line lane (op.Properties set volume)) result }
+        ensures { IsStepped D.Device self.old self.new scenario.now (Line lane (op.Properties set volume)) result }
     {
         let kept = self.is_kept(scenario, set, volume);
         self.evicted.clear();

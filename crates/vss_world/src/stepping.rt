@@ -15,8 +15,8 @@ impl<D: Device> World<D> {
     pub(crate) fn make_step(&mut self, scenario: &Scenario) -> Reply
         requires of { IsOf self.old scenario.now }
         requires standing { IsStanding D.told self.old scenario.now }
-        ensures stepped { IsStepped D.told D.count self.old self.new scenario.now ProviderEvent result }
-        ensures lasts { StepLasts D.told D.lasting self.new scenario.now result }
+        ensures stepped { IsStepped D.Device self.old self.new scenario.now ProviderEvent result }
+        ensures lasts { StepLasts D.Device self.new scenario.now result }
     {
         let Some(next) = self.sessions.next_step() else {
             return Reply::Blocked;

@@ -99,8 +99,8 @@ impl<D: Device> World<D> {
         requires in_range { IsEvent scenario.now event }
         ensures memory { OnErr result (self.new ≡ self.old) }
         ensures takes { IsErr result → takes_memory event ≡ true }
-        ensures stepped { IfOk result (IsStepped D.told D.count self.old self.new scenario.now event) }
-        ensures lasts { event ≡ ProviderEvent → IfOk result (StepLasts D.told D.lasting self.new scenario.now) }
+        ensures stepped { IfOk result (IsStepped D.Device self.old self.new scenario.now event) }
+        ensures lasts { event ≡ ProviderEvent → IfOk result (StepLasts D.Device self.new scenario.now) }
         ensures listed { IfOk result (λ reply. AreListed reply self.new.listed) }
     {
         let reply = self.make(alloc, scenario, event)?;
@@ -120,8 +120,8 @@ impl<D: Device> World<D> {
         requires in_range { IsEvent scenario.now event }
         ensures memory { OnErr result (self.new ≡ self.old) }
         ensures takes { IsErr result → takes_memory event ≡ true }
-        ensures stepped { IfOk result (IsStepped D.told D.count self.old self.new scenario.now event) }
-        ensures lasts { event ≡ ProviderEvent → IfOk result (StepLasts D.told D.lasting self.new scenario.now) }
+        ensures stepped { IfOk result (IsStepped D.Device self.old self.new scenario.now event) }
+        ensures lasts { event ≡ ProviderEvent → IfOk result (StepLasts D.Device self.new scenario.now) }
     {
         match event {
             Event::Line { lane, op } => self.line(alloc, scenario, lane, op),
@@ -234,7 +234,7 @@ impl<D: Device> World<D> {
         requires in_range { volume < length scenario.now.volumes }
         ensures digest { IfOk result (λ digest. IfStands D.told self.old scenario.now (λ st. IsDigestIf (slice_get (tells_of D.told scenario.now self.old.devices) volume)
             (concat (contents (blocks_of scenario.now volume) (history_of st volume).writes (length (history_of st volume).writes))) digest)) }
-        ensures quiet { IsQuiet D.told D.count self.old self.new scenario.now }
+        ensures quiet { IsQuiet D.Device self.old self.new scenario.now }
         ensures same { OnOk result (map D.count self.new.devices ≡ map D.count self.old.devices) }
         ensures cause { IfErr result (λ fault. HasFailed scenario.now volume fault (map D.count self.old.devices) (map D.count self.new.devices)) }
     {
@@ -254,7 +254,7 @@ impl<D: Device> World<D> {
         requires is_kept { IfStands D.told self.old scenario.now (λ st. is_some (point_in set (kept st (history_of st volume))) ≡ true) }
         ensures digest { IfOk result (λ digest. IfStands D.told self.old scenario.now (λ st. (point : ℕ) → point_in set (kept st (history_of st volume)) ≡ Some point
             → IsDigestIf (slice_get (tells_of D.told scenario.now self.old.devices) volume) (concat (contents (blocks_of scenario.now volume) (history_of st volume).writes point)) digest)) }
-        ensures quiet { IsQuiet D.told D.count self.old self.new scenario.now }
+        ensures quiet { IsQuiet D.Device self.old self.new scenario.now }
         ensures same { OnOk result (map D.count self.new.devices ≡ map D.count self.old.devices) }
         ensures cause { IfErr result (λ fault. HasFailed scenario.now volume fault (map D.count self.old.devices) (map D.count self.new.devices)) }
     {
@@ -290,8 +290,8 @@ impl<D: Device> World<D> {
     pub fn flush(&mut self, scenario: &Scenario, volume: u32) -> Result<(), Cause>
         requires of { IsOf self.old scenario.now }
         requires in_range { volume < length scenario.now.volumes }
-        ensures quiet { IsQuiet D.told D.count self.old self.new scenario.now }
-        ensures lasts { OnOk result (LastsAt D.told D.lasting (volume_place scenario.now volume) self.new.devices) }
+        ensures quiet { IsQuiet D.Device self.old self.new scenario.now }
+        ensures lasts { OnOk result (LastsAt D.Device (volume_place scenario.now volume) self.new.devices) }
         ensures same { OnOk result (map D.count self.new.devices ≡ map D.count self.old.devices) }
         ensures fault { IfErr result (λ fault. fault ≡ Cause.Volume) }
         ensures cause { IfErr result (λ fault. HasFailed scenario.now volume fault (map D.count self.old.devices) (map D.count self.new.devices)) }
@@ -303,9 +303,9 @@ impl<D: Device> World<D> {
     pub fn sync(&mut self, scenario: &Scenario, group: u32) -> Result<(), Cause>
         requires of { IsOf self.old scenario.now }
         requires in_range { group < length scenario.now.groups }
-        ensures synced { IsSynced D.told D.count self.old self.new scenario.now group }
+        ensures synced { IsSynced D.Device self.old self.new scenario.now group }
         ensures held { OnOk result (IsAreaHeld D.told self.new scenario.now group) }
-        ensures lasts { OnOk result (LastsAt D.told D.lasting (area_place group scenario.now.volumes) self.new.devices) }
+        ensures lasts { OnOk result (LastsAt D.Device (area_place group scenario.now.volumes) self.new.devices) }
         ensures same { OnOk result (map D.count self.new.devices ≡ map D.count self.old.devices) }
         ensures fault { IfErr result (λ fault. fault ≡ Cause.Area) }
         ensures cause { IsErr result → RoseAlone (area_place group scenario.now.volumes) (map D.count self.old.devices) (map D.count self.new.devices) }

@@ -8,7 +8,7 @@ ghost use Rattle.write_history.specs.declared.mark.Mark.TheVariants.{Fault};
 ghost use Rattle.vss_model.specs.declared.event.Event.TheVariants.{Line};
 ghost use Rattle.provider.specs.Calls.{HasRoom, IsPut};
 ghost use Rattle.provider.specs.Groups.{HasGroups};
-ghost use Rattle.provider.specs.Words.{Volume, counted_as, counted_by};
+ghost use Rattle.provider.specs.Words.{Volume, counted_as};
 ghost use Rattle.vss_world.specs.Stands.{IsOf, IsStanding};
 ghost use Rattle.vss_world.specs.Moves.{HasMark, IsStepped};
 ghost use Rattle.vss_world.specs.Changes.{IsWriteLine, told_if};
@@ -41,7 +41,7 @@ impl<D: Device> World<D> {
         requires standing { IsStanding D.told self.old scenario.now }
         requires lane { lane < length scenario.now.lanes }
         requires in_range { IsBlock scenario.now volume block }
-        ensures stepped { (op : Op) → IsWriteLine op volume (record { block = block; bytes = payload_bytes payload.now }) → IsStepped D.told (counted_by D.count fails) self.old self.new scenario.now (Line lane op) result }
+        ensures stepped { (op : Op) → IsWriteLine op volume (record { block = block; bytes = payload_bytes payload.now }) → IsStepped (counted_as D.Device fails) self.old self.new scenario.now (Line lane op) result }
         ensures marked { fails ≡ true → HasMark Fault result }
     {
         if !self.may_write(scenario, lane, volume) {

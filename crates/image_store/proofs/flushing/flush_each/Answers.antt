@@ -19,10 +19,10 @@ pub loop-device-preserved : goal.loop-device-preserved
 loop-device-preserved g c =
     let within : c.loop-device.device-index < length c.loop-device.devices = (let test = c.loop-device-test.true in omega arith) in
     let at = slice_get-get_or c.loop-device.devices c.loop-device.device-index c.device-item.result within in
-    one_lasted g.D.Device.told g.D.Device.lasting g.D.Device.count c.loop-device.device-index c.args.devices.now c.loop-device.devices _ c.flush.new.self
+    one_lasted g.D.Device c.loop-device.device-index c.args.devices.now c.loop-device.devices _ c.flush.new.self
     c.loop-device.invariant at c.in-Ok.ensures.told c.in-Ok.ensures.cause.same c.in-Ok.ensures.lasts
 
 pub returns-clause-lasts : goal.returns-clause-lasts
 returns-clause-lasts g c =
-    all_lasted g.D.Device.told g.D.Device.lasting g.D.Device.count c.loop-device.device-index c.args.devices.now c.loop-device.devices c.loop-device.invariant
+    all_lasted g.D.Device c.loop-device.device-index c.args.devices.now c.loop-device.devices c.loop-device.invariant
     (let test = c.loop-device-test.false in omega arith)

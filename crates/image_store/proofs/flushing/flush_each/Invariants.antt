@@ -3,4 +3,4 @@ use Rattle.image_store.proofs.flushing.flush_each.Given as goal
 
 -- the first devices were flushed
 abbrev pub invariant-loop-device : goal.invariant-loop-device
-invariant-loop-device g l = HaveLasted g.D.Device.told g.D.Device.lasting g.D.Device.count l.device-index l.initial.devices l.devices
+invariant-loop-device g l = HaveLasted g.D.Device l.device-index l.initial.devices l.devices

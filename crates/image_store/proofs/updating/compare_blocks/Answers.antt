@@ -23,7 +23,7 @@ loop-b-preserved g c =
     let len = inv.len in
     let within = c.requires.volume in
     record {
-      marked = marked_more g.D.Device.told g.I.Device.told g.I.Device.size c.args.group.now c.loop-b.group c.read_volume.new.group c.args.input.now c.loop-b.input c.read_device.new.device c.args.v
+      marked = marked_more g.D.Device.told g.I.Device c.args.group.now c.loop-b.group c.read_volume.new.group c.args.input.now c.loop-b.input c.read_device.new.device c.args.v
           c.args.differs.now
           c.loop-b.differs c.loop-b.b (not c.are_same.result) inv
           (quiet_kept g.D.Device c.loop-b.group c.read_volume.new.group c.read_volume.ensures.quiet)
@@ -54,6 +54,6 @@ pub returns-clause-marked : goal.returns-clause-marked
 returns-clause-marked g c =
     let test = c.loop-b-test.false in
     let end = c.blocks-b-end.ensures in
-    marked_all g.D.Device.told g.I.Device.told g.I.Device.size c.args.group.now c.loop-b.group c.args.input.now c.loop-b.input c.args.v c.args.differs.now c.loop-b.differs c.loop-b.b
+    marked_all g.D.Device.told g.I.Device c.args.group.now c.loop-b.group c.args.input.now c.loop-b.input c.args.v c.args.differs.now c.loop-b.differs c.loop-b.b
     c.requires.volume c.requires.marks
     (omega arith) (λ wanted is. as_many_wanted _ _ (g.I.Device.told c.args.input.now) wanted c.blocks-facts.ensures.whole c.requires.sizes is) c.loop-b.invariant.marked

@@ -22,7 +22,7 @@ returns-in_err-copy_one-clause-failed g c =
     rw (p.1, p.2) (device_after g.D.Device.count c.args.v c.args.group.now c.make_room-up_to.new.self c.copy_one.new.group c.in_err-copy_one.field-0.0
     (unfailed_then g.D.Device.count c.args.group.now c.loop-b.group
     c.make_room-up_to.new.self c.loop-b.invariant.unfailed
-    (room_unfailed g.D.Device.told g.D.Device.count c.loop-b.group c.make_room-up_to.new.self c.args.v c.loop-b.b c.make_room-up_to.result c.make_room-up_to.ensures.room))
+    (room_unfailed g.D.Device c.loop-b.group c.make_room-up_to.new.self c.args.v c.loop-b.b c.make_room-up_to.result c.make_room-up_to.ensures.room))
     c.in_err-copy_one.ensures.failed)
 
 pub loop-b-preserved : goal.loop-b-preserved
@@ -34,7 +34,7 @@ loop-b-preserved g c = elim c.if-differs-b.branch [
     unfailed = unfailed_then g.D.Device.count c.args.group.now w.make_room-up_to.new.self w.copy_one.new.group
         (unfailed_then g.D.Device.count c.args.group.now c.loop-b.group w.make_room-up_to.new.self
         c.loop-b.invariant.unfailed
-        (room_unfailed g.D.Device.told g.D.Device.count c.loop-b.group w.make_room-up_to.new.self c.args.v c.loop-b.b w.make_room-up_to.result w.make_room-up_to.ensures.room))
+        (room_unfailed g.D.Device c.loop-b.group w.make_room-up_to.new.self c.args.v c.loop-b.b w.make_room-up_to.result w.make_room-up_to.ensures.room))
         w.in_ok-copy_one.ensures.same;
   })
   | then-differs-b+else-up_to-gt0+in_ok-copy_one+else-branch w ↦ rw (w.group-is, w.gone-is) (record {
@@ -44,7 +44,7 @@ loop-b-preserved g c = elim c.if-differs-b.branch [
     unfailed = unfailed_then g.D.Device.count c.args.group.now w.make_room-up_to.new.self w.copy_one.new.group
         (unfailed_then g.D.Device.count c.args.group.now c.loop-b.group w.make_room-up_to.new.self
         c.loop-b.invariant.unfailed
-        (room_unfailed g.D.Device.told g.D.Device.count c.loop-b.group w.make_room-up_to.new.self c.args.v c.loop-b.b w.make_room-up_to.result w.make_room-up_to.ensures.room))
+        (room_unfailed g.D.Device c.loop-b.group w.make_room-up_to.new.self c.args.v c.loop-b.b w.make_room-up_to.result w.make_room-up_to.ensures.room))
         w.in_ok-copy_one.ensures.same;
   })
   | else-differs-b w ↦ rw (w.group-is, w.gone-is) c.loop-b.invariant

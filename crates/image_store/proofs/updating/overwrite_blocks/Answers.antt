@@ -11,7 +11,7 @@ use Rattle.image_store.proofs.updating.overwrite_blocks.Goals.{then-differs-b+el
 
 pub loop-b-init : goal.loop-b-init
 loop-b-init g c = record {
-  written = written_none g.D.Device.told g.I.Device.told g.I.Device.size c.args.group.now c.args.input.now c.args.v c.args.differs.now
+  written = written_none g.D.Device.told g.I.Device c.args.group.now c.args.input.now c.args.v c.args.differs.now
       c.args.from;
   room = refl;
   unfailed = record { group = unfailed_itself g.D.Device.count c.args.group.now; input = refl };
@@ -19,7 +19,7 @@ loop-b-init g c = record {
 
 pub returns-then-up_to-gt0-clause-writing : goal.returns-then-up_to-gt0-clause-writing
 returns-then-up_to-gt0-clause-writing g c = λ wanted ps is has ready.
-    written_stopped g.D.Device.told g.I.Device.told g.I.Device.size c.args.group.now c.loop-b.group c.make_room-up_to.new.self c.args.input.now c.loop-b.input c.args.v c.args.differs.now c.args.from
+    written_stopped g.D.Device.told g.I.Device c.args.group.now c.loop-b.group c.make_room-up_to.new.self c.args.input.now c.loop-b.input c.args.v c.args.differs.now c.args.from
     c.loop-b.b
     c.make_room-up_to.result wanted ps c.make_room-up_to.new.gone.items c.if-up_to-gt0.true c.loop-b.invariant.written c.make_room-up_to.ensures.room c.make_room-up_to.ensures.told is has ready
 
@@ -27,13 +27,13 @@ pub returns-clause-writing : goal.returns-clause-writing
 returns-clause-writing g c = λ wanted ps is has ready.
     let test = c.loop-b-test.false in
     let end = c.blocks-b-end.ensures in
-    written_all g.D.Device.told g.I.Device.told g.I.Device.size c.args.group.now c.loop-b.group c.args.input.now c.loop-b.input c.args.v c.args.differs.now c.args.from c.loop-b.b wanted ps
+    written_all g.D.Device.told g.I.Device c.args.group.now c.loop-b.group c.args.input.now c.loop-b.input c.args.v c.args.differs.now c.args.from c.loop-b.b wanted ps
     c.requires.volume
     (omega arith) c.loop-b.invariant.written is has ready
 
 pub returns-in_default-clause-writing : goal.returns-in_default-clause-writing
 returns-in_default-clause-writing g c = λ wanted ps is has ready.
-    written_part g.D.Device.told g.I.Device.told g.I.Device.size c.args.group.now c.loop-b.group c.make_room-up_to.new.self c.args.input.now c.loop-b.input c.args.v c.args.differs.now c.args.from
+    written_part g.D.Device.told g.I.Device c.args.group.now c.loop-b.group c.make_room-up_to.new.self c.args.input.now c.loop-b.input c.args.v c.args.differs.now c.args.from
     c.loop-b.b wanted ps
     c.loop-b.invariant.written
     (room_plains g.D.Device.told c.loop-b.group c.make_room-up_to.new.self c.args.v c.loop-b.b c.make_room-up_to.result (let none = c.if-up_to-gt0.false in omega arith) c.make_room-up_to.ensures.room)
@@ -44,7 +44,7 @@ returns-in_err-put-clause-writing g c =
     let p = err_from_is_err_and c.from_residual.result c.from_residual.ensures.1 in
     let made = room_plains g.D.Device.told c.loop-b.group c.make_room-up_to.new.self c.args.v c.loop-b.b c.make_room-up_to.result
     (let none = c.if-up_to-gt0.false in omega arith) c.make_room-up_to.ensures.room in
-    rw p.1 (λ wanted ps is has ready. written_part g.D.Device.told g.I.Device.told g.I.Device.size c.args.group.now c.loop-b.group c.put.new.self c.args.input.now c.loop-b.input c.args.v
+    rw p.1 (λ wanted ps is has ready. written_part g.D.Device.told g.I.Device c.args.group.now c.loop-b.group c.put.new.self c.args.input.now c.loop-b.input c.args.v
     c.args.differs.now c.args.from
     c.loop-b.b wanted ps c.loop-b.invariant.written
     (kept_then g.D.Device.told c.loop-b.group c.make_room-up_to.new.self c.put.new.self made
@@ -58,7 +58,7 @@ returns-in_err-put-clause-failed g c =
     (c.in-Ok.ensures.cause.same ∙ c.loop-b.invariant.unfailed.input)
     (device_after g.D.Device.count c.args.v c.args.group.now c.make_room-up_to.new.self c.put.new.self c.in_err-put.field-0.0
     (unfailed_then g.D.Device.count c.args.group.now c.loop-b.group c.make_room-up_to.new.self c.loop-b.invariant.unfailed.group
-    (room_unfailed g.D.Device.told g.D.Device.count c.loop-b.group c.make_room-up_to.new.self c.args.v c.loop-b.b c.make_room-up_to.result c.make_room-up_to.ensures.room))
+    (room_unfailed g.D.Device c.loop-b.group c.make_room-up_to.new.self c.args.v c.loop-b.b c.make_room-up_to.result c.make_room-up_to.ensures.room))
     c.in_err-put.ensures.put.rose))
 
 pub loop-b-preserved : goal.loop-b-preserved
@@ -70,7 +70,7 @@ loop-b-preserved g c =
     let within : c.loop-b.b < length c.args.differs.now = omega arith in
     elim c.if-differs-b.branch [
       | then-differs-b+else-up_to-gt0+in-Ok+in_ok-put w ↦ rw (w.group-is, w.input-is, w.gone-is) (record {
-        written = written_more g.D.Device g.I.Device.told g.I.Device.size c.args.group.now c.loop-b.group w.make_room-up_to.new.self
+        written = written_more g.D.Device g.I.Device c.args.group.now c.loop-b.group w.make_room-up_to.new.self
             w.put.new.self c.args.input.now c.loop-b.input w.read_device.new.device c.args.v
             c.args.differs.now c.args.from c.loop-b.b (payload_bytes w.payload.result.now) c.requires.volume (omega arith) inv.written
             (room_plains g.D.Device.told c.loop-b.group w.make_room-up_to.new.self c.args.v c.loop-b.b w.make_room-up_to.result
@@ -81,13 +81,13 @@ loop-b-preserved g c =
         room = w.make_room-up_to.ensures.space ∙ inv.room;
         unfailed = record {
           group = unfailed_then g.D.Device.count c.args.group.now w.make_room-up_to.new.self w.put.new.self (unfailed_then g.D.Device.count c.args.group.now c.loop-b.group w.make_room-up_to.new.self
-              inv.unfailed.group (room_unfailed g.D.Device.told g.D.Device.count c.loop-b.group w.make_room-up_to.new.self c.args.v c.loop-b.b w.make_room-up_to.result w.make_room-up_to.ensures.room))
+              inv.unfailed.group (room_unfailed g.D.Device c.loop-b.group w.make_room-up_to.new.self c.args.v c.loop-b.b w.make_room-up_to.result w.make_room-up_to.ensures.room))
               w.in_ok-put.ensures.put.unfailed;
           input = w.in-Ok.ensures.cause.same ∙ inv.unfailed.input;
         };
       })
       | else-differs-b w ↦ rw (w.group-is, w.input-is, w.gone-is) (record {
-        written = written_past g.D.Device.told g.I.Device.told g.I.Device.size c.args.group.now c.loop-b.group c.args.input.now c.loop-b.input c.args.v c.args.differs.now c.args.from c.loop-b.b
+        written = written_past g.D.Device.told g.I.Device c.args.group.now c.loop-b.group c.args.input.now c.loop-b.input c.args.v c.args.differs.now c.args.from c.loop-b.b
             (flag_is c.args.differs.now c.loop-b.b _ within w.if-differs-b.false) inv.written;
         room = inv.room;
         unfailed = inv.unfailed;

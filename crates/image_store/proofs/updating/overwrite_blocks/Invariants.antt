@@ -6,7 +6,7 @@ use Rattle.image_store.proofs.updating.overwrite_blocks.Given as goal
 
 abbrev pub invariant-loop-b : goal.invariant-loop-b
 invariant-loop-b g l = record {
-  written : IsWrittenTo g.D.Device.told g.I.Device.told g.I.Device.size l.fn.group l.group l.fn.input l.input l.v l.differs l.from l.b;
+  written : IsWrittenTo g.D.Device.told g.I.Device l.fn.group l.group l.fn.input l.input l.v l.differs l.from l.b;
   room : vec_capacity l.gone ≡ vec_capacity l.fn.gone;
   unfailed : NoneFailed g.D.Device.count g.I.Device.count l.fn.group l.group l.fn.input l.input;
 }

@@ -5,7 +5,7 @@ use Rattle.orders.proofs.playing.report_in_turn.Goals as goal
 
 pub returns-clause-ended : goal.returns-clause-ended
 returns-clause-ended g c =
-    ended_in_turn g.M.Made.Device.told g.M.Made.Device.count c.args.play c.in-Ok.played _ _ _ _ _ c.finish.result c.in-Ok.ensures c.finish.ensures.ended
+    ended_in_turn g.M.Made.Device c.args.play c.in-Ok.played _ _ _ _ _ c.finish.result c.in-Ok.ensures c.finish.ensures.ended
 
 pub returns-clause-rose : goal.returns-clause-rose
-returns-clause-rose g c = λ e. fault-of g.M.Made.Device.told g.M.Made.Device.count c.in-Ok.played _ _ _ _ _ _ c.finish.result (omega arith) c.finish.ensures.ended e
+returns-clause-rose g c = λ e. fault-of g.M.Made.Device c.in-Ok.played _ _ _ _ _ _ c.finish.result (omega arith) c.finish.ensures.ended e

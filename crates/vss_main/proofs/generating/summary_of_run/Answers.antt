@@ -26,4 +26,4 @@ returns-in_err-digests-clause-given_back g c = λ e. given-closed
 pub returns-in_err-digests-clause-rose : goal.returns-in_err-digests-clause-rose
 returns-in_err-digests-clause-rose g c = λ e. fault-of
     (whole-digested c.in_ok-play.ensures.fresh (c.digests_of.ensures.named ∙ c.in_ok-play.ensures.named) c.in_ok-play.ensures.unfailed c.in-Ok.ensures.played c.in_ok-play.ensures.places
-    c.in_ok-play.ensures.kept c.digests_of.ensures.digested) g.M.Made.Device.lasting c.digests_of.result _ c.digests_of.ensures.digested.ends c.in_err-digests.was
+    c.in_ok-play.ensures.kept c.digests_of.ensures.digested) c.digests_of.result _ c.digests_of.ensures.digested.ends c.in_err-digests.was

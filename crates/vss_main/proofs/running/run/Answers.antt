@@ -6,7 +6,7 @@ use Rattle.vss_main.proofs.Asking.{wants_memory, memory_where_it_can, never_usag
 use Rattle.vss_main.proofs.running.run.Goals as goal
 
 pub returns-in-Err-clause-otherwise : goal.returns-in-Err-clause-otherwise
-returns-in-Err-clause-otherwise g c = wants_memory g.M.Made.Device.told g.M.Made.Device.lasting (λ store. g.M.Maker.tells c.args.maker.now store) (asked_by c.args.words.now) _ c.in-Err.ensures.wanting
+returns-in-Err-clause-otherwise g c = wants_memory g.M.Made.Device (λ store. g.M.Maker.tells c.args.maker.now store) (asked_by c.args.words.now) _ c.in-Err.ensures.wanting
     (record { left = refl; reads = refl; unwritten = record { taken = refl; writes = refl }; unmade = record { named = refl; kept = refl; count = refl } })
 
 pub returns-in-Err-clause-completes : goal.returns-in-Err-clause-completes
@@ -24,10 +24,10 @@ returns-in-Err-clause-words g c = asked_not_usage (asked_by c.args.words.now) c.
 pub returns-in-Ok-Some-clause-words : goal.returns-in-Ok-Some-clause-words
 returns-in-Ok-Some-clause-words g c = asked_not_usage (asked_by c.args.words.now)
     (some_by (asked_by c.args.words.now) (shown c.in-Ok-Some.command) (ap (option_map shown) (sym c.in-Ok-Some.field-0-is) ∙ c.in-Ok-Some.ensures.found))
-    (λ e. never_usage g.M.Made.Device.told g.M.Made.Device.lasting (λ store. g.M.Maker.tells c.args.maker.now store) _ _ _ _ c.run_task.ensures.task e)
+    (λ e. never_usage g.M.Made.Device (λ store. g.M.Maker.tells c.args.maker.now store) _ _ _ _ c.run_task.ensures.task e)
 
 pub returns-in-Ok-Some-clause-otherwise : goal.returns-in-Ok-Some-clause-otherwise
-returns-in-Ok-Some-clause-otherwise g c = answer_by g.M.Made.Device.told g.M.Made.Device.lasting (λ store. g.M.Maker.tells c.args.maker.now store) (asked_by c.args.words.now)
+returns-in-Ok-Some-clause-otherwise g c = answer_by g.M.Made.Device (λ store. g.M.Maker.tells c.args.maker.now store) (asked_by c.args.words.now)
     (shown c.in-Ok-Some.command) _ c.run_task.result (ap (option_map shown) (sym c.in-Ok-Some.field-0-is) ∙ c.in-Ok-Some.ensures.found) c.run_task.ensures.task
 
 pub returns-in-Ok-Some-clause-completes : goal.returns-in-Ok-Some-clause-completes
@@ -39,5 +39,5 @@ returns-in-Ok-Some-clause-too_long g c = most_by _ _ _ (asked_by c.args.words.no
     (ap (option_map shown) (sym c.in-Ok-Some.field-0-is) ∙ c.in-Ok-Some.ensures.found) c.run_task.ensures.too_long
 
 pub returns-in-Ok-Some-clause-done : goal.returns-in-Ok-Some-clause-done
-returns-in-Ok-Some-clause-done g c = λ folder e f. done_by g.M.Made.Device.told g.M.Made.Device.lasting (λ store. g.M.Maker.tells c.args.maker.now store)
+returns-in-Ok-Some-clause-done g c = λ folder e f. done_by g.M.Made.Device (λ store. g.M.Maker.tells c.args.maker.now store)
     (asked_by c.args.words.now) folder _ c.run_task.result (returns-in-Ok-Some-clause-otherwise g c) e f

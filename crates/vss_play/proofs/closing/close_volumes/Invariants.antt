@@ -7,7 +7,7 @@ use Rattle.vss_play.proofs.closing.close_volumes.Given as goal
 
 abbrev pub invariant-loop-volume : goal.invariant-loop-volume
 invariant-loop-volume g l =
-    IsQuiet g.D.Device.told g.D.Device.count l.initial.world l.world l.scenario
+    IsQuiet g.D.Device l.initial.world l.world l.scenario
     × HasVolumes (tells_of g.D.Device.told l.scenario l.initial.world.devices) l.scenario l.trail.moves l.volume l.fn.out.bytes l.out.bytes
     × (map g.D.Device.count l.world.devices ≡ map g.D.Device.count l.initial.world.devices)
     × (l.ready.rows ≡ l.initial.ready.rows)

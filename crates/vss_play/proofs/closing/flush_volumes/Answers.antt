@@ -5,8 +5,8 @@ use Rattle.vss_play.proofs.closing.flush_volumes.Goals as goal
 
 pub loop-volume-init : goal.loop-volume-init
 loop-volume-init g c = (
-  quiet_same g.D.Device.told g.D.Device.count c.args.world.now c.args.scenario.now c.requires.of,
-  no_volume g.D.Device.told g.D.Device.lasting g.D.Device.count c.args.scenario.now c.args.world.now.devices,
+  quiet_same g.D.Device c.args.world.now c.args.scenario.now c.requires.of,
+  no_volume g.D.Device c.args.scenario.now c.args.world.now.devices,
   refl,
 )
 
@@ -15,19 +15,19 @@ flush-requires-clause-of g c = c.loop-volume.invariant.0.is_of
 
 pub loop-volume-preserved : goal.loop-volume-preserved
 loop-volume-preserved g c = (
-  quiet_trans g.D.Device.told g.D.Device.count c.args.world.now c.loop-volume.world c.flush.new.self c.args.scenario.now c.loop-volume.invariant.0 c.in-Ok.ensures.quiet,
-  volume_flushed g.D.Device.told g.D.Device.lasting g.D.Device.count c.args.scenario.now c.loop-volume.world c.flush.new.self c.loop-volume.volume
+  quiet_trans g.D.Device c.args.world.now c.loop-volume.world c.flush.new.self c.args.scenario.now c.loop-volume.invariant.0 c.in-Ok.ensures.quiet,
+  volume_flushed g.D.Device c.args.scenario.now c.loop-volume.world c.flush.new.self c.loop-volume.volume
       c.in-Ok.ensures.quiet c.in-Ok.ensures.lasts c.loop-volume.invariant.1,
   c.in-Ok.ensures.same ∙ c.loop-volume.invariant.2,
 )
 
 pub returns-in-Err-clause-quiet : goal.returns-in-Err-clause-quiet
 returns-in-Err-clause-quiet g c =
-    quiet_trans g.D.Device.told g.D.Device.count c.args.world.now c.loop-volume.world c.flush.new.self c.args.scenario.now c.loop-volume.invariant.0 c.in-Err.ensures.quiet
+    quiet_trans g.D.Device c.args.world.now c.loop-volume.world c.flush.new.self c.args.scenario.now c.loop-volume.invariant.0 c.in-Err.ensures.quiet
 
 pub returns-in-Err-clause-rose : goal.returns-in-Err-clause-rose
 returns-in-Err-clause-rose g c = λ e. any_earlier _ _ _ c.loop-volume.invariant.0.later (rose_failed c.args.scenario.now c.loop-volume.volume c.in-Err._fault _ _ c.in-Err.ensures.cause)
 
 pub returns-clause-lasted : goal.returns-clause-lasted
-returns-clause-lasted g c = each_volume g.D.Device.told g.D.Device.lasting g.D.Device.count c.args.scenario.now c.loop-volume.world.devices c.loop-volume.volume
+returns-clause-lasted g c = each_volume g.D.Device c.args.scenario.now c.loop-volume.world.devices c.loop-volume.volume
     c.volumes-volume-end.result c.volumes-volume-end.ensures.count c.loop-volume-test.false c.loop-volume.invariant.1

@@ -6,5 +6,5 @@ use Rattle.vss_play.proofs.closing.flush_volumes.Given as goal
 
 abbrev pub invariant-loop-volume : goal.invariant-loop-volume
 invariant-loop-volume g l =
-    IsQuiet g.D.Device.told g.D.Device.count l.initial.world l.world l.scenario × FirstVolumesLasted g.D.Device.told g.D.Device.lasting l.scenario l.world.devices l.volume
+    IsQuiet g.D.Device l.initial.world l.world l.scenario × FirstVolumesLasted g.D.Device l.scenario l.world.devices l.volume
     × (map g.D.Device.count l.world.devices ≡ map g.D.Device.count l.initial.world.devices)

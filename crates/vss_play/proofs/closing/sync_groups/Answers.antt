@@ -6,10 +6,10 @@ use Rattle.vss_play.proofs.closing.sync_groups.Goals as goal
 
 pub loop-group-init : goal.loop-group-init
 loop-group-init g c = (
-  ending_same g.D.Device.told g.D.Device.count c.args.world.now c.args.scenario.now c.requires.stands.of,
+  ending_same g.D.Device c.args.world.now c.args.scenario.now c.requires.stands.of,
   none_hold g.D.Device.told c.args.scenario.now c.args.trail.now.moves c.args.world.now.devices,
   refl,
-  no_area g.D.Device.told g.D.Device.lasting g.D.Device.count c.args.scenario.now c.args.world.now.devices,
+  no_area g.D.Device c.args.scenario.now c.args.world.now.devices,
 )
 
 pub sync-requires-clause-of : goal.sync-requires-clause-of
@@ -17,16 +17,20 @@ sync-requires-clause-of g c = c.loop-group.invariant.0.is_of
 
 pub loop-group-preserved : goal.loop-group-preserved
 loop-group-preserved g c = (
-  ending_trans g.D.Device.told g.D.Device.count c.args.world.now c.loop-group.world c.sync.new.self c.args.scenario.now c.loop-group.invariant.0 (ending_synced g.D.Device.told g.D.Device.count c.loop-group.world c.sync.new.self c.args.scenario.now c.loop-group.group c.in-Ok.ensures.synced),
-  one_holds g.D.Device.told g.D.Device.count c.loop-group.world c.sync.new.self c.args.scenario.now c.args.trail.now.moves c.loop-group.group
-      (still_ending g.D.Device.told g.D.Device.count c.args.world.now c.loop-group.world c.args.scenario.now c.args.trail.now.moves c.requires.stands c.loop-group.invariant.0) c.in-Ok.ensures.synced c.in-Ok.ensures.held c.loop-group.invariant.1,
+  ending_trans g.D.Device c.args.world.now c.loop-group.world c.sync.new.self c.args.scenario.now c.loop-group.invariant.0
+      (ending_synced g.D.Device c.loop-group.world c.sync.new.self c.args.scenario.now c.loop-group.group c.in-Ok.ensures.synced),
+  one_holds g.D.Device c.loop-group.world c.sync.new.self c.args.scenario.now c.args.trail.now.moves c.loop-group.group
+      (still_ending g.D.Device c.args.world.now c.loop-group.world c.args.scenario.now c.args.trail.now.moves c.requires.stands c.loop-group.invariant.0)
+      c.in-Ok.ensures.synced c.in-Ok.ensures.held c.loop-group.invariant.1,
   c.in-Ok.ensures.same ∙ c.loop-group.invariant.2,
-  area_synced g.D.Device.told g.D.Device.lasting g.D.Device.count c.args.scenario.now c.loop-group.world c.sync.new.self c.loop-group.group
+  area_synced g.D.Device c.args.scenario.now c.loop-group.world c.sync.new.self c.loop-group.group
       c.in-Ok.ensures.synced c.in-Ok.ensures.lasts c.loop-group.invariant.3,
 )
 
 pub returns-in-Err-clause-ending : goal.returns-in-Err-clause-ending
-returns-in-Err-clause-ending g c = ending_trans g.D.Device.told g.D.Device.count c.args.world.now c.loop-group.world c.sync.new.self c.args.scenario.now c.loop-group.invariant.0 (ending_synced g.D.Device.told g.D.Device.count c.loop-group.world c.sync.new.self c.args.scenario.now c.loop-group.group c.in-Err.ensures.synced)
+returns-in-Err-clause-ending g c =
+    ending_trans g.D.Device c.args.world.now c.loop-group.world c.sync.new.self c.args.scenario.now c.loop-group.invariant.0
+    (ending_synced g.D.Device c.loop-group.world c.sync.new.self c.args.scenario.now c.loop-group.group c.in-Err.ensures.synced)
 
 pub returns-in-Err-clause-rose : goal.returns-in-Err-clause-rose
 returns-in-Err-clause-rose g c = λ e. any_earlier _ _ _ c.loop-group.invariant.0.later (rose_at _ _ _ (c.in-Err.ensures.cause refl))
@@ -35,5 +39,5 @@ pub returns-clause-areas : goal.returns-clause-areas
 returns-clause-areas g c = all_hold g.D.Device.told c.args.scenario.now c.args.trail.now.moves c.loop-group.world.devices c.loop-group.group c.groups-group-end.result c.groups-group-end.ensures c.loop-group-test.false c.loop-group.invariant.1
 
 pub returns-clause-lasted : goal.returns-clause-lasted
-returns-clause-lasted g c = each_area g.D.Device.told g.D.Device.lasting g.D.Device.count c.args.scenario.now c.loop-group.world.devices c.loop-group.group
+returns-clause-lasted g c = each_area g.D.Device c.args.scenario.now c.loop-group.world.devices c.loop-group.group
     c.groups-group-end.result c.groups-group-end.ensures c.loop-group-test.false c.loop-group.invariant.3

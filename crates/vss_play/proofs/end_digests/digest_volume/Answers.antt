@@ -9,7 +9,7 @@ returns-in-Some-clause-digest g c =
     ready_is (tells_of g.D.Device.told c.args.scenario.now c.args.world.now.devices) c.args.scenario.now c.args.trail.now.moves c.args.ready.now.rows.items c.args.volume None c.in-Some.digest c.requires.in_range c.requires.ready c.in-Some.ensures.stands
 
 pub returns-in-Some-clause-quiet : goal.returns-in-Some-clause-quiet
-returns-in-Some-clause-quiet g c = quiet_same g.D.Device.told g.D.Device.count c.args.world.now c.args.scenario.now c.requires.stands.of
+returns-in-Some-clause-quiet g c = quiet_same g.D.Device c.args.world.now c.args.scenario.now c.requires.stands.of
 
 pub returns-in-Ok-clause-digest : goal.returns-in-Ok-clause-digest
 returns-in-Ok-clause-digest g c = c.in-Ok.ensures.digest (acts c.args.scenario.now c.args.trail.now.moves) c.requires.stands.stands

@@ -18,7 +18,7 @@ returns g c =
       still = rw (← c.self.view_is)
           (closed_still g.D.Device c.self.inside.group c.sync-synced.new.self c.self.inside.names.items c.self.inside.last
           _ c.into_device-area.result synced.0 told area);
-      failed = rw (← c.self.view_is) (closed_failed g.D.Device.told g.D.Device.count c.self.inside.group c.sync-synced.new.self devices.items c.deref_mut.result.now c.flush_each-outcome.new.devices
+      failed = rw (← c.self.view_is) (closed_failed g.D.Device c.self.inside.group c.sync-synced.new.self devices.items c.deref_mut.result.now c.flush_each-outcome.new.devices
           devices.len c.into_device-area.result c.flush_each-outcome.result synced.0.devices synced.2.area c.into_parts-devices.ensures.devices many same area
           c.flush_each-outcome.ensures.told c.flush_each-outcome.ensures.volume c.flush_each-outcome.ensures.rose);
       kept = rw (← c.self.view_is) (closed_outcome g.D.Device c.self.inside.group c.sync-synced.new.self

@@ -14,11 +14,17 @@ ready_digests-ready-requires-clause-stands g c = λ κs within. stands_by g.D.De
 
 pub returns-clause-ended : goal.returns-clause-ended
 returns-clause-ended g c =
-    ended_as g.D.Device.told g.D.Device.lasting g.D.Device.count c.self.inside.scenario c.self.inside.world c.close_all.new.world c.self.inside.cursors.items c.self.inside.trail.moves c.self.inside.lines.bytes c.args.self c.into_devices-2.result.items _ _ _ _ _ _ c.self.view_is c.self.invariant.play c.in-Ok.ensures.ending c.into_devices-2.ensures c.give_all-2.ensures.kept c.give_all-2.ensures.count
-    (reported g.D.Device.told g.D.Device.lasting g.D.Device.count c.self.inside.scenario c.self.inside.world c.close_all.new.world c.self.inside.cursors.items c.self.inside.trail.moves c.self.inside.lines.bytes c.close_all.new.out c.self.invariant.play c.in-Ok.ensures.ending c.in-Ok.ensures.closed c.in-Ok.ensures.areas c.in-Ok.ensures.same
+    ended_as g.D.Device c.self.inside.scenario c.self.inside.world c.close_all.new.world c.self.inside.cursors.items c.self.inside.trail.moves
+    c.self.inside.lines.bytes c.args.self c.into_devices-2.result.items _ _ _ _ _ _ c.self.view_is c.self.invariant.play c.in-Ok.ensures.ending
+    c.into_devices-2.ensures c.give_all-2.ensures.kept c.give_all-2.ensures.count
+    (reported g.D.Device c.self.inside.scenario c.self.inside.world c.close_all.new.world c.self.inside.cursors.items c.self.inside.trail.moves
+    c.self.inside.lines.bytes c.close_all.new.out c.self.invariant.play c.in-Ok.ensures.ending c.in-Ok.ensures.closed c.in-Ok.ensures.areas c.in-Ok.ensures.same
     c.in-Ok.ensures.lasted)
 
 pub returns-in-Err-clause-ended : goal.returns-in-Err-clause-ended
 returns-in-Err-clause-ended g c =
-    ended_as g.D.Device.told g.D.Device.lasting g.D.Device.count c.self.inside.scenario c.self.inside.world c.close_all.new.world c.self.inside.cursors.items c.self.inside.trail.moves c.self.inside.lines.bytes c.args.self c.into_devices.result.items _ _ _ _ _ _ c.self.view_is c.self.invariant.play c.in-Err.ensures.ending c.into_devices.ensures c.give_all.ensures.kept c.give_all.ensures.count
-    (unreported g.D.Device.told g.D.Device.lasting g.D.Device.count c.self.inside.scenario c.self.inside.trail.moves c.self.inside.world.devices c.close_all.new.world.devices c.self.inside.lines.bytes c.in-Err.fault (λ e. c.in-Err.ensures.wanting (ap Err e)) (λ e. c.in-Err.ensures.rose (ap Err e)))
+    ended_as g.D.Device c.self.inside.scenario c.self.inside.world c.close_all.new.world c.self.inside.cursors.items c.self.inside.trail.moves
+    c.self.inside.lines.bytes c.args.self c.into_devices.result.items _ _ _ _ _ _ c.self.view_is c.self.invariant.play c.in-Err.ensures.ending
+    c.into_devices.ensures c.give_all.ensures.kept c.give_all.ensures.count
+    (unreported g.D.Device c.self.inside.scenario c.self.inside.trail.moves c.self.inside.world.devices c.close_all.new.world.devices c.self.inside.lines.bytes
+    c.in-Err.fault (λ e. c.in-Err.ensures.wanting (ap Err e)) (λ e. c.in-Err.ensures.rose (ap Err e)))

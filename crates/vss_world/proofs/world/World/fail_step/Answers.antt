@@ -30,7 +30,7 @@ returns-clause-stepped g c =
 
 pub returns-in_default-0₀ : goal.returns-in_default-0₀
 returns-in_default-0₀ g c = record {
-  stepped = step_unsaid g.D.Device.told g.D.Device.count c.args.self.now c.make_step.new.self c.args.scenario.now ProviderEvent c.make_step.result c.make_step.ensures.stepped;
+  stepped = step_unsaid g.D.Device c.args.self.now c.make_step.new.self c.args.scenario.now ProviderEvent c.make_step.result c.make_step.ensures.stepped;
   marked = λ acts stands flush.
       let keeps = (rw (← c.self.view_is) at stands).at.sessions in
       absurd (c.in_default-0₀.not-Flush (flush_is c.in-Some.next.0 (sym (ap is_flush (c.in-Some.ensures.step.group (state c.args.scenario.now acts) keeps)) ∙ flush)));
