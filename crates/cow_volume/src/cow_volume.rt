@@ -5,6 +5,7 @@ ghost use Rattle.write_history.specs.History.{History, fresh, cut};
 ghost use Rattle.write_history.specs.Slots.{used, used_by};
 ghost use Rattle.diff_area.specs.Records.{free};
 ghost use Rattle.diff_map.specs.MapValue.{AreImages};
+ghost use Rattle.cow_volume.specs.Ending.{IsSync};
 ghost use Rattle.cow_volume.specs.Calls.{IsQuiet, IsUnfailed, VolumeRose, is_among};
 ghost use Rattle.cow_volume.specs.Parts.{IsUnseen};
 ghost use Rattle.cow_volume.specs.Resuming.{AllHaveImages, IsResumeFault, IsOneKept, NoneTell};
@@ -250,6 +251,7 @@ impl<D: Device> CowVolume<D> {
     pub fn sync(&mut self) -> Result<(), Cause>
         ensures lasts { OnOk result (D.lasting self.new.area.device ≡ D.told self.new.area.device) }
         ensures sync { IsOneSync D.Device self.old self.new result }
+        ensures of_group { IsSync D.Device self.old self.new result }
     {
         let _valid = self.group.volumes();
         self.group.sync()
@@ -274,7 +276,7 @@ impl<D: Device> CowVolume<D> {
     fn has_image(&self, set: u32) -> bool
         ensures { result ≡ is_among set (image_sets self.now) }
     {
-        self.group.images(0).iter().any(|image| *image == set)
+        self.group.images(0).contains(&set)
     }
 
     /// Looks whether the image of a set stands and the block is one of the volume's.

@@ -51,7 +51,7 @@ fn add_images(maps: &mut GroupMap, v: u32, sets: &[u32])
 fn has_set(sets: &[u32], set: u32) -> bool
     ensures { result ≡ is_among set sets.now }
 {
-    sets.iter().any(|other| *other == set)
+    sets.contains(&set)
 }
 
 /// Whether a record is not free and lacks its image.

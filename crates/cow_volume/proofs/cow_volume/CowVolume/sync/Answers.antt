@@ -10,3 +10,6 @@ pub returns-clause-sync : goal.returns-clause-sync
 returns-clause-sync g c =
     let is = one_sync g.D.Device c.self.inside.group c.sync.new.self c.sync.result c.self.invariant c.sync.ensures.sync in
     rw (← c.self.view_is) is
+
+pub returns-clause-of_group : goal.returns-clause-of_group
+returns-clause-of_group g c = rw (← c.self.view_is) c.sync.ensures.sync
