@@ -308,13 +308,14 @@ impl<D: Device> Store<D> {
         )
     }
 
-    /// Copies the old bytes of the marked blocks from `from` on, and adds to `copied` how many it copied. It stops where images have to go
-    /// for one: they are gone from memory, and none of their slots is used before the next call. The volume has what it had.
+    /// Copies the old bytes of the marked blocks from `from` to before `to`, and adds to `copied` how many it copied. It stops where images
+    /// have to go for one: they are gone from memory, and none of their slots is used before the next call. The volume has what it had.
     pub fn copy_ahead(
         &mut self,
         v: u32,
         differs: &[bool],
         from: u32,
+        to: u32,
         copied: &mut u32,
         gone: &mut Vec<Evicted>,
     ) -> Result<Pass, Cause>
@@ -332,6 +333,7 @@ impl<D: Device> Store<D> {
             v,
             differs,
             from,
+            to,
             copied,
             gone,
         )

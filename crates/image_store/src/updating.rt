@@ -82,13 +82,15 @@ fn copy_one<D: Device>(
     Ok(group.used_all() > before)
 }
 
-/// The second pass: the old bytes of the marked blocks are copied. How many were is added to `copied`.
+/// The second pass, or a part of it: the old bytes of the marked blocks from `from` to before `to` are copied. How many were is added to
+/// `copied`.
 pub fn copy_blocks<D: Device>(
     group: &mut CowGroup<D>,
     piece: &mut Piece,
     v: u32,
     differs: &[bool],
     from: u32,
+    to: u32,
     copied: &mut u32,
     gone: &mut Vec<Evicted>,
 ) -> Result<Pass, Cause>
@@ -103,7 +105,7 @@ pub fn copy_blocks<D: Device>(
     if group.images(v).is_empty() {
         return Ok(Pass::Done);
     }
-    for b in from..group.blocks(v) {
+    for b in from..to.min(group.blocks(v)) {
         if differs[b as usize] {
             let up_to = group.make_room(v, b, gone);
             if up_to > 0 {

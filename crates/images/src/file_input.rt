@@ -185,7 +185,7 @@ impl<'a> Device for FileInput<'a> {
     }
 
     fn read_into(&mut self, index: u32, out: &mut [u8]) -> Result<(), Failed> {
-        self.progress.step();
+        self.progress.step(1);
         let done = self.read_part(index, out);
         self.outcome(done)
     }

@@ -30,7 +30,7 @@ impl Sink for ShownSink {
     ghost count = { λ s. ⟦<OutSink as Sink>⟧.count s.out };
 
     fn write(&mut self, piece: &[u8]) -> Result<usize, Failed> {
-        self.progress.step();
+        self.progress.step(1);
         match &mut self.hasher {
             Some(hasher) => {
                 hasher.add(piece);
