@@ -1,19 +1,21 @@
 //! What is compared before devices and an area are taken up as a store.
 
-ghost use Rattle.std.specs.Prelude.{◌≡◌, ◌<◌, ℕ, false, length, map, slice_get, IfErr, IfOk, IsTrue, OnOk};
+ghost use Rattle.std.specs.Prelude.{◌≡◌, ◌<◌, ℕ, false, length, map, slice_get, All, IfErr, IfOk, IsTrue, OnOk};
 ghost use Rattle.vss_catalog.specs.Allowed.{IsCatalog};
-ghost use Rattle.vss_catalog.specs.Entries.{EntryValue};
+ghost use Rattle.vss_catalog.specs.Entries.{EntryValue, lists_of};
+ghost use Rattle.diff_map.specs.MapValue.{AreImages};
 ghost use Rattle.vss_names.specs.TextValue.{TextValue};
 ghost use Rattle.image_store.specs.Opening.{AreWell, IsEntryFault, IsHeadFor, IsNameNew, IsNoHeadFor, IsPartsFault, names_of};
 
 use crate::cutting::newest_of;
 use crate::head::Head;
 use crate::open_fault::OpenFault;
+use crate::piece::Piece;
 use diff_area::Area;
 use std::alloc::Global;
 use volume_device::Device;
 use vss_catalog::Catalog;
-use vss_names::{OutOfMemory, Text};
+use vss_names::{Numbers, OutOfMemory, Text};
 
 /// Whether volume `v` has the name of an earlier one.
 fn is_double(catalog: &Catalog, v: u32) -> bool
@@ -91,7 +93,7 @@ pub fn check_blocks<D: Device>(
 }
 
 /// The names of the volumes of a catalog.
-pub fn names_of(alloc: Global, catalog: &Catalog) -> Result<Vec<Text>, OutOfMemory>
+fn names_of(alloc: Global, catalog: &Catalog) -> Result<Vec<Text>, OutOfMemory>
     ensures { IfOk result (λ names. map (λ (name : TextValue). name.bytes) names.items ≡ names_of catalog.now) }
 {
     let mut names = Vec::with_capacity(alloc, catalog.volumes() as usize)?;
@@ -99,4 +101,18 @@ pub fn names_of(alloc: Global, catalog: &Catalog) -> Result<Vec<Text>, OutOfMemo
         names.push(Text::copy(alloc, catalog.name(volume).bytes())?)?;
     }
     Ok(names)
+}
+
+/// What a store of a catalog takes: the names of its volumes, the lists of their images, and two pieces.
+pub fn memory_for(
+    alloc: Global,
+    catalog: &Catalog,
+) -> Result<(Vec<Text>, Vec<Numbers>, (Piece, Piece)), OutOfMemory>
+    ensures names { IfOk result (λ it. map (λ (name : TextValue). name.bytes) it.0.items ≡ names_of catalog.now) }
+    ensures lists { IfOk result (λ it. it.1.items ≡ lists_of catalog.now) }
+    ensures rise { IsCatalog catalog.now → IfOk result (λ it. All AreImages it.1.items) }
+{
+    let names = names_of(alloc, catalog)?;
+    let lists = catalog.lists(alloc)?;
+    Ok((names, lists, Piece::two(alloc)?))
 }

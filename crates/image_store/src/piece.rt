@@ -39,6 +39,12 @@ impl Piece {
         })
     }
 
+    /// Two of zeros.
+    pub fn two(alloc: Global) -> Result<(Piece, Piece), OutOfMemory> {
+        let first = Piece::new(alloc)?;
+        Ok((first, Piece::new(alloc)?))
+    }
+
     /// Reads a block of a device.
     pub fn read_device<I: Device>(&mut self, device: &mut I, b: u32) -> Result<(), Failed>
         requires { b < I.size device.old }

@@ -5,7 +5,7 @@ ghost use Rattle.diff_area.specs.Records.{free};
 ghost use Rattle.diff_area.specs.AreaValue.{AreaValue};
 ghost use Rattle.vss_catalog.specs.Names.{bytes_in};
 ghost use Rattle.vss_catalog.specs.Entries.{lists_of};
-ghost use Rattle.vss_catalog.specs.Group.{entries_of};
+ghost use Rattle.vss_catalog.specs.Group.{are_names_for, entries_of};
 ghost use Rattle.vss_catalog.specs.Reading.{catalog_in};
 ghost use Rattle.vss_catalog.specs.Written.{bytes_of};
 ghost use Rattle.cow_volume.specs.GroupValue.{placed};
@@ -39,7 +39,7 @@ use crate::head::{Head, bytes_with};
 use crate::naming::{first_of, has_double};
 use crate::new_fault::NewFault;
 use crate::open_fault::OpenFault;
-use crate::opening::{check_blocks, check_devices, names_of};
+use crate::opening::{check_blocks, check_devices, memory_for};
 use crate::pass::Pass;
 use crate::pass_fault::PassFault;
 use crate::piece::Piece;
@@ -102,14 +102,7 @@ impl<D: Device> Store<D> {
         ensures last { IfOk result (λ store. store.last ≡ 0) }
     {
         let group = CowGroup::new(alloc, devices, area)?;
-        if !Catalog::are_names_for(&names, &group) {
-            return Err(NewFault::Names);
-        }
-        if has_double(&names) {
-            return Err(NewFault::Names);
-        }
-        let piece = Piece::new(alloc)?;
-        let wanted = Piece::new(alloc)?;
+        let (piece, wanted) = pieces_for(alloc, &names, &group)?;
         Ok(Store {
             group,
             names,
@@ -456,6 +449,25 @@ impl<D: Device> Store<D> {
     }
 }
 
+/// The pieces of a store, if these are names for the volumes of its group.
+fn pieces_for<D: Device>(
+    alloc: Global,
+    names: &[Text],
+    group: &CowGroup<D>,
+) -> Result<(Piece, Piece), NewFault>
+    ensures named { OnOk result (IsTrue (are_names_for group.now names.now)) }
+    ensures apart { OnOk result (AreApart names.now) }
+    ensures refused { IsErrOf result NewFault.Names → AreNoNames group.now.area.volumes names.now }
+{
+    if !Catalog::are_names_for(names, group) {
+        return Err(NewFault::Names);
+    }
+    if has_double(names) {
+        return Err(NewFault::Names);
+    }
+    Ok(Piece::two(alloc)?)
+}
+
 /// Takes devices and a loaded area up as a store.
 fn take_up<D: Device>(
     alloc: Global,
@@ -474,10 +486,7 @@ fn take_up<D: Device>(
 {
     let catalog = head.catalog();
     check_blocks(catalog, &devices, &area)?;
-    let names = names_of(alloc, catalog)?;
-    let lists = catalog.lists(alloc)?;
-    let piece = Piece::new(alloc)?;
-    let wanted = Piece::new(alloc)?;
+    let (names, lists, (piece, wanted)) = memory_for(alloc, catalog)?;
     let group = CowGroup::resume(alloc, devices, area, &lists)?;
     Ok(Store {
         group,
