@@ -1,4 +1,4 @@
-ghost use Rattle.std.specs.Prelude.{◌≡◌, ◌↔◌, ◌<◌, ◌++◌, ◌==◌, ℕ, Some, None, not, filter};
+ghost use Rattle.std.specs.Prelude.{◌≡◌, ◌↔◌, ◌+◌, ◌<◌, ◌≤◌, ◌++◌, ◌==◌, ℕ, Some, None, not, filter};
 ghost use Rattle.std.specs.Prelude.{vec_len, vec_capacity, option_to_list, IsTrue, IfSome};
 ghost use Rattle.std.specs.List.Sorted.{IsPermutation};
 ghost use Rattle.vss_play.specs.Resting.{IsSeated, StaysWithAnother};
@@ -6,8 +6,11 @@ ghost use Rattle.vss_play.specs.Resting.{IsSeated, StaysWithAnother};
 /// How many of those that moved last are asked again first.
 pub const RECENT: usize = 4;
 
-/// A move was hard to find where so many others were blocked before it.
-const HARD: usize = 8;
+/// A move was hard to find where more than so many others were blocked before it.
+const FEW: usize = 4;
+
+/// An actor waits for long once so many rounds for each actor have begun since it moved.
+const LONG: u64 = 2;
 
 /// Who has the floor of a room, and who rests in it, in the order in which they are asked.
 #[derive(Drop)]
@@ -16,6 +19,10 @@ pub struct Line {
     resting: Vec<usize>,
     /// Those that moved last, the last of them first.
     recent: Vec<usize>,
+    /// Those that were hard to find, the last of them first.
+    hard: Vec<usize>,
+    /// In which round each actor moved last.
+    moved: Vec<u64>,
     /// How many of the first of the line may have a move. The others were blocked in this round.
     unasked: usize,
     /// How many rounds have begun. One begins when an actor that moved is blocked or leaves.
@@ -27,16 +34,19 @@ pub struct Line {
 }
 
 impl Line {
-    /// Nobody has the floor yet. `resting` has room for all actors, and `recent` for one more than
-    /// `RECENT`.
-    pub fn new(resting: Vec<usize>, recent: Vec<usize>, actors: usize) -> Line
+    /// Nobody has the floor yet. `resting` has room for all actors, and `recent` and `hard` for one more than `RECENT`. `moved` has
+    /// a zero for each actor.
+    pub fn new(resting: Vec<usize>, recent: Vec<usize>, hard: Vec<usize>, moved: Vec<u64>) -> Line
         ensures free { result.holder ≡ None }
         ensures resting { result.resting ≡ resting }
     {
+        let actors = moved.len();
         Line {
             holder: None,
             resting,
             recent,
+            hard,
+            moved,
             unasked: 0,
             round: 0,
             present: 0,
@@ -98,25 +108,59 @@ impl Line {
         Some(next)
     }
 
-    /// An actor moved and was blocked then, or leaves: in a new round all may have a move. Where it was hard to find or is one of
-    /// those that moved last, those are asked next. So of a few that wait for one another each is found at once, and where
-    /// all move by turns nobody is asked twice.
-    pub fn begin_round(&mut self, actor: usize)
+    /// An actor moved and was blocked then, or leaves: in a new round all may have a move. Those that wait for long are asked after
+    /// the others, and before them where one leaves. Where the move was hard to find, or is of one of those that moved last, those
+    /// are asked next. So of a few that wait for one another each is found at once, and where all move by turns nobody is
+    /// asked twice.
+    pub fn begin_round(&mut self, actor: usize, leaves: bool)
         ensures all { IsPermutation self.old.resting.items self.new.resting.items }
         ensures unasked { self.new.unasked ≡ vec_len self.new.resting }
         ensures holder { self.new.holder ≡ self.old.holder }
         ensures space { vec_capacity self.new.resting ≡ vec_capacity self.old.resting }
     {
-        let blocked = self.resting.len().saturating_sub(self.unasked);
-        let is_hard = blocked > HARD || self.recent.contains(&actor);
-        take_out(&mut self.recent, actor);
-        let _ = self.recent.insert(0, actor);
-        self.recent.truncate(RECENT);
-        if is_hard {
-            bring_all_forward(&mut self.resting, &self.recent);
-        }
-        self.unasked = self.resting.len();
+        let is_hard = self.blocked() > FEW;
+        let is_next = !leaves && (is_hard || self.recent.contains(&actor));
         self.round = self.round.wrapping_add(1);
+        put_first(&mut self.recent, actor, true);
+        put_first(&mut self.hard, actor, is_hard);
+        set_round(&mut self.moved, actor, self.round);
+        let long_ago = self.long_ago();
+        part(&mut self.resting, &self.moved, long_ago, leaves);
+        let all = self.resting.len();
+        bring_all_forward(
+            &mut self.resting,
+            &self.recent,
+            if is_next { all } else { 0 },
+        );
+        self.unasked = all;
+    }
+
+    /// How many that rest were blocked in this round.
+    fn blocked(&self) -> usize {
+        self.resting.len().saturating_sub(self.unasked)
+    }
+
+    /// Who has not moved since this round waits for long.
+    fn long_ago(&self) -> u64 {
+        self.round
+            .saturating_sub(LONG.saturating_mul(self.moved.len() as u64))
+    }
+
+    /// An actor was blocked that did not move before. Where it is one of a few, those that moved last are asked next, and then
+    /// those that were hard to find.
+    pub fn look_back(&mut self)
+        ensures all { IsPermutation self.old.resting.items self.new.resting.items }
+        ensures unasked { self.new.unasked ≡ self.old.unasked }
+        ensures holder { self.new.holder ≡ self.old.holder }
+        ensures space { vec_capacity self.new.resting ≡ vec_capacity self.old.resting }
+    {
+        let first = if self.blocked() == FEW {
+            self.unasked
+        } else {
+            0
+        };
+        bring_all_forward(&mut self.resting, &self.hard, first);
+        bring_all_forward(&mut self.resting, &self.recent, first);
     }
 
     /// An actor that was blocked gives up the floor, where it has it, and rests. To whom the floor went.
@@ -171,23 +215,82 @@ fn take_out(list: &mut Vec<usize>, actor: usize)
     list.retain(|one| *one != actor);
 }
 
-/// Who is in a line goes to its front.
-fn bring_forward(line: &mut Vec<usize>, one: usize)
-    ensures all { IsPermutation line.old.items line.new.items }
-    ensures space { vec_capacity line.new ≡ vec_capacity line.old }
-{
-    if let Some(at) = line.iter().position(|it| *it == one) {
-        let first = line.remove(at);
-        let _ = line.insert(0, first);
+/// An actor goes to the front of a short list, if it is wanted there.
+fn put_first(list: &mut Vec<usize>, actor: usize, wanted: bool) {
+    if wanted {
+        take_out(list, actor);
+        let _ = list.insert(0, actor);
+        list.truncate(RECENT);
     }
 }
 
-/// Those of a list that are in a line go to its front, in the order of the list.
-fn bring_all_forward(line: &mut Vec<usize>, list: &[usize])
+/// An actor moved in a round.
+fn set_round(moved: &mut Vec<u64>, actor: usize, round: u64) {
+    if let Some(moved) = moved.get_mut(actor) {
+        *moved = round;
+    }
+}
+
+/// Takes the one at a place of a line to an earlier place, if it is wanted there. The place of the next one.
+fn put_before(line: &mut Vec<usize>, at: usize, place: usize, wanted: bool) -> usize
+    requires { (place ≤ at) × (at < vec_len line.old) }
+    ensures all { IsPermutation line.old.items line.new.items }
+    ensures space { vec_capacity line.new ≡ vec_capacity line.old }
+    ensures many { vec_len line.new ≡ vec_len line.old }
+    ensures next { result ≤ at + 1 }
+{
+    if !wanted {
+        return place;
+    }
+    if place == at {
+        return place + 1;
+    }
+    let one = line.remove(at);
+    let _ = line.insert(place, one);
+    place + 1
+}
+
+/// Those of a line that have not moved since a round go to its front, or the others. Each part keeps its order.
+fn part(line: &mut Vec<usize>, moved: &[u64], long_ago: u64, long_first: bool)
     ensures all { IsPermutation line.old.items line.new.items }
     ensures space { vec_capacity line.new ≡ vec_capacity line.old }
 {
+    let mut first = 0;
+    for at in 0..line.len() {
+        let wanted = is_before(moved, line[at], long_ago) == long_first;
+        first = put_before(line, at, first, wanted);
+    }
+}
+
+/// Whether an actor moved before a round.
+fn is_before(moved: &[u64], actor: usize, round: u64) -> bool {
+    match moved.get(actor) {
+        Some(moved) => *moved < round,
+        None => false,
+    }
+}
+
+/// Who is among so many first of a line goes to its front.
+fn bring_forward(line: &mut Vec<usize>, one: usize, first: usize)
+    ensures all { IsPermutation line.old.items line.new.items }
+    ensures space { vec_capacity line.new ≡ vec_capacity line.old }
+    ensures many { vec_len line.new ≡ vec_len line.old }
+{
+    if let Some(at) = line.iter().position(|it| *it == one) {
+        let _ = put_before(line, at, 0, at < first);
+    }
+}
+
+/// Those of a list that are among so many first of a line go to its front, in the order of the list.
+fn bring_all_forward(line: &mut Vec<usize>, list: &[usize], first: usize)
+    ensures all { IsPermutation line.old.items line.new.items }
+    ensures space { vec_capacity line.new ≡ vec_capacity line.old }
+    ensures many { vec_len line.new ≡ vec_len line.old }
+{
+    if first == 0 {
+        return;
+    }
     for one in list.iter().rev() {
-        bring_forward(line, *one);
+        bring_forward(line, *one, first);
     }
 }

@@ -24,12 +24,14 @@ impl Room {
     pub fn new(alloc: Global, actors: usize) -> Result<Room, OutOfMemory> {
         let resting = Vec::with_capacity(alloc, actors)?;
         let recent = Vec::with_capacity(alloc, RECENT + 1)?;
+        let hard = Vec::with_capacity(alloc, RECENT + 1)?;
+        let moved = Vec::from_elem(alloc, 0u64, actors)?;
         let mut bells = Vec::with_capacity(alloc, actors)?;
         for _bell in 0..actors {
             bells.push(Parker::new())?;
         }
         Ok(Room {
-            line: Mutex::new(Line::new(resting, recent, actors)),
+            line: Mutex::new(Line::new(resting, recent, hard, moved)),
             bells,
         })
     }
@@ -53,10 +55,13 @@ impl Room {
         let mut line = self.line.lock(rt);
         let is_old = line.round() != round;
         if has_moved {
-            line.begin_round(actor);
+            line.begin_round(actor, false);
         }
         if is_old || line.waits_for_nobody() {
             return line.round();
+        }
+        if !has_moved {
+            line.look_back();
         }
         let longest = REST.saturating_mul(line.place());
         let next = line.rest(actor);
@@ -74,7 +79,7 @@ impl Room {
     pub fn leave<R: Wait>(&self, rt: &R, actor: usize, has_moved: bool) {
         let mut line = self.line.lock(rt);
         if has_moved {
-            line.begin_round(actor);
+            line.begin_round(actor, true);
         }
         let next = line.leave(actor);
         drop(line);

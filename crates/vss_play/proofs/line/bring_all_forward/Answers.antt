@@ -4,4 +4,6 @@ use Rattle.vss_play.proofs.line.bring_all_forward.Goals as goal
 
 pub loop-one-preserved : goal.loop-one-preserved
 loop-one-preserved c =
-    (IsPermutation-trans _ _ _ c.loop-one.invariant.0 c.bring_forward.ensures.all, c.bring_forward.ensures.space ∙ c.loop-one.invariant.1)
+    let i = c.loop-one.invariant in
+    let b = c.bring_forward.ensures in
+    (IsPermutation-trans _ _ _ i.0 b.all, b.space ∙ i.1, b.many ∙ i.2)
