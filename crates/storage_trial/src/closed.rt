@@ -1,16 +1,17 @@
-ghost use Rattle.std.specs.Prelude.{All, IfOk};
+ghost use Rattle.std.specs.Prelude.{◌<◌, All, IfOk, length};
 ghost use Rattle.diff_map.specs.MapValue.{AreImages};
-ghost use Rattle.vss_catalog.specs.Allowed.{IsCatalog};
 
+use crate::call::Call;
 use crate::making::fit;
 use crate::telling::{say, tell};
-use crate::trial_error::TrialError;
+use crate::trial_error::{Done, TrialError};
 use block_data::{BLOCK, BlockBuf};
 use cow_volume::{CowGroup, ResumeFault};
 use diff_area::{Area, AreaFault, AreaView};
 use std::alloc::Global;
+use std::mem;
 use volume_device::{Device, HostDevice};
-use vss_catalog::Catalog;
+use vss_catalog::{Catalog, CatalogFault};
 use vss_names::{Numbers, Text};
 
 /// The names in a catalog of the first volumes.
@@ -20,7 +21,8 @@ const LETTERS: &[u8; 8] = b"CDEFGHIJ";
 #[derive(Drop)]
 pub struct Closed {
     devices: Vec<HostDevice>,
-    area: Area<HostDevice>,
+    /// None once the area was not loaded from its device.
+    area: Option<Area<HostDevice>>,
     catalog: Text,
 }
 
@@ -47,41 +49,45 @@ fn bytes_of(alloc: Global, digits: &str) -> Result<Vec<u8>, TrialError> {
 }
 
 /// Prints bytes, two digits each.
-fn tell_bytes(rt: &HostRuntime, bytes: &[u8]) -> Result<(), TrialError> {
+fn tell_bytes(rt: &HostRuntime, bytes: &[u8]) -> Done {
     say(rt, hex::encode(rt.alloc(), bytes)?.as_str())
 }
 
-/// Prints a line for each volume of the catalog that bytes say: its name, its blocks and the sets of its images; or why they say none.
-pub fn tell_catalog(rt: &HostRuntime, digits: &str) -> Result<(), TrialError> {
-    match Catalog::decode(rt.alloc(), &bytes_of(rt.alloc(), digits)?) {
-        Err(fault) => tell(rt, &Err::<(), _>(fault)),
-        Ok(catalog) => {
-            for v in 0..catalog.volumes() {
-                let (name, blocks) = (catalog.name(v).bytes(), catalog.blocks(v));
-                let images = catalog.images(v);
-                println!(rt; "{name:?} {blocks} {images:?}")?;
-            }
-            Ok(())
-        }
-    }
+/// The catalog that the bytes of a text with two digits for each say, or why they say none.
+fn catalog_in(alloc: Global, digits: &str) -> Result<Result<Catalog, CatalogFault>, TrialError> {
+    Ok(Catalog::decode(alloc, &bytes_of(alloc, digits)?))
 }
 
-/// The catalog that bytes say.
-fn decoded(alloc: Global, bytes: &[u8]) -> Result<Catalog, TrialError>
-    ensures { IfOk result (λ catalog. IsCatalog catalog) }
+/// Prints a volume of a catalog: its name, its blocks and the sets of its images.
+fn tell_volume(rt: &HostRuntime, catalog: &Catalog, v: u32) -> Done
+    requires { v < length catalog.now }
 {
-    match Catalog::decode(alloc, bytes) {
-        Ok(catalog) => Ok(catalog),
-        Err(_) => Err(TrialError::NotAllowed),
+    let (name, blocks) = (catalog.name(v).bytes(), catalog.blocks(v));
+    let images = catalog.images(v);
+    println!(rt; "{name:?} {blocks} {images:?}")?;
+    Ok(())
+}
+
+/// Prints a line for each volume of the catalog that bytes say, or why they say none.
+pub fn tell_catalog(rt: &HostRuntime, digits: &str) -> Done {
+    let catalog = match catalog_in(rt.alloc(), digits)? {
+        Ok(catalog) => catalog,
+        Err(fault) => return tell(rt, &Err::<(), _>(fault)),
+    };
+    for v in 0..catalog.volumes() {
+        tell_volume(rt, &catalog, v)?;
     }
+    Ok(())
 }
 
 /// The lists of the catalog that bytes say.
 fn lists_in(alloc: Global, bytes: &[u8]) -> Result<Vec<Numbers>, TrialError>
     ensures { IfOk result (λ lists. All AreImages lists.items) }
 {
-    let catalog = decoded(alloc, bytes)?;
-    Ok(catalog.lists(alloc)?)
+    match Catalog::decode(alloc, bytes) {
+        Ok(catalog) => Ok(catalog.lists(alloc)?),
+        Err(_) => Err(TrialError::NotAllowed),
+    }
 }
 
 /// A group over these devices and this area is taken up with these lists.
@@ -100,7 +106,7 @@ fn resumed(
 }
 
 /// Puts a number into a block of a device, as `BLOCK:AT:NUMBER` has it.
-fn put(alloc: Global, device: &mut HostDevice, word: &str) -> Result<(), TrialError> {
+fn put(alloc: Global, device: &mut HostDevice, word: &str) -> Done {
     let (block, rest) = word.split_once(':').ok_or(TrialError::Line)?;
     let (at, number) = rest.split_once(':').ok_or(TrialError::Line)?;
     let (block, at) = (block.parse::<u32>()?, at.parse::<usize>()?);
@@ -118,13 +124,21 @@ fn put(alloc: Global, device: &mut HostDevice, word: &str) -> Result<(), TrialEr
         .map_err(|_| TrialError::NotAllowed)
 }
 
+/// Puts numbers into blocks of a device.
+fn put_all(alloc: Global, device: &mut HostDevice, words: &[&str]) -> Done {
+    for word in words {
+        put(alloc, device, word)?;
+    }
+    Ok(())
+}
+
 /// Appends the bytes of a block of a device.
 fn append_block(
     device: &mut HostDevice,
     index: u32,
     block: &mut BlockBuf,
     bytes: &mut Vec<u8>,
-) -> Result<(), TrialError> {
+) -> Done {
     if index >= device.blocks() || device.read_into(index, block.bytes_mut()).is_err() {
         return Err(TrialError::NotAllowed);
     }
@@ -143,76 +157,86 @@ fn all_bytes(alloc: Global, device: &mut HostDevice) -> Result<Vec<u8>, TrialErr
 }
 
 /// Prints the record of a slot as a view of an area's bytes lends it.
-fn tell_record(rt: &HostRuntime, bytes: &[u8], slot: u32) -> Result<(), TrialError> {
+fn tell_record(rt: &HostRuntime, bytes: &[u8], call: &Call) -> Done {
+    let slot = call.number(0);
     match AreaView::new(rt.alloc(), bytes) {
         Ok(view) if slot < view.slots() => tell_bytes(rt, view.record_at(slot)),
         _ => Err(TrialError::NotAllowed),
     }
 }
 
+/// Prints so many bytes from a place on.
+fn tell_part(rt: &HostRuntime, bytes: &[u8], call: &Call) -> Done {
+    let (first, count) = (call.number(0) as usize, call.number(1) as usize);
+    let part = bytes.get(first..first.saturating_add(count));
+    tell_bytes(rt, part.ok_or(TrialError::NotAllowed)?)
+}
+
 /// Puts the numbers of a line `load` into an area's device, or prints the part of its bytes that a line `bytes` or `record` asks for.
-fn take_words(rt: &HostRuntime, device: &mut HostDevice, words: &[&str]) -> Result<(), TrialError> {
+fn take_words(rt: &HostRuntime, device: &mut HostDevice, words: &[&str], call: &Call) -> Done {
     let alloc = rt.alloc();
-    match *words {
-        ["bytes", first, count] => {
-            let (first, count) = (first.parse::<usize>()?, count.parse::<usize>()?);
-            let bytes = all_bytes(alloc, device)?;
-            let part = bytes.get(first..first.saturating_add(count));
-            tell_bytes(rt, part.ok_or(TrialError::NotAllowed)?)
-        }
-        ["record", slot] => tell_record(rt, &all_bytes(alloc, device)?, slot.parse()?),
-        [_, ref numbers @ ..] => {
-            for word in numbers {
-                put(alloc, device, word)?;
-            }
-            Ok(())
-        }
-        [] => Err(TrialError::Line),
+    match call.form.as_str() {
+        "bytes # #" => tell_part(rt, &all_bytes(alloc, device)?, call),
+        "record #" => tell_record(rt, &all_bytes(alloc, device)?, call),
+        _ => put_all(alloc, device, words),
     }
 }
 
-impl Closed {
-    /// A group is taken apart, with its catalog as bytes.
-    pub fn of(alloc: Global, group: CowGroup<HostDevice>) -> Result<Closed, TrialError> {
-        let names = names(alloc, group.volumes())?;
-        if !Catalog::are_names_for(&names, &group) {
-            return Err(TrialError::NotAllowed);
-        }
-        let catalog = Catalog::of_group(alloc, &names, &group)?.encode(alloc)?;
-        let (devices, area) = group.into_parts();
-        Ok(Closed {
-            devices,
-            area,
-            catalog,
-        })
+/// An area is loaded from its device, after a line put numbers into the device's bytes or was told of them.
+fn loaded(
+    rt: &HostRuntime,
+    area: Area<HostDevice>,
+    words: &[&str],
+    call: &Call,
+) -> Result<Result<Area<HostDevice>, AreaFault>, TrialError> {
+    let mut device = area.into_device();
+    take_words(rt, &mut device, words, call)?;
+    match Area::load(rt.alloc(), device) {
+        Ok(area) => Ok(Ok(area)),
+        Err(unopened) => Ok(Err(unopened.fault)),
     }
+}
 
-    /// Prints the bytes of the catalog.
-    pub fn tell(&self, rt: &HostRuntime) -> Result<(), TrialError> {
-        tell_bytes(rt, self.catalog.bytes())
+/// The bytes of the catalog of a group.
+fn catalog_of(alloc: Global, group: &CowGroup<HostDevice>) -> Result<Text, TrialError> {
+    let names = names(alloc, group.volumes())?;
+    if !Catalog::are_names_for(&names, group) {
+        return Err(TrialError::NotAllowed);
+    }
+    Ok(Catalog::of_group(alloc, &names, group)?.encode(alloc)?)
+}
+
+/// Prints the bytes of the catalog of a group, and gives them.
+pub fn told_catalog(rt: &HostRuntime, group: &CowGroup<HostDevice>) -> Result<Text, TrialError> {
+    let catalog = catalog_of(rt.alloc(), group)?;
+    tell_bytes(rt, catalog.bytes())?;
+    Ok(catalog)
+}
+
+impl Closed {
+    /// A group is taken apart, with the bytes of its catalog.
+    pub fn of(group: CowGroup<HostDevice>, catalog: Text) -> Closed {
+        let (devices, area) = group.into_parts();
+        Closed {
+            devices,
+            area: Some(area),
+            catalog,
+        }
     }
 
     /// The area is loaded from its device, after a line put numbers into the device's bytes or was told of them.
-    pub fn load(
-        self,
-        rt: &HostRuntime,
-        words: &[&str],
-    ) -> Result<Result<Closed, AreaFault>, TrialError> {
-        let Closed {
-            devices,
-            area,
-            catalog,
-        } = self;
-        let mut device = area.into_device();
-        take_words(rt, &mut device, words)?;
-        match Area::load(rt.alloc(), device) {
-            Err(unopened) => Ok(Err(unopened.fault)),
-            Ok(area) => Ok(Ok(Closed {
-                devices,
-                area,
-                catalog,
-            })),
+    pub fn load(&mut self, rt: &HostRuntime, words: &[&str], call: &Call) -> Done {
+        let area = self.area.take().ok_or(TrialError::NoVolume)?;
+        match loaded(rt, area, words, call)? {
+            Ok(area) => {
+                let _ = self.area.insert(area);
+            }
+            Err(fault) => return tell(rt, &Err::<(), _>(fault)),
         }
+        if call.form.starts_with("load") {
+            return tell(rt, &Ok::<(), TrialError>(()));
+        }
+        Ok(())
     }
 
     /// The lists of its catalog, or of the catalog of these bytes.
@@ -227,12 +251,15 @@ impl Closed {
 
     /// The group is taken up again, with the lists of its catalog, or of the catalog of these bytes.
     pub fn resume(
-        self,
+        &mut self,
         alloc: Global,
         bytes: Option<&str>,
     ) -> Result<Result<CowGroup<HostDevice>, ResumeFault>, TrialError> {
         let lists = self.lists(alloc, bytes)?;
-        let Closed { devices, area, .. } = self;
-        resumed(alloc, devices, area, &lists)
+        let devices = mem::replace(&mut self.devices, Vec::new(alloc));
+        match self.area.take() {
+            Some(area) => resumed(alloc, devices, area, &lists),
+            None => Err(TrialError::NoVolume),
+        }
     }
 }

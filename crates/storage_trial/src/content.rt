@@ -1,8 +1,10 @@
 //! What blocks are filled with.
 
-use crate::trial_error::TrialError;
+use crate::telling::tell;
+use crate::trial_error::{Done, TrialError};
 use block_data::{BlockBuf, Payload};
 use std::alloc::Global;
+use std::fmt::Debug;
 
 /// A buffer of bytes with which few lines fill a block, so that one that was not read shows.
 pub fn buffer(alloc: Global) -> Result<BlockBuf, TrialError> {
@@ -27,4 +29,9 @@ pub fn stamped_with(block: &[u8]) -> Option<[u8; 8]> {
         return Some(*first);
     }
     None
+}
+
+/// Prints the byte in each place of a block that was read, or why it was not read.
+pub fn tell_read<E: Copy + Debug>(rt: &HostRuntime, read: Result<(), E>, block: &[u8]) -> Done {
+    tell(rt, &read.map(|()| filled_with(block)))
 }

@@ -1,6 +1,6 @@
 //! What the faults of the storage crates say of themselves.
 
-use crate::trial_error::TrialError;
+use crate::trial_error::Done;
 use cow_volume::{Cause, ImageFault, ResumeFault, RevertFault, WriteFault};
 use diff_area::{AreaFault, HeaderField};
 use mirror_volume::{NoMirror, SyncFault};
@@ -10,7 +10,7 @@ use vss_recover::{OpenFault, RecoverFault, RecoverRevert};
 use vss_shards::{CollectFault, GatherFault, RecordFault, ShardFault};
 
 /// Prints faults, a line for each: the value, and what it says of itself.
-fn say_each<E: Error>(rt: &HostRuntime, faults: &[E]) -> Result<(), TrialError> {
+fn say_each<E: Error>(rt: &HostRuntime, faults: &[E]) -> Done {
     for fault in faults {
         println!(rt; "{fault:?}: {fault}")?;
     }
@@ -23,7 +23,7 @@ const fn bad(field: HeaderField) -> AreaFault {
 }
 
 /// The faults of areas, each field of a header among them.
-fn say_of_areas(rt: &HostRuntime) -> Result<(), TrialError> {
+fn say_of_areas(rt: &HostRuntime) -> Done {
     say_each(
         rt,
         &[
@@ -47,7 +47,7 @@ fn say_of_areas(rt: &HostRuntime) -> Result<(), TrialError> {
 }
 
 /// The faults of reads and writes of copy-on-write volumes.
-fn say_of_calls(rt: &HostRuntime) -> Result<(), TrialError> {
+fn say_of_calls(rt: &HostRuntime) -> Done {
     say_each(rt, &[Cause::NoSuchBlock, Cause::Volume, Cause::Area])?;
     say_each(
         rt,
@@ -74,7 +74,7 @@ fn say_of_calls(rt: &HostRuntime) -> Result<(), TrialError> {
 }
 
 /// The faults of copy-on-write volumes that are brought back or taken up again.
-fn say_of_volumes(rt: &HostRuntime) -> Result<(), TrialError> {
+fn say_of_volumes(rt: &HostRuntime) -> Done {
     say_each(
         rt,
         &[
@@ -95,13 +95,13 @@ fn say_of_volumes(rt: &HostRuntime) -> Result<(), TrialError> {
 }
 
 /// The faults of volumes with mirrors.
-fn say_of_mirrors(rt: &HostRuntime) -> Result<(), TrialError> {
+fn say_of_mirrors(rt: &HostRuntime) -> Done {
     say_each(rt, &[SyncFault::HoldsImage { set: 3 }, SyncFault::Volume])?;
     say_each(rt, &[NoMirror])
 }
 
 /// The faults of windows in which writers mend an image, and of the writes in them.
-fn say_of_windows(rt: &HostRuntime) -> Result<(), TrialError> {
+fn say_of_windows(rt: &HostRuntime) -> Done {
     say_each(
         rt,
         &[
@@ -137,7 +137,7 @@ fn say_of_windows(rt: &HostRuntime) -> Result<(), TrialError> {
 }
 
 /// The faults of shards and of their cuts.
-fn say_of_shards(rt: &HostRuntime) -> Result<(), TrialError> {
+fn say_of_shards(rt: &HostRuntime) -> Done {
     say_each(
         rt,
         &[
@@ -160,7 +160,7 @@ fn say_of_shards(rt: &HostRuntime) -> Result<(), TrialError> {
 }
 
 /// The faults of journals.
-fn say_of_journals(rt: &HostRuntime) -> Result<(), TrialError> {
+fn say_of_journals(rt: &HostRuntime) -> Done {
     say_each(
         rt,
         &[
@@ -188,7 +188,7 @@ fn say_of_journals(rt: &HostRuntime) -> Result<(), TrialError> {
 }
 
 /// The faults of catalogs.
-fn say_of_catalogs(rt: &HostRuntime) -> Result<(), TrialError> {
+fn say_of_catalogs(rt: &HostRuntime) -> Done {
     say_each(
         rt,
         &[
@@ -213,7 +213,7 @@ fn say_of_catalogs(rt: &HostRuntime) -> Result<(), TrialError> {
 }
 
 /// Prints each fault of the storage crates.
-pub fn say_all(rt: &HostRuntime) -> Result<(), TrialError> {
+pub fn say_all(rt: &HostRuntime) -> Done {
     say_of_areas(rt)?;
     say_of_calls(rt)?;
     say_of_volumes(rt)?;

@@ -1,9 +1,9 @@
 use crate::call::Call;
-use crate::closed::{Closed, tell_catalog};
+use crate::closed::{Closed, tell_catalog, told_catalog};
 use crate::content::{buffer, filled_with};
 use crate::plan::Plan;
 use crate::telling::tell;
-use crate::trial_error::TrialError;
+use crate::trial_error::{Done, TrialError};
 use crate::{alone, grouped, making};
 use cow_volume::{CowGroup, CowVolume};
 use diff_area::Area;
@@ -20,7 +20,7 @@ pub enum Groups {
 }
 
 /// Prints what a slot holds as `SLOT: VOLUME SET BLOCK: CONTENT`, where it is used.
-fn print_slot(rt: &HostRuntime, area: &mut Area<HostDevice>, slot: u32) -> Result<(), TrialError> {
+fn print_slot(rt: &HostRuntime, area: &mut Area<HostDevice>, slot: u32) -> Done {
     if slot >= area.slots() || area.record_at(slot).set == 0 {
         return Ok(());
     }
@@ -37,54 +37,51 @@ fn print_slot(rt: &HostRuntime, area: &mut Area<HostDevice>, slot: u32) -> Resul
     Ok(())
 }
 
-/// Prints the table of an area as it is read from its device, each used slot with what it has, and then the sizes.
-fn print_table(rt: &HostRuntime, area: Area<HostDevice>) -> Result<(), TrialError> {
-    let mut area = match Area::load(rt.alloc(), area.into_device()) {
-        Ok(area) => area,
-        Err(unopened) => return tell(rt, &unopened.fault),
-    };
+/// Prints each used slot of an area with what it has, and then the sizes.
+fn print_slots(rt: &HostRuntime, area: &mut Area<HostDevice>) -> Done {
     for slot in 0..area.slots() {
-        print_slot(rt, &mut area, slot)?;
+        print_slot(rt, area, slot)?;
     }
     println!(rt; "volumes {} slots {}", area.volumes(), area.slots())?;
     Ok(())
 }
 
-/// What a line makes; None where it makes nothing.
-fn made_by(rt: &HostRuntime, plan: &Plan, call: &Call) -> Result<Option<Groups>, TrialError> {
-    Ok(Some(match (call.name.as_str(), call.numbers.as_slice()) {
-        ("group" | "files", [slots, blocks @ ..]) => {
-            Groups::Group(making::group(rt, plan, *slots, blocks)?)
-        }
-        ("alone", [blocks, slots]) => {
-            Groups::Alone(making::volume(rt, plan, "volume0", *blocks, *slots)?)
-        }
-        _ => return Ok(None),
-    }))
+/// Takes a group apart, and prints the table of its area as it is read from the area's device.
+fn print_table(rt: &HostRuntime, group: CowGroup<HostDevice>) -> Done {
+    let (_, area) = group.into_parts();
+    match Area::load(rt.alloc(), area.into_device()) {
+        Ok(mut area) => print_slots(rt, &mut area),
+        Err(unopened) => tell(rt, &unopened.fault),
+    }
+}
+
+/// What a line makes.
+fn made_by(rt: &HostRuntime, plan: &Plan, call: &Call) -> Result<Groups, TrialError> {
+    let (first, second) = (call.number(0), call.number(1));
+    if call.form.starts_with("alone") {
+        let volume = making::volume(rt, plan, "volume0", first, second)?;
+        return Ok(Groups::Alone(volume));
+    }
+    let blocks = call.numbers.get(1..).ok_or(TrialError::Line)?;
+    Ok(Groups::Group(making::group(rt, plan, first, blocks)?))
 }
 
 impl Groups {
-    /// Makes what a line asks for, and says whether the line does that.
-    fn is_made(
-        &mut self,
-        rt: &HostRuntime,
-        plan: &mut Plan,
-        call: &Call,
-    ) -> Result<bool, TrialError> {
-        plan.in_files = call.name.as_str() == "files";
-        let Some(made) = made_by(rt, plan, call)? else {
-            return Ok(false);
-        };
-        *self = made;
-        *plan = Plan::none(rt.alloc());
-        Ok(true)
+    /// The calls are made on these next.
+    fn put(&mut self, next: Groups) {
+        *self = next;
+    }
+
+    /// Makes what a line asks for.
+    fn begin(&mut self, rt: &HostRuntime, plan: &mut Plan, call: &Call) -> Done {
+        plan.in_files = call.form.starts_with("files");
+        self.put(made_by(rt, plan, call)?);
+        plan.clear();
+        Ok(())
     }
 
     /// Makes a call, and prints its answer.
-    fn make(&mut self, rt: &HostRuntime, plan: &mut Plan, call: &Call) -> Result<(), TrialError> {
-        if self.is_made(rt, plan, call)? {
-            return Ok(());
-        }
+    fn make(&mut self, rt: &HostRuntime, call: &Call) -> Done {
         match self {
             Groups::Group(group) => grouped::make(rt, group, call),
             Groups::Alone(volume) => alone::make(rt, volume, call),
@@ -92,76 +89,63 @@ impl Groups {
         }
     }
 
-    /// Makes the call of these words.
-    fn make_of(
-        &mut self,
-        rt: &HostRuntime,
-        plan: &mut Plan,
-        words: &[&str],
-    ) -> Result<(), TrialError> {
-        let call = Call::of(rt.alloc(), words)?;
-        self.make(rt, plan, &call)
+    /// Takes the words of a line, and the call that they name.
+    pub fn take(&mut self, rt: &HostRuntime, plan: &mut Plan, words: &[&str], call: &Call) -> Done {
+        let [first, rest @ ..] = words else {
+            return Err(TrialError::Line);
+        };
+        match *first {
+            "group" | "files" | "alone" => self.begin(rt, plan, call),
+            "catalog" => tell_catalog(rt, rest.first().ok_or(TrialError::Line)?),
+            "close" => self.close(rt),
+            "load" | "bytes" | "record" => self.load(rt, rest, call),
+            "resume" => self.resume(rt, rest.first().copied()),
+            _ => self.make(rt, call),
+        }
     }
 
-    /// Takes a line.
-    pub fn take(
-        &mut self,
-        rt: &HostRuntime,
-        plan: &mut Plan,
-        words: &[&str],
-    ) -> Result<(), TrialError> {
-        match *words {
-            ["catalog", digits] => tell_catalog(rt, digits),
-            ["close"] => self.close(rt),
-            ["load" | "bytes" | "record", ..] => self.load(rt, words),
-            ["resume"] => self.resume(rt, None),
-            ["resume", digits] => self.resume(rt, Some(digits)),
-            _ => self.make_of(rt, plan, words),
+    /// Takes the group out, a volume by itself as one. What is none stays.
+    fn take_group(&mut self) -> Option<CowGroup<HostDevice>> {
+        match mem::replace(self, Groups::Nothing) {
+            Groups::Group(group) => Some(group),
+            Groups::Alone(volume) => Some(volume.into_group()),
+            other => {
+                self.put(other);
+                None
+            }
         }
     }
 
     /// The group is taken apart; prints its catalog.
-    fn close(&mut self, rt: &HostRuntime) -> Result<(), TrialError> {
-        let Groups::Group(group) = mem::replace(self, Groups::Nothing) else {
+    fn close(&mut self, rt: &HostRuntime) -> Done {
+        let Groups::Group(group) = self else {
             return Err(TrialError::NoVolume);
         };
-        let closed = Closed::of(rt.alloc(), group)?;
-        closed.tell(rt)?;
-        *self = Groups::Closed(closed);
+        let catalog = told_catalog(rt, group)?;
+        if let Some(group) = self.take_group() {
+            self.put(Groups::Closed(Closed::of(group, catalog)));
+        }
         Ok(())
     }
 
     /// The area of a closed group is loaded from its device. What is not closed is taken apart, and the table of its area printed as it is
     /// read from the area's device.
-    fn load(&mut self, rt: &HostRuntime, words: &[&str]) -> Result<(), TrialError> {
-        match mem::replace(self, Groups::Nothing) {
-            Groups::Group(group) => print_table(rt, group.into_parts().1),
-            Groups::Alone(volume) => print_table(rt, volume.into_parts().1),
-            Groups::Closed(closed) => match closed.load(rt, words)? {
-                Err(fault) => tell(rt, &Err::<(), _>(fault)),
-                Ok(closed) => {
-                    *self = Groups::Closed(closed);
-                    match *words {
-                        ["load", ..] => tell(rt, &Ok::<(), TrialError>(())),
-                        _ => Ok(()),
-                    }
-                }
-            },
-            Groups::Nothing => Err(TrialError::NoVolume),
+    fn load(&mut self, rt: &HostRuntime, words: &[&str], call: &Call) -> Done {
+        if let Groups::Closed(closed) = self {
+            return closed.load(rt, words, call);
         }
+        print_table(rt, self.take_group().ok_or(TrialError::NoVolume)?)
     }
 
     /// A closed group is taken up again.
-    fn resume(&mut self, rt: &HostRuntime, digits: Option<&str>) -> Result<(), TrialError> {
-        let Groups::Closed(closed) = mem::replace(self, Groups::Nothing) else {
+    fn resume(&mut self, rt: &HostRuntime, digits: Option<&str>) -> Done {
+        let Groups::Closed(closed) = self else {
             return Err(TrialError::NoVolume);
         };
         match closed.resume(rt.alloc(), digits)? {
-            Err(fault) => tell(rt, &Err::<(), _>(fault)),
-            Ok(group) => {
-                *self = Groups::Group(group);
-                tell(rt, &Ok::<(), TrialError>(()))
-            }
+            Ok(group) => self.put(Groups::Group(group)),
+            Err(fault) => return tell(rt, &Err::<(), _>(fault)),
         }
+        tell(rt, &Ok::<(), TrialError>(()))
     }
 }

@@ -1,4 +1,5 @@
-use crate::trial_error::TrialError;
+use crate::telling::tell_of;
+use crate::trial_error::{Done, TrialError};
 use std::alloc::Global;
 use std::sync::Mutex;
 use volume_device::HostDevice;
@@ -25,7 +26,7 @@ impl Locks {
     }
 
     /// Adds shards, and is on them.
-    pub fn add(&mut self, shards: Shards<HostDevice>) -> Result<(), TrialError> {
+    pub fn add(&mut self, shards: Shards<HostDevice>) -> Done {
         self.group = self.all.len();
         self.journal = self.all.len();
         self.all.push(shards)?;
@@ -52,5 +53,10 @@ impl Locks {
             Some(shards) => Ok(shards.journal()),
             None => Err(TrialError::NoVolume),
         }
+    }
+
+    /// Prints how many volumes there are.
+    pub fn tell_volumes(&self, rt: &HostRuntime) -> Done {
+        tell_of(rt, "Volumes", &self.shards()?.volumes())
     }
 }

@@ -89,18 +89,7 @@ use std::process::ExitCode;
 use std::sync::Wait;
 use std::thread::Threads;
 use trial::Trial;
-use trial_error::TrialError;
-
-/// The trial of the subject that the words of the command name.
-fn trial_of_words(rt: &HostRuntime) -> Result<Trial, TrialError> {
-    let mut words = String::new(rt.alloc());
-    for word in env::args(rt)?.skip(1) {
-        words.push_str(word.as_str())?;
-        words.push(' ')?;
-    }
-    let words: Vec<&str> = words.as_str().split_whitespace().collect(rt.alloc())?;
-    Trial::of(rt, &words)
-}
+use trial_error::Done;
 
 /// Takes a line.
 fn take_line<R: Threads + Wait + Sync>(
@@ -108,27 +97,34 @@ fn take_line<R: Threads + Wait + Sync>(
     handle: &R,
     trial: &mut Trial,
     line: &str,
-) -> Result<(), TrialError> {
+) -> Done {
     let words: Vec<&str> = line.split_whitespace().collect(rt.alloc())?;
     trial.take(rt, handle, &words)
 }
 
-/// Takes all lines of the standard input, in order.
-fn take_lines<R: Threads + Wait + Sync>(
-    rt: &HostRuntime,
-    handle: &R,
-    trial: &mut Trial,
-) -> Result<(), TrialError> {
+/// Takes the words of the command as those of a line `subject`.
+fn take_words<R: Threads + Wait + Sync>(rt: &HostRuntime, handle: &R, trial: &mut Trial) -> Done {
+    let mut line = String::from_str(rt.alloc(), "subject")?;
+    for word in env::args(rt)?.skip(1) {
+        line.push(' ')?;
+        line.push_str(word.as_str())?;
+    }
+    take_line(rt, handle, trial, line.as_str())
+}
+
+/// Takes the words of the command, and then all lines of the standard input in order.
+fn take_all<R: Threads + Wait + Sync>(rt: &HostRuntime, handle: &R, trial: &mut Trial) -> Done {
+    take_words(rt, handle, trial)?;
     for line in rt.lines(rt.alloc()) {
         take_line(rt, handle, trial, line?.as_str())?;
     }
     Ok(())
 }
 
-/// Makes the trial that the words of the command name.
-fn make_trial<R: Threads + Wait + Sync>(rt: &HostRuntime, handle: &R) -> Result<(), TrialError> {
-    let mut trial = trial_of_words(rt)?;
-    take_lines(rt, handle, &mut trial)
+/// Makes a trial, and takes everything for it.
+fn make_trial<R: Threads + Wait + Sync>(rt: &HostRuntime, handle: &R) -> Done {
+    let mut trial = Trial::new(rt.alloc());
+    take_all(rt, handle, &mut trial)
 }
 
 fn main(rt: HostRuntime) -> ExitCode {

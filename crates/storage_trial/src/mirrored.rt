@@ -8,7 +8,7 @@ use crate::making::{device, mirrors};
 use crate::plan::Plan;
 use crate::stepping::{stale, step};
 use crate::telling::tell;
-use crate::trial_error::TrialError;
+use crate::trial_error::{Done, TrialError};
 use block_data::Payload;
 use mirror_volume::{MirrorVolume, Synced};
 use std::alloc::Global;
@@ -58,22 +58,29 @@ fn steps(volume: &mut Volume, mirror: u32, count: u32) -> Result<u64, TrialError
     Ok(copied)
 }
 
+/// Makes a call that volumes with mirrors alone have, and prints its answer.
+fn make_of_mirrors(rt: &HostRuntime, volume: &mut Volume, call: &Call) -> Done {
+    let (first, second) = (call.number(0), call.number(1));
+    match call.form.as_str() {
+        "step #" => tell(rt, &step(volume, first)?),
+        "steps # #" => tell(rt, &steps(volume, first, second)?),
+        "stale #" => tell(rt, &stale(volume, first)?),
+        "ready" => tell(rt, &volume.ready()),
+        "blocks" => tell(rt, &volume.blocks()),
+        "mirrors" => tell(rt, &volume.mirrors()),
+        "flush" => tell(rt, &volume.flush()),
+        "sync" => tell(rt, &volume.sync()),
+        "fill #" => tell(rt, &fill(volume, call.byte(0))),
+        "flush #" if first < volume.mirrors() => tell(rt, &volume.flush_mirror(first)),
+        _ => Err(TrialError::NotAllowed),
+    }
+}
+
 /// Makes a call of a volume with mirrors, and prints its answer.
-fn make(rt: &HostRuntime, volume: &mut Volume, call: &Call) -> Result<(), TrialError> {
-    match (call.name.as_str(), call.numbers.as_slice()) {
-        ("step", [mirror]) => tell(rt, &step(volume, *mirror)?),
-        ("steps", [mirror, count]) => tell(rt, &steps(volume, *mirror, *count)?),
-        ("stale", [mirror]) => tell(rt, &stale(volume, *mirror)?),
-        ("ready", []) => tell(rt, &volume.ready()),
-        ("blocks", []) => tell(rt, &volume.blocks()),
-        ("mirrors", []) => tell(rt, &volume.mirrors()),
-        ("flush", []) => tell(rt, &volume.flush()),
-        ("sync", []) => tell(rt, &volume.sync()),
-        ("flush", [mirror]) if *mirror < volume.mirrors() => {
-            tell(rt, &volume.flush_mirror(*mirror))
-        }
-        ("fill", [byte]) => tell(rt, &fill(volume, (*byte % 256) as u8)),
-        _ => make_common(rt, volume, call)?.ok_or(TrialError::NotAllowed),
+fn make(rt: &HostRuntime, volume: &mut Volume, call: &Call) -> Done {
+    match make_common(rt, volume, call) {
+        Some(made) => made,
+        None => make_of_mirrors(rt, volume, call),
     }
 }
 
@@ -93,35 +100,38 @@ impl Mirrored {
         })
     }
 
+    /// Makes the volume that a line asks for.
+    fn begin(&mut self, rt: &HostRuntime, plan: &mut Plan, call: &Call) -> Done {
+        let volume = volume(rt, plan, call.number(0), call.number(1))?;
+        let _ = self.volume.insert(volume);
+        plan.clear();
+        Ok(())
+    }
+
+    /// Takes the volume apart, and up again from its devices.
+    fn begin_again(&mut self, alloc: Global) -> Done {
+        let volume = self.volume.take().ok_or(TrialError::NoVolume)?;
+        let _ = self.volume.insert(again(alloc, volume)?);
+        Ok(())
+    }
+
+    /// Prints the microseconds since the clock was asked last.
+    fn tell_time(&mut self, rt: &HostRuntime) -> Done {
+        let passed = self.since.elapsed(rt)?.as_micros();
+        self.since = Instant::now(rt)?;
+        tell(rt, &passed)
+    }
+
     /// Takes a line.
-    pub fn take(
-        &mut self,
-        rt: &HostRuntime,
-        plan: &mut Plan,
-        call: &Call,
-    ) -> Result<(), TrialError> {
-        match (
-            call.name.as_str(),
-            call.numbers.as_slice(),
-            &mut self.volume,
-        ) {
-            ("volume", [blocks, mirrors], _) => {
-                self.volume = Some(volume(rt, plan, *blocks, *mirrors)?);
-                *plan = Plan::none(rt.alloc());
-                Ok(())
-            }
-            ("again", [], held) => {
-                let whole = held.take().ok_or(TrialError::NoVolume)?;
-                *held = Some(again(rt.alloc(), whole)?);
-                Ok(())
-            }
-            ("clock", [], _) => {
-                let passed = self.since.elapsed(rt)?.as_micros();
-                self.since = Instant::now(rt)?;
-                tell(rt, &passed)
-            }
-            (_, _, Some(volume)) => make(rt, volume, call),
-            _ => Err(TrialError::NoVolume),
+    pub fn take(&mut self, rt: &HostRuntime, plan: &mut Plan, call: &Call) -> Done {
+        match call.form.as_str() {
+            "volume # #" => self.begin(rt, plan, call),
+            "again" => self.begin_again(rt.alloc()),
+            "clock" => self.tell_time(rt),
+            _ => match &mut self.volume {
+                Some(volume) => make(rt, volume, call),
+                None => Err(TrialError::NoVolume),
+            },
         }
     }
 }

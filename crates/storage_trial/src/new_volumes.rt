@@ -2,7 +2,7 @@ ghost use Rattle.std.specs.Prelude.{◌≤◌};
 
 use crate::making::volume;
 use crate::plan::Plan;
-use crate::trial_error::TrialError;
+use crate::trial_error::{Done, TrialError};
 use cow_volume::CowVolume;
 use std::alloc::Global;
 use std::marker::Model;
@@ -38,14 +38,9 @@ impl NewVolumes {
     }
 
     /// Adds a volume of so many blocks over so many slots.
-    pub fn add(
-        &mut self,
-        rt: &HostRuntime,
-        plan: &Plan,
-        blocks: u32,
-        slots: u32,
-    ) -> Result<(), TrialError> {
+    pub fn add(&mut self, rt: &HostRuntime, plan: &mut Plan, blocks: u32, slots: u32) -> Done {
         let volume = volume(rt, plan, "volume", blocks, slots)?;
+        plan.clear();
         self.volumes.push(volume)?;
         Ok(())
     }

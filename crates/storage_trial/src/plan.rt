@@ -1,4 +1,4 @@
-use crate::trial_error::TrialError;
+use crate::trial_error::{Done, TrialError};
 use std::alloc::Global;
 use vss_names::{Numbers, Text};
 
@@ -47,10 +47,19 @@ impl Plan {
         }
     }
 
-    /// Calls of a device fail: a kind and numbers, `read 1,4-7`, and as many more. A kind's numbers come in rising order.
-    pub fn add(&mut self, alloc: Global, device: &str, words: &[&str]) -> Result<(), TrialError> {
-        let pairs = words.chunks_exact(2);
-        if words.is_empty() || !pairs.remainder().is_empty() {
+    /// From now on no call fails, and devices are in memory.
+    pub fn clear(&mut self) {
+        self.rows.clear();
+        self.in_files = false;
+    }
+
+    /// Calls of a device fail: its name, a kind and numbers, `area read 1,4-7`, and as many kinds more. A kind's numbers come in rising order.
+    pub fn add(&mut self, alloc: Global, words: &[&str]) -> Done {
+        let [device, calls @ ..] = words else {
+            return Err(TrialError::Line);
+        };
+        let pairs = calls.chunks_exact(2);
+        if calls.is_empty() || !pairs.remainder().is_empty() {
             return Err(TrialError::Line);
         }
         for pair in pairs {
@@ -60,13 +69,7 @@ impl Plan {
     }
 
     /// The calls with the numbers of `1,4-7` fail.
-    fn add_numbers(
-        &mut self,
-        alloc: Global,
-        device: &str,
-        kind: Kind,
-        numbers: &str,
-    ) -> Result<(), TrialError> {
+    fn add_numbers(&mut self, alloc: Global, device: &str, kind: Kind, numbers: &str) -> Done {
         for range in numbers.split(',') {
             self.add_range(alloc, device, kind, range)?;
         }
@@ -74,13 +77,7 @@ impl Plan {
     }
 
     /// The calls with the numbers of `1` or of `4-7` fail.
-    fn add_range(
-        &mut self,
-        alloc: Global,
-        device: &str,
-        kind: Kind,
-        range: &str,
-    ) -> Result<(), TrialError> {
+    fn add_range(&mut self, alloc: Global, device: &str, kind: Kind, range: &str) -> Done {
         let (first, last) = range.split_once('-').unwrap_or((range, range));
         for number in first.parse::<u32>()?..=last.parse::<u32>()?.min(HIGHEST) {
             self.rows.push(Row {

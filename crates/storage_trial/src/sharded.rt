@@ -4,14 +4,14 @@ use crate::locks::Locks;
 use crate::new_volumes::NewVolumes;
 use crate::plan::Plan;
 use crate::telling::{say, tell_of};
-use crate::trial_error::TrialError;
+use crate::trial_error::{Done, TrialError};
 use crate::writing::write_in_threads;
 use std::alloc::Global;
 use std::mem;
 use std::sync::Wait;
 use std::thread::Threads;
 use volume_device::HostDevice;
-use vss_shards::{Draft, Journal, Shard, gather};
+use vss_shards::{Draft, Journal, Shard, Shards, gather};
 
 /// What the locks of shards and their journal kept.
 #[derive(Drop)]
@@ -44,6 +44,19 @@ impl Sharded {
         }
     }
 
+    /// Makes shards of the volumes so far.
+    fn make_shards(&mut self, alloc: Global) -> Done {
+        let volumes = mem::replace(&mut self.volumes, NewVolumes::new(alloc));
+        self.locks.add(volumes.into_shards(alloc)?)
+    }
+
+    /// Makes a draft of no parts.
+    fn make_draft(&mut self, alloc: Global) -> Done {
+        self.draft = self.drafts.len();
+        self.drafts.push(Draft::new(alloc))?;
+        Ok(())
+    }
+
     /// Makes or chooses what a line says, and says whether the line does that.
     fn is_made(
         &mut self,
@@ -51,33 +64,30 @@ impl Sharded {
         plan: &mut Plan,
         call: &Call,
     ) -> Result<bool, TrialError> {
-        let alloc = rt.alloc();
-        match (call.name.as_str(), call.numbers.as_slice()) {
-            ("volume", [blocks, slots]) => {
-                self.volumes.add(rt, plan, *blocks, *slots)?;
-                *plan = Plan::none(alloc);
-            }
-            ("shards", []) => {
-                let volumes = mem::replace(&mut self.volumes, NewVolumes::new(alloc));
-                self.locks.add(volumes.into_shards(alloc)?)?;
-            }
-            ("group", [place]) => self.locks.group = *place as usize,
-            ("journal", [place]) => self.locks.journal = *place as usize,
-            ("draft", []) => {
-                self.draft = self.drafts.len();
-                self.drafts.push(Draft::new(alloc))?;
-            }
-            ("draft_of", [place]) => self.draft = *place as usize,
+        let place = call.number(0) as usize;
+        match call.form.as_str() {
+            "volume # #" => self.volumes.add(rt, plan, call.number(0), call.number(1))?,
+            "shards" => self.make_shards(rt.alloc())?,
+            "group #" => self.locks.group = place,
+            "journal #" => self.locks.journal = place,
+            "draft" => self.make_draft(rt.alloc())?,
+            "draft_of #" => self.draft = place,
             _ => return Ok(false),
         }
         Ok(true)
     }
 
+    /// Takes shards out of their locks, and keeps them with their journal.
+    fn keep(&mut self, shards: Shards<HostDevice>) -> Done {
+        let (shards, journal) = shards.into_states();
+        self.states.push(States { shards, journal })?;
+        Ok(())
+    }
+
     /// Compares the shards with the journal; from then on there are no locks.
-    fn gather(&mut self, rt: &HostRuntime) -> Result<(), TrialError> {
-        for group in mem::replace(&mut self.locks.all, Vec::new(rt.alloc())) {
-            let (shards, journal) = group.into_states();
-            self.states.push(States { shards, journal })?;
+    fn gather(&mut self, rt: &HostRuntime) -> Done {
+        for shards in mem::replace(&mut self.locks.all, Vec::new(rt.alloc())) {
+            self.keep(shards)?;
         }
         let (group, journal) = (self.locks.group, self.locks.journal);
         match (self.states.get(group), self.states.get(journal)) {
@@ -93,10 +103,11 @@ impl Sharded {
         &self,
         rt: &HostRuntime,
         handle: &R,
-        writes: u32,
-        cuts: u32,
-    ) -> Result<(), TrialError> {
-        let entries = write_in_threads(handle, rt.alloc(), self.locks.shards()?, writes, cuts)?;
+        call: &Call,
+    ) -> Done {
+        let (writes, cuts) = (call.number(0), call.number(1));
+        let shards = self.locks.shards()?;
+        let entries = write_in_threads(handle, rt.alloc(), shards, writes, cuts)?;
         tell_of(rt, "Entries", &entries)
     }
 
@@ -106,11 +117,10 @@ impl Sharded {
         rt: &HostRuntime,
         handle: &R,
         call: &Call,
-    ) -> Result<(), TrialError> {
-        match (call.name.as_str(), call.numbers.as_slice()) {
-            ("gather", []) => return self.gather(rt),
-            ("number", [v]) => return locked::tell_number(rt, handle, &self.locks, *v),
-            ("threads", [writes, cuts]) => return self.write_in_threads(rt, handle, *writes, *cuts),
+    ) -> Done {
+        match call.form.as_str() {
+            "gather" => return self.gather(rt),
+            "threads # #" => return self.write_in_threads(rt, handle, call),
             _ => {}
         }
         if let Some(made) = locked::make(rt, handle, &self.locks, call) {
@@ -129,7 +139,7 @@ impl Sharded {
         handle: &R,
         plan: &mut Plan,
         call: &Call,
-    ) -> Result<(), TrialError> {
+    ) -> Done {
         if self.is_made(rt, plan, call)? {
             return say(rt, "Done");
         }

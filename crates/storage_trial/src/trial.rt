@@ -7,7 +7,8 @@ use crate::plan::Plan;
 use crate::recovering::Recovering;
 use crate::sharded::Sharded;
 use crate::telling::say;
-use crate::trial_error::TrialError;
+use crate::trial_error::{Done, TrialError};
+use std::alloc::Global;
 use std::sync::Wait;
 use std::thread::Threads;
 
@@ -28,38 +29,46 @@ pub struct Trial {
     plan: Plan,
 }
 
-/// The subject of these words, of which nothing is made yet.
-fn subject_of(rt: &HostRuntime, words: &[&str]) -> Result<Subject, TrialError> {
-    match *words {
-        ["cow"] => Ok(Subject::Groups(Groups::Nothing)),
-        ["mirror"] => Ok(Subject::Mirrored(Mirrored::new(rt)?)),
-        ["mirror", "both"] => Ok(Subject::Lists(Lists::none(rt.alloc()))),
-        ["recover"] => Ok(Subject::Recovering(Recovering { volume: None })),
-        ["shards"] => Ok(Subject::Sharded(Sharded::new(rt.alloc()))),
-        _ => Err(TrialError::Subject),
+/// The subject with this name, of which nothing is made yet.
+fn subject_of(rt: &HostRuntime, name: &str) -> Result<Subject, TrialError> {
+    Ok(match name {
+        "cow" => Subject::Groups(Groups::Nothing),
+        "mirror" => Subject::Mirrored(Mirrored::new(rt)?),
+        "mirror both" => Subject::Lists(Lists::none(rt.alloc())),
+        "recover" => Subject::Recovering(Recovering { volume: None }),
+        "shards" => Subject::Sharded(Sharded::new(rt.alloc())),
+        _ => return Err(TrialError::Subject),
+    })
+}
+
+impl Subject {
+    /// The lines are about this next.
+    fn put(&mut self, next: Subject) {
+        *self = next;
     }
 }
 
 impl Trial {
-    /// A trial of the subject of these words.
-    pub fn of(rt: &HostRuntime, words: &[&str]) -> Result<Trial, TrialError> {
-        Ok(Trial {
-            subject: subject_of(rt, words)?,
-            plan: Plan::none(rt.alloc()),
-        })
+    /// A trial without a subject.
+    pub fn new(alloc: Global) -> Trial {
+        Trial {
+            subject: Subject::Groups(Groups::Nothing),
+            plan: Plan::none(alloc),
+        }
     }
 
     /// Another subject begins.
-    fn begin(&mut self, rt: &HostRuntime, words: &[&str]) -> Result<(), TrialError> {
-        self.subject = subject_of(rt, words)?;
-        self.plan = Plan::none(rt.alloc());
+    fn begin(&mut self, rt: &HostRuntime, words: &[&str]) -> Done {
+        let call = Call::of(rt.alloc(), words)?;
+        self.subject.put(subject_of(rt, call.form.as_str())?);
+        self.plan.clear();
         Ok(())
     }
 
     /// Shards begin anew after an empty line; other subjects pass over it.
-    fn take_empty(&mut self, rt: &HostRuntime) -> Result<(), TrialError> {
-        if let Subject::Sharded(sharded) = &mut self.subject {
-            *sharded = Sharded::new(rt.alloc());
+    fn take_empty(&mut self, rt: &HostRuntime) -> Done {
+        if let Subject::Sharded(_) = &self.subject {
+            self.subject.put(Subject::Sharded(Sharded::new(rt.alloc())));
             return say(rt, "");
         }
         Ok(())
@@ -71,18 +80,15 @@ impl Trial {
         rt: &HostRuntime,
         handle: &R,
         words: &[&str],
-    ) -> Result<(), TrialError> {
+    ) -> Done {
         let plan = &mut self.plan;
-        if let Subject::Groups(groups) = &mut self.subject {
-            return groups.take(rt, plan, words);
-        }
         let call = Call::of(rt.alloc(), words)?;
         match &mut self.subject {
+            Subject::Groups(groups) => groups.take(rt, plan, words, &call),
             Subject::Mirrored(mirrored) => mirrored.take(rt, plan, &call),
             Subject::Lists(lists) => lists.take(rt, plan, &call),
             Subject::Recovering(recovering) => recovering.take(rt, plan, &call),
             Subject::Sharded(sharded) => sharded.take(rt, handle, plan, &call),
-            Subject::Groups(_) => Ok(()),
         }
     }
 
@@ -92,13 +98,15 @@ impl Trial {
         rt: &HostRuntime,
         handle: &R,
         words: &[&str],
-    ) -> Result<(), TrialError> {
-        match *words {
-            [] => self.take_empty(rt),
-            [first, ..] if first.starts_with('#') => Ok(()),
-            ["subject", ..] => self.begin(rt, &words[1..]),
-            ["faults"] => say_all(rt),
-            ["fails", device, ..] => self.plan.add(rt.alloc(), device, &words[2..]),
+    ) -> Done {
+        let [first, rest @ ..] = words else {
+            return self.take_empty(rt);
+        };
+        match *first {
+            "subject" => self.begin(rt, rest),
+            "faults" => say_all(rt),
+            "fails" => self.plan.add(rt.alloc(), rest),
+            _ if first.starts_with('#') => Ok(()),
             _ => self.make(rt, handle, words),
         }
     }

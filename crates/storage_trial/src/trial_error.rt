@@ -20,6 +20,9 @@ pub enum TrialError {
     OutOfMemory,
 }
 
+/// What is left of a call once its answer is printed.
+pub type Done = Result<(), TrialError>;
+
 impl fmt::Display for TrialError {
     fn fmt<W: fmt::Write>(&self, f: &mut fmt::Formatter<W>) -> fmt::Result {
         f.write_str(match self {
