@@ -1,6 +1,6 @@
 -- Refusals of the calls, case by case.
-use Rattle.std.proofs.Common.{◌≡◌, ℕ, ◌<◌, ◌≤◌, ◌⊎◌, inl, inr, List, [], ◌∷◌, length, refl, ap, sym, arith, Bool, true, false, Option, Some, subst}
-use Rattle.std.specs.Prelude.{slice_get, ◌==◌, if◌then◌else◌, Ok, Err, nat_lt, All}
+use Rattle.std.proofs.Common.{◌≡◌, ℕ, ◌<◌, List, [], ◌∷◌, length, refl, ap, sym, arith, Bool, true, false, Some, subst}
+use Rattle.std.specs.Prelude.{slice_get, ◌==◌, if◌then◌else◌, Err, nat_lt, All}
 use Rattle.std.proofs.lemmas.List.Elements.{All-head, All-tail}
 use Rattle.std.proofs.lemmas.Bool.{ltb-false}
 use Rattle.write_history.specs.History.{Image, after_set}
@@ -16,13 +16,11 @@ use Rattle.vss_shards.specs.declared.record_fault.RecordFault.{RecordFault}
 use Rattle.vss_shards.specs.declared.record_fault.RecordFault.TheVariants.{Full, Differs, OutOfMemory}
 use Rattle.vss_shards.specs.declared.gather_fault.GatherFault.{GatherFault}
 use Rattle.vss_shards.specs.declared.gather_fault.GatherFault.TheVariants.{Held, Differs as DiffersAt}
-use Rattle.vss_shards.specs.Entries.{part_of, count_of, most_entries}
-use Rattle.vss_shards.specs.Shards.{IsShard, ShardValue}
+use Rattle.vss_shards.specs.Entries.{part_of, count_of}
+use Rattle.vss_shards.specs.Shards.{ShardValue}
 use Rattle.vss_shards.specs.Journals.{JournalValue, first_off, most_cuts}
 use Rattle.vss_shards.specs.Drafts.{DraftValue}
-use Rattle.vss_shards.specs.Calls.{IsAllowed, IsPut, IsPutIn, IsRecorded, IsWriteSaid, IsWriteUnderLock, MayBeWritten, after_write, fault_from}
-use Rattle.vss_shards.specs.declared.shard_fault.ShardFault.{ShardFault}
-use Rattle.vss_shards.specs.declared.shard_fault.ShardFault.TheVariants.{Held as HeldNow, NoSuchBlock as NoBlock, Full as FullNow, OutOfMemory as NoMemory, Volume as VolumeFailed, Area as AreaFailed}
+use Rattle.vss_shards.specs.Calls.{IsPut, IsRecorded, MayBeWritten, after_write, fault_from}
 use Rattle.vss_shards.specs.Gathered.{IsFree, IsPart, IsGathered, IsOffIn, DifferFirst}
 use Rattle.volume_device.specs.declared.device.Device.{Ghosts}
 
@@ -76,53 +74,6 @@ fault_is_told ghosts old new block payload fault may unwritten is = by_cause fau
   by_cause NoBlockCause e cause = (let low = may.in_range in let high = cause.0 in absurd (omega arith))
   by_cause VolumeCause e cause = record { fault = fault; because = e; unwritten = unwritten; shard = is }
   by_cause AreaCause e cause = record { fault = fault; because = e; unwritten = unwritten; shard = is }
-
--- ## write, under locks
-
-pub refused_under_lock : {D : Type 0} → (ghosts : Ghosts D)
-    (s : ShardValue D) (v block : ℕ) (payload : Small) (f : ShardFault)
-    → IsShard ghosts.told s → s.number ≡ v → IsAllowed s block (Err f) → IsWriteUnderLock ghosts v block payload (Err f)
-refused_under_lock ghosts s v block payload f is number allowed = record { found = s; left = s; is = is; number = number; said = by_fault f allowed } where
-  by_fault : (g : ShardFault) → IsAllowed s block (Err g) → IsWriteSaid ghosts s s block payload (Err g)
-  by_fault HeldNow a = (a, refl)
-  by_fault NoBlock a = (a, refl)
-  by_fault FullNow a = (a.0, refl)
-  by_fault NoMemory a = absurd a
-  by_fault VolumeFailed a = absurd a
-  by_fault AreaFailed a = absurd a
-
--- the journal has no place
-pub unplaced_under_lock : {D : Type 0} → (ghosts : Ghosts D)
-    (s : ShardValue D) (v block : ℕ) (payload : Small) (f : ShardFault)
-    → IsShard ghosts.told s → s.number ≡ v → MayBeWritten s block → (f ≡ FullNow) ⊎ (f ≡ NoMemory) → IsWriteUnderLock ghosts v block payload (Err f)
-unplaced_under_lock ghosts s v block payload f is number may cause = record { found = s; left = s; is = is; number = number; said = by_cause cause } where
-  by_cause : (f ≡ FullNow) ⊎ (f ≡ NoMemory) → IsWriteSaid ghosts s s block payload (Err f)
-  by_cause (inl e) = subst (λ (g : ShardFault). IsWriteSaid ghosts s s block payload (Err g)) (sym e) (may, refl)
-  by_cause (inr e) = subst (λ (g : ShardFault). IsWriteSaid ghosts s s block payload (Err g)) (sym e) (may, refl)
-
-pub unput_under_lock : {D : Type 0} → (ghosts : Ghosts D)
-    (s new : ShardValue D) (v block : ℕ) (payload : Small) (f : ShardFault)
-    → IsShard ghosts.told s → s.number ≡ v → MayBeWritten s block → IsPut ghosts s new block payload (Err f) → IsWriteUnderLock ghosts v block payload (Err f)
-unput_under_lock ghosts s new v block payload f is number may put = record { found = s; left = new; is = is; number = number; said = by_fault f put } where
-  by_fault : (g : ShardFault) → IsPut ghosts s new block payload (Err g) → IsWriteSaid ghosts s new block payload (Err g)
-  by_fault HeldNow p = absurd p
-  by_fault NoBlock p = absurd p
-  by_fault FullNow p = absurd p
-  by_fault NoMemory p = (may, p)
-  by_fault VolumeFailed p = (may, p)
-  by_fault AreaFailed p = (may, p)
-
-pub put_under_lock : {D : Type 0} → (ghosts : Ghosts D)
-    (s new : ShardValue D) (v block : ℕ) (payload : Small) (e : Entry) (answer : ℕ)
-    → IsShard ghosts.told s → s.number ≡ v → MayBeWritten s block → IsPut ghosts s new block payload (Ok e) → answer ≤ most_entries
-    → IsWriteUnderLock ghosts v block payload (Ok answer)
-put_under_lock ghosts s new v block payload e answer is number may put few = record {
-  found = s;
-  left = new;
-  is = is;
-  number = number;
-  said = (may, subst (λ (x : Entry). IsPutIn ghosts s new x) put.0 put.1, few);
-}
 
 -- ## images that go
 

@@ -1,5 +1,5 @@
 -- What the calls on a shard, a draft and the journal come to. (This project's own.)
-use Rattle.std.specs.Prelude.{ℕ, ◌≡◌, ◌<◌, ◌≤◌, ◌+◌, ◌⊎◌, ◌++◌, List, [], ◌∷◌, length, Bool, true, Option, Some, None, is_some, Result, Ok, Err}
+use Rattle.std.specs.Prelude.{ℕ, ◌≡◌, ◌<◌, ◌≤◌, ◌+◌, ◌⊎◌, ◌++◌, List, [], ◌∷◌, length, true, Option, Some, None, is_some, Result, Ok, Err}
 use Rattle.write_history.specs.History.{Image, after_set}
 use Rattle.cow_volume.specs.GroupValue.{GroupValue}
 use Rattle.cow_volume.specs.OneVolume.{blocks_of, IsOneWritten, IsOneUnwritten}

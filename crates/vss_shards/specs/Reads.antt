@@ -1,6 +1,6 @@
 -- What is read of a shard: the volume after all entries of its list, and an image after the first so many.
 -- (This project's own.)
-use Rattle.std.specs.Prelude.{ℕ, ◌≡◌, Bool, true, List, length, Option, Some}
+use Rattle.std.specs.Prelude.{ℕ, ◌≡◌, true, List, length, Option, Some}
 use Rattle.write_history.specs.History.{content, point_in}
 use Rattle.cow_volume.specs.Calls.{IsQuiet}
 use Rattle.cow_volume.specs.OneVolume.{tells}

@@ -73,6 +73,13 @@ impl Journal {
         Ok(())
     }
 
+    /// Takes a place for one more entry, if it is not full and there is memory. Answers whether it did.
+    pub(crate) fn try_reserve(&mut self) -> bool
+        ensures { IsTrue result → 0 < self.new.places }
+    {
+        !self.is_full() && self.reserve().is_ok()
+    }
+
     /// Gives a place back.
     pub(crate) fn release(&mut self)
         requires { 0 < self.old.places }

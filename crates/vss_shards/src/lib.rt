@@ -25,7 +25,6 @@ mod record_fault;
 mod recorded_cut;
 mod shard;
 mod shard_fault;
-mod shard_lock;
 mod shards;
 mod small;
 mod writing;

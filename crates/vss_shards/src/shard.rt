@@ -26,6 +26,8 @@ pub struct Shard<D: Device> {
     pub(crate) images: Vec<ImagePoint>,
     pub(crate) last: u32,
     pub(crate) held: Option<Part>,
+    /// Whether the journal keeps a place for its next write.
+    pub(crate) has_place: bool,
 }
 
 impl<D: Device> Model for Shard<D> {
@@ -58,6 +60,7 @@ impl<D: Device> Shard<D> {
             images,
             last: 0,
             held: None,
+            has_place: false,
         })
     }
 
@@ -74,5 +77,14 @@ impl<D: Device> Shard<D> {
         ensures kept { IsShard D.told self.now }
     {
         self.held.is_some()
+    }
+
+    /// Gives up the place that the journal keeps for its next write, and answers whether there was one.
+    pub(crate) fn give_up_place(&mut self) -> bool
+        ensures { self.new ≡ self.old }
+    {
+        let had = self.has_place;
+        self.has_place = false;
+        had
     }
 }

@@ -5,21 +5,19 @@ ghost use Rattle.std.specs.Sync.Mutex.{mutex_guard_value};
 ghost use Rattle.write_history.specs.History.{fresh};
 ghost use Rattle.cow_volume.specs.OneVolume.{StandsForOne};
 ghost use Rattle.vss_shards.specs.Entries.{most_entries, most_volumes};
-ghost use Rattle.vss_shards.specs.Calls.{IsWriteUnderLock};
+ghost use Rattle.vss_shards.specs.Calls.{IsWriteSaid, IsWriteUnderLock};
 ghost use Rattle.vss_shards.specs.declared.shard_fault.ShardFault.TheVariants.{Full, OutOfMemory as NoMemory};
-ghost use Rattle.vss_shards.specs.Shards.{ShardValue};
+ghost use Rattle.vss_shards.specs.Shards.{IsShard, ShardValue};
 
 use crate::entry::Entry;
 use crate::journal::Journal;
 use crate::shard::Shard;
 use crate::shard_fault::ShardFault;
-use crate::shard_lock::ShardLock;
 use crate::small::Small;
 use crate::writing::{may_write, put, reserve};
 use cow_volume::CowVolume;
 use std::alloc::Global;
 use std::marker::Model;
-use std::sync::atomic::Ordering;
 use std::sync::{Mutex, MutexGuard, Wait};
 use volume_device::Device;
 use vss_names::OutOfMemory;
@@ -28,7 +26,7 @@ use vss_names::OutOfMemory;
 /// Contracts see how many shards there are.
 #[derive(Drop)]
 pub struct Shards<D: Device> {
-    shards: Vec<ShardLock<D>>,
+    shards: Vec<Mutex<Shard<D>>>,
     journal: Mutex<Journal>,
     /// Where the shards go once no lock is needed any more: nothing yet.
     states: Vec<Shard<D>>,
@@ -88,7 +86,7 @@ impl<D: Device> Shards<D> {
     pub fn shard(&self, v: u32) -> &Mutex<Shard<D>>
         requires { v < self.now }
     {
-        &self.shards[v as usize].shard
+        &self.shards[v as usize]
     }
 
     /// The journal's lock.
@@ -98,7 +96,7 @@ impl<D: Device> Shards<D> {
 
     /// Writes a block of a shard under its lock, and answers how many entries the journal then has. The journal's lock is taken once,
     /// for the entry and for a place that is kept for the shard's next write. Answers are those of `write_on`; the journal is full
-    /// where it has 1,048,576 entries with those that are being written.
+    /// where it has 1,048,576 entries with those that are being written, and with the place of a shard that somebody else has locked.
     pub fn write<R: Wait>(
         &self,
         rt: &R,
@@ -109,23 +107,33 @@ impl<D: Device> Shards<D> {
         requires { v < self.now }
         ensures { IsWriteUnderLock D.Device v block payload result }
     {
-        let own = &self.shards[v as usize];
         let mut shard = self.lock(rt, v);
-        may_write(&shard, block)?;
-        if !own.has_place.swap(false, Ordering::SeqCst) {
-            self.take_place(rt)?;
-        }
-        let written = put(&mut shard, block, payload);
-        match written {
-            Ok(entry) => Ok(self.append(rt, own, entry)),
-            Err(fault) => {
-                own.has_place.store(true, Ordering::SeqCst);
-                Err(fault)
-            }
-        }
+        self.write_locked(rt, &mut shard, block, payload)
     }
 
-    /// Takes a place in the journal: a new one, or where it is full one that is kept for the next write of some shard.
+    /// The write of a shard whose lock is taken.
+    fn write_locked<R: Wait>(
+        &self,
+        rt: &R,
+        shard: &mut Shard<D>,
+        block: u32,
+        payload: Small,
+    ) -> Result<u32, ShardFault>
+        ensures said { IsWriteSaid D.Device shard.old shard.new block payload result }
+        ensures found { IsShard D.told shard.old }
+    {
+        may_write(shard, block)?;
+        if !shard.has_place {
+            self.take_place(rt)?;
+            shard.has_place = true;
+        }
+        let entry = put(shard, block, payload)?;
+        let (count, keeps) = self.append(rt, entry);
+        shard.has_place = keeps;
+        Ok(count)
+    }
+
+    /// Takes a place in the journal: a new one, or where it is full one that is kept for the next write of a shard that nobody has.
     fn take_place<R: Wait>(&self, rt: &R) -> Result<(), ShardFault>
         ensures { IfErr result (λ fault. (fault ≡ Full) ⊎ (fault ≡ NoMemory)) }
     {
@@ -134,26 +142,26 @@ impl<D: Device> Shards<D> {
             return reserve(&mut journal);
         }
         for other in &self.shards {
-            if other.has_place.swap(false, Ordering::SeqCst) {
+            if let Some(mut shard) = other.try_lock()
+                && shard.give_up_place()
+            {
                 return Ok(());
             }
         }
         Err(ShardFault::Full)
     }
 
-    /// Puts an entry into the place that is taken for it, and keeps a place for the next write of the shard if there is one more.
-    /// There is a place as long as no one exchanges what the locks keep; if there is none, it waits for one.
-    fn append<R: Wait>(&self, rt: &R, own: &ShardLock<D>, entry: Entry) -> u32
+    /// Puts an entry into the place that is taken for it. Answers how many entries there are then, and whether there is a place for the
+    /// next write of its shard. There is a place as long as no one exchanges what the locks keep; else it takes one, or waits for one.
+    fn append<R: Wait>(&self, rt: &R, entry: Entry) -> (u32, bool)
         requires { entry.volume < most_volumes }
-        ensures { result ≤ most_entries }
+        ensures { result.0 ≤ most_entries }
     {
         for _ in rt.forever() {
             let mut journal = self.journal.lock(rt);
-            if journal.has_place() {
+            if journal.has_place() || journal.try_reserve() {
                 let count = journal.append(entry);
-                let keeps = !journal.is_full() && journal.reserve().is_ok();
-                own.has_place.store(keeps, Ordering::SeqCst);
-                return count;
+                return (count, journal.try_reserve());
             }
         }
         unreachable!()
@@ -170,11 +178,7 @@ impl<D: Device> Shards<D> {
             journal,
             mut states,
         } = self;
-        for locked in shards {
-            let ShardLock {
-                shard,
-                has_place: _,
-            } = locked;
+        for shard in shards {
             states.push_reserved(shard.into_inner());
         }
         states.sort_unstable_by_key(|shard| shard.number());
@@ -188,7 +192,7 @@ impl<D: Device> Shards<D> {
 fn locked<D: Device>(
     alloc: Global,
     volumes: Vec<CowVolume<D>>,
-) -> Result<Vec<ShardLock<D>>, OutOfMemory>
+) -> Result<Vec<Mutex<Shard<D>>>, OutOfMemory>
     requires few { length volumes.items ≤ most_volumes }
     requires fresh { All (λ volume. StandsForOne D.told volume fresh) volumes.items }
     ensures { IfOk result (λ shards. vec_len shards ≡ length volumes.items) }
@@ -196,7 +200,7 @@ fn locked<D: Device>(
     let mut shards = Vec::with_capacity(alloc, volumes.len())?;
     let mut number = 0;
     for volume in volumes {
-        shards.push(ShardLock::new(Shard::new(alloc, number, volume)?))?;
+        shards.push(Mutex::new(Shard::new(alloc, number, volume)?))?;
         number += 1;
     }
     Ok(shards)
