@@ -73,6 +73,21 @@ gather => Gather(Err(Differs { volume: 1, at: 0, listed: Some(Entry { volume: 1,
 END
 replied "$room/entries" "$trial" shards
 
+# The last place, which is kept for the shard that wrote before, goes to the other.
+cat > "$room/last_place" << 'END'
+volume 2 1 => Done
+volume 2 1 => Done
+shards => Done
+fill 0 0 1 1048575 => Write(Ok(1048575))
+fill 1 2 2 => Write(Err(NoSuchBlock))
+fill 1 1 2 => Write(Ok(1048576))
+fill 0 0 3 => Write(Err(Full))
+fill 1 0 3 => Write(Err(Full))
+read 1 1 => Read(Ok(Fill(2)))
+gather => Gather(Ok(()))
+END
+replied "$room/last_place" "$trial" shards
+
 # ## in threads
 
 between=0
