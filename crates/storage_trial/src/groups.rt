@@ -95,11 +95,12 @@ impl Groups {
             return Err(TrialError::Line);
         };
         match *first {
+            "alone" if rest.len() != 2 => Err(TrialError::Line),
             "group" | "files" | "alone" => self.begin(rt, plan, call),
             "catalog" => tell_catalog(rt, rest.first().ok_or(TrialError::Line)?),
             "close" => self.close(rt),
             "load" | "bytes" | "record" => self.load(rt, rest, call),
-            "resume" => self.resume(rt, rest.first().copied()),
+            "resume" if rest.len() < 2 => self.resume(rt, rest.first().copied()),
             _ => self.make(rt, call),
         }
     }

@@ -104,7 +104,7 @@ impl Trial {
         };
         match *first {
             "subject" => self.begin(rt, rest),
-            "faults" => say_all(rt),
+            "faults" if rest.is_empty() => say_all(rt),
             "fails" => self.plan.add(rt.alloc(), rest),
             _ if first.starts_with('#') => Ok(()),
             _ => self.make(rt, handle, words),
