@@ -40,7 +40,9 @@ impl Piece {
     }
 
     /// Two of zeros.
-    pub fn two(alloc: Global) -> Result<(Piece, Piece), OutOfMemory> {
+    pub(crate) fn two(alloc: Global) -> Result<(Piece, Piece), OutOfMemory>
+        ensures { IfOk result (λ pieces. (pieces.0 ≡ zeros) × (pieces.1 ≡ zeros)) }
+    {
         let first = Piece::new(alloc)?;
         Ok((first, Piece::new(alloc)?))
     }
