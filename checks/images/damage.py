@@ -4,7 +4,8 @@
     damage.py PROGRAM FOLDER
 
 Each byte of the state is another, and it is cut off or longer; each of its fields is another below a digest that is made anew; the files of volumes and the
-area have other sizes; the length in a volume's last block has no room; a file is missing. And a second process is refused while a first has the folder.
+area have other sizes; the length in a volume's last block has no room; a file is missing, or is a link; each bit of a marker is another. Folders and
+files are for their owner alone. And a second process is refused while a first has the folder.
 """
 import fcntl
 import hashlib
@@ -136,7 +137,7 @@ class Damage:
     def lengths(self):
         for name in ("db.vol", "wal.vol"):
             data = self.whole[name]
-            for length in (len(data) - 7, len(data), 2**32, 2**64 - 1):
+            for length in (len(data) - 7, len(data), 2**32, 2**64 - 2):
                 other = data[:-8] + length.to_bytes(8, "little")
                 told = f"images: F/{name}: length: {length} in {len(data)} bytes".encode()
                 for words in (["list", "F"], ["check", "F"], ["show", "F", name[:-4]], ["digest", "F", name[:-4]]):
@@ -150,6 +151,66 @@ class Damage:
                 sys.exit(f"damage.py: without {name}: {got.returncode} {got.stderr}")
             self.put(name, self.whole[name])
             self.tried += 1
+
+    def modes(self):
+        """Whatever the umask, a folder and its files are for their owner alone."""
+        for mask in (0, 0o022, 0o077):
+            before = os.umask(mask)
+            self.must("create", "G", "3", "db=db", "wal=wal")
+            self.must("cut", "G", "db")
+            self.must("update", "G", "db=wal")
+            os.umask(before)
+            found = {name: os.stat(os.path.join(self.room, "G", name)).st_mode & 0o777 for name in ["", *os.listdir(os.path.join(self.room, "G"))]}
+            if found.pop("") != 0o700 or len(found) < 4 or set(found.values()) != {0o600}:
+                sys.exit(f"damage.py: umask {mask:o}: {found}")
+            shutil.rmtree(os.path.join(self.room, "G"))
+            self.tried += 1
+
+    def links(self):
+        """No link is followed: what it names is as it was."""
+        other, kept = os.path.join(self.room, "other"), os.path.join(self.room, "kept")
+        for name in ("images.state.new", "images.open.new"):
+            shutil.copytree(self.folder, kept)
+            with open(other, "wb") as file:
+                file.write(b"of another")
+            os.symlink(other, os.path.join(self.folder, name))
+            self.must("cut", "F", "db")
+            with open(other, "rb") as file:
+                if file.read() != b"of another" or os.path.lexists(os.path.join(self.folder, name)):
+                    sys.exit(f"damage.py: a link at {name} was followed")
+            shutil.rmtree(self.folder)
+            os.rename(kept, self.folder)
+            self.tried += 1
+        for name in ("db.vol", "images.area", "images.state"):
+            os.rename(os.path.join(self.folder, name), other)
+            os.symlink(other, os.path.join(self.folder, name))
+            for words in (["update", "F", "db=wal"], ["cut", "F", "db"], ["list", "F"], ["show", "F", "db"], ["check", "F"]):
+                got = run(self.program, self.room, *words)
+                if got.returncode != 9 or got.stdout or f"F/{name}: is no file\n".encode() not in got.stderr:
+                    sys.exit(f"damage.py: a link at {name}, {words}: {got.returncode} {got.stderr}")
+                self.tried += 1
+            os.remove(os.path.join(self.folder, name))
+            os.rename(other, os.path.join(self.folder, name))
+
+    def markers(self):
+        """No marker that was cut off, or of which a bit is another, lets a volume in transit be shown; without a digest it is read as those of earlier programs."""
+        self.must("create", "G", "3", "b=db", "db=db", "wal=wal")
+        marker = os.path.join(self.room, "G", "images.open")
+        lines = b"update\nb\ndb\n"
+        whole = b"sha256 " + hashlib.sha256(lines).hexdigest().encode() + b"\n" + lines
+        spoilt = [data[:at] + bytes([data[at] ^ 1 << bit]) + data[at + 1:] for data in (lines, whole) for at in range(len(data)) for bit in range(8)]
+        spoilt += [whole[:at] for at in range(len(whole))]
+        all_of_it = [b"update\n", b"revert\n", b"cut\nb\n", b"update\nb\nx\n", b"", b"\xff", lines + bytes(9000)]
+        for data, hidden in [(lines, "b db"), (whole, "b db"), *((data, "b db") for data in spoilt), *((data, "b db wal") for data in all_of_it), (b"cut\n", ""), (b"revert\nwal\n", "wal")]:
+            with open(marker, "wb") as file:
+                file.write(data)
+            hidden = hidden.split()
+            for name in hidden if data in spoilt else ("b", "db", "wal"):
+                got = run(self.program, self.room, "show", "G", name)
+                if got.returncode != (11 if name in hidden else 0):
+                    sys.exit(f"damage.py: the marker {data}: {name} is shown with {got.returncode}, {got.stderr}")
+            self.tried += 1
+        shutil.rmtree(os.path.join(self.room, "G"))
 
     def in_use(self):
         """A folder that another process has is refused; readers share it."""
@@ -192,6 +253,9 @@ def main():
     damage.sizes()
     damage.lengths()
     damage.missing()
+    damage.modes()
+    damage.links()
+    damage.markers()
     damage.in_use()
     if sums(damage.folder) != damage.whole:
         sys.exit("damage.py: the folder is another at the end")

@@ -5,8 +5,8 @@
 
 LIBRARY is kill.c as a shared library; with STEP only each so manyth place is tried. Each scene is a folder that was made by some calls, and a call that is
 killed: before its Nth change, in the middle of it, or behind it, until it ends by itself. Then each image that `show` gives has the bytes of its cut; one that
-is not there was deleted, reverted past, or printed as evicted; a volume that `show` gives is as before or as after; every other call refuses an unclean folder.
-Once the marker is removed and all volumes are updated, all agree.
+is not there was deleted, reverted past, or evicted, and one that was printed as evicted is not there; a volume that `show` gives is as before or as after; a call that does not bring all
+volumes in transit to other contents is refused. Once all volumes are updated, all agree.
 """
 import copy
 import os
@@ -45,7 +45,7 @@ SCENES = {
     ),
     "cut": (
         {"db": bytes_of("ab"), "wal": bytes_of("x")},
-        [["create", "F", "4", "db=db", "wal:4=wal"], ["cut", "F", "db", "wal"], {"db": bytes_of("aB", b"end")}, ["update", "F", "db=db"]],
+        [["create", "F", "4", "db=db", "wal:4=wal"], ["cut", "F", "db", "wal"], {"db": bytes_of("aB", b"end")}, ["update", "F", "db=db", "wal=wal"]],
         {}, ["cut", "F", "wal", "db"],
     ),
     "delete": (
@@ -95,7 +95,7 @@ class Scene:
         return [p.stores["F"] for p in (self.before, self.after) if "F" in p.stores]
 
     def images(self):
-        """Each image that stood before or after: its bytes, and whether it may be missing without having been printed."""
+        """Each image that stood before or after, and its bytes."""
         found = {}
         for store in self.stores():
             for v in store.volumes:
@@ -103,48 +103,44 @@ class Scene:
                     found[v.name, i.set] = i.data
         return found
 
-    def may_miss(self, name, number, printed):
+    def may_miss(self, name, number):
         """Whether an image may be missing."""
-        if f"evicted set {number} {name}\n".encode() in printed:
-            return True
-        if self.call[0] == "update":
-            return False
         return any(v.name == name and v.image(number) is None for store in self.stores() for v in store.volumes)
 
     def look(self, folder, place, printed):
         """Shows everything after a kill. The volumes that are in transit are answered."""
-        marked = os.path.exists(os.path.join(folder, "F", "images.open"))
+        torn = self.call[0] in ("update", "revert") and os.path.exists(os.path.join(folder, "F", "images.open"))
         for (name, number), data in self.images().items():
             got = self.run(folder, ["show", "F", str(number), name])
             if got.returncode == 0 and got.stdout != data or got.returncode not in (0, 3):
                 self.wrong(place, f"image {number} of {name}: {got.returncode} {got.stderr}")
-            if got.returncode == 3 and not self.may_miss(name, number, printed):
+            if got.returncode == 3 and not self.may_miss(name, number):
                 self.wrong(place, f"image {number} of {name} is gone")
+            if got.returncode == 0 and f"evicted set {number} {name}\n".encode() in printed:
+                self.wrong(place, f"image {number} of {name} was printed as evicted, and is there")
         for v, w in zip(self.stores()[0].volumes, self.stores()[-1].volumes):
             got = self.run(folder, ["show", "F", v.name])
-            if got.returncode == 0 and got.stdout not in (v.data, w.data) or got.returncode not in (0, 11) or got.returncode == 11 and not marked:
+            if got.returncode == 0 and got.stdout not in (v.data, w.data) or got.returncode not in (0, 11) or got.returncode == 11 and not torn:
                 self.wrong(place, f"{v.name}: {got.returncode} {got.stderr}")
-        self.look_at_calls(folder, place, marked, printed)
+        self.look_at_calls(folder, place, torn, printed)
 
-    def look_at_calls(self, folder, place, marked, printed):
-        """The other calls refuse an unclean folder, and else answer as before or as after."""
+    def look_at_calls(self, folder, place, torn, printed):
+        """Other calls are refused where volumes are in transit, and else answer as before or as after."""
         check = self.run(folder, ["check", "F"])
-        if check.returncode != (11 if marked else 0) or check.stderr:
+        if check.returncode != (11 if torn else 0) or check.stderr:
             self.wrong(place, f"check: {check.returncode} {check.stdout} {check.stderr}")
         listed = self.run(folder, ["list", "F"])
-        if marked:
-            for words in (["list", "F"], ["cut", "F", "db"], ["update", "F", "db=db"], ["delete", "F", "1"], ["revert", "F", "1", "db"]):
+        if torn:
+            others = [["update", "F", "db=db"], ["revert", "F", "1", "db"]] if len(self.call) == 4 and self.call[0] == "update" else []
+            for words in (["list", "F"], ["cut", "F", "db"], ["delete", "F", "1"], *others):
                 got = self.run(folder, words)
                 if got.returncode != 11 or got.stdout:
                     self.wrong(place, f"{words}: {got.returncode} {got.stdout} {got.stderr}")
-        elif listed.returncode != 0 or not printed and listed.stdout not in [p.answer(["list", "F"])[1] for p in (self.before, self.after)]:
+        elif listed.returncode != 0 or not printed and self.call[0] != "update" and listed.stdout not in [p.answer(["list", "F"])[1] for p in (self.before, self.after)]:
             self.wrong(place, f"list: {listed.returncode} {listed.stdout} {listed.stderr}")
 
     def mend(self, folder, place):
-        """Removes the marker, updates all, and compares again."""
-        marker = os.path.join(folder, "F", "images.open")
-        if os.path.exists(marker):
-            os.remove(marker)
+        """Updates all, and compares again."""
         names = [v.name for v in self.stores()[0].volumes]
         got = self.run(folder, ["update", "F", *[f"{name}={name}" for name in names]])
         if got.returncode:

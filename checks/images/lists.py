@@ -71,10 +71,10 @@ class Drawing:
         for name in names:
             count = next((v.count for v in store.volumes if v.name == name), 1) if store else 1
             self.change(name, plain.BLOCK * count - 8 + (1 if self.draw.random() < 0.05 else 0))
-        words = [f"{name}={name}" for name in names]
+        words = [f"{name}={name if self.draw.random() < 0.93 else '-'}" for name in names]
         if self.draw.random() < 0.06:
             words.append(self.draw.choice(["db=missing", "db=folder", "db", "none=db", "db=db", "db:3=db", "db="]))
-        return ["update", "F", *words]
+        return ["update", *self.draw.choice([[]] * 9 + [["--tries", "2"]]), "F", *words]
 
     def call(self):
         kind = self.draw.random()
@@ -102,6 +102,7 @@ class Drawing:
             ["create", "G", "4", "a=db", "a=db"], ["create", "G", "4", "a:0=db"], ["create", "G", "4", "a:65537=db"], ["create", "G", "4", "a:x=db"],
             ["create", "G", "4", "a b=db"], ["create", "G", "4", "n" * 33 + "=db"], ["create", "G", "4", "a=missing"], ["create", "G", "4", "a=folder"],
             ["create", "G", "4", "a:65536=db", "b:65536=db", "c:1=db"], ["create", "folder", "4", "a=db"], ["update", "F"], ["revert", "F", "1"],
+            ["create", "G", "4", "a=-"], ["update", "--tries", "0", "F", "db=db"], ["update", "--tries", "F", "db=db"], ["list", "--tries", "1", "F"],
         ])
 
 

@@ -9,9 +9,9 @@ import struct
 
 BLOCK = 16384
 FORMS = {
-    "create": "create F SLOTS NAME[:BLOCKS]=FILE ..",
+    "create": "create [--tries N] F SLOTS NAME[:BLOCKS]=FILE ..",
     "cut": "cut F NAME ..",
-    "update": "update F NAME=FILE ..",
+    "update": "update [--tries N] F NAME=FILE ..",
     "list": "list F",
     "show": "show F [SET] NAME",
     "digest": "digest F [SET] NAME",
@@ -50,9 +50,13 @@ def pair(word):
 
 
 def blocks_of(data, count):
-    """The blocks of a volume that has the file."""
-    whole = data + bytes(BLOCK * count - 8 - len(data)) + struct.pack("<Q", len(data))
+    """The blocks of a volume that has the file, or that has None, for a file that was not there."""
+    whole = (data or b"").ljust(BLOCK * count - 8, b"\0") + struct.pack("<Q", 2**64 - 1 if data is None else len(data))
     return [whole[BLOCK * b:BLOCK * (b + 1)] for b in range(count)]
+
+
+def length_of(data):
+    return b"absent" if data is None else b"length %d" % len(data)
 
 
 class Image:
@@ -80,6 +84,10 @@ class Store:
         self.slots = slots
         self.volumes = volumes
         self.last = 0
+        self.together = [{v.name for v in volumes}]  # the names that one call brought to files last
+
+    def bring(self, names):
+        self.together = [line - set(names) for line in self.together] + [set(names)]
 
     def used(self):
         return sum(len(i.copied) for v in self.volumes for i in v.images)
@@ -130,14 +138,18 @@ class Plain:
             task, rest = (words[0], words[1:]) if words else ("", [])
             if task not in FORMS:
                 raise Ends(2, "usage: " + " | ".join(FORMS.values()))
+            if rest[:1] == ["--tries"]:
+                rest = rest[2:] if task in ("create", "update") and number("".join(rest[1:2]), 1) else []
             done = getattr(self, task)(rest, out)
             if done is False:
                 raise Ends(2, "usage: " + FORMS[task])
         except Ends as ended:
             return ended.status, b"".join(out), ended.line
-        return 0, b"".join(out), None
+        return 0, b"".join(out), done if isinstance(done, str) else None
 
     def read(self, path):
+        if path == "-":
+            return None
         if path not in self.files:
             raise Ends(4, f"{path}: could not be read: No such file or directory (os error 2)")
         if self.files[path] is None:
@@ -160,9 +172,10 @@ class Plain:
         volumes = []
         for name, count, file in pairs:
             data = self.read(file)
-            need = (len(data) + 8 + BLOCK - 1) // BLOCK
-            if count is not None and len(data) > BLOCK * count - 8:
-                raise Ends(3, f"{file}: length: {len(data)} bytes, and {name} has room for {BLOCK * count - 8}")
+            length = len(data or b"")
+            need = (length + 8 + BLOCK - 1) // BLOCK
+            if count is not None and length > BLOCK * count - 8:
+                raise Ends(3, f"{file}: length: {length} bytes, and {name} has room for {BLOCK * count - 8}")
             volumes.append(Volume(name, data, need if count is None else count))
         total = sum(v.count for v in volumes)
         if total > 131072:
@@ -208,7 +221,9 @@ class Plain:
         for v in volumes:
             v.images.append(Image(store.last, v.data))
         out.append(b"set %d\n" % store.last)
-        return True
+        if any(set(words[1:]) <= line for line in store.together) or len(volumes) == 1:
+            return True
+        return f"{folder}: set {store.last} is of volumes that were not brought to their files by one update"
 
     def update(self, words, out):
         pairs = [pair(w) for w in words[1:]]
@@ -220,7 +235,7 @@ class Plain:
         jobs = []
         for v, (_, _, file) in zip(volumes, pairs):
             data = self.read(file)
-            if len(data) > BLOCK * v.count - 8:
+            if len(data or b"") > BLOCK * v.count - 8:
                 raise Ends(3, f"{file}: length: {len(data)} bytes, and {v.name} has room for {BLOCK * v.count - 8}")
             old, new = blocks_of(v.data, v.count), blocks_of(data, v.count)
             jobs.append((v, data, [b for b in range(v.count) if old[b] != new[b]]))
@@ -235,6 +250,7 @@ class Plain:
             counts.append(b"%s written %d copied %d\n" % (v.name.encode(), len(marked), copied))
         for v, data, _ in jobs:
             v.data = data
+        store.bring([v.name for v in volumes])
         out += counts
         return True
 
@@ -243,8 +259,8 @@ class Plain:
             return False
         store = self.store(words[0])
         for v in store.volumes:
-            out.append(b"volume %s blocks %d length %d\n" % (v.name.encode(), v.count, len(v.data)))
-            out += [b"image %d length %d used %d\n" % (i.set, len(i.data), len(i.copied)) for i in v.images]
+            out.append(b"volume %s blocks %d %s\n" % (v.name.encode(), v.count, length_of(v.data)))
+            out += [b"image %d %s used %d\n" % (i.set, length_of(i.data), len(i.copied)) for i in v.images]
         out.append(b"slots %d of %d, last set %d\n" % (store.used(), store.slots, store.last))
         return True
 
@@ -255,7 +271,10 @@ class Plain:
         folder, name = words[0], words[-1]
         store = self.store(folder)
         v = store.named(folder, name)
-        return v.data if len(words) == 2 else store.image(folder, int(words[1]), v).data
+        data = v.data if len(words) == 2 else store.image(folder, int(words[1]), v).data
+        if data is None:
+            raise Ends(13, f"{folder}: {name if len(words) == 2 else f'set {words[1]} of {name}'}: its file was not there")
+        return data
 
     def show(self, words, out):
         data = self.shown(words)
@@ -301,6 +320,7 @@ class Plain:
         v.images = v.images[:v.images.index(image) + 1]
         image.copied = set()
         v.data = image.data
+        store.bring([v.name])
         return True
 
     def check(self, words, out):

@@ -1,13 +1,15 @@
 #!/usr/bin/env python3
 """Takes the power away from `images` at each call of the system that changes something, on a model of a disk, and sees that wrong bytes are never given as right ones.
 
-    power.py PROGRAM LIBRARY FOLDER [SCENE..]
+    power.py PROGRAM LIBRARY FOLDER [STEP [SCENE..]]
 
-LIBRARY is record.c as a shared library. Each scene of kill.py is run once, and what it changes is recorded. For each place in it folders are made of what a
-disk may have then: what was synced, and of the rest nothing; or the names alone; or the contents alone; or drawn parts of both, twice. A file's contents are
-synced by a sync of the file, and names by one of their folder. Of contents each 4,096 bytes may be there or not, of the names of a folder the first so many
-changes. Such a folder is then as after a kill.
+LIBRARY is record.c as a shared library; with STEP only each so manyth place is tried. Each scene of kill.py is run once, and what it changes is recorded. For each place
+in it folders are made of what a disk may have then: what was synced, and of the rest nothing; or the names alone; or the contents alone; or drawn parts of both, twice. A
+file's contents are synced by a sync of the file, and names by one of their folder. Of contents each 4,096 bytes may be there or not, of the names of a folder the first so
+many changes. Such a folder is then as after a kill. And the call is killed at each place, or one of its syncs fails: then what was written before that is in memory, and
+never comes to the disk by itself. All volumes are updated, and the power goes: they have their files.
 """
+import copy
 import os
 import random
 import shutil
@@ -19,10 +21,14 @@ PIECE = 4096
 
 
 class File:
-    """The contents that were synced, and the changes since: sizes, and pieces."""
+    """The contents that were synced, the changes since that a sync brings there, sizes and pieces, and what a read gives."""
 
     def __init__(self, data=b""):
-        self.synced, self.changes = bytearray(data), []
+        self.synced, self.changes, self.read = bytearray(data), [], bytearray(data)
+
+    def add(self, size, piece):
+        self.changes.append((size, piece))
+        self.change(self.read, size, piece)
 
     @staticmethod
     def change(data, size, piece):
@@ -37,8 +43,14 @@ class File:
     def sync(self):
         self.synced, self.changes = self.after(lambda _: True), []
 
+    def fail(self):
+        """A sync that fails: no later one writes what was to be synced."""
+        self.changes = []
+
     def after(self, keeps):
-        """What is there where these of the changes were kept."""
+        """What is there where these of the changes were kept, or what a read gives."""
+        if keeps is None:
+            return self.read
         data = bytearray(self.synced)
         for size, piece in self.changes:
             if keeps("contents"):
@@ -68,7 +80,12 @@ class Folder:
     def sync(self):
         self.synced, self.changes = dict(self.now), []
 
+    def fail(self):
+        """A sync of names that fails does not lose them."""
+
     def after(self, keeps):
+        if keeps is None:
+            return self.now
         entries = dict(self.synced)
         for names in self.changes:
             if not keeps("names"):
@@ -114,10 +131,13 @@ class Disk:
         thing = folder if name == "." else folder.now.get(name)
         if call == "sync":
             thing.sync()
+        elif call == "fail":
+            thing.fail()
         elif call == "write":
-            thing.changes += [(int(number) + at, data[at:at + PIECE]) for at in range(0, len(data), PIECE)]
+            for at in range(0, len(data), PIECE):
+                thing.add(int(number) + at, data[at:at + PIECE])
         elif call == "size":
-            thing.changes.append((int(number), None))
+            thing.add(int(number), None)
         elif call == "move":
             folder.set((name, None), (self.found(number)[1], thing))
         elif call == "unlink":
@@ -127,10 +147,10 @@ class Disk:
         elif thing is None:
             folder.set((name, File()))
         elif number == "1":
-            thing.changes.append((0, None))
+            thing.add(0, None)
 
     def make(self, path, keeps, folder=None):
-        """Makes what is there after a loss of power."""
+        """Makes what is there after a loss of power, or where it keeps None, what there is before it."""
         os.mkdir(path)
         for name, thing in (folder or self.top).after(keeps).items():
             at = os.path.join(path, name)
@@ -149,11 +169,16 @@ def calls_of(record):
             yield call, path, number, file.read(int(size)) if call in ("write", "print") else b""
 
 
-def lose(scene, room, disk, place, number):
-    """Looks at each folder that a loss of power may leave here. How many were there."""
+def ways_of(scene, number):
+    """The ways in which the power may go here."""
     draw = random.Random(f"{scene.name} {number}")
     ways = {"nothing": lambda _: False, "names": lambda what: what == "names", "contents": lambda what: what == "contents"}
-    ways |= {f"drawn {turn}": lambda _: draw.random() < 0.5 for turn in range(2)}
+    return ways | {f"drawn {turn}": lambda _: draw.random() < 0.5 for turn in range(2)}
+
+
+def lose(scene, room, disk, place, number):
+    """Looks at each folder that a loss of power may leave here. How many were there."""
+    ways = ways_of(scene, number)
     for way, keeps in ways.items():
         at, folder = f"{place}, {way}", os.path.join(room, "lost")
         disk.make(folder, keeps)
@@ -166,13 +191,60 @@ def lose(scene, room, disk, place, number):
     return len(ways)
 
 
+def repair(scene, room, library, disk, place):
+    """Updates all volumes on this disk, and takes the power away then: they have their files. How many folders were there."""
+    folder, record, names = os.path.join(room, "again"), os.path.join(room, "record again"), [v.name for v in scene.stores()[0].volumes]
+    disk = copy.deepcopy(disk)
+    disk.make(folder, None)
+    disk.base = folder
+    got = scene.run(folder, ["update", "F", *[f"{name}={name}" for name in names]], LD_PRELOAD=library, RECORD=record)
+    if got.returncode:
+        scene.wrong(place, f"update: {got.returncode} {got.stderr}")
+    for call in calls_of(record):
+        disk.do(*call)
+    os.remove(record)
+    shutil.rmtree(folder)
+    ways = ways_of(scene, place)
+    for way, keeps in ways.items():
+        disk.make(folder, keeps)
+        for name in names:
+            shown = scene.run(folder, ["show", "F", name])
+            if shown.returncode or shown.stdout != scene.before.files[name]:
+                scene.wrong(f"{place}, an update, and a loss of power, {way}", f"{name}: {shown.returncode} {shown.stderr}")
+        if scene.run(folder, ["check", "F"]).returncode:
+            scene.wrong(f"{place}, an update, and a loss of power, {way}", "not whole")
+        shutil.rmtree(folder)
+    return len(ways)
+
+
+def fail_each(scene, own, library, step):
+    """Lets each sync of the call fail, and repairs. How many folders were there."""
+    tried, number = 0, 1
+    while True:
+        folder, record = os.path.join(own, "failed"), os.path.join(own, "record of it")
+        shutil.copytree(scene.base, folder)
+        disk = Disk(folder)
+        got = scene.run(folder, scene.call, LD_PRELOAD=library, RECORD=record, FAIL_SYNC=str(number))
+        calls = list(calls_of(record))
+        for call in calls:
+            disk.do(*call)
+        os.remove(record)
+        shutil.rmtree(folder)
+        if not any(call[0] == "fail" for call in calls):
+            return tried
+        if got.returncode != 6:
+            scene.wrong(f"sync {number} fails", f"{got.returncode} {got.stderr}")
+        tried += repair(scene, own, library, disk, f"sync {number} failed")
+        number += (step + 2) // 3
+
+
 def main():
     program, library, room = (os.path.abspath(word) for word in sys.argv[1:4])
-    total = 0
-    for name in sys.argv[4:] or SCENES:
+    step, total = int(sys.argv[4]) if len(sys.argv) > 4 else 1, 0
+    for name in sys.argv[5:] or SCENES:
         own = os.path.join(room, name.replace(" ", "_"))
         os.mkdir(own)
-        scene, disk = Scene(program, own, name), None
+        scene = Scene(program, own, name)
         folder, record = os.path.join(own, "run"), os.path.join(own, "record")
         shutil.copytree(scene.base, folder)
         disk = Disk(folder)
@@ -182,8 +254,13 @@ def main():
         tried = lose(scene, own, disk, "before all", 0)
         for number, (call, path, more, data) in enumerate(calls_of(record), 1):
             disk.do(call, path, more, data)
-            if call != "print":
-                tried += lose(scene, own, disk, f"after call {number}, {call} {os.path.basename(path)}", number)
+            if call != "print" and number % step == 0:
+                place = f"after call {number}, {call} {os.path.basename(path)}"
+                tried += lose(scene, own, disk, place, number)
+                if scene.call[0] != "create":
+                    tried += repair(scene, own, library, disk, place)
+        if scene.call[0] != "create":
+            tried += fail_each(scene, own, library, step)
         disk.make(os.path.join(own, "end"), lambda _: False)
         if scene.run(os.path.join(own, "end"), ["list", "F"]).stdout != scene.after.answer(["list", "F"])[1]:
             scene.wrong("the end", "done, and not all of it lasts")

@@ -1,6 +1,7 @@
 /* Records the calls of the system that change files and folders, for checks/images/power.py: into the file RECORD, a line each, and behind that the bytes
-   that were written. */
+   that were written. With FAIL_SYNC the sync of this number, from 1 on, fails. */
 #define _GNU_SOURCE
+#include <errno.h>
 #include <fcntl.h>
 #include <stdarg.h>
 #include <stdio.h>
@@ -54,8 +55,18 @@ ssize_t write(int file, const void *from, size_t size) {
     say("", 0, __VA_ARGS__);  \
     return done
 
-int fsync(int file) { AFTER(syscall(SYS_fsync, file), "sync\t%s\t0\t0\n", path_of(file)); }
-int fdatasync(int file) { AFTER(syscall(SYS_fdatasync, file), "sync\t%s\t0\t0\n", path_of(file)); }
+static int sync_or_fail(int file, int call) {
+    static int syncs;
+    if (getenv("FAIL_SYNC") && ++syncs == atoi(getenv("FAIL_SYNC"))) {
+        say("", 0, "fail\t%s\t0\t0\n", path_of(file));
+        errno = EIO;
+        return -1;
+    }
+    AFTER(syscall(call, file), "sync\t%s\t0\t0\n", path_of(file));
+}
+
+int fsync(int file) { return sync_or_fail(file, SYS_fsync); }
+int fdatasync(int file) { return sync_or_fail(file, SYS_fdatasync); }
 int ftruncate(int file, off_t size) { AFTER(syscall(SYS_ftruncate, file, size), "size\t%s\t%ld\t0\n", path_of(file), (long)size); }
 int rename(const char *from, const char *to) { AFTER(syscall(SYS_renameat, AT_FDCWD, from, AT_FDCWD, to), "move\t%s\t%s\t0\n", from, to); }
 int unlink(const char *name) { AFTER(syscall(SYS_unlinkat, AT_FDCWD, name, 0), "unlink\t%s\t0\t0\n", name); }

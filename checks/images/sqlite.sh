@@ -1,7 +1,7 @@
 #!/usr/bin/env bash
-# sqlite.sh PROGRAM FOLDER: a process of sqlite3 writes rows into a database with a write-ahead log. Five times it is stopped, both files are brought into a
-# folder of images and cut together, and it goes on. Then each version is taken out: it opens, passes its integrity check, has the rows that were
-# there at the stop, and is byte for byte the copy made then.
+# sqlite.sh PROGRAM FOLDER: a process of sqlite3 writes rows into a database with a write-ahead log, and is never stopped. Five times both files are brought
+# into a folder of images and cut together under SQLite's own lock, which the writer waits for. Then ten updates are tried without the lock: each is done, or says
+# that a file changed; and at the end the log is not there. Each version opens, passes its integrity check, and has the rows that were counted under the lock.
 set -u
 images="$(readlink -f "$1")" && cd "$2" || exit 70
 failed=0
@@ -9,43 +9,49 @@ wrong() { echo "sqlite: $*"; failed=1; }
 
 sqlite3 app.db "pragma journal_mode = wal; create table t (n integer primary key, text)" > sqlite.said || exit 1
 # rows are written in small transactions by one connection, which holds the log open
-(for n in $(seq 1 20000); do echo "insert into t values ($n, hex(randomblob(300)));"; [ $((n % 20)) != 0 ] || sleep 0.02; done) | sqlite3 -cmd "pragma wal_autocheckpoint = 400" app.db > writer.said 2>&1 &
-trap 'kill -CONT "$writer" 2> /dev/null; kill "$writer" 2> /dev/null' EXIT
+(for n in $(seq 1 100000); do echo "insert into t values ($n, hex(randomblob(300)));"; [ $((n % 20)) != 0 ] || sleep 0.02; done) |
+  sqlite3 -cmd ".timeout 20000" -cmd "pragma wal_autocheckpoint = 400" app.db > writer.said 2>&1 &
+trap 'kill "$writer" 2> /dev/null' EXIT
 writer=$!
+for _ in $(seq 500); do [ -s app.db-wal ] && break; sleep 0.02; done
 
-# waits until the log has other bytes
-grown() {
-  local before
-  before="$(sha256sum app.db-wal 2> /dev/null)"
-  for _ in $(seq 500); do
-    sleep 0.02
-    [ -s app.db-wal ] && [ "$(sha256sum app.db-wal)" != "$before" ] && return
-  done
-  wrong "nothing was written"
-}
-
+rows=()
+words="create store 4000 db:2000=app.db log:1000=app.db-wal"
 for version in 1 2 3 4 5; do
-  grown
   sleep 0.2
-  kill -STOP "$writer"
-  [ "$version" != 1 ] || "$images" create store 4000 db:2000=app.db log:1000=app.db-wal || wrong "create: $?"
-  [ "$version" = 1 ] || "$images" update store db=app.db log=app.db-wal > said || wrong "update: $? $(cat said)"
-  [ "$("$images" cut store db log)" = "set $version" ] || wrong "cut $version"
-  mkdir "copy$version" && cp app.db app.db-wal "copy$version/"
-  kill -CONT "$writer"
+  rows[version]="$(sqlite3 app.db ".timeout 20000" "begin immediate" "select count(*) from t" ".shell '$images' $words > said && '$images' cut store db log > set" rollback)"
+  [ "$(cat set)" = "set $version" ] || wrong "version $version: $(cat said)"
+  words="update store db=app.db log=app.db-wal"
+done
+for _ in 1 2 3 4 5 6 7 8 9 10; do
+  "$images" update --tries 2 store db=app.db log=app.db-wal > said 2>&1
+  status=$?
+  case "$status" in
+    0) "$images" cut store db log > set && rows[++version]="" || wrong "cut: $?" ;;
+    12) grep -q "app.db.*: changed while it was read: .*begin immediate" said || wrong "$(cat said)" ;;
+    *) wrong "update without the lock: $status $(cat said)" ;;
+  esac
 done
 kill "$writer"
 wait "$writer" 2> /dev/null
 trap - EXIT
+count="$(sqlite3 app.db "select count(*) from t")"
+[ ! -e app.db-wal ] || wrong "the log is there"
+"$images" update store db=app.db log=- > said && "$images" cut store db log > set || wrong "update without a log: $?"
+rows[++version]="$count"
 
-for version in 1 2 3 4 5; do
-  mkdir "version$version"
-  "$images" show store "$version" db > "version$version/app.db" && "$images" show store "$version" log > "version$version/app.db-wal" || wrong "show $version: $?"
-  cmp "version$version/app.db" "copy$version/app.db" && cmp "version$version/app.db-wal" "copy$version/app.db-wal" || wrong "version $version differs from its copy"
-  [ "$(sqlite3 "version$version/app.db" "pragma integrity_check")" = ok ] || wrong "version $version is not whole"
-  rows="$(sqlite3 "version$version/app.db" "select count(*) from t")"
-  [ "$rows" = "$(sqlite3 "copy$version/app.db" "select count(*) from t")" ] || wrong "version $version has other rows"
-  echo "version $version: $rows rows"
+before=0
+for number in $(seq "$version"); do
+  mkdir "version$number"
+  "$images" show store "$number" db > "version$number/app.db" || wrong "show $number: $?"
+  "$images" show store "$number" log > "version$number/app.db-wal" 2> said
+  status=$?
+  [ "$status" = "$([ "$number" = "$version" ] && echo 13 || echo 0)" ] || wrong "show the log of $number: $status"
+  [ "$(sqlite3 "version$number/app.db" "pragma integrity_check")" = ok ] || wrong "version $number is not whole"
+  found="$(sqlite3 "version$number/app.db" "select count(*) from t")"
+  [ "$found" = "${rows[number]:-$found}" ] && [ "$found" -ge "$before" ] || wrong "version $number has $found rows, not ${rows[number]}, after $before"
+  before="$found"
+  echo "version $number: $found rows"
 done
 "$images" list store
 "$images" check store || wrong "check: $?"

@@ -2,29 +2,16 @@
 
 ghost use Rattle.std.specs.Prelude.{◌≡◌, ◌<◌, length};
 
-use crate::ended::say;
 use crate::list::length_of;
-use crate::naming::{name_in, which_at};
-use crate::opened::Opened;
-use crate::status::Status;
+use image_folder::{Opened, Status, name_in, say, which_at};
 use image_store::Which;
-
-/// Whether the present contents of a volume are in transit.
-fn is_in_transit(opened: &Opened, volume: u32) -> bool
-    requires { volume < length opened.now.store.group.area.volumes }
-{
-    match &opened.marker {
-        Some(marker) => marker.has(name_in(&opened.store, volume)),
-        None => false,
-    }
-}
 
 /// Whether a volume, if it is not in transit, or its image says a length that it has room for; if not, that was printed.
 fn has_length(opened: &mut Opened, volume: u32, which: Which) -> Result<bool, Status>
     requires { volume < length opened.old.store.group.area.volumes }
     ensures { opened.new.store.group.area.volumes ≡ opened.old.store.group.area.volumes }
 {
-    if matches!(which, Which::Now) && is_in_transit(opened, volume) {
+    if matches!(which, Which::Now) && opened.is_in_transit(volume) {
         return Ok(true);
     }
     match length_of(opened, volume, which) {
@@ -47,35 +34,22 @@ fn check_volume(opened: &mut Opened, volume: u32) -> Result<bool, Status>
     Ok(is_whole)
 }
 
-/// Prints the volumes that are in transit, and adds their names.
-fn say_volumes(opened: &Opened, names: &mut String) -> Result<(), Status> {
+/// Prints the volumes that are in transit.
+fn say_volumes(opened: &Opened) -> Result<(), Status> {
     for volume in 0..opened.store.volumes() {
-        if is_in_transit(opened, volume) {
+        if opened.is_in_transit(volume) {
             let name = name_in(&opened.store, volume);
-            say(&opened.folder.rt, format_args!("{name}: in transit\n"))?;
-            write!(names, " {name}")?;
+            say(&opened.folder.program, format_args!("{name}: in transit\n"))?;
         }
     }
     Ok(())
 }
 
-/// Prints what is left to do of a folder that was left open and is whole else.
-fn say_unclean(opened: &Opened, names: &mut String) -> Result<(), Status> {
-    say_volumes(opened, names)?;
-    let (rt, path) = (&opened.folder.rt, opened.folder.path.as_str());
-    if names.is_empty() {
-        say(
-            rt,
-            format_args!("whole; remove {path}/images.open to go on\n"),
-        )?;
-        return Err(Status::Unclean);
-    }
-    say(
-        rt,
-        format_args!(
-            "whole but for{names}; remove {path}/images.open to go on, and update{names}\n"
-        ),
-    )?;
+/// Prints what is left to do of a folder in which volumes of these names are in transit, and that is whole else.
+fn say_unclean(opened: &Opened, names: &str) -> Result<(), Status> {
+    say_volumes(opened)?;
+    let line = format_args!("whole but for{names}; an update of{names} goes on\n");
+    say(&opened.folder.program, line)?;
     Err(Status::Unclean)
 }
 
@@ -88,7 +62,7 @@ fn say_whole(opened: &Opened) -> Result<(), Status> {
     }
     let (volumes, used, slots) = (store.volumes(), store.used_all(), store.slots());
     let line = format_args!("whole: {volumes} volumes, {images} images, {used} of {slots} slots\n");
-    say(&opened.folder.rt, line)
+    say(&opened.folder.program, line)
 }
 
 /// Checks all lengths.
@@ -100,8 +74,11 @@ pub fn check(opened: &mut Opened) -> Result<(), Status> {
     if !is_whole {
         return Err(Status::Damaged);
     }
-    match opened.marker {
-        Some(_) => say_unclean(opened, &mut String::new(opened.folder.rt.alloc())),
-        None => say_whole(opened),
+    let mut names = String::new(opened.folder.program.alloc());
+    opened.add_in_transit(&[], &mut names)?;
+    if names.is_empty() {
+        say_whole(opened)
+    } else {
+        say_unclean(opened, names.as_str())
     }
 }

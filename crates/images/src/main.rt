@@ -1,8 +1,8 @@
 //! The program `images`: keeps files as volumes in a folder, cuts images of several of them together, and gives each version back.
 //!
-//!     images create F SLOTS NAME[:BLOCKS]=FILE ..   makes the folder F: a volume for each file, and a diff area of so many slots
+//!     images create [--tries N] F SLOTS NAME[:BLOCKS]=FILE ..   makes the folder F: a volume for each file, and a diff area of so many slots
 //!     images cut F NAME ..                          cuts one set over these volumes, and prints its number
-//!     images update F NAME=FILE ..                  brings each volume to the file's contents; prints what was evicted, written and copied
+//!     images update [--tries N] F NAME=FILE ..      brings each volume to the file's contents; prints what was evicted, written and copied
 //!     images list F                                 prints the volumes, their images, and the slots in use
 //!     images show F [SET] NAME                      writes the file that the image, or the volume, has
 //!     images digest F [SET] NAME                    prints its SHA-256
@@ -13,49 +13,24 @@
 //! For a status other than 0 it prints one line to the standard error: the file, the field and what was found.
 #![tactic(auto)]
 
-/// The status of this name, of which a line is printed.
-macro_rules! ended {
-    ($rt:expr, $status:ident; $($line:tt)*) => {
-        crate::ended::said(&$rt, Status::$status, format_args!($($line)*))
-    };
-}
-
 mod check;
-mod create;
-mod device_file;
-mod ended;
-mod file_input;
-mod folder;
-mod job;
 mod list;
-mod marker;
-mod naming;
-mod new_store;
-mod opened;
-mod pair;
-mod progress;
 mod request;
 mod sets;
 mod show;
 mod shown_sink;
-mod state;
-mod status;
-mod store_device;
 mod task;
-mod update;
-mod way;
 
-use opened::Opened;
+use image_folder::{Opened, Program, ProgramName, Status, create, ended, open, pairs_of, update};
 use request::{Request, form_of};
-use status::Status;
 use std::process::ExitCode;
 use std::{env, io};
 use task::Task;
 
 /// The words after the program's name.
-fn words_given(rt: &HostRuntime) -> io::Result<Vec<String>> {
-    let mut words = Vec::new(rt.alloc());
-    for word in env::args(rt)?.skip(1) {
+fn words_given(program: &Program) -> io::Result<Vec<String>> {
+    let mut words = Vec::new(program.alloc());
+    for word in env::args(&program.rt)?.skip(1) {
         words.push(word)?;
     }
     Ok(words)
@@ -65,7 +40,10 @@ fn words_given(rt: &HostRuntime) -> io::Result<Vec<String>> {
 fn call_on(opened: &mut Opened, task: Task<'_>) -> Result<(), Status> {
     match task {
         Task::Cut { names } => sets::cut(opened, names),
-        Task::Update { pairs } => update::update(opened, pairs),
+        Task::Update { tries, pairs } => {
+            let pairs = pairs_of(opened.folder.program.alloc(), pairs)?;
+            update(opened, &pairs, tries)
+        }
         Task::List => list::list(opened),
         Task::Show(of) => show::show(opened, of),
         Task::Digest(of) => show::digest(opened, of),
@@ -77,31 +55,41 @@ fn call_on(opened: &mut Opened, task: Task<'_>) -> Result<(), Status> {
 }
 
 /// Does what is asked for.
-fn run(rt: &HostRuntime, request: Request<'_>) -> Result<(), Status> {
-    if let Task::Create { slots, pairs } = request.task {
-        return create::create(rt, request.folder, slots, pairs);
+fn run(program: &Program, request: Request<'_>) -> Result<(), Status> {
+    if let Task::Create {
+        tries,
+        slots,
+        pairs,
+    } = request.task
+    {
+        let pairs = pairs_of(program.alloc(), pairs)?;
+        return create(program, request.folder, slots, &pairs, tries);
     }
-    let mut opened = opened::open(rt, request.folder, request.task.way())?;
+    let mut opened = open(program, request.folder, request.task.way())?;
     let done = call_on(&mut opened, request.task);
     opened.end(done)
 }
 
 /// Does what words ask for. Of those that could not be read as text there are none.
-fn answer(rt: &HostRuntime, words: io::Result<Vec<String>>) -> Result<(), Status> {
+fn answer(program: &Program, words: io::Result<Vec<String>>) -> Result<(), Status> {
     let words = match words {
         Ok(words) => words,
-        Err(error) if error.kind() == io::ErrorKind::InvalidData => Vec::new(rt.alloc()),
+        Err(error) if error.kind() == io::ErrorKind::InvalidData => Vec::new(program.alloc()),
         Err(_) => return Err(Status::OutOfMemory),
     };
     match Request::of(&words) {
-        Some(request) => run(rt, request),
-        None => Err(ended!(*rt, Usage; "usage: {}", form_of(&words))),
+        Some(request) => run(program, request),
+        None => Err(ended!(*program, Usage; "usage: {}", form_of(&words))),
     }
 }
 
 fn main(rt: HostRuntime) -> ExitCode {
-    let words = words_given(&rt);
-    match answer(&rt, words) {
+    let program = Program {
+        rt,
+        name: ProgramName::Images,
+    };
+    let words = words_given(&program);
+    match answer(&program, words) {
         Ok(()) => ExitCode::from(0),
         Err(status) => ExitCode::from(status.code()),
     }

@@ -3,9 +3,7 @@
 ghost use Rattle.std.specs.Prelude.{◌≡◌, ◌≢◌, ◌<◌, length, All, OnOk};
 ghost use Rattle.std.specs.List.{AllPairs};
 
-use crate::naming::name_in;
-use crate::opened::{Files, Opened};
-use crate::status::Status;
+use image_folder::{Files, Opened, Status, ended, name_in, note};
 use image_store::CutFault;
 use vss_names::MOST_IMAGES;
 
@@ -15,7 +13,7 @@ fn refusal(opened: &Opened, fault: CutFault) -> Status {
     match fault {
         CutFault::NoNextSet => {
             let last = u32::MAX;
-            ended!(opened.folder.rt, Refused; "{folder}: sets: {last} was given, there is no next")
+            ended!(opened.folder.program, Refused; "{folder}: sets: {last} was given, there is no next")
         }
         CutFault::TooManyImages { volume } => {
             let name = if volume < opened.store.volumes() {
@@ -23,7 +21,7 @@ fn refusal(opened: &Opened, fault: CutFault) -> Status {
             } else {
                 ""
             };
-            ended!(opened.folder.rt, Refused; "{folder}: images of {name}: {MOST_IMAGES}, at most {MOST_IMAGES}")
+            ended!(opened.folder.program, Refused; "{folder}: images of {name}: {MOST_IMAGES}, at most {MOST_IMAGES}")
         }
     }
 }
@@ -41,14 +39,35 @@ fn add_places(opened: &Opened, names: &[String], volumes: &mut Vec<u32>) -> Resu
     Ok(())
 }
 
+/// Whether volumes of these names were brought to their files by one call.
+fn are_together(opened: &Opened, names: &[String]) -> Result<bool, Status> {
+    let mut words = Vec::new(opened.folder.program.alloc());
+    for name in names {
+        words.push(name.as_str())?;
+    }
+    opened.folder.are_together(&words)
+}
+
 /// `cut F NAME ..`: one set over these volumes.
 pub fn cut(opened: &mut Opened, names: &[String]) -> Result<(), Status> {
-    let mut volumes = Vec::new(opened.folder.rt.alloc());
+    opened.check_transit(&[])?;
+    let mut volumes = Vec::new(opened.folder.program.alloc());
     add_places(opened, names, &mut volumes)?;
+    let are_together = are_together(opened, names)?;
     match opened.store.cut(&volumes) {
         Ok(set) => {
             write!(opened.text, "set {set}\n")?;
-            opened.commit_marked("cut\n")
+            opened.commit_marked("cut\n")?;
+            if !are_together {
+                let (program, path) = (&opened.folder.program, opened.folder.path.as_str());
+                note(
+                    program,
+                    format_args!(
+                        "{path}: set {set} is of volumes that were not brought to their files by one update"
+                    ),
+                );
+            }
+            Ok(())
         }
         Err(fault) => Err(refusal(opened, fault)),
     }
@@ -67,6 +86,7 @@ fn drop_images(store: &mut Files, set: u32, only: Option<u32>) -> u32 {
 
 /// `delete F SET [NAME]`: the images of a set go.
 pub fn delete(opened: &mut Opened, set: u32, name: Option<&str>) -> Result<(), Status> {
+    opened.check_transit(&[])?;
     let only = match name {
         Some(name) => Some(opened.place_of_image(set, name)?),
         None => None,
@@ -75,7 +95,7 @@ pub fn delete(opened: &mut Opened, set: u32, name: Option<&str>) -> Result<(), S
     if count == 0 {
         let folder = opened.folder.path.as_str();
         return Err(
-            ended!(opened.folder.rt, Refused; "{folder}: set {set}: there is no image of it"),
+            ended!(opened.folder.program, Refused; "{folder}: set {set}: there is no image of it"),
         );
     }
     write!(opened.text, "deleted {count}\n")?;
@@ -99,10 +119,13 @@ fn drop_newer(store: &mut Files, set: u32, volume: u32)
 /// `revert F SET NAME`: a volume is brought back to its image of a set. The order of the steps is the point: the newer images go and that is
 /// committed, then blocks are restored and synced, and then the slots that this set free are committed as free.
 pub fn revert(opened: &mut Opened, set: u32, name: &str) -> Result<(), Status> {
+    opened.check_transit(&[name])?;
     let volume = opened.place_of_image(set, name)?;
-    let text = format!(in opened.folder.rt.alloc(); "revert\n{name}\n")?;
+    opened.settle()?;
+    let text = format!(in opened.folder.program.alloc(); "revert\n{name}\n")?;
     drop_newer(&mut opened.store, set, volume);
     opened.commit_marked(text.as_str())?;
+    opened.folder.note_together(&[name])?;
     if opened.store.revert(set, volume).is_err() || opened.store.flush(volume).is_err() {
         return Err(Status::DeviceFault);
     }

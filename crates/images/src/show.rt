@@ -2,22 +2,23 @@
 
 ghost use Rattle.std.specs.Prelude.{◌<◌, length, IfOk};
 
-use crate::folder::{AREA, Folder};
-use crate::marker::Marker;
-use crate::naming::name_in;
-use crate::opened::Opened;
-use crate::progress::Progress;
 use crate::shown_sink::ShownSink;
-use crate::status::Status;
 use crate::task::Shown;
 use block_data::{BLOCK, Hasher};
+use image_folder::{ABSENT, AREA, Opened, Progress, Status, ended, name_in};
 use image_store::{ShowFault, Which};
 
 /// Says that the folder was left open. What is in transit is refused.
-fn check_marker(folder: &Folder, marker: &Marker, which: Which, name: &str) -> Result<(), Status> {
-    let status = ended!(folder.rt, Unclean; "{}: left open by {marker}", folder.path);
+fn check_marker(opened: &Opened, volume: u32, which: Which) -> Result<(), Status>
+    requires { volume < length opened.now.store.group.area.volumes }
+{
+    let Some(marker) = &opened.marker else {
+        return Ok(());
+    };
+    let folder = &opened.folder;
+    let status = ended!(folder.program, Unclean; "{}: left open by {marker}", folder.path);
     match which {
-        Which::Now if marker.has(name) => Err(status),
+        Which::Now if marker.has(&opened.store, volume) => Err(status),
         _ => Ok(()),
     }
 }
@@ -30,9 +31,7 @@ fn found(opened: &Opened, of: Shown<'_>) -> Result<(u32, Which), Status>
         None => (opened.place_of(of.name)?, Which::Now),
         Some(set) => (opened.place_of_image(set, of.name)?, Which::Of(set)),
     };
-    if let Some(marker) = &opened.marker {
-        check_marker(&opened.folder, marker, which, of.name)?;
-    }
+    check_marker(opened, volume, which)?;
     Ok((volume, which))
 }
 
@@ -43,15 +42,22 @@ pub fn refusal(opened: &Opened, volume: u32, which: Which, fault: ShowFault) -> 
     let (folder, name) = (opened.folder.path.as_str(), name_in(&opened.store, volume));
     let size = u64::from(opened.store.blocks(volume)) * BLOCK as u64;
     match fault {
-        ShowFault::BadLength { found } => match which {
-            Which::Now => {
-                ended!(opened.folder.rt, Damaged; "{folder}/{name}.vol: length: {found} in {size} bytes")
-            }
+        ShowFault::BadLength { found: ABSENT } => match which {
+            Which::Now =>
+                ended!(opened.folder.program, Absent; "{folder}: {name}: its file was not there"),
             Which::Of(set) => {
-                ended!(opened.folder.rt, Damaged; "{folder}/{AREA}: set {set} of {name}: length: {found} in {size} bytes")
+                ended!(opened.folder.program, Absent; "{folder}: set {set} of {name}: its file was not there")
             }
         },
-        ShowFault::Sink => ended!(opened.folder.rt, WriteFault; "write fault"),
+        ShowFault::BadLength { found } => match which {
+            Which::Now => {
+                ended!(opened.folder.program, Damaged; "{folder}/{name}.vol: length: {found} in {size} bytes")
+            }
+            Which::Of(set) => {
+                ended!(opened.folder.program, Damaged; "{folder}/{AREA}: set {set} of {name}: length: {found} in {size} bytes")
+            }
+        },
+        ShowFault::Sink => ended!(opened.folder.program, WriteFault; "write fault"),
         _ => Status::DeviceFault,
     }
 }
@@ -64,7 +70,7 @@ fn show_in(
     sink: &mut ShownSink,
 ) -> Result<(), Status> {
     let (volume, which) = found(opened, of)?;
-    sink.progress = Progress::new(&opened.folder.rt, word, opened.store.blocks(volume));
+    sink.progress = Progress::new(&opened.folder.program, word, opened.store.blocks(volume));
     let done = opened.store.show(volume, which, sink);
     sink.progress.clear();
     match done {
@@ -75,16 +81,16 @@ fn show_in(
 
 /// `show F [SET] NAME`: writes the file.
 pub fn show(opened: &mut Opened, of: Shown<'_>) -> Result<(), Status> {
-    let mut sink = ShownSink::new(&opened.folder.rt, None);
+    let mut sink = ShownSink::new(&opened.folder.program, None);
     show_in(opened, of, "shown", &mut sink)
 }
 
 /// `digest F [SET] NAME`: prints the SHA-256 of the file.
 pub fn digest(opened: &mut Opened, of: Shown<'_>) -> Result<(), Status> {
-    let mut sink = ShownSink::new(&opened.folder.rt, Some(Hasher::new()));
+    let mut sink = ShownSink::new(&opened.folder.program, Some(Hasher::new()));
     show_in(opened, of, "digested", &mut sink)?;
     if let Some(hasher) = sink.hasher {
-        let digits = hex::encode(opened.folder.rt.alloc(), hasher.finish().as_slice())?;
+        let digits = hex::encode(opened.folder.program.alloc(), hasher.finish().as_slice())?;
         write!(opened.text, "{digits}\n")?;
     }
     Ok(())

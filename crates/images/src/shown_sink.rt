@@ -1,5 +1,5 @@
-use crate::progress::Progress;
 use block_data::Hasher;
+use image_folder::{Program, Progress};
 use io_edge::{OutSink, Sink};
 use vss_names::Failed;
 
@@ -13,11 +13,11 @@ pub struct ShownSink {
 
 impl ShownSink {
     /// One that took nothing; with a hasher, what it takes goes there.
-    pub fn new(rt: &HostRuntime, hasher: Option<Hasher>) -> ShownSink {
+    pub fn new(program: &Program, hasher: Option<Hasher>) -> ShownSink {
         ShownSink {
-            out: OutSink::new(rt.stdout()),
+            out: OutSink::new(program.rt.stdout()),
             hasher,
-            progress: Progress::new(rt, "", 0),
+            progress: Progress::new(program, "", 0),
         }
     }
 }

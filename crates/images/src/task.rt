@@ -1,18 +1,35 @@
-use crate::pair::{are_pairs, number_of, set_of};
-use crate::way::Way;
+use image_folder::{Way, are_pairs, number_of, set_of};
+
+/// How often a file that changes is read at most, if no words say it.
+const TRIES: u32 = 5;
 
 /// What is to be done with a folder.
 #[derive(Clone, Copy)]
 pub enum Task<'a> {
-    Create { slots: u32, pairs: &'a [String] },
-    Cut { names: &'a [String] },
-    Update { pairs: &'a [String] },
+    Create {
+        tries: u32,
+        slots: u32,
+        pairs: &'a [String],
+    },
+    Cut {
+        names: &'a [String],
+    },
+    Update {
+        tries: u32,
+        pairs: &'a [String],
+    },
     List,
     Show(Shown<'a>),
     Digest(Shown<'a>),
     /// Without a name, of each volume that has an image of the set.
-    Delete { set: u32, name: Option<&'a str> },
-    Revert { set: u32, name: &'a str },
+    Delete {
+        set: u32,
+        name: Option<&'a str>,
+    },
+    Revert {
+        set: u32,
+        name: &'a str,
+    },
     Check,
 }
 
@@ -34,9 +51,10 @@ fn words_shown<'a>(words: &'a [String]) -> Option<Shown<'a>> {
 }
 
 /// What `create` makes of these words.
-fn create_of<'a>(words: &'a [String]) -> Option<Task<'a>> {
+fn create_of<'a>(tries: u32, words: &'a [String]) -> Option<Task<'a>> {
     match words {
         [slots, pairs @ ..] if are_pairs(pairs, true) => Some(Task::Create {
+            tries,
             slots: number_of(slots.as_str())?,
             pairs,
         }),
@@ -65,18 +83,21 @@ fn revert_of<'a>(words: &'a [String]) -> Option<Task<'a>> {
 }
 
 impl<'a> Task<'a> {
-    /// What the first word and those after the folder ask for.
-    pub fn of(word: &str, rest: &'a [String]) -> Option<Task<'a>> {
-        match word {
-            "create" => create_of(rest),
-            "cut" => (!rest.is_empty()).then_some(Task::Cut { names: rest }),
-            "update" => are_pairs(rest, false).then_some(Task::Update { pairs: rest }),
-            "list" => rest.is_empty().then_some(Task::List),
-            "show" => Some(Task::Show(words_shown(rest)?)),
-            "digest" => Some(Task::Digest(words_shown(rest)?)),
-            "delete" => delete_of(rest),
-            "revert" => revert_of(rest),
-            "check" => rest.is_empty().then_some(Task::Check),
+    /// What the first word and those after the folder ask for, and how often a file that changes is read at most, if words say it.
+    pub fn of(word: &str, tries: Option<u32>, rest: &'a [String]) -> Option<Task<'a>> {
+        match (word, tries) {
+            ("create", _) => create_of(tries.unwrap_or(TRIES), rest),
+            ("update", _) => are_pairs(rest, false).then_some(Task::Update {
+                tries: tries.unwrap_or(TRIES),
+                pairs: rest,
+            }),
+            ("cut", None) => (!rest.is_empty()).then_some(Task::Cut { names: rest }),
+            ("list", None) => rest.is_empty().then_some(Task::List),
+            ("show", None) => Some(Task::Show(words_shown(rest)?)),
+            ("digest", None) => Some(Task::Digest(words_shown(rest)?)),
+            ("delete", None) => delete_of(rest),
+            ("revert", None) => revert_of(rest),
+            ("check", None) => rest.is_empty().then_some(Task::Check),
             _ => None,
         }
     }
@@ -85,8 +106,7 @@ impl<'a> Task<'a> {
     pub fn way(self) -> Way {
         match self {
             Task::Check => Way::Checking,
-            Task::Show(_) | Task::Digest(_) => Way::Showing,
-            Task::List => Way::Listing,
+            Task::Show(_) | Task::Digest(_) | Task::List => Way::Showing,
             _ => Way::Writing,
         }
     }

@@ -1,11 +1,13 @@
 //! An open folder, and what a call on it leaves to be done at its end.
 
-ghost use Rattle.std.specs.Prelude.{◌≡◌};
+ghost use Rattle.std.specs.Prelude.{◌≡◌, ◌<◌, length};
 
 use crate::device_file::{add_devices, open_device};
 use crate::ended::{by_device, say};
-use crate::folder::{AREA, Folder, STATE};
+use crate::folder::{AREA, Folder, MARKER, STATE};
 use crate::marker::Marker;
+use crate::naming::name_in;
+use crate::program::Program;
 use crate::state::State;
 use crate::status::Status;
 use crate::store_device::StoreDevice;
@@ -27,6 +29,10 @@ pub struct Opened {
     pub text: String,
     /// Whether the marker of this call is there. Then the store is closed and the marker goes before anything is printed.
     pub is_marked: bool,
+    /// Whether this call began to overwrite a volume: the marker stays if it is not done.
+    pub is_torn: bool,
+    /// How many sets are left at least: sooner a call gives up.
+    pub least: u32,
 }
 
 /// Says why devices are no store. Where there are too few, of each that is not there a line was printed.
@@ -36,10 +42,10 @@ fn refusal(folder: &Folder, refused: Refused<StoreDevice>) -> Status {
         OpenFault::OutOfMemory => Status::OutOfMemory,
         OpenFault::Devices { .. } => Status::Damaged,
         OpenFault::Area(AreaFault::Device) => match area {
-            Some(area) => by_device(&folder.rt, area.into_fault()),
+            Some(area) => by_device(&folder.program, area.into_fault()),
             None => Status::DeviceFault,
         },
-        fault => ended!(folder.rt, Damaged; "{}/{STATE}: {fault}", folder.path),
+        fault => ended!(folder.program, Damaged; "{}/{STATE}: {fault}", folder.path),
     }
 }
 
@@ -50,7 +56,7 @@ fn take_up(
     area: StoreDevice,
     head: &Head,
 ) -> Result<Files, Status> {
-    match Store::open(folder.rt.alloc(), devices, area, head) {
+    match Store::open(folder.program.alloc(), devices, area, head) {
         Ok(store) => Ok(store),
         Err(refused) => Err(refusal(folder, refused)),
     }
@@ -63,82 +69,119 @@ fn store_of(folder: &Folder, way: Way) -> Result<Files, Status> {
         front,
         area_blocks,
     } = State::read(folder)?;
-    let mut devices = Vec::new(folder.rt.alloc());
+    let mut devices = Vec::new(folder.program.alloc());
     add_devices(folder, head.catalog(), way, &mut devices)?;
-    let area = open_device(&folder.rt, folder.path_of(AREA)?, way, area_blocks, front)?;
+    let area = open_device(
+        &folder.program,
+        folder.path_of(AREA)?,
+        way,
+        area_blocks,
+        front,
+    )?;
     take_up(folder, devices, area, &head)
 }
 
 /// Says the first device that failed.
-fn first_fault(rt: &HostRuntime, devices: Vec<StoreDevice>, area: StoreDevice) -> Status {
+fn first_fault(program: &Program, devices: Vec<StoreDevice>, area: StoreDevice) -> Status {
     for device in devices {
         let fault = device.into_fault();
         if fault.is_some() {
-            return by_device(rt, fault);
+            return by_device(program, fault);
         }
     }
-    by_device(rt, area.into_fault())
+    by_device(program, area.into_fault())
 }
 
 /// Says the device that failed, if one did: what is left to say of a call that was not done.
-pub fn take_apart(rt: &HostRuntime, store: Files, status: Status) -> Status {
+pub fn take_apart(program: &Program, store: Files, status: Status) -> Status {
     let Status::DeviceFault = status else {
         return status;
     };
     let (devices, area) = store.into_devices();
-    first_fault(rt, devices, area)
+    first_fault(program, devices, area)
 }
 
 /// Closes a store.
-pub fn close(rt: &HostRuntime, store: Files) -> Result<(), Status> {
+pub fn close(program: &Program, store: Files) -> Result<(), Status> {
     let closed = store.close();
     match closed.outcome {
         Ok(()) => Ok(()),
-        Err(_) => Err(first_fault(rt, closed.devices, closed.area)),
+        Err(_) => Err(first_fault(program, closed.devices, closed.area)),
     }
 }
 
 /// Ends a call on a store, which is closed if the call was done and changed it.
 fn end_store(
-    rt: &HostRuntime,
+    program: &Program,
     store: Files,
     is_changed: bool,
     done: Result<(), Status>,
 ) -> Result<(), Status> {
     match done {
-        Err(status) => Err(take_apart(rt, store, status)),
-        Ok(()) if is_changed => close(rt, store),
+        Err(status) => Err(take_apart(program, store, status)),
+        Ok(()) if is_changed => close(program, store),
         Ok(()) => Ok(()),
     }
 }
 
-/// Refuses a folder that was left open to a call that needs one that was not.
-fn check_marker(folder: &Folder, marker: Option<&Marker>, way: Way) -> Result<(), Status> {
-    let path = folder.path.as_str();
-    match (way, marker) {
-        (Way::Listing | Way::Writing, Some(marker)) => Err(
-            ended!(folder.rt, Unclean; "{path}: left open by {marker}; ./images check {path} says what is whole"),
-        ),
-        _ => Ok(()),
-    }
-}
-
-/// Opens a folder. One that was left open is refused, but to show or to check it.
-pub fn open(rt: &HostRuntime, path: &str, way: Way) -> Result<Opened, Status> {
-    let folder = Folder::open(rt, path, way)?;
-    let marker = folder.marker()?;
-    check_marker(&folder, marker.as_ref(), way)?;
+/// Opens a folder.
+pub fn open(program: &Program, path: &str, way: Way) -> Result<Opened, Status> {
+    let folder = Folder::open(program, path, way)?;
     let store = store_of(&folder, way)?;
+    let marker = match folder.small(MARKER)? {
+        Some(bytes) => Some(Marker::of(program.alloc(), &bytes, &store)?),
+        None => None,
+    };
     Ok(Opened {
         folder,
         store,
         marker,
-        text: String::new(rt.alloc()),
+        text: String::new(program.alloc()),
         is_marked: false,
+        is_torn: false,
+        least: 0,
     })
 }
 
 impl Opened {
+    /// Whether the present contents of a volume are in transit, by the marker that was found.
+    pub fn is_in_transit(&self, volume: u32) -> bool
+        requires { volume < length self.now.store.group.area.volumes }
+    {
+        match &self.marker {
+            Some(marker) => marker.has(&self.store, volume),
+            None => false,
+        }
+    }
+
+    /// Adds the names of the volumes in transit, but for those of a list, each with a space before it.
+    pub fn add_in_transit(&self, but: &[&str], names: &mut String) -> Result<(), Status> {
+        for volume in 0..self.store.volumes() {
+            let name = name_in(&self.store, volume);
+            if self.is_in_transit(volume) && !(&*but).contains(&name) {
+                write!(names, " {name}")?;
+            }
+        }
+        Ok(())
+    }
+
+    /// Refuses a call on a folder in which volumes are in transit that it does not bring to other contents: those of these names it does.
+    pub fn check_transit(&self, brought: &[&str]) -> Result<(), Status> {
+        let (Folder { program, path, .. }, alloc) = (&self.folder, self.folder.program.alloc());
+        let mut names = String::new(alloc);
+        self.add_in_transit(brought, &mut names)?;
+        match &self.marker {
+            Some(marker) if !names.is_empty() => {
+                let mut all = String::new(alloc);
+                self.add_in_transit(&[], &mut all)?;
+                Err(
+                    ended!(*program, Unclean; "{path}: left open by {marker}; an update of{all} goes on, and ./images check {path} says what is whole"),
+                )
+            }
+            _ => Ok(()),
+        }
+    }
+
     /// Makes the marker of this call.
     pub fn mark(&mut self, text: &str) -> Result<(), Status>
         ensures { self.new.store ≡ self.old.store }
@@ -155,16 +198,17 @@ impl Opened {
         if self.store.sync().is_err() {
             return Err(Status::DeviceFault);
         }
-        let head = self.store.head(self.folder.rt.alloc())?;
+        let head = self.store.head(self.folder.program.alloc())?;
         let slots = self.store.slots().min(MOST_SLOTS);
         self.folder.commit(head.bytes(), slots)
     }
 
     /// Ends what was done up to here, where the volumes have what they had. If it failed, and what is committed is known, that is as before
-    /// too, but for evictions that were printed, so the marker goes.
+    /// too, but for evictions. So the marker goes, unless volumes were in transit before.
     pub fn or_unmark(&self, done: Result<(), Status>) -> Result<(), Status> {
         match done {
             Ok(()) | Err(Status::Unsettled) => {}
+            Err(_) if self.is_torn => {}
             Err(_) => self.folder.unmark_in_silence(),
         }
         done
@@ -188,7 +232,7 @@ impl Opened {
             is_marked,
             ..
         } = self;
-        let ended = end_store(&folder.rt, store, is_marked, done);
+        let ended = end_store(&folder.program, store, is_marked, done);
         folder.end(text.as_str(), is_marked, ended)
     }
 }

@@ -7,20 +7,40 @@ use crate::ended::by_device;
 use crate::folder::{AREA, Folder};
 use crate::job::Job;
 use crate::opened::Files;
+use crate::own_file::new_file;
+use crate::program::Program;
 use crate::status::Status;
 use crate::store_device::StoreDevice;
+use block_data::BLOCK;
 use diff_area::{Area, pages_for};
 use image_store::{NewFault, Store};
-use volume_device::{Device, FileDevice};
+use std::fs::File;
+use std::io;
+use volume_device::{Device, FileCall, FileDevice, FileFault};
 use vss_names::{MOST_BLOCKS, MOST_SLOTS, MOST_VOLUMES, Text};
 
+/// A new file of so many zero blocks, or the call that failed.
+fn new_blocks(program: &Program, path: &str, blocks: u32) -> Result<File, (FileCall, io::Error)> {
+    let file = match new_file(program, path) {
+        Ok(file) => file,
+        Err(error) => return Err((FileCall::Create, error)),
+    };
+    match file.set_len(u64::from(blocks) * BLOCK as u64) {
+        Ok(()) => Ok(file),
+        Err(error) => Err((FileCall::SetLength, error)),
+    }
+}
+
 /// A device over a new file of zeros.
-fn new_device(rt: &HostRuntime, path: String, blocks: u32) -> Result<StoreDevice, Status>
+fn new_device(program: &Program, path: String, blocks: u32) -> Result<StoreDevice, Status>
     ensures { IfOk result (λ device. ⟦<StoreDevice as Device>⟧.size device ≡ blocks) }
 {
-    match FileDevice::create(rt, path, blocks) {
-        Ok(file) => Ok(StoreDevice::new(file, Vec::new(rt.alloc()))),
-        Err(fault) => Err(by_device(rt, Some(fault))),
+    match new_blocks(program, path.as_str(), blocks) {
+        Ok(file) => Ok(StoreDevice::new(
+            FileDevice::new(file, path, blocks),
+            Vec::new(program.alloc()),
+        )),
+        Err((call, error)) => Err(by_device(program, Some(FileFault { path, call, error }))),
     }
 }
 
@@ -47,14 +67,17 @@ fn sum_of(blocks: &[u32]) -> u64 {
 }
 
 /// How many blocks the volumes have, if that is not too many.
-pub fn blocks_of(rt: &HostRuntime, jobs: &[Job<'_>]) -> Result<Vec<u32>, Status>
+pub fn blocks_of(program: &Program, jobs: &[Job<'_>]) -> Result<Vec<u32>, Status>
     ensures volumes { IfOk result (λ blocks. AreVolumes blocks.items) }
     ensures blocks { IfOk result (λ blocks. blocks.items ≡ map (λ job. job.input.blocks) jobs.now) }
 {
-    let blocks: Vec<u32> = jobs.iter().map(|job| job.input.blocks).collect(rt.alloc())?;
+    let blocks: Vec<u32> = jobs
+        .iter()
+        .map(|job| job.input.blocks)
+        .collect(program.alloc())?;
     let in_all = sum_of(&blocks);
     if in_all > MOST_IN_ALL || !are_volumes(&blocks) {
-        return Err(ended!(*rt, Refused; "blocks: {in_all} in all, at most {MOST_IN_ALL}"));
+        return Err(ended!(*program, Refused; "blocks: {in_all} in all, at most {MOST_IN_ALL}"));
     }
     Ok(blocks)
 }
@@ -67,8 +90,8 @@ fn new_area(folder: &Folder, slots: u32, blocks: &[u32]) -> Result<Area<StoreDev
     ensures records { IfOk result (λ area. area.records ≡ replicate slots free) }
 {
     let path = folder.path_of(AREA)?;
-    let device = new_device(&folder.rt, path, 1 + pages_for(slots) + slots)?;
-    match Area::open_new(folder.rt.alloc(), device, slots, blocks) {
+    let device = new_device(&folder.program, path, 1 + pages_for(slots) + slots)?;
+    match Area::open_new(folder.program.alloc(), device, slots, blocks) {
         Ok(area) => Ok(area),
         Err(_) => Err(Status::OutOfMemory),
     }
@@ -78,19 +101,19 @@ fn new_area(folder: &Folder, slots: u32, blocks: &[u32]) -> Result<Area<StoreDev
 fn new_devices(folder: &Folder, jobs: &[Job<'_>]) -> Result<Vec<StoreDevice>, Status>
     ensures { IfOk result (λ devices. map ⟦<StoreDevice as Device>⟧.size devices.items ≡ map (λ job. job.input.blocks) jobs.now) }
 {
-    let mut devices = Vec::new(folder.rt.alloc());
+    let mut devices = Vec::new(folder.program.alloc());
     for job in jobs {
         let path = folder.path_of_volume(job.name)?;
-        devices.push(new_device(&folder.rt, path, job.input.blocks)?)?;
+        devices.push(new_device(&folder.program, path, job.input.blocks)?)?;
     }
     Ok(devices)
 }
 
 /// The names of the volumes.
-fn names_of(rt: &HostRuntime, jobs: &[Job<'_>]) -> Result<Vec<Text>, Status> {
-    let mut names = Vec::new(rt.alloc());
+fn names_of(program: &Program, jobs: &[Job<'_>]) -> Result<Vec<Text>, Status> {
+    let mut names = Vec::new(program.alloc());
     for job in jobs {
-        names.push(Text::copy(rt.alloc(), job.name.as_bytes())?)?;
+        names.push(Text::copy(program.alloc(), job.name.as_bytes())?)?;
     }
     Ok(names)
 }
@@ -99,11 +122,11 @@ fn names_of(rt: &HostRuntime, jobs: &[Job<'_>]) -> Result<Vec<Text>, Status> {
 pub fn new_store(folder: &Folder, slots: u32, jobs: &[Job<'_>]) -> Result<Files, Status>
     requires { slots ≤ MOST_SLOTS }
 {
-    let blocks = blocks_of(&folder.rt, jobs)?;
-    let names = names_of(&folder.rt, jobs)?;
+    let blocks = blocks_of(&folder.program, jobs)?;
+    let names = names_of(&folder.program, jobs)?;
     let devices = new_devices(folder, jobs)?;
     let area = new_area(folder, slots, &blocks)?;
-    match Store::new(folder.rt.alloc(), devices, area, names) {
+    match Store::new(folder.program.alloc(), devices, area, names) {
         Ok(store) => Ok(store),
         Err(NewFault::Names) => Err(Status::DeviceFault),
         Err(NewFault::OutOfMemory) => Err(Status::OutOfMemory),

@@ -1,0 +1,79 @@
+#!/usr/bin/env python3
+"""Updates a folder of images from two files while a process writes them, and sees that no update that is done has files of two moments.
+
+    torn.py PROGRAM FOLDER COUNT
+
+The writer counts: it brings a number into all of `log` and then into all of `db`, and pauses now and then. It writes in place and puts the time of the last change
+back, or it renames new files into place. So at each moment each file has one number, and that of `log` is the one of `db` or the next. COUNT updates are made of each kind.
+"""
+import os
+import random
+import subprocess
+import sys
+import time
+
+SIZE = 60000
+OWN = os.path.abspath(__file__)
+
+
+def write(path, number, renames):
+    """Brings a number into all of a file."""
+    data = (b"%015d\n" % number) * (SIZE // 16)
+    if renames:
+        with open(path + ".other", "wb") as file:
+            file.write(data)
+        os.rename(path + ".other", path)
+        return
+    kept = os.stat(path)
+    with open(path, "r+b") as file:
+        file.write(data)
+    os.utime(path, ns=(kept.st_atime_ns, kept.st_mtime_ns))
+
+
+def write_on(renames):
+    """Counts until it is killed."""
+    draw = random.Random(0)
+    for number in range(1, 10**9):
+        write("log", number, renames)
+        time.sleep(draw.choice([0, 0, 0.001, 0.01]))
+        write("db", number, renames)
+        time.sleep(draw.choice([0, 0.002, 0.02, 0.1]))
+
+
+def numbers_of(program, name):
+    """The numbers in a volume."""
+    return set(subprocess.run([program, "show", "F", name], capture_output=True, check=True).stdout.split())
+
+
+def main():
+    program, folder, count = os.path.abspath(sys.argv[1]), sys.argv[2], int(sys.argv[3])
+    for renames in (False, True):
+        room = os.path.join(folder, "renames" if renames else "in_place")
+        os.mkdir(room)
+        os.chdir(room)
+        for name in ("log", "db"):
+            write(name, 0, True)
+        subprocess.run([program, "create", "F", "0", "db=db", "log=log"], check=True)
+        with subprocess.Popen([sys.executable, OWN, "write", str(int(renames))]) as writer:
+            done = 0
+            for turn in range(count):
+                got = subprocess.run([program, "update", "--tries", "1", "F", "db=db", "log=log"], capture_output=True, check=False)
+                if got.returncode not in (0, 12):
+                    sys.exit(f"torn.py: {got}")
+                if got.returncode == 0:
+                    done += 1
+                    db, log = numbers_of(program, "db"), numbers_of(program, "log")
+                    if len(db) != 1 or len(log) != 1 or int(min(log)) - int(min(db)) not in (0, 1):
+                        writer.kill()
+                        sys.exit(f"torn.py: update {turn} is done, and db has {sorted(db)[:3]}, log {sorted(log)[:3]}")
+            writer.kill()
+        if not done:
+            sys.exit("torn.py: no update was done")
+        print(f"{'renamed' if renames else 'in place'}: {done} of {count} updates were done, all of one moment")
+        os.chdir(folder)
+
+
+if sys.argv[1] == "write":
+    write_on(sys.argv[2] == "1")
+else:
+    main()

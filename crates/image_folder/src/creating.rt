@@ -1,0 +1,237 @@
+//! A folder is made under another name, filled, synced, and renamed.
+
+ghost use Rattle.std.specs.Prelude.{◌≤◌, OnOk};
+
+use crate::ended::of_folder;
+use crate::file_input::FileInput;
+use crate::folder::Folder;
+use crate::job::{Job, before_try, check_all, names_of, say_changed, wait_out_all};
+use crate::naming::{check_once, may_name};
+use crate::new_store::{blocks_of, new_store};
+use crate::opened::{Files, close, take_apart};
+use crate::own_file::new_folder;
+use crate::pair::Pair;
+use crate::program::Program;
+use crate::status::Status;
+use crate::way::Way;
+use block_data::BLOCK;
+use std::fs;
+use std::io::ErrorKind;
+use vss_names::{MOST_BLOCKS, MOST_SLOTS, MOST_VOLUMES, Text};
+use write_history::Evicted;
+
+/// What is refused of the words of one volume, beside those before it.
+fn check_pair(
+    program: &Program,
+    path: &str,
+    pair: Pair<'_>,
+    earlier: &[Pair<'_>],
+) -> Result<(), Status> {
+    may_name(program, pair.name)?;
+    check_once(program, path, pair, earlier)?;
+    let name = pair.name;
+    match pair.blocks {
+        Some(blocks) if blocks == 0 || blocks > MOST_BLOCKS => Err(
+            ended!(*program, Refused; "{name}: blocks: {blocks}, and a volume has 1 to {MOST_BLOCKS}"),
+        ),
+        _ => Ok(()),
+    }
+}
+
+/// What is refused of the words alone.
+fn check_words(program: &Program, path: &str, slots: u32, pairs: &[Pair<'_>]) -> Result<(), Status>
+    ensures { OnOk result (slots ≤ MOST_SLOTS) }
+{
+    for (place, pair) in pairs.iter().enumerate() {
+        check_pair(program, path, *pair, &pairs[..place])?;
+    }
+    if slots > MOST_SLOTS {
+        return Err(ended!(*program, Refused; "SLOTS {slots}: at most {MOST_SLOTS}"));
+    }
+    let volumes = pairs.len();
+    if volumes > MOST_VOLUMES as usize {
+        return Err(ended!(*program, Refused; "volumes: {volumes}, at most {MOST_VOLUMES}"));
+    }
+    Ok(())
+}
+
+/// How many blocks the volume of a pair has: those that were given, or as many as its file needs, with its length.
+fn blocks_for(program: &Program, pair: Pair<'_>, length: u64) -> Result<u32, Status> {
+    if let Some(blocks) = pair.blocks {
+        return Ok(blocks);
+    }
+    let blocks = length.saturating_add(8).div_ceil(BLOCK as u64);
+    if blocks <= u64::from(MOST_BLOCKS) {
+        return Ok(blocks as u32);
+    }
+    let (file, most) = (pair.file, u64::from(MOST_BLOCKS) * BLOCK as u64 - 8);
+    Err(
+        ended!(*program, Refused; "{file}: length: {length} bytes, and a volume has at most {most}"),
+    )
+}
+
+/// Adds the job of a pair, of the new volume of this number.
+fn add_job<'a>(
+    program: &Program,
+    pair: Pair<'a>,
+    volume: u32,
+    jobs: &mut Vec<Job<'a>>,
+) -> Result<(), Status> {
+    let mut input = FileInput::open(program, pair.file)?;
+    let blocks = blocks_for(program, pair, input.length())?;
+    input.fit(pair.name, blocks)?;
+    Ok(jobs.push(Job::new(program.alloc(), pair.name, volume, input)?)?)
+}
+
+/// Brings all new volumes to their files. No block of zeros is written. The head of the store is answered.
+fn put_all(
+    program: &Program,
+    store: &mut Files,
+    jobs: &mut [Job<'_>],
+    gone: &mut Vec<Evicted>,
+) -> Result<Text, Status> {
+    for job in jobs.iter_mut() {
+        job.compare(store)?;
+        job.overwrite(store, gone, "")?;
+    }
+    check_all(jobs)?;
+    Ok(store.head(program.alloc())?)
+}
+
+/// Fills a new folder, and sees that it lasts.
+fn fill(folder: &Folder, slots: u32, jobs: &mut [Job<'_>]) -> Result<(), Status>
+    requires { slots ≤ MOST_SLOTS }
+{
+    let mut store = new_store(folder, slots, jobs)?;
+    let program = &folder.program;
+    match put_all(program, &mut store, jobs, &mut Vec::new(program.alloc())) {
+        Err(status) => Err(take_apart(program, store, status)),
+        Ok(head) => {
+            close(program, store)?;
+            folder.note_together(&names_of(program.alloc(), jobs)?)?;
+            folder.commit(head.bytes(), slots)
+        }
+    }
+}
+
+/// The folder in which a path lies.
+fn parent_of(path: &str) -> &str {
+    match path.rsplit_once('/') {
+        None => ".",
+        Some(("", _)) => "/",
+        Some((parent, _)) => parent,
+    }
+}
+
+/// Fills a folder that is held under its new name, and gives it its own.
+fn make(folder: &Folder, path: &str, slots: u32, jobs: &mut [Job<'_>]) -> Result<(), Status>
+    requires { slots ≤ MOST_SLOTS }
+{
+    folder.lock(Way::Writing)?;
+    fill(folder, slots, jobs)?;
+    let (program, new) = (&folder.program, folder.path.as_str());
+    of_folder(
+        program,
+        new,
+        "could not be renamed",
+        fs::rename(&program.rt, new, path),
+    )?;
+    Folder::hold(program, parent_of(path))?.sync()
+}
+
+/// Makes the folder under its new name.
+fn create_new(program: &Program, new: &str) -> Result<(), Status> {
+    let made = new_folder(program, new);
+    if let Err(error) = &made {
+        if error.kind() == ErrorKind::AlreadyExists {
+            return Err(
+                ended!(*program, Refused; "{new}: is left of a create that did not end; remove it"),
+            );
+        }
+    }
+    of_folder(program, new, "could not be created", made)
+}
+
+/// Makes a folder of the volumes of these jobs, which are those of its numbers from 0 on. Where it fails, nothing of it is left.
+pub fn make_new(
+    program: &Program,
+    path: &str,
+    slots: u32,
+    jobs: &mut [Job<'_>],
+) -> Result<(), Status>
+    requires { slots ≤ MOST_SLOTS }
+{
+    let _blocks = blocks_of(program, jobs)?;
+    let new = format!(in program.alloc(); "{path}.new")?;
+    create_new(program, new.as_str())?;
+    let made = match Folder::hold(program, new.as_str()) {
+        Ok(folder) => make(&folder, path, slots, jobs),
+        Err(status) => Err(status),
+    };
+    if made.is_err() {
+        let _ = fs::remove_dir_all(&program.rt, new.as_str());
+    }
+    made
+}
+
+/// Makes a folder of the volumes of these pairs, by the jobs, which are none yet.
+fn create_by<'a>(
+    program: &Program,
+    path: &str,
+    slots: u32,
+    pairs: &[Pair<'a>],
+    jobs: &mut Vec<Job<'a>>,
+) -> Result<(), Status>
+    requires { slots ≤ MOST_SLOTS }
+{
+    let mut volume = 0u32;
+    for pair in pairs {
+        add_job(program, *pair, volume, jobs)?;
+        volume = volume.saturating_add(1);
+    }
+    wait_out_all(jobs);
+    make_new(program, path, slots, jobs.as_mut_slice())
+}
+
+/// Tries to make a folder up to so many times, while a file changes.
+fn create_in_tries(
+    program: &Program,
+    path: &str,
+    slots: u32,
+    pairs: &[Pair<'_>],
+    tries: u32,
+) -> Result<(), Status>
+    requires { slots ≤ MOST_SLOTS }
+{
+    let mut jobs = Vec::new(program.alloc());
+    let mut done = create_by(program, path, slots, pairs, &mut jobs);
+    for number in 1..tries {
+        if !matches!(done, Err(Status::InputChanged)) {
+            break;
+        }
+        before_try(program, &mut jobs, number);
+        done = create_by(program, path, slots, pairs, &mut jobs);
+    }
+    say_changed(&jobs, "");
+    done
+}
+
+/// Makes the folder of a path, with a diff area of so many slots, and a volume for the file of each pair. While a file changes it is tried so
+/// often.
+pub fn create(
+    program: &Program,
+    path: &str,
+    slots: u32,
+    pairs: &[Pair<'_>],
+    tries: u32,
+) -> Result<(), Status> {
+    let path = match path.trim_end_matches('/') {
+        "" => path,
+        trimmed => trimmed,
+    };
+    check_words(program, path, slots, pairs)?;
+    if fs::symlink_metadata(&program.rt, path).is_ok() {
+        return Err(ended!(*program, Refused; "{path}: is there already"));
+    }
+    create_in_tries(program, path, slots, pairs, tries)
+}

@@ -1,0 +1,339 @@
+ghost use Rattle.std.specs.Prelude.{◌≡◌, ◌<◌, ◌≤◌, length};
+ghost use Rattle.vss_names.specs.Faults.{HasCause};
+
+use crate::own_file::is_same;
+use crate::program::Program;
+use crate::progress::Progress;
+use crate::status::Status;
+use block_data::BLOCK;
+use byteorder::{ByteOrder, LittleEndian};
+use image_store::PassFault;
+use std::fs::{File, Metadata};
+use std::io::ErrorKind;
+use std::os::unix::fs::{FileExt, MetadataExt};
+use std::time::{Duration, SystemTime, UNIX_EPOCH};
+use std::{fs, io, thread};
+use volume_device::Device;
+use vss_names::Failed;
+
+/// The word for a file that is not there.
+pub const NONE: &str = "-";
+
+/// What a volume has in place of the length of a file that was not there.
+pub const ABSENT: u64 = u64::MAX;
+
+/// How many bytes the length of a file has.
+const LENGTH: usize = 8;
+
+/// What is to be done of the writer of a file that changes.
+const ADVICE: &str =
+    "stop or freeze its writer, as SQLite's lock does: sqlite3 DATABASE '.timeout 5000' 'begin immediate' '.shell COMMAND' rollback";
+
+/// For how many milliseconds the system may give the same time to two changes of a file, and two more for what is rounded.
+const TICK: u64 = 12;
+
+/// A file that was named, as the blocks of a volume: its bytes, zeros, and its length in the last eight bytes
+/// (`image_store/specs/FileBytes.antt`). It is read alone, and as long as it was when it was opened.
+#[derive(Drop)]
+pub struct FileInput<'a> {
+    pub program: Program,
+    path: &'a str,
+    /// The file and what was found of it, if it is there.
+    source: Option<(File, Metadata)>,
+    pub blocks: u32,
+    count: u64,
+    last: Option<io::Error>,
+    /// How long it was when it was seen to have changed.
+    changed: Option<u64>,
+    pub progress: Progress,
+}
+
+/// Ends a block of which the first `have` bytes are the file's: zeros, and in the last block of the volume the file's length in bytes.
+fn end_block(out: &mut [u8], have: usize, is_last: bool, file_length: u64)
+    requires whole { length out.old ≡ BLOCK }
+    requires part { have ≤ BLOCK }
+{
+    out[have..].fill(0);
+    if is_last {
+        LittleEndian::write_u64(&mut out[BLOCK - LENGTH..], file_length);
+    }
+}
+
+/// Whether a file is as long as it was, and was not changed since. The time of its change is the system's own, which no writer puts back.
+fn is_unchanged(before: &Metadata, now: &Metadata) -> bool {
+    now.len() == before.len()
+        && now.mtime() == before.mtime()
+        && now.mtime_nsec() == before.mtime_nsec()
+        && now.ctime() == before.ctime()
+        && now.ctime_nsec() == before.ctime_nsec()
+}
+
+/// Milliseconds of seconds and nanoseconds.
+fn millis_of(seconds: u64, nanos: u64) -> u64 {
+    seconds
+        .saturating_mul(1000)
+        .saturating_add(nanos / 1_000_000)
+}
+
+/// Whether a file changed so short a time ago that the next change of it may have the same time.
+fn is_fresh(program: &Program, found: &Metadata) -> bool {
+    let Ok(now) = SystemTime::now(&program.rt) else {
+        return true;
+    };
+    let Ok(now) = now.duration_since(UNIX_EPOCH) else {
+        return true;
+    };
+    let now = millis_of(now.as_secs(), u64::from(now.subsec_nanos()));
+    let changed = millis_of(
+        u64::try_from(found.ctime()).unwrap_or(0),
+        u64::try_from(found.ctime_nsec()).unwrap_or(0),
+    );
+    now.saturating_sub(changed) < TICK && changed.saturating_sub(now) < TICK
+}
+
+/// Opens a file that was named, if it is one: nobody waits for the other end of a pipe.
+fn file_at(program: &Program, path: &str) -> io::Result<Option<(File, Metadata)>> {
+    if !fs::metadata(&program.rt, path)?.is_file() {
+        return Ok(None);
+    }
+    let file = File::open(&program.rt, path)?;
+    let found = file.metadata()?;
+    Ok(Some((file, found)))
+}
+
+/// The file of a path.
+fn source_at(program: &Program, path: &str) -> Result<(File, Metadata), Status> {
+    match file_at(program, path) {
+        Ok(Some(found)) => Ok(found),
+        Ok(None) => Err(ended!(*program, Unread; "{path}: is no file")),
+        Err(error) => Err(ended!(*program, Unread; "{path}: could not be read: {error}")),
+    }
+}
+
+/// Whether a file is the one that was found at its path, and has not changed since; and if not, how long it is.
+fn look_again(
+    program: &Program,
+    path: &str,
+    file: &File,
+    found: &Metadata,
+) -> io::Result<Option<u64>> {
+    let now = file.metadata()?;
+    let is_there = match fs::metadata(&program.rt, path) {
+        Ok(named) => is_same(&named, found),
+        Err(_) => false,
+    };
+    Ok((!is_there || !is_unchanged(found, &now)).then_some(now.len()))
+}
+
+impl<'a> FileInput<'a> {
+    /// The file of a path, as yet of no blocks; `-` is a file that is not there.
+    pub fn open(program: &Program, path: &'a str) -> Result<FileInput<'a>, Status> {
+        let source = match path {
+            NONE => None,
+            _ => Some(source_at(program, path)?),
+        };
+        Ok(FileInput {
+            program: *program,
+            path,
+            source,
+            blocks: 0,
+            count: 0,
+            last: None,
+            changed: None,
+            progress: Progress::new(program, "compared", 0),
+        })
+    }
+
+    /// The file of a path, as yet of no blocks. If nothing has this path it counts as a file that is not there.
+    pub fn open_or_none(program: &Program, path: &'a str) -> Result<FileInput<'a>, Status> {
+        match fs::metadata(&program.rt, path) {
+            Err(error) if error.kind() == ErrorKind::NotFound => {
+                let mut input = FileInput::open(program, NONE)?;
+                input.path = path;
+                Ok(input)
+            }
+            _ => FileInput::open(program, path),
+        }
+    }
+
+    /// That there is still no file of this path.
+    fn check_none(&mut self) -> Result<(), Status> {
+        if self.path == NONE {
+            return Ok(());
+        }
+        match fs::metadata(&self.program.rt, self.path) {
+            Err(_) => Ok(()),
+            Ok(now) => {
+                self.changed = Some(now.len());
+                Err(Status::InputChanged)
+            }
+        }
+    }
+
+    /// Gives it so many blocks, those of the volume of this name, in which it has to have room with its length.
+    pub fn fit(&mut self, name: &str, blocks: u32) -> Result<(), Status> {
+        let room = (u64::from(blocks) * BLOCK as u64).saturating_sub(LENGTH as u64);
+        let (path, length) = (self.path, self.length());
+        if length > room {
+            return Err(
+                ended!(self.program, Refused; "{path}: length: {length} bytes, and {name} has room for {room}"),
+            );
+        }
+        self.blocks = blocks;
+        self.progress = Progress::new(&self.program, "compared", blocks);
+        Ok(())
+    }
+
+    /// How many bytes it had when it was opened.
+    pub fn length(&self) -> u64 {
+        match &self.source {
+            Some((_, found)) => found.len(),
+            None => 0,
+        }
+    }
+
+    /// What the volume has as its length.
+    fn length_kept(&self) -> u64 {
+        match &self.source {
+            Some((_, found)) => found.len(),
+            None => ABSENT,
+        }
+    }
+
+    /// Whether it is the file of another path.
+    pub fn is_at(&self, path: String) -> bool {
+        match (&self.source, fs::metadata(&self.program.rt, path.as_str())) {
+            (Some((_, found)), Ok(other)) => is_same(&other, found),
+            _ => false,
+        }
+    }
+
+    /// Waits until the next change of it has another time than the last one.
+    pub fn wait_out(&self) {
+        if let Some((_, found)) = &self.source {
+            if is_fresh(&self.program, found) {
+                thread::sleep(&self.program.rt, Duration::from_millis(TICK));
+            }
+        }
+    }
+
+    /// That the file is at its path, and has not changed since it was opened. So all that was read of it is of one moment.
+    pub fn check(&mut self) -> Result<(), Status> {
+        let Some((file, found)) = &self.source else {
+            return self.check_none();
+        };
+        match look_again(&self.program, self.path, file, found) {
+            Ok(None) => Ok(()),
+            Ok(changed) => {
+                self.changed = changed;
+                Err(Status::InputChanged)
+            }
+            Err(error) => Err(self.unread(&error, "")),
+        }
+    }
+
+    /// Says that the file changed, if it did, and what to do of its writer.
+    pub fn say_changed(&self, more: &str) {
+        if let Some(now) = self.changed {
+            let (path, before) = (self.path, self.length());
+            let _ =
+                ended!(self.program, InputChanged; "{path}: changed while it was read: {before} bytes and then {now}{more}; {ADVICE}");
+        }
+    }
+
+    /// Says that the file could not be read.
+    fn unread(&self, error: &io::Error, more: &str) -> Status {
+        ended!(self.program, Unread; "{}: could not be read: {error}{more}", self.path)
+    }
+
+    /// Ends a pass: what is said of one that failed, of a read of the file with this behind it, or of a device of the folder. A file that ends
+    /// early changed.
+    pub fn end(&mut self, fault: Option<PassFault>, more: &str) -> Result<(), Status> {
+        self.progress.clear();
+        match (fault, &self.last) {
+            (None, _) => Ok(()),
+            (Some(PassFault::Input), Some(error)) if error.kind() != ErrorKind::UnexpectedEof => {
+                Err(self.unread(error, more))
+            }
+            (Some(PassFault::Input), _) => {
+                self.check()?;
+                self.changed = Some(self.length());
+                Err(Status::InputChanged)
+            }
+            _ => Err(Status::DeviceFault),
+        }
+    }
+
+    /// Reads as much of the block as the file has, and ends it.
+    fn read_part(&self, index: u32, out: &mut [u8]) -> io::Result<()>
+        requires in_range { index < self.now.blocks }
+        requires whole { length out.old ≡ BLOCK }
+    {
+        let place = u64::from(index) * BLOCK as u64;
+        let have = self.length().saturating_sub(place).min(BLOCK as u64) as usize;
+        if let Some((file, _)) = &self.source {
+            file.read_exact_at(&mut out[..have], place)?;
+        }
+        end_block(out, have, index == self.blocks - 1, self.length_kept());
+        Ok(())
+    }
+
+    /// What is told of a call. One that failed is counted and kept.
+    fn outcome(&mut self, done: io::Result<()>) -> Result<(), Failed>
+        ensures size { self.new.blocks ≡ self.old.blocks }
+        ensures cause { HasCause self.old.count self.new.count result }
+    {
+        match done {
+            Ok(()) => Ok(()),
+            Err(error) => {
+                self.count = self.count.saturating_add(1);
+                self.last = Some(error);
+                Err(Failed)
+            }
+        }
+    }
+}
+
+impl<'a> Device for FileInput<'a> {
+    ghost use Rattle.std.specs.Prelude.{None, false};
+
+    ghost told = { λ d. None };
+
+    ghost size = { λ d. d.blocks };
+
+    ghost count = { λ d. d.count };
+
+    ghost lending = { λ d. false };
+
+    ghost lasting = { λ d. None };
+
+    fn blocks(&self) -> u32 {
+        self.blocks
+    }
+
+    fn read_into(&mut self, index: u32, out: &mut [u8]) -> Result<(), Failed> {
+        self.progress.step(1);
+        let done = self.read_part(index, out);
+        self.outcome(done)
+    }
+
+    fn write(&mut self, _index: u32, _block: &[u8]) -> Result<(), Failed> {
+        self.outcome(Err(io::Error::from(ErrorKind::Unsupported)))
+    }
+
+    fn flush(&mut self) -> Result<(), Failed> {
+        Ok(())
+    }
+
+    fn lends(&self) -> bool {
+        false
+    }
+
+    fn lend(&self, _index: u32) -> Option<&[u8]> {
+        None
+    }
+
+    fn faults(&self) -> u64 {
+        self.count
+    }
+}

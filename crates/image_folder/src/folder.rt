@@ -1,0 +1,250 @@
+ghost use Rattle.std.specs.Prelude.{◌≡◌, ◌≤◌, length};
+
+use crate::ended::{of_folder, say};
+use crate::marker::sealed;
+use crate::own_file::{all_of, new_file, own_at, own_file};
+use crate::program::Program;
+use crate::status::Status;
+use crate::way::Way;
+use block_data::{BLOCK, BlockBuf, Hasher};
+use diff_area::pages_for;
+use std::alloc::AllocError;
+use std::fs::{File, TryLockError};
+use std::io::{ErrorKind, Write};
+use std::os::unix::fs::FileExt;
+use std::{fs, io};
+use volume_device::FileDevice;
+use vss_names::MOST_SLOTS;
+
+/// The name of the state's file.
+pub const STATE: &str = "images.state";
+
+/// The name of the area's file.
+pub const AREA: &str = "images.area";
+
+/// The name of the marker's file.
+pub const MARKER: &str = "images.open";
+
+/// The name of the file that has which volumes were brought to their files together.
+pub const TOGETHER: &str = "images.together";
+
+/// What becomes the state's file by a rename.
+const STATE_NEW: &str = "images.state.new";
+
+/// The most bytes of a marker, and of the list of what was brought together.
+const MOST_SMALL: u64 = 8192;
+
+/// An open folder of images. It is locked until this is dropped.
+#[derive(Drop)]
+pub struct Folder {
+    pub program: Program,
+    pub path: String,
+    held: File,
+}
+
+/// Writes a state: a head, so many blocks of the front of the area's file, and the digest of both. All of it lasts then.
+fn write_parts(
+    file: &mut File,
+    block: &mut [u8],
+    head: &[u8],
+    area: &File,
+    front: u32,
+) -> io::Result<()>
+    requires { length block.old ≡ BLOCK }
+{
+    let mut hasher = Hasher::new();
+    hasher.add(head);
+    file.write_all(head)?;
+    for index in 0..front {
+        area.read_exact_at(block, u64::from(index) * BLOCK as u64)?;
+        hasher.add(block);
+        file.write_all(block)?;
+    }
+    file.write_all(hasher.finish().as_slice())?;
+    file.sync_all()
+}
+
+/// Makes the file of a state.
+fn write_state(
+    program: &Program,
+    path: &str,
+    head: &[u8],
+    area: &File,
+    front: u32,
+) -> io::Result<()> {
+    let mut file = new_file(program, path)?;
+    match BlockBuf::zeroed(program.alloc()) {
+        Ok(mut block) => write_parts(&mut file, block.bytes_mut(), head, area, front),
+        Err(_) => Err(io::Error::from(ErrorKind::OutOfMemory)),
+    }
+}
+
+/// Makes a file of these bytes, and sees that it lasts.
+fn write_whole(program: &Program, path: &str, bytes: &[u8]) -> io::Result<()> {
+    let mut file = new_file(program, path)?;
+    file.write_all(bytes)?;
+    file.sync_all()
+}
+
+/// The bytes of a small file, where it is there; none of what cannot be one.
+fn small_at(program: &Program, path: &str) -> Result<Option<Vec<u8>>, Status> {
+    let bytes = match own_at(program, path, false) {
+        Err(error) if error.kind() == ErrorKind::NotFound => return Ok(None),
+        Ok(Some((file, found))) if found.len() <= MOST_SMALL => all_of(program, file),
+        Ok(_) => return Ok(Some(Vec::new(program.alloc()))),
+        Err(error) => Err(error),
+    };
+    Ok(Some(of_folder(program, path, "could not be read", bytes)?))
+}
+
+/// That a folder has a state.
+fn check_state(program: &Program, path: &str) -> Result<(), Status> {
+    let state = format!(in program.alloc(); "{path}/{STATE}")?;
+    match fs::symlink_metadata(&program.rt, state.as_str()) {
+        Ok(_) => Ok(()),
+        Err(error) => Err(
+            ended!(*program, Refused; "{path}: no folder of images ({STATE}: {error})"),
+        ),
+    }
+}
+
+impl Folder {
+    /// Opens a folder of images that is there, and locks it.
+    pub fn open(program: &Program, path: &str, way: Way) -> Result<Folder, Status> {
+        check_state(program, path)?;
+        let folder = Folder::hold(program, path)?;
+        folder.lock(way)?;
+        Ok(folder)
+    }
+
+    /// Locks it: alone to write, beside others to read.
+    pub fn lock(&self, way: Way) -> Result<(), Status> {
+        let locked = match way {
+            Way::Writing => self.held.try_lock(),
+            _ => self.held.try_lock_shared(),
+        };
+        match locked {
+            Ok(()) => Ok(()),
+            Err(TryLockError::WouldBlock) => {
+                Err(ended!(self.program, InUse; "{}: in use by another process", self.path))
+            }
+            Err(TryLockError::Error(error)) => {
+                Err(
+                    ended!(self.program, FolderFault; "{}: could not be locked: {error}", self.path),
+                )
+            }
+        }
+    }
+
+    /// Holds a folder.
+    pub fn hold(program: &Program, path: &str) -> Result<Folder, Status> {
+        let held = File::open(&program.rt, path);
+        let held = of_folder(program, path, "could not be opened", held)?;
+        Ok(Folder {
+            program: *program,
+            path: String::from_str(program.alloc(), path)?,
+            held,
+        })
+    }
+
+    /// The path of a file in it.
+    pub fn path_of(&self, name: &str) -> Result<String, AllocError> {
+        format!(in self.program.alloc(); "{}/{name}", self.path)
+    }
+
+    /// The path of a volume's file.
+    pub fn path_of_volume(&self, name: &str) -> Result<String, AllocError> {
+        format!(in self.program.alloc(); "{}/{name}.vol", self.path)
+    }
+
+    /// The bytes of a small file of it, where it is there; none of one that is no file or too long.
+    pub fn small(&self, name: &str) -> Result<Option<Vec<u8>>, Status> {
+        small_at(&self.program, self.path_of(name)?.as_str())
+    }
+
+    /// Makes a small file of it, and sees that it lasts.
+    pub fn put_small(&self, name: &str, text: &str) -> Result<(), Status> {
+        let new = format!(in self.program.alloc(); "{}/{name}.new", self.path)?;
+        let made = write_whole(&self.program, new.as_str(), text.as_bytes());
+        self.put(new.as_str(), made, name)
+    }
+
+    /// Makes the marker of a call, of its name and those of the volumes whose present contents will be in transit, a line each, and sees that
+    /// it lasts.
+    pub fn mark(&self, lines: &str) -> Result<(), Status> {
+        self.put_small(MARKER, sealed(self.program.alloc(), lines)?.as_str())
+    }
+
+    /// Takes the marker away, and sees that this lasts.
+    pub fn unmark(&self) -> Result<(), Status> {
+        let path = self.path_of(MARKER)?;
+        let gone = fs::remove_file(&self.program.rt, path.as_str());
+        of_folder(&self.program, path.as_str(), "could not be removed", gone)?;
+        self.sync()
+    }
+
+    /// Takes the marker away behind a call that failed. Where that fails too, nothing is said.
+    pub fn unmark_in_silence(&self) {
+        if let Ok(path) = self.path_of(MARKER) {
+            if fs::remove_file(&self.program.rt, path.as_str()).is_ok() {
+                let _ = self.held.sync_all();
+            }
+        }
+    }
+
+    /// Ends a call that was done: its marker goes, if there is one, before anything is printed.
+    pub fn end(&self, text: &str, is_marked: bool, done: Result<(), Status>) -> Result<(), Status> {
+        done?;
+        if is_marked {
+            self.unmark()?;
+        }
+        say(&self.program, text)
+    }
+
+    /// Makes a state what the next opening finds: the head, and the header and the table of an area of so many slots, as the area's file has
+    /// them. The area was synced before.
+    pub fn commit(&self, head: &[u8], slots: u32) -> Result<(), Status>
+        requires { slots ≤ MOST_SLOTS }
+    {
+        let path = self.path_of(AREA)?;
+        let (area, _) = own_file(&self.program, path.as_str(), false, "could not be opened")?;
+        let new = self.path_of(STATE_NEW)?;
+        let made = write_state(
+            &self.program,
+            new.as_str(),
+            head,
+            &area,
+            1 + pages_for(slots),
+        );
+        self.put(new.as_str(), made, STATE)
+    }
+
+    /// A device of so many blocks over a new file of it, which has no name any more: it is gone once it is closed.
+    pub fn spool(&self, name: &str, blocks: u32) -> Result<FileDevice, Status> {
+        let path = format!(in self.program.alloc(); "{}/{name}.spool", self.path)?;
+        let made = new_file(&self.program, path.as_str());
+        let file = of_folder(&self.program, path.as_str(), "could not be made", made)?;
+        let gone = fs::remove_file(&self.program.rt, path.as_str());
+        of_folder(&self.program, path.as_str(), "could not be removed", gone)?;
+        Ok(FileDevice::new(file, path, blocks))
+    }
+
+    /// Gives a file of it that was made this name, and sees that this lasts.
+    fn put(&self, new: &str, made: io::Result<()>, name: &str) -> Result<(), Status> {
+        of_folder(&self.program, new, "could not be written", made)?;
+        let path = self.path_of(name)?;
+        let renamed = fs::rename(&self.program.rt, new, path.as_str());
+        of_folder(&self.program, new, "could not be renamed", renamed)?;
+        self.sync()
+    }
+
+    /// Sees that its names last.
+    pub fn sync(&self) -> Result<(), Status> {
+        match self.held.sync_all() {
+            Ok(()) => Ok(()),
+            Err(error) => {
+                Err(ended!(self.program, Unsettled; "{}: could not be synced: {error}", self.path))
+            }
+        }
+    }
+}

@@ -1,0 +1,52 @@
+//! A folder that keeps files as volumes, and images of them that were cut together, for the programs that work on one: its files as devices under an
+//! `image_store`, its lock, its state and its marker, and the passes and commits of an update.
+//!
+//! `create` makes a folder, `open` opens one, `update` brings volumes to files, and `Opened::end` ends a call. A call that fails has said why in one
+//! line on the standard error, and answers a `Status`.
+#![tactic(auto)]
+
+/// The status of this name, of which a line is printed.
+#[macro_export]
+macro_rules! ended {
+    ($program:expr, $status:ident; $($line:tt)*) => {
+        $crate::said(&$program, $crate::Status::$status, format_args!($($line)*))
+    };
+}
+
+mod creating;
+mod device_file;
+mod ended;
+mod file_input;
+mod folder;
+mod job;
+mod marker;
+mod naming;
+mod new_store;
+mod opened;
+mod own_file;
+mod pair;
+mod program;
+mod progress;
+mod settling;
+mod state;
+mod status;
+mod store_device;
+mod together;
+mod updating;
+mod way;
+
+pub use creating::{create, make_new};
+pub use ended::{note, said, say};
+pub use file_input::{ABSENT, FileInput};
+pub use folder::{AREA, Folder, STATE};
+pub use job::Job;
+pub use marker::Marker;
+pub use naming::{check_once, may_name, name_in, which_at};
+pub use opened::{Files, Opened, open};
+pub use pair::{Pair, are_pairs, number_of, pairs_of, set_of};
+pub use program::{Program, ProgramName};
+pub use progress::Progress;
+pub use status::Status;
+pub use store_device::StoreDevice;
+pub use updating::{is_own, update, update_by};
+pub use way::Way;

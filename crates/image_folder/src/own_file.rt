@@ -1,0 +1,77 @@
+//! The files of a folder: opened where no link is followed, and made where nobody but the owner may read them.
+
+use crate::ended::of_folder;
+use crate::program::Program;
+use crate::status::Status;
+use std::fs::{DirBuilder, File, Metadata};
+use std::io::{ErrorKind, Read};
+use std::os::unix::fs::{DirBuilderExt, MetadataExt, OpenOptionsExt};
+use std::{fs, io};
+
+/// Who may do what with a folder, and with a file of it: its owner alone.
+const FOLDER_MODE: u32 = 0o700;
+
+const FILE_MODE: u32 = 0o600;
+
+/// Whether both are of one file.
+pub fn is_same(one: &Metadata, other: &Metadata) -> bool {
+    one.dev() == other.dev() && one.ino() == other.ino()
+}
+
+/// Opens a file of a folder, if it is one. A link is none, and nor is what took the name of the file meanwhile.
+pub fn own_at(program: &Program, path: &str, writes: bool) -> io::Result<Option<(File, Metadata)>> {
+    let named = fs::symlink_metadata(&program.rt, path)?;
+    if !named.is_file() {
+        return Ok(None);
+    }
+    let file = File::options()
+        .read(true)
+        .write(writes)
+        .open(&program.rt, path)?;
+    let found = file.metadata()?;
+    if !is_same(&named, &found) {
+        return Ok(None);
+    }
+    Ok(Some((file, found)))
+}
+
+/// Opens a file of a folder. Of what cannot be opened, read or written, that is said in these words, as `could not be read`.
+pub fn own_file(
+    program: &Program,
+    path: &str,
+    writes: bool,
+    what: &str,
+) -> Result<(File, Metadata), Status> {
+    match of_folder(program, path, what, own_at(program, path, writes))? {
+        Some(found) => Ok(found),
+        None => Err(ended!(*program, Damaged; "{path}: is no file")),
+    }
+}
+
+/// All bytes of a file that was opened.
+pub fn all_of(program: &Program, mut file: File) -> io::Result<Vec<u8>> {
+    let mut bytes = Vec::new(program.alloc());
+    file.read_to_end(&mut bytes)?;
+    Ok(bytes)
+}
+
+/// Makes a file of a folder. What had its name goes: a link there is not followed.
+pub fn new_file(program: &Program, path: &str) -> io::Result<File> {
+    match fs::remove_file(&program.rt, path) {
+        Err(error) if error.kind() != ErrorKind::NotFound => return Err(error),
+        _ => {}
+    }
+    File::options()
+        .read(true)
+        .write(true)
+        .create_new(true)
+        .mode(FILE_MODE)
+        .open(&program.rt, path)
+}
+
+/// Makes a folder.
+pub fn new_folder(program: &Program, path: &str) -> io::Result<()> {
+    DirBuilder::new()
+        .mode(FOLDER_MODE)
+        .create(&program.rt, path)
+}

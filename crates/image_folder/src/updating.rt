@@ -1,0 +1,191 @@
+//! Volumes are brought to files, in three passes with the commits between them. Their order is the point of this
+//! file: the blocks that differ are found; their old bytes are copied into slots, and that is committed; and then they are overwritten. So
+//! what is committed shows every image at each moment.
+
+ghost use Rattle.std.specs.Prelude.{◌<◌, length};
+
+use crate::file_input::FileInput;
+use crate::folder::{AREA, STATE, TOGETHER};
+use crate::job::{Job, before_try, check_all, names_of, say_changed, wait_out_all};
+use crate::naming::{check_once, name_in};
+use crate::opened::Opened;
+use crate::pair::Pair;
+use crate::status::Status;
+use vss_names::MOST_IMAGES;
+use write_history::Evicted;
+
+/// Whether this is a file of the folder.
+pub fn is_own(opened: &Opened, input: &FileInput<'_>) -> Result<bool, Status> {
+    let folder = &opened.folder;
+    for volume in 0..opened.store.volumes() {
+        if input.is_at(folder.path_of_volume(name_in(&opened.store, volume))?) {
+            return Ok(true);
+        }
+    }
+    Ok(
+        input.is_at(folder.path_of(AREA)?)
+            || input.is_at(folder.path_of(STATE)?)
+            || input.is_at(folder.path_of(TOGETHER)?),
+    )
+}
+
+/// That the file of a pair is none of the folder, and has room in the volume.
+fn fit(
+    opened: &Opened,
+    pair: Pair<'_>,
+    volume: u32,
+    input: &mut FileInput<'_>,
+) -> Result<(), Status>
+    requires { volume < length opened.now.store.group.area.volumes }
+{
+    if is_own(opened, input)? {
+        return Err(
+            ended!(opened.folder.program, Refused; "{}: is a file of {}", pair.file, opened.folder.path),
+        );
+    }
+    input.fit(pair.name, opened.store.blocks(volume))
+}
+
+/// Adds the job of a pair.
+fn add_job<'a>(opened: &Opened, pair: Pair<'a>, jobs: &mut Vec<Job<'a>>) -> Result<(), Status> {
+    let volume = opened.place_of(pair.name)?;
+    let mut input = FileInput::open(&opened.folder.program, pair.file)?;
+    fit(opened, pair, volume, &mut input)?;
+    Ok(jobs.push(Job::new(opened.folder.program.alloc(), pair.name, volume, input)?)?)
+}
+
+/// Makes the marker, with the names of the volumes.
+fn mark(opened: &mut Opened, jobs: &[Job<'_>]) -> Result<(), Status> {
+    let mut text = String::from_str(opened.folder.program.alloc(), "update\n")?;
+    for job in jobs {
+        write!(text, "{}\n", job.name)?;
+    }
+    opened.mark(text.as_str())
+}
+
+/// The second pass, committed.
+fn copy_all(
+    opened: &mut Opened,
+    jobs: &mut [Job<'_>],
+    gone: &mut Vec<Evicted>,
+) -> Result<(), Status> {
+    for job in jobs.iter_mut() {
+        job.copy_ahead(opened, gone)?;
+    }
+    opened.commit()
+}
+
+/// Notes that the volumes of jobs are brought to their files together.
+fn note(opened: &Opened, jobs: &[Job<'_>]) -> Result<(), Status> {
+    let names = names_of(opened.folder.program.alloc(), jobs)?;
+    opened.folder.note_together(&names)
+}
+
+/// The second and the third pass, under a marker.
+fn write_all(
+    opened: &mut Opened,
+    jobs: &mut [Job<'_>],
+    gone: &mut Vec<Evicted>,
+) -> Result<(), Status> {
+    mark(opened, jobs)?;
+    let copied = copy_all(opened, jobs, gone);
+    opened.or_unmark(copied)?;
+    opened.is_torn = true;
+    note(opened, jobs)?;
+    for job in jobs.iter_mut() {
+        let (alloc, name) = (opened.folder.program.alloc(), job.name);
+        let more = format!(in alloc; "; {name} has a part of each: update it again")?;
+        job.overwrite(&mut opened.store, gone, more.as_str())?;
+    }
+    check_all(jobs)
+}
+
+/// Sees that volumes in which no block differs last. Where that fails they are in transit: what was not synced counts as not kept.
+fn flush_all(opened: &mut Opened, jobs: &[Job<'_>]) -> Result<(), Status> {
+    for job in jobs {
+        if job.volume < opened.store.volumes() && opened.store.flush(job.volume).is_err() {
+            mark(opened, jobs)?;
+            return Err(Status::DeviceFault);
+        }
+    }
+    note(opened, jobs)
+}
+
+/// All passes over the volumes of jobs, and the lines of what was written and copied.
+pub fn update_by(
+    opened: &mut Opened,
+    jobs: &mut [Job<'_>],
+    gone: &mut Vec<Evicted>,
+) -> Result<(), Status> {
+    let mut is_changed = opened.marker.is_some() || opened.is_marked;
+    for job in jobs.iter_mut() {
+        job.compare(&mut opened.store)?;
+        is_changed |= job.written > 0;
+    }
+    check_all(jobs)?;
+    if is_changed {
+        write_all(opened, jobs, gone)?;
+    } else {
+        flush_all(opened, jobs)?;
+    }
+    for job in jobs.iter() {
+        let (name, written, copied) = (job.name, job.written, job.copied);
+        write!(opened.text, "{name} written {written} copied {copied}\n")?;
+    }
+    Ok(())
+}
+
+/// Brings the volumes of pairs to their files, by the jobs, which are none yet.
+fn update_pairs<'a>(
+    opened: &mut Opened,
+    pairs: &[Pair<'a>],
+    jobs: &mut Vec<Job<'a>>,
+) -> Result<(), Status> {
+    for pair in pairs {
+        add_job(opened, *pair, jobs)?;
+    }
+    wait_out_all(jobs);
+    let alloc = opened.folder.program.alloc();
+    let mut gone = Vec::with_capacity(alloc, MOST_IMAGES * opened.store.volumes() as usize)?;
+    update_by(opened, jobs.as_mut_slice(), &mut gone)
+}
+
+/// That each pair has a volume, and a volume of its own, and that none is in transit that none of them has.
+fn check_pairs(opened: &Opened, pairs: &[Pair<'_>]) -> Result<(), Status> {
+    let folder = &opened.folder;
+    let mut names = Vec::new(folder.program.alloc());
+    for (place, pair) in pairs.iter().enumerate() {
+        opened.place_of(pair.name)?;
+        check_once(
+            &folder.program,
+            folder.path.as_str(),
+            *pair,
+            &pairs[..place],
+        )?;
+        names.push(pair.name)?;
+    }
+    opened.check_transit(&names)
+}
+
+/// Brings the volume of each pair to its file. While a file changes it is tried so often. Volumes in transit are brought to their files, too.
+pub fn update(opened: &mut Opened, pairs: &[Pair<'_>], tries: u32) -> Result<(), Status> {
+    check_pairs(opened, pairs)?;
+    opened.settle()?;
+    let program = opened.folder.program;
+    let mut jobs = Vec::new(program.alloc());
+    let mut done = update_pairs(opened, pairs, &mut jobs);
+    for number in 1..tries {
+        if !matches!(done, Err(Status::InputChanged)) {
+            break;
+        }
+        before_try(&program, &mut jobs, number);
+        done = update_pairs(opened, pairs, &mut jobs);
+    }
+    let more = if opened.is_torn {
+        "; the volumes are in transit until an update"
+    } else {
+        ""
+    };
+    say_changed(&jobs, more);
+    done
+}
