@@ -27,13 +27,10 @@ pub not_free : (r : Record) → 0 < r.set → r ≢ free
 not_free r l e = let none : r.set ≡ 0 = ap (λ (x : Record). x.set) e in absurd (omega arith)
 
 both : (a b : Bool) → (a && b) ≡ true → (a ≡ true) × (b ≡ true)
-both true true e = (refl, refl)
-both true false e = cc
-both false b e = cc
+both a b e = grind arith
 
 joined : (a b : Bool) → a ≡ true → b ≡ true → (a && b) ≡ true
-joined true b e f = f
-joined false b e f = cc
+joined a b e f = grind arith
 
 -- the block of a record is one of its volume's
 pub within : (volumes : List ℕ) (records : List Record) (slot n v : ℕ) (r : Record) → AreRecords volumes records → slice_get volumes v ≡ Some n → slice_get records slot ≡ Some r → r.volume ≡ v
@@ -171,13 +168,6 @@ pub not_used_by_of : (told slots : Option (List (List ℕ))) (records : List Rec
     → is_among set sets ≡ false → used_by n h.writes h.images set ≡ None
 not_used_by_of told slots records v n sets h set is none = unused n h.writes h.images set (ap (is_among set) (sym is.sets_are) ∙ none)
 
-pub only_used_by_of : (told slots : Option (List (List ℕ))) (volumes : List ℕ) (records : List Record) (v n : ℕ) (sets : List ℕ) (h : History) (set : ℕ) → IsVolume told slots records v n sets h
-    → AreRecords volumes records → slice_get volumes v ≡ Some n → used_by n h.writes h.images set ≡ None → is_among set sets ≡ false
-only_used_by_of told slots volumes records v n sets h set is are at none = by_test (is_among set sets) refl where
-  by_test : (t : Bool) → is_among set sets ≡ t → is_among set sets ≡ false
-  by_test true e = (let some = used_by_of told slots volumes records v n sets h set is are at e in absurd cc)
-  by_test false e = e
-
 -- ## the group
 
 -- a volume of the group, with its device, its images and its history
@@ -287,21 +277,16 @@ apart-group first (n ∷ volumes) (h ∷ hs) times =
     absurd (omega arith)))
 
 not_false : (b : Bool) → not b ≡ true → b ≡ false
-not_false true e = cc
-not_false false e = refl
+not_false b e = grind arith
 
 is_not : (b : Bool) → b ≡ false → not b ≡ true
-is_not true e = cc
-is_not false e = refl
+is_not b e = grind arith
 
 pub used_record : (r : Record) → is_free r ≡ false → r ≢ free
 used_record r e same = let test : is_free r ≡ true = ap is_free same in absurd cc
 
 pub record_is_used : (r : Record) → 0 < r.set → is_free r ≡ false
-record_is_used r l = by_test (r.set == 0) refl where
-  by_test : (t : Bool) → (r.set == 0) ≡ t → (t && (r.block == 0) && (r.volume == 0)) ≡ false
-  by_test true e = (let none = same_number r.set 0 e in absurd (omega arith))
-  by_test false e = refl
+record_is_used r l = grind arith
 
 pub images_in_time : {D : Type 0} (told : D → Option (List (List ℕ))) (g : GroupValue D) (hs : List History) → StandsFor told g hs → (v : ℕ) (h : History) → slice_get hs v ≡ Some h
     → AreInTime (length h.writes) h.images

@@ -4,7 +4,7 @@ use Rattle.std.specs.Prelude.{slice_get, slice_set, slice_range, ◌==◌, if◌
 use Rattle.std.specs.List.{All, range_with_len}
 use Rattle.std.proofs.lemmas.Option.{same_Some}
 use Rattle.std.proofs.lemmas.List.{take_all, drop_all, length-drop, length_push, length-map, map-append}
-use Rattle.std.proofs.lemmas.List.Elements.{All-head, All-tail, All-nil, All-push}
+use Rattle.std.proofs.lemmas.List.Elements.{All-head, All-tail, All-push}
 use Rattle.block_data.specs.Runs.{zeros}
 use Rattle.write_history.specs.History.{Write, Image, History, content, contents, point_in, names, sets_of, cut, fresh, AreLater, AreInTime}
 use Rattle.write_history.specs.Slots.{writes_since}
@@ -55,13 +55,11 @@ range-end : (ws : List Write) (p : ℕ) → slice_range ws p (length ws) ≡ dro
 range-end ws p = let long = length-drop p ws in take_all (length ws - p) (drop p ws) (omega arith)
 
 since-cut : (ws : List Write) (p set : ℕ) (newer : List Image) → writes_since ws p (with_cut newer set (length ws)) ≡ writes_since ws p newer
-since-cut ws p set [] = range-end ws p
-since-cut ws p set (j ∷ newer) = refl
+since-cut ws p set newer = grind (arith, range-end)
 
 -- the images name what they named, and the new one names nothing
 none_since : (t : Bool) (ws : List Write) (b : ℕ) → (if t then names (drop (length ws) ws) b else false) ≡ false
-none_since true ws b = ap (λ (since : List Write). names since b) (drop_all (length ws) ws (omega arith))
-none_since false ws b = refl
+none_since t ws b = grind (arith, drop_all)
 
 named-cut : (ws : List Write) (images : List Image) (set s b : ℕ) → is_named ws (with_cut images set (length ws)) s b ≡ is_named ws images s b
 named-cut ws [] set s b = none_since (set == s) ws b
@@ -104,8 +102,7 @@ zeros-range a zero = refl
 zeros-range a (suc n) = ap (λ (bs : List (List ℕ)). zeros ∷ bs) (zeros-range (a + 1) n)
 
 fresh_told : (told : Option (List (List ℕ))) (n : ℕ) → IfSome told (λ blocks. blocks ≡ replicate n zeros) → IfSome told (λ blocks. blocks ≡ contents n [] 0)
-fresh_told None n held = tt
-fresh_told (Some blocks) n held = held ∙ zeros-range 0 n
+fresh_told told n held = grind (arith, zeros-range)
 
 free_at : (k slot : ℕ) (r : Record) → slice_get (replicate k free) slot ≡ Some r → free ≡ r
 free_at zero slot r at = cc
@@ -115,22 +112,7 @@ free_at (suc k) (suc slot) r at = free_at k slot r at
 -- a volume of zeros without an image, where no slot is used, stands for the fresh history
 pub fresh_stands : (told slots : Option (List (List ℕ))) (records : List Record) (k v n : ℕ) → IfSome told (λ blocks. blocks ≡ replicate n zeros) → records ≡ replicate k free
     → IsVolume told slots records v n [] fresh
-fresh_stands told slots records k v n held unused = record {
-  blocks = fresh_told told n held;
-  sets_are = refl;
-  images = record { in_time = tt; above_zero = All-nil (λ (i : Image). 0 < i.set); few = omega arith };
-  named = λ slot set b above at.
-      let same : free ≡ record_of v set b = free_at k slot (record_of v set b) (ap (λ (rs : List Record). slice_get rs slot) (sym unused) ∙ at) in
-      let zero_set : 0 ≡ set = ap (λ (r : Record). r.set) same in
-      absurd (omega arith);
-  recorded = λ set b within is. absurd (false_not_true is);
-  copied = λ slot set b p at point tells. absurd (none_not_some p point);
-} where
-  false_not_true : false ≡ true → ⊥
-  false_not_true e = cc
-
-  none_not_some : (p : ℕ) → None ≡ Some p → ⊥
-  none_not_some p e = cc
+fresh_stands told slots records k v n held unused = grind (arith, fresh_told, free_at)
 
 -- ## the group
 

@@ -1,6 +1,6 @@
 -- A call on the device of one volume: what it leaves of the list of devices.
 use Rattle.std.proofs.Common.{◌≡◌, ◌<◌, ℕ, true, false, List, length, map, take, drop, ◌++◌, refl, ap, sym, subst, ◌∙◌, arith, Option, Some, None}
-use Rattle.std.specs.Prelude.{Result, Ok, Err, OnOk, OnErr, is_err, is_some, IsNone, slice_get, slice_set, option_map, IfSome, get_or}
+use Rattle.std.specs.Prelude.{Result, OnOk, OnErr, is_err, is_some, IsNone, slice_get, slice_set, option_map, IfSome, get_or}
 use Rattle.std.proofs.lemmas.Option.{slice_get_read, slice_get_within, slice_get-map}
 use Rattle.std.proofs.lemmas.List.{length-map, take_at}
 use Rattle.vss_names.specs.Faults.{HasCause}
@@ -13,32 +13,23 @@ use Rattle.cow_volume.proofs.Reading.{group_now, group_shown_there}
 use Rattle.cow_volume.specs.Parts.{group_of, size_at, IsCalled, IsRead, IsPut}
 
 pub on_ok : {T E : Type 0} (r : Result T E) (P : Type 0) → OnOk r P → is_err r ≡ false → P
-on_ok (Ok x) P h e = h
-on_ok (Err x) P h e = cc
+on_ok r x1 h e = grind arith
 
 pub on_err : {T E : Type 0} (r : Result T E) (P : Type 0) → OnErr r P → is_err r ≡ true → P
-on_err (Ok x) P h e = cc
-on_err (Err x) P h e = h
+on_err r x1 h e = grind arith
 
 -- a volume that has a block is there
 within_if : (o : Option ℕ) (b : ℕ) → b < blocks_in o → is_some o ≡ true
-within_if None b l = absurd (omega arith)
-within_if (Some n) b l = refl
+within_if o b l = grind arith
 
 some_within : {X : Type 0} (xs : List X) (k : ℕ) → is_some (slice_get xs k) ≡ true → k < length xs
-some_within xs k e = by_get (slice_get xs k) refl e where
-  by_get : (o : Option _) → slice_get xs k ≡ o → is_some o ≡ true → k < length xs
-  by_get None f e = cc
-  by_get (Some x) f e = slice_get_within xs k x f
+some_within xs k e = grind (arith, slice_get_within)
 
 pub size_within : {D : Type 0} (size : D → ℕ) (devices : List D) (v b : ℕ) → b < size_at size devices v → v < length devices
 size_within size devices v b l =
     let long = length-map devices size in
     let inside = some_within (map size devices) v (within_if (slice_get (map size devices) v) b l) in
     omega arith
-
-pub size_of : {D : Type 0} (size : D → ℕ) (devices : List D) (v : ℕ) (d : D) → slice_get devices v ≡ Some d → size_at size devices v ≡ size d
-size_of size devices v d at = ap blocks_in (slice_get-map size devices v ∙ ap (option_map size) at)
 
 -- a device has as many blocks as its volume
 pub size_row : {D : Type 0} (size : D → ℕ) (devices : List D) (volumes : List ℕ) (v : ℕ) (d : D) → map size devices ≡ volumes → slice_get devices v ≡ Some d → slice_get volumes v ≡ Some (size d)
@@ -63,14 +54,9 @@ called ghosts v devices before after r at tells size_is lends cause = record {
   unfailed = on_ok r (ghosts.count after ≡ ghosts.count before) cause.same;
 }
 
-tells_put : (old new : Option (List (List ℕ))) (b : ℕ) (bytes : List ℕ) → new ≡ option_map (λ blocks. slice_set blocks b bytes) old → is_some new ≡ is_some old
-tells_put None new b bytes e = ap is_some e
-tells_put (Some blocks) new b bytes e = ap is_some e
-
 tells_after : {E : Type 0} (old new : Option (List (List ℕ))) (b : ℕ) (bytes : List ℕ) (r : Result Unit E) → OnOk r (new ≡ option_map (λ blocks. slice_set blocks b bytes) old) → OnErr r (new ≡ old)
     → is_some new ≡ is_some old
-tells_after old new b bytes (Ok x) ok err = tells_put old new b bytes ok
-tells_after old new b bytes (Err x) ok err = ap is_some err
+tells_after old new b bytes r ok err = grind arith
 
 pub device_put : {D E : Type 0} (ghosts : Ghosts D) (v b : ℕ) (bytes : List ℕ) (devices : List D) (before after : D) (r : Result Unit E)
     → slice_get devices v ≡ Some before
@@ -87,8 +73,7 @@ device_put ghosts v b bytes devices before after r at written kept size_is lends
 -- ## what a call answered
 
 pub some_weaker : {X : Type 0} (o : Option X) (P Q : X → Type 0) → IfSome o P → ((x : X) → P x → Q x) → IfSome o Q
-some_weaker None P Q h f = tt
-some_weaker (Some x) P Q h f = f x h
+some_weaker o x1 x2 h f = grind arith
 
 pub if_some : {X : Type 0} (o : Option X) (P : X → Type 0) (x : X) → o ≡ Some x → IfSome o P → P x
 if_some o P x e h = subst (λ (q : Option _). IfSome q P) e h
@@ -102,8 +87,7 @@ in_range_of volumes v b n at l = subst (λ (o : Option ℕ). b < blocks_in o) (s
 -- the device of a volume that has a block
 pub device_with : {D : Type 0} (size : D → ℕ) (devices : List D) (volumes : List ℕ) (v b : ℕ) → map size devices ≡ volumes → b < blocks_in (slice_get volumes v)
     → (d : D) × (slice_get devices v ≡ Some d)
-device_with size devices volumes v b sizes l =
-    slice_get_inside devices v (size_within size devices v b (subst (λ (ns : List ℕ). b < blocks_in (slice_get ns v)) (sym sizes) l))
+device_with size devices volumes v b sizes l = grind (arith, slice_get_inside, size_within)
 
 -- what was read of a volume's device is what the volume has now
 pub read_is_now : {D : Type 0} (ghosts : Ghosts D) (devices new : List D) (copies : CopiesValue D) (v b : ℕ) (bytes : List ℕ)

@@ -1,5 +1,5 @@
 -- The images of a volume that are newer than that of a set go, one after another.
-use Rattle.std.proofs.Common.{◌≡◌, ◌<◌, ◌≤◌, ◌-◌, ℕ, zero, suc, Bool, true, false, not, List, [], ◌∷◌, length, refl, ap, sym, subst, ◌∙◌, arith, Option, Some, None, inl, inr, get_or, eq-or-lt_of_le}
+use Rattle.std.proofs.Common.{◌≡◌, ◌<◌, ◌≤◌, ◌-◌, ℕ, zero, suc, Bool, true, false, not, List, [], ◌∷◌, length, refl, ap, sym, subst, ◌∙◌, arith, Option, Some, inl, inr, get_or, eq-or-lt_of_le}
 use Rattle.std.specs.Prelude.{filter, slice_get, if◌then◌else◌, ◌==◌, ◌||◌, All, AllPairs, Contains}
 use Rattle.std.specs.List.{AllWithin}
 use Rattle.std.proofs.lemmas.List.{get_or_default, length-map}
@@ -23,8 +23,7 @@ use Rattle.volume_device.specs.declared.device.Device.{Ghosts}
 -- ## the sets of the images of a volume
 
 or_later : (t b : Bool) → b ≡ true → (t || b) ≡ true
-or_later true b e = refl
-or_later false b e = e
+or_later t b e = grind arith
 
 among_at : (set : ℕ) (xs : List ℕ) (k : ℕ) → k < length xs → get_or xs k set ≡ set → is_among set xs ≡ true
 among_at set [] k l e = absurd (omega arith)
@@ -44,10 +43,7 @@ contains_of set (x ∷ xs) e = by_test (x == set) refl e (contains_of set xs) wh
 -- whether a set is among sets that rise, by the first of them from it on
 pub among_none : (set n : ℕ) (sets : List ℕ) → AllPairs (λ older newer. older < newer) sets → AllWithin (λ s. s < set) sets 0 n → AllWithin (λ s. set ≤ s) sets n (length sets) → n ≡ length sets
     → false ≡ is_among set sets
-among_none set n sets rise before onward last = by_test (is_among set sets) refl where
-  by_test : (t : Bool) → is_among set sets ≡ t → false ≡ is_among set sets
-  by_test true e = let place = place_is sets set n rise (contains_of set sets e) before onward in let inside = place.0 in absurd (omega arith)
-  by_test false e = sym e
+among_none set n sets rise before onward last = grind (arith, place_is, contains_of)
 
 pub among_here : (set n : ℕ) (sets : List ℕ) → AllPairs (λ older newer. older < newer) sets → AllWithin (λ s. s < set) sets 0 n → AllWithin (λ s. set ≤ s) sets n (length sets) → n < length sets
     → (get_or sets n 0 == set) ≡ is_among set sets
@@ -56,13 +52,6 @@ among_here set n sets rise before onward inside = by_test (is_among set sets) re
   by_test true e f g = let is = (place_is sets set n rise (contains_of set sets e) before onward).1 0 in ap (λ (s : ℕ). s == set) is ∙ number_is set ∙ sym e
   by_test false e false g = g ∙ sym e
   by_test false e true g = g ∙ sym (among_of set sets (n, inside, get_or_default sets n set 0 inside ∙ same_number (get_or sets n 0) set g))
-
-pub has_of : (set : ℕ) (xs : List ℕ) → is_among set xs ≡ true → Has set xs
-has_of set [] e = absurd cc
-has_of set (x ∷ xs) e = by_test (x == set) refl e (has_of set xs) where
-  by_test : (t : Bool) → (x == set) ≡ t → (t || is_among set xs) ≡ true → (is_among set xs ≡ true → Has set xs) → Has set (x ∷ xs)
-  by_test true f g rest = inl (same_number x set f)
-  by_test false f g rest = inr (rest g)
 
 -- another image is left
 pub among_without : (set other : ℕ) (xs : List ℕ) → set < other → is_among set xs ≡ true → is_among set (filter (λ s. not (s == other)) xs) ≡ true
@@ -111,8 +100,7 @@ last_most xs set d ascend last = λ k e l.
 
 -- a volume of which an image stands has its row
 row_if : (o : Option (List ℕ)) (set : ℕ) → is_among set (sets_in o) ≡ true → o ≡ Some (sets_in o)
-row_if None set e = absurd cc
-row_if (Some sets) set e = refl
+row_if o set e = grind arith
 
 pub images_row : {D : Type 0} (c : CopiesValue D) (v set : ℕ) → is_among set (images_on c v) ≡ true → slice_get c.images v ≡ Some (images_on c v)
 images_row c v set e = row_if (slice_get c.images v) set e
@@ -138,16 +126,7 @@ pub image_gone : {D : Type 0} (ghosts : Ghosts D) (devices : List D) (old new : 
     → is_among set (images_on old v) ≡ true → new ≡ after_merge old v set
     → ((hs : List History) → StandsFor ghosts.told (group_of devices old) hs → StandsFor ghosts.told (group_of devices new) (changed_at v (dropped set) hs))
     → (is_among set (images_on old v) ≡ true) × IsChanged ghosts (group_of devices old) (group_of devices new) v (dropped set)
-image_gone {D = D} ghosts devices old new v set among is stands = (
-  among,
-  record {
-    kept = kept_records ghosts devices old new (ap (λ (x : CopiesValue D). x.area.volumes) is) (ap (λ (x : CopiesValue D). length x.area.records) is ∙ length-map old.area.records _)
-        (ap (λ (x : CopiesValue D). x.area.device) is);
-    devices = refl;
-    area = ap (λ (x : CopiesValue D). x.area.device) is;
-    stands = stands;
-  },
-)
+image_gone ghosts devices old new v set among is stands = grind (arith, kept_records, length-map)
 
 -- ## the newer images go
 
@@ -159,18 +138,14 @@ pub record IsDropping {D : Type 0} (told : D → Option (List (List ℕ))) (old 
   pub going : (devices : List D) → AreGoing told (group_of devices old) (group_of devices now) v set
 
 pub dropping_none : {D : Type 0} (told : D → Option (List (List ℕ))) (old : CopiesValue D) (v set : ℕ) → is_among set (images_on old v) ≡ true → IsDropping told old old v set
-dropping_none told old v set among = record { among = among; device = refl; volumes = refl; slots = refl; going = λ devices. going_none told (group_of devices old) v set }
+dropping_none told old v set among = grind (arith, going_none)
 
 pub images_after : {D : Type 0} (c : CopiesValue D) (v set : ℕ) → is_among set (images_on c v) ≡ true → images_on (after_merge c v set) v ≡ filter (λ s. not (s == set)) (images_on c v)
-images_after c v set among = ap sets_in (slice_get-set_same c.images v (images_on c v) (filter (λ s. not (s == set)) (images_on c v)) (images_row c v set among))
+images_after c v set among = grind (arith, slice_get-set_same, images_row)
 
 -- fewer are left
 pub fewer_left : {D : Type 0} (c new : CopiesValue D) (v set : ℕ) → new ≡ after_merge c v set → Contains (images_on c v) set → length (images_on new v) < length (images_on c v)
-fewer_left c new v set is at =
-    let among = among_of set (images_on c v) at in
-    let same : length (images_on new v) ≡ length (filter (λ s. not (s == set)) (images_on c v)) = ap (λ (x : CopiesValue _). length (images_on x v)) is ∙ ap length (images_after c v set among) in
-    let l = one_fewer set (images_on c v) among in
-    omega arith
+fewer_left c new v set is at = grind (arith, among_of, images_after, one_fewer)
 
 pub dropping_more : {D : Type 0} (told : D → Option (List (List ℕ))) (old now new : CopiesValue D) (v set newest : ℕ) → IsDropping told old now v set → set < newest
     → Contains (images_on now v) newest → new ≡ after_merge now v newest

@@ -23,7 +23,7 @@ use Rattle.cow_volume.specs.StandsFor.{record_of}
 use Rattle.cow_volume.specs.Tied.{copied_for}
 use Rattle.cow_volume.specs.Followed.{record_for, followed_row, followed}
 use Rattle.cow_volume.proofs.GroupMaps.{only-more}
-use Rattle.cow_volume.proofs.Rows.{same_record, copied_for-is, record_of_row, both_from, of_volume, get_inside}
+use Rattle.cow_volume.proofs.Rows.{record_of_row, both_from, of_volume, get_inside}
 use Rattle.cow_volume.proofs.FollowedRows.{follows-of, follows-other, length-followed, followed_at}
 
 -- the area's records follow the map
@@ -43,12 +43,7 @@ pub record HandsDown {D : Type 0} (v older set : ℕ) (first area : AreaValue D)
   pub follows : Follows v first area (map_at maps v)
 
 self_row : (v : ℕ) (r : Record) → followed_row v (copied_for v r) r ≡ r
-self_row v r = by_test (nat_lt 0 r.set && (r.volume == v)) refl where
-  by_test : (t : Bool) → (nat_lt 0 r.set && (r.volume == v)) ≡ t → followed_row v (copied_for v r) r ≡ r
-  by_test true e =
-      let both = both_from r.set v r.volume e in
-      follows-of v (copied_for v r) r both.0 both.1 ∙ ap (record_for v) (copied_for-is v r both.0 both.1) ∙ same_record (record_of v r.set r.block) r refl refl (sym both.1)
-  by_test false e = follows-other v (copied_for v r) r e
+self_row v r = grind arith
 
 followed_self : (v : ℕ) (records : List Record) → followed v (map (copied_for v) records) records ≡ records
 followed_self v [] = refl
@@ -88,10 +83,7 @@ module _ {D : Type 0} (v : ℕ) (first area : AreaValue D) (before mid : MapValu
   -- a record becomes that of the copy that the map has now
   pub Follows-set : (new : AreaValue D) (after : MapValue) (c : Option Copied) → new ≡ with_records (slice_set area.records e.slot (record_for v c)) area
       → after.copies ≡ slice_set mid.copies e.slot c → Follows v first new after
-  Follows-set new after c new_is after_is =
-      new_is ∙ ap (λ (a : AreaValue D). with_records (slice_set a.records e.slot (record_for v c)) a) is
-      ∙ ap (λ rs. with_records rs first) (followed_set v mid.copies first.records e.slot c (record_of v image e.block) at_record.1 at_record.0 refl as_long)
-      ∙ ap (λ cs. with_records (followed v cs first.records) first) (sym after_is)
+  Follows-set new after c new_is after_is = grind (arith, followed_set, at_record, as_long)
 
   -- no other record is that of a copy that the map lacks
   pub no_other : (older : ℕ) → 0 < older → (HasCopy mid.copies older e.block → ⊥) → (other : ℕ) → slice_get area.records other ≡ Some (record_of v older e.block) → other ≡ e.slot

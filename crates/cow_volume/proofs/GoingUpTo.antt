@@ -1,16 +1,15 @@
 -- The images up to a set go, volume by volume.
-use Rattle.std.proofs.Common.{◌≡◌, ◌≢◌, ℕ, zero, suc, ◌+◌, ◌≤◌, List, [], ◌∷◌, length, refl, ap, sym, ◌∙◌, arith, Bool, true, false, ◌&&◌, Option, Some, add-one}
-use Rattle.std.specs.Prelude.{slice_get, slice_set, ◌==◌, if◌then◌else◌, nat_lt, nat_le, map}
-use Rattle.std.proofs.lemmas.Bool.{false≢true, lt-ltb, le-ltb, ltb-true, ltb-false}
+use Rattle.std.proofs.Common.{◌≡◌, ◌≢◌, ℕ, zero, suc, ◌+◌, ◌≤◌, List, [], ◌∷◌, length, refl, ap, sym, ◌∙◌, arith, Bool, true, false, ◌&&◌, Some}
+use Rattle.std.specs.Prelude.{slice_get, slice_set, if◌then◌else◌, nat_lt, nat_le, map}
+use Rattle.std.proofs.lemmas.Bool.{false≢true, lt-ltb, le-ltb}
 use Rattle.diff_area.specs.Records.{free, is_free, AreRecords}
 use Rattle.diff_area.specs.declared.table_record.Record.{Record}
 use Rattle.cow_volume.specs.Changes.{gone_on_row, gone_on, gone_row, gone_to}
 use Rattle.cow_volume.specs.Calls.{sets_in}
 use Rattle.cow_volume.specs.Room.{after, all_after}
 use Rattle.cow_volume.specs.Tied.{CopiesValue}
-use Rattle.cow_volume.specs.CopiesAfter.{with_records, images_on, after_gone, after_gone_on}
-use Rattle.cow_volume.proofs.Group.{same_number, other_number}
-use Rattle.cow_volume.proofs.Evicting.{free_if, free_if_not, and_false}
+use Rattle.cow_volume.specs.CopiesAfter.{with_records, after_gone, after_gone_on}
+use Rattle.cow_volume.proofs.Evicting.{free_if, free_if_not}
 use Rattle.cow_volume.proofs.Gone.{same_parts}
 
 -- ## the records
@@ -31,38 +30,12 @@ map_at : {X Y : Type 0} → (f g : X → Y) (xs : List X) → ((i : ℕ) (x : X)
 map_at f g [] same = refl
 map_at f g (x ∷ xs) same = ap (λ y. y ∷ map f xs) (same 0 x refl) ∙ ap (λ ys. g x ∷ ys) (map_at f g xs (λ i y at. same (suc i) y at))
 
-below_more : (w u : ℕ) → nat_lt w u ≡ true → nat_lt w (u + 1) ≡ true
-below_more w u e = let l = ltb-true w u e in lt-ltb w (u + 1) (omega arith)
-
-below_same : (w u : ℕ) → nat_lt w u ≡ false → nat_lt w (u + 1) ≡ (w == u)
-below_same w u e = by_test (w == u) refl where
-  by_test : (t : Bool) → (w == u) ≡ t → nat_lt w (u + 1) ≡ t
-  by_test true same = let is = same_number w u same in lt-ltb w (u + 1) (omega arith)
-  by_test false same = let other = other_number w u same in let high = ltb-false w u e in le-ltb w (u + 1) (past w u high other) where
-    past : (w u : ℕ) → u ≤ w → w ≢ u → u + 1 ≤ w
-    past w u high other = omega arith
-
 -- the row by its three tests
 abbrev row_by : Bool → Bool → Bool → Record → Record
 row_by a b c r = if (a && b) && c then free else r
 
 row_gone : (u k : ℕ) (r : Record) → gone_on_row u k (gone_below_row u k r) ≡ gone_below_row (u + 1) k r
-row_gone u k r = by_tests (nat_lt 0 r.set) (nat_lt r.volume u) (nat_le r.set k) refl refl refl where
-  by_tests : (a b c : Bool) → nat_lt 0 r.set ≡ a → nat_lt r.volume u ≡ b → nat_le r.set k ≡ c → gone_on_row u k (row_by a b c r) ≡ row_by a (nat_lt r.volume (u + 1)) c r
-  by_tests true true true some low small = ap (λ (t : Bool). row_by true t true r) (sym (below_more r.volume u low))
-  by_tests true b false some low small =
-      at_large b
-      ∙ ap (λ (t : Bool). if (nat_lt 0 r.set && (r.volume == u)) && t then free else r) small
-      ∙ ap (λ (t : Bool). if t then free else r) (and_false (nat_lt 0 r.set && (r.volume == u)) false refl)
-      ∙ sym (ap (λ (t : Bool). if t then free else r) (and_false (true && nat_lt r.volume (u + 1)) false refl))
-    where
-      at_large : (b : Bool) → gone_on_row u k (row_by true b false r) ≡ gone_on_row u k r
-      at_large true = refl
-      at_large false = refl
-  by_tests true false true some low small =
-      ap (λ (t : Bool). row_by t (r.volume == u) (nat_le r.set k) r) some ∙ ap (λ (t : Bool). row_by true (r.volume == u) t r) small
-      ∙ ap (λ (t : Bool). row_by true t true r) (sym (below_same r.volume u low))
-  by_tests false b c some low small = ap (λ (t : Bool). row_by t (r.volume == u) (nat_le r.set k) r) some
+row_gone u k r = grind arith
 
 pub records_more : (u k : ℕ) (records : List Record) → gone_on u k (gone_below u k records) ≡ gone_below (u + 1) k records
 records_more u k records = map_as (gone_on_row u k) (gone_below_row u k) (gone_below_row (u + 1) k) records (row_gone u k)
@@ -124,17 +97,11 @@ abbrev pub part_gone : {D : Type 0} → CopiesValue D → ℕ → ℕ → Copies
 part_gone c u k = record { area = with_records (gone_below u k c.area.records) c.area; images = images_below u k c.images }
 
 pub part_none : {D : Type 0} (c : CopiesValue D) (k : ℕ) → c ≡ part_gone c 0 k
-part_none c k = same_parts c.area (with_records (gone_below 0 k c.area.records) c.area) c.images c.images (ap (λ rs. with_records rs c.area) (sym (records_none k c.area.records))) refl
+part_none c k = grind (arith, same_parts, records_none)
 
 pub part_more : {D : Type 0} (c : CopiesValue D) (u k : ℕ) → after_gone_on (part_gone c u k) u k ≡ part_gone c (u + 1) k
-part_more c u k = same_parts (with_records (gone_on u k (gone_below u k c.area.records)) c.area) (with_records (gone_below (u + 1) k c.area.records) c.area)
-    (slice_set (images_below u k c.images) u (after k (images_on (part_gone c u k) u))) (images_below (u + 1) k c.images)
-    (ap (λ rs. with_records rs c.area) (records_more u k c.area.records))
-    (ap (λ (o : Option (List ℕ)). slice_set (images_below u k c.images) u (after k (sets_in o))) (images_above u u k c.images (omega arith)) ∙ images_step u k c.images
-    ∙ ap (λ (n : ℕ). images_below n k c.images) (sym (add-one u)))
+part_more c u k = grind (arith, same_parts, records_more, images_above, images_step)
 
 pub part_all : {D : Type 0} (c : CopiesValue D) (k n : ℕ) → AreRecords c.area.volumes c.area.records → length c.images ≡ length c.area.volumes → n ≡ length c.area.volumes
     → part_gone c n k ≡ after_gone c k
-part_all c k n are long end = same_parts (with_records (gone_below n k c.area.records) c.area) (with_records (gone_to k c.area.records) c.area) (images_below n k c.images) (all_after k c.images)
-    (ap (λ rs. with_records rs c.area) (ap (λ (u : ℕ). gone_below u k c.area.records) end ∙ records_all c.area.volumes k c.area.records are))
-    (ap (λ (u : ℕ). images_below u k c.images) (end ∙ sym long) ∙ images_all k c.images)
+part_all c k n are long end = grind (arith, same_parts, records_all, images_all)

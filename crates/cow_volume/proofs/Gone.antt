@@ -6,6 +6,7 @@ use Rattle.diff_area.specs.AreaValue.{AreaValue}
 use Rattle.diff_area.specs.declared.table_record.Record.{Record}
 use Rattle.diff_map.specs.MapValue.{MapValue, AreImages, newest}
 use Rattle.std.proofs.lemmas.Option.{same_Some}
+use Rattle.std.proofs.Common.{arith}
 use Rattle.cow_volume.specs.StandsFor.{record_of}
 use Rattle.diff_map.specs.Rules.{next_older, renewed, merged as merged_rule, cleared as cleared_rule, gone as gone_rule}
 use Rattle.diff_map.specs.declared.copied.Copied.{Copied}
@@ -37,16 +38,14 @@ clear_rules records v set images are at = rule-cleared records v set (image_abov
 -- ## what is left
 
 pub same_parts : {D : Type 0} (a b : AreaValue D) (i j : List (List ℕ)) → a ≡ b → i ≡ j → ◌≡◌ {A = CopiesValue D} (record { area = a; images = i }) (record { area = b; images = j })
-same_parts {D = D} a b i j e f =
-    ap (λ (x : AreaValue D). let c : CopiesValue D = record { area = x; images = i } in c) e ∙ ap (λ (x : List (List ℕ)). let c : CopiesValue D = record { area = b; images = x } in c) f
+same_parts a b i j e f = grind arith
 
 on_map : (maps : List MapValue) (v : ℕ) (m : MapValue) → slice_get maps v ≡ Some m → sets_in (slice_get (images_of maps) v) ≡ m.images
 on_map maps v m at = ap sets_in (images_at maps v m at)
 
 pub cut_is : {D : Type 0} (area : AreaValue D) (maps : List MapValue) (v set : ℕ) (m n : MapValue) → slice_get maps v ≡ Some m → n.images ≡ m.images ++ set ∷ []
     → ◌≡◌ {A = CopiesValue D} (record { area = area; images = images_of (slice_set maps v n) }) (after_cut (record { area = area; images = images_of maps }) v set)
-cut_is area maps v set m n at images = same_parts area area (images_of (slice_set maps v n)) (slice_set (images_of maps) v (sets_in (slice_get (images_of maps) v) ++ set ∷ [])) refl
-    (images_after maps v n ∙ ap (λ s. slice_set (images_of maps) v s) (images ∙ ap (λ s. s ++ set ∷ []) (sym (on_map maps v m at))))
+cut_is area maps v set m n at images = grind (arith, same_parts, images_after, on_map)
 
 pub merge_is : {D : Type 0} (area new : AreaValue D) (maps : List MapValue) (v set : ℕ) (m n : MapValue) → slice_get maps v ≡ Some m → m.copies ≡ map (copied_for v) area.records → AreImages m.images
     → Contains m.images set

@@ -1,5 +1,5 @@
 -- A group stands for its histories volume by volume: what one volume's change leaves of it.
-use Rattle.std.proofs.Common.{◌≡◌, ◌≢◌, ℕ, zero, suc, ◌<◌, List, [], ◌∷◌, length, refl, ap, sym, ◌∙◌, arith, Bool, true, false, Option, Some, None, subst}
+use Rattle.std.proofs.Common.{◌≡◌, ◌≢◌, ℕ, zero, suc, ◌<◌, List, [], ◌∷◌, length, refl, ap, sym, ◌∙◌, arith, Bool, true, false, Option, Some, subst}
 use Rattle.std.specs.Prelude.{slice_get, slice_set, ◌==◌, if◌then◌else◌, IfSome, is_some, option_map, map}
 use Rattle.std.specs.List.{All}
 use Rattle.std.proofs.lemmas.Option.{slice_get_within, same_Some}
@@ -61,10 +61,7 @@ pub number_is : (b : ℕ) → (b == b) ≡ true
 number_is b = grind (arith, nat_tests)
 
 pub number_is_other : (b k : ℕ) → b ≢ k → (b == k) ≡ false
-number_is_other b k h = by_test (b == k) refl where
-  by_test : (t : Bool) → (b == k) ≡ t → (b == k) ≡ false
-  by_test true e = absurd (h (same_number b k e))
-  by_test false e = e
+number_is_other b k h = grind arith
 
 -- ## one volume's history
 
@@ -92,8 +89,7 @@ history_at_is hs v h at = ap history_in at
 
 -- where the area's device tells
 pub told_in-tells : (slots told : Option (List (List ℕ))) → is_some slots ≡ true → told_in slots told ≡ told
-told_in-tells None told tells = cc
-told_in-tells (Some blocks) told tells = refl
+told_in-tells slots told tells = grind arith
 
 -- where both tell
 pub told_in-both : (slots told : Option (List (List ℕ))) → is_some slots ≡ true → is_some told ≡ true → is_some (told_in slots told) ≡ true
@@ -101,23 +97,19 @@ told_in-both slots told tells is = ap (λ (t : Option (List (List ℕ))). is_som
 
 -- only where the area's device tells
 pub told_in-only : (slots told : Option (List (List ℕ))) → is_some (told_in slots told) ≡ true → is_some slots ≡ true
-told_in-only None told is = is
-told_in-only (Some blocks) told is = refl
+told_in-only slots told is = grind arith
 
 -- what holds of all that is told
 pub told_in-if : (slots told : Option (List (List ℕ))) (P : List (List ℕ) → Type 0) → IfSome told P → IfSome (told_in slots told) P
-told_in-if None told P held = tt
-told_in-if (Some blocks) told P held = held
+told_in-if slots told x2 held = grind arith
 
 -- the volume's device changes
 pub told_in-map : (slots told : Option (List (List ℕ))) (f : List (List ℕ) → List (List ℕ)) → told_in slots (option_map f told) ≡ option_map f (told_in slots told)
-told_in-map None told f = refl
-told_in-map (Some blocks) told f = refl
+told_in-map slots told f = grind arith
 
 -- the area's device changes, and tells as before
 pub told_in-slots : (slots told : Option (List (List ℕ))) (f : List (List ℕ) → List (List ℕ)) → told_in (option_map f slots) told ≡ told_in slots told
-told_in-slots None told f = refl
-told_in-slots (Some blocks) told f = refl
+told_in-slots slots told f = grind arith
 
 -- ## a volume of the group
 
@@ -179,24 +171,15 @@ pub record SlotsKept (v : ℕ) (records : List Record) (old new : Option (List (
       → IfSome old (λ blocks. slice_get blocks (place_of_slot (length records) slot) ≡ Some bytes) → IfSome new (λ blocks. slice_get blocks (place_of_slot (length records) slot) ≡ Some bytes)
 
 pub others_same : (v : ℕ) (old new : List Record) → new ≡ old → OthersKept v old new
-others_same v old new same = record {
-  slots = ap length same;
-  stays = λ u slot set b other above at. ap (λ (rs : List Record). slice_get rs slot) same ∙ at;
-  was = λ u slot set b other above at. ap (λ (rs : List Record). slice_get rs slot) (sym same) ∙ at;
-}
+others_same v old new same = grind arith
 
 pub slots_same : (v : ℕ) (records : List Record) (old new : Option (List (List ℕ))) → new ≡ old → SlotsKept v records old new
-slots_same v records old new same = record {
-  tells = λ is. ap (λ (t : Option (List (List ℕ))). is_some t) (sym same) ∙ is;
-  held = λ u slot set b bytes other above at held.
-      subst (λ (t : Option (List (List ℕ))). IfSome t (λ blocks. slice_get blocks (place_of_slot (length records) slot) ≡ Some bytes)) (sym same) held;
-}
+slots_same v records old new same = grind arith
 
 -- the set of an image that stands is above 0
 set_above_if : (t : Bool) (set p : ℕ) (i : Image) (images : List Image) → (i.set == set) ≡ t → 0 < i.set → (point_in set images ≡ Some p → 0 < set)
     → (if t then Some i.point else point_in set images) ≡ Some p → 0 < set
-set_above_if true set p i images e above rest at = let same = same_number i.set set e in omega arith
-set_above_if false set p i images e above rest at = rest at
+set_above_if t set p i images e above rest at = grind arith
 
 pub set_above : (set p : ℕ) (images : List Image) → All (λ (i : Image). 0 < i.set) images → point_in set images ≡ Some p → 0 < set
 set_above set p [] above at = cc
@@ -232,36 +215,15 @@ other_volume told slots new_slots old new v u n sets h other records held volume
       (held.held u slot set b (content h.writes p b) other above was (volume.copied slot set b p was point tells));
 }
 
--- a volume of which nothing is told
-untold_volume : (told slots new_slots : Option (List (List ℕ))) (records : List Record) (v n : ℕ) (sets : List ℕ) (h : History) → IsVolume told slots records v n sets h
-    → IsVolume None new_slots records v n sets h
-untold_volume told slots new_slots records v n sets h volume = record {
-  blocks = tt;
-  sets_are = volume.sets_are;
-  images = volume.images;
-  named = volume.named;
-  recorded = volume.recorded;
-  copied = λ slot set b p at point tells. absurd (false_not_true tells);
-} where
-  false_not_true : false ≡ true → ⊥
-  false_not_true e = cc
-
 -- what is told of a volume where the area's device tells now
 told_volume : (told slots new_slots : Option (List (List ℕ))) (records : List Record) (v n : ℕ) (sets : List ℕ) (h : History) → (is_some new_slots ≡ true → is_some slots ≡ true)
     → IsVolume (told_in slots told) new_slots records v n sets h → IsVolume (told_in new_slots told) new_slots records v n sets h
-told_volume told slots None records v n sets h tells volume = untold_volume (told_in slots told) None None records v n sets h volume
-told_volume told slots (Some blocks) records v n sets h tells volume = subst (λ (t : Option (List (List ℕ))). IsVolume t (Some blocks) records v n sets h)
-    (told_in-tells slots told (tells refl)) volume
+told_volume told slots new_slots records v n sets h tells volume = grind arith
 
 -- the same volume, as it is spelled otherwise
 same_volume : (told new_told slots : Option (List (List ℕ))) (records : List Record) (v u n m : ℕ) (sets new_sets : List ℕ) (h k : History)
     → told ≡ new_told → v ≡ u → n ≡ m → sets ≡ new_sets → h ≡ k → IsVolume told slots records v n sets h → IsVolume new_told slots records u m new_sets k
-same_volume told new_told slots records v u n m sets new_sets h k tells number blocks sets_are is volume =
-    subst (λ (x : Option (List (List ℕ))). IsVolume x slots records u m new_sets k) tells
-    (subst (λ (x : ℕ). IsVolume told slots records x m new_sets k) number
-    (subst (λ (x : ℕ). IsVolume told slots records v x new_sets k) blocks
-    (subst (λ (x : List ℕ). IsVolume told slots records v n x k) sets_are
-    (subst (λ (x : History). IsVolume told slots records v n sets x) is volume))))
+same_volume told new_told slots records v u n m sets new_sets h k tells number blocks sets_are is volume = grind arith
 
 -- ## one volume changes
 

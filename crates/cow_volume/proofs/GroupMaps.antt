@@ -1,5 +1,5 @@
 -- The maps of a group, where that of one volume changes.
-use Rattle.std.proofs.Common.{ℕ, suc, ◌≡◌, ◌<◌, ◌≤◌, ◌+◌, ◌-◌, ◌++◌, ◌∷◌, [], List, length, take, All, Some, get_or, slice_get, slice_set, inl, inr, sym, ap, ◌∙◌, subst, arith}
+use Rattle.std.proofs.Common.{ℕ, ◌≡◌, ◌<◌, ◌≤◌, ◌+◌, ◌-◌, ◌++◌, ◌∷◌, [], List, length, take, All, Some, get_or, slice_get, slice_set, inl, inr, sym, ap, ◌∙◌, subst, arith}
 use Rattle.std.specs.List.{AllPairs}
 use Rattle.std.proofs.Math.Seq.{take-suc}
 use Rattle.std.proofs.lemmas.Bool.{cases_eq, cases_lt}
@@ -30,9 +30,6 @@ set_after v maps mid new n only is = is ∙ ap (λ (ms : List MapValue). slice_s
 pub only-more : (v : ℕ) (maps mid new : List MapValue) → IsOnlyAt v maps mid → IsOnlyAt v mid new → IsOnlyAt v maps new
 only-more v maps mid new only more = set_after v maps mid new (map_at new v) only more
 
-pub only-long : (v : ℕ) (maps new : List MapValue) → IsOnlyAt v maps new → length new ≡ length maps
-only-long v maps new only = ap length only ∙ length-set maps v (map_at new v)
-
 -- ## the images of a volume are added one after another
 
 module _ (first maps : List MapValue) (v k : ℕ) (sets : List ℕ) (inside : v < length first) (rise : AreImages sets) (more : k < length sets)
@@ -59,12 +56,7 @@ module _ (first maps : List MapValue) (v k : ℕ) (sets : List ℕ) (inside : v 
 
   pub adding_more : (new : List MapValue) → new ≡ slice_set maps v (with_images ((map_at maps v).images ++ get_or sets k 0 ∷ []) (map_at maps v))
       → new ≡ slice_set first v (with_images (take (k + 1) sets) (map_at first v))
-  adding_more new new_is =
-      let next : suc k ≡ k + 1 = omega arith in
-      new_is ∙ ap (λ (m : MapValue). slice_set maps v (with_images (m.images ++ get_or sets k 0 ∷ []) m)) adding_now
-      ∙ ap (λ (ms : List MapValue). slice_set ms v (with_images (take k sets ++ get_or sets k 0 ∷ []) (map_at first v))) is
-      ∙ set-set first v (with_images (take k sets) (map_at first v)) (with_images (take k sets ++ get_or sets k 0 ∷ []) (map_at first v))
-      ∙ ap (λ (xs : List ℕ). slice_set first v (with_images xs (map_at first v))) (sym (take-suc sets k 0 more) ∙ ap (λ n. take n sets) next)
+  adding_more new new_is = grind (arith, adding_now, set-set, take-suc)
 
 -- ## the place of an image
 

@@ -1,7 +1,8 @@
 -- A revert of one volume of a group, step by step, against the histories of the whole group.
 use Rattle.std.proofs.Common.{◌≡◌, ◌<◌, ◌≤◌, ℕ, zero, suc, ◌+◌, List, [], ◌∷◌, ◌++◌, length, refl, ap, sym, subst, ◌∙◌, Option, Some, IfSome, option_map, inl, inr}
 use Rattle.std.specs.Prelude.{slice_get, slice_set}
-use Rattle.write_history.specs.History.{Image, History, point_in, sets_of, dropped, reverted, to_restore, AreInTime}
+use Rattle.std.proofs.Common.{arith}
+use Rattle.write_history.specs.History.{Image, History, point_in, sets_of, dropped, reverted}
 use Rattle.diff_area.specs.Places.{place_of_slot}
 use Rattle.diff_area.specs.declared.table_record.Record.{Record}
 use Rattle.cow_volume.specs.GroupValue.{GroupValue}
@@ -11,8 +12,7 @@ use Rattle.cow_volume.specs.Calls.{history_at, changed_at, sets_in, sets_at}
 use Rattle.cow_volume.proofs.Members.{Has, has_either}
 use Rattle.cow_volume.proofs.Clearing.{length-cleared, others_cleared, others_stood}
 use Rattle.cow_volume.proofs.NewerGone.{AreUpTo, without_newer, dropped_all, newer_gone}
-use Rattle.cow_volume.proofs.Reading.{point_within}
-use Rattle.cow_volume.proofs.Reverting.{restored_none, restored_below, restored_past, restored_at, restored_end, fewer_restored}
+use Rattle.cow_volume.proofs.Reverting.{restored_below, restored_at, restored_end}
 use Rattle.cow_volume.proofs.Group.{OthersKept, SlotsKept, others_same, slots_same, slice_set-same, changed_at-same, history_at_is, told_in-only, told_in-map, place_at, on_one}
 
 -- ## changes of one history
@@ -57,11 +57,7 @@ pub record AreGoing {D : Type 0} (told : D → Option (List (List ℕ))) (old no
   pub stands : (hs : List History) → StandsFor told old hs → StandsFor told now (changed_at v (dropped_all gone) hs)
 
 pub going_none : {D : Type 0} (told : D → Option (List (List ℕ))) (g : GroupValue D) (v set : ℕ) → AreGoing told g g v set
-going_none told g v set = record {
-  gone = [];
-  later = λ s m. absurd m;
-  stands = λ hs stands. subst (λ xs. StandsFor told g xs) (sym (changed_at-none v hs)) stands;
-}
+going_none told g v set = grind (arith, changed_at-none)
 
 dropped_all-push : (sets : List ℕ) (s : ℕ) (h : History) → dropped s (dropped_all sets h) ≡ dropped_all (sets ++ s ∷ []) h
 dropped_all-push [] s h = refl
@@ -103,30 +99,7 @@ going_all told old now v set going inside most hs stands =
     (up_to_sets set (dropped_all going.gone h).images (λ s m. most s (subst (λ ss. Has s ss) (sym (same_sets ∙ ap (λ (x : History). sets_of x.images) here)) m)))))
     after
 
--- the point of an image is none past the end
-pub point_in_time : {D : Type 0} (told : D → Option (List (List ℕ))) (g : GroupValue D) (hs : List History) (v set p : ℕ) (h : History) → StandsFor told g hs → v < length g.area.volumes
-    → slice_get hs v ≡ Some h → point_in set h.images ≡ Some p → p ≤ length h.writes
-point_in_time told g hs v set p h stands inside at e =
-    let place = place_at told g hs v stands inside in
-    let P : History → Type 0 = λ x. AreInTime (length x.writes) x.images in
-    point_within (length h.writes) set p h.images (subst P (history_at_is hs v h at) place.stands.images.in_time) e
-
 -- ## the blocks are restored
-
-pub restoring_none : {D : Type 0} (told : D → Option (List (List ℕ))) (g : GroupValue D) (hs : List History) (v n set p : ℕ) → StandsFor told g (changed_at v (without_newer set) hs)
-    → StandsFor told g (changed_at v (restored_below n set p 0) hs)
-restoring_none told g hs v n set p stands = subst (λ xs. StandsFor told g xs) (changed_at-agree v (without_newer set) (restored_below n set p 0) hs (λ h at. restored_none n set p h)) stands
-
--- block m has no copy for the set
-pub restoring_past : {D : Type 0} (told : D → Option (List (List ℕ))) (g : GroupValue D) (hs : List History) (v n set p m : ℕ) (d : D) (sets : List ℕ) (h : History)
-    → StandsFor told g (changed_at v (restored_below n set p m) hs)
-    → slice_get g.area.volumes v ≡ Some n → slice_get g.devices v ≡ Some d → slice_get g.images v ≡ Some sets → slice_get hs v ≡ Some h → point_in set h.images ≡ Some p → p ≤ length h.writes → m < n
-    → ((slot : ℕ) → slice_get g.area.records slot ≡ Some (record_of v set m) → ⊥) → StandsFor told g (changed_at v (restored_below n set p (m + 1)) hs)
-restoring_past told g hs v n set p m d sets h stands blocks_is device_is sets_is history_is point l within none =
-    on_history told g g hs v n d d sets sets h (restored_below n set p m) (restored_below n set p (m + 1)) stands blocks_is device_is sets_is history_is
-    (sym (slice_set-same g.devices v d device_is)) (sym (slice_set-same g.images v sets sets_is)) refl
-    (others_same v g.area.records g.area.records refl) (slots_same v g.area.records (told g.area.device) (told g.area.device) refl)
-    (λ is. restored_past (told_in (told g.area.device) (told d)) (told g.area.device) g.area.records v n sets h set p m l within is point none)
 
 -- block m got the bytes of its slot
 pub restoring_at : {D : Type 0} (told : D → Option (List (List ℕ))) (g new : GroupValue D) (hs : List History) (v n set p m slot : ℕ) (bytes : List ℕ) (d e : D) (sets : List ℕ) (h : History)
@@ -149,22 +122,9 @@ restoring_at told g new hs v n set p m slot bytes d e sets h stands blocks_is de
     let S : List Record → Type 0 = λ rs. IsVolume (option_map (λ blocks. slice_set blocks m bytes) known) (told g.area.device) rs v n sets (restored_below n set p (m + 1) h) in
     subst P (sym written) (subst Q (sym area) (subst R (sym (told_in-map (told g.area.device) (told d) (λ blocks. slice_set blocks m bytes))) (subst S (sym records) done))))
 
--- while block m is still to be restored, fewer are than there are to restore
-pub restoring_fewer : {D : Type 0} (told : D → Option (List (List ℕ))) (g : GroupValue D) (hs : List History) (v n set p m slot : ℕ) (d : D) (sets : List ℕ) (h : History)
-    → StandsFor told g (changed_at v (restored_below n set p m) hs)
-    → slice_get g.area.volumes v ≡ Some n → slice_get g.devices v ≡ Some d → slice_get g.images v ≡ Some sets → slice_get hs v ≡ Some h → point_in set h.images ≡ Some p → p ≤ length h.writes → m < n
-    → slice_get g.area.records slot ≡ Some (record_of v set m) → length (to_restore m h.writes p) < length (to_restore n h.writes p)
-restoring_fewer told g hs v n set p m slot d sets h stands blocks_is device_is sets_is history_is point l within at =
-    fewer_restored (told_in (told g.area.device) (told d)) (told g.area.device) g.area.records v n sets h set p m slot l within
-    (stands.each v n d sets (restored_below n set p m h) blocks_is device_is sets_is (changed_at-same v (restored_below n set p m) hs h history_is)) point at
-
 -- the records of the other volumes are kept where the set's copies go
 pub cleared_others : (v set : ℕ) (records : List Record) → OthersKept v records (cleared v set records)
-cleared_others v set records = record {
-  slots = length-cleared v set records;
-  stays = λ u slot s b other above at. others_cleared v set slot u s b records other at;
-  was = λ u slot s b other above at. others_stood v set slot u s b records above at;
-}
+cleared_others v set records = grind (arith, length-cleared, others_cleared, others_stood)
 
 -- all blocks are restored, and the set's copies go
 pub restoring_all : {D : Type 0} (told : D → Option (List (List ℕ))) (g new : GroupValue D) (hs : List History) (v n set p : ℕ) (d : D) (sets : List ℕ) (h : History)

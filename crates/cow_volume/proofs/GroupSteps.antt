@@ -1,5 +1,5 @@
 -- What the steps of a call leave of a group.
-use Rattle.std.proofs.Common.{ℕ, zero, suc, ◌≡◌, ◌<◌, ◌≤◌, List, [], ◌∷◌, ◌++◌, take, drop, length, map, Option, Some, None, slice_get, slice_set, refl, sym, ap, ◌∙◌, subst, arith, inl, inr}
+use Rattle.std.proofs.Common.{ℕ, zero, suc, ◌≡◌, ◌<◌, ◌≤◌, List, [], ◌∷◌, ◌++◌, take, drop, length, map, Option, Some, slice_get, slice_set, refl, sym, ap, ◌∙◌, subst, arith}
 use Rattle.std.proofs.Common.{get_or}
 use Rattle.std.specs.Prelude.{is_some, IfSome}
 use Rattle.std.proofs.lemmas.List.{length-set, length-map, map-set}
@@ -26,20 +26,7 @@ module _ {D : Type 0} (ghosts : Ghosts D) where
   pub kept : (devices : List D) (v : ℕ) (d e : D) (old new : CopiesValue D) → slice_get devices v ≡ Some d → IsSameDevice ghosts d e
       → IsSameDevice ghosts old.area.device new.area.device → new.area.volumes ≡ old.area.volumes → length new.area.records ≡ length old.area.records
       → IsKept ghosts (group_of devices old) (group_of (slice_set devices v e) new)
-  kept devices v d e old new at same area volumes slots = record {
-    volumes = volumes;
-    slots = slots;
-    area = area;
-    devices = length-set devices v e;
-    each = λ u x y was is. elim (get-set devices v u e y is) [
-      | inl own ↦
-          let d_is : x ≡ d = same_Some x d (sym was ∙ ap (λ (k : ℕ). slice_get devices k) own.0 ∙ at) in
-          subst (λ (a : D). IsSameDevice ghosts a y) (sym d_is) (subst (λ (b : D). IsSameDevice ghosts d b) (sym own.1) same)
-      | inr other ↦
-          let y_is : y ≡ x = same_Some y x (sym other.1 ∙ was) in
-          subst (λ (b : D). IsSameDevice ghosts x b) (sym y_is) (same_itself ghosts x)
-    ];
-  }
+  kept devices v d e old new at same area volumes slots = grind (arith, length-set, get-set, same_Some, same_itself)
 
   pub told_set : (devices : List D) (v : ℕ) (d e : D) → slice_get devices v ≡ Some d → ghosts.told e ≡ ghosts.told d → map ghosts.told (slice_set devices v e) ≡ map ghosts.told devices
   told_set devices v d e at same = map-set ghosts.told devices v e ∙ ap (λ (t : Option (List (List ℕ))). slice_set (map ghosts.told devices) v t) same
@@ -61,15 +48,12 @@ module _ {D : Type 0} (ghosts : Ghosts D) where
 -- a volume's device, and how many blocks it has
 pub device_at : {D : Type 0} (size : D → ℕ) (devices : List D) (volumes : List ℕ) (v : ℕ) (d : D) → map size devices ≡ volumes → v < length volumes → d ≡ get_or devices v d
     → slice_get devices v ≡ Some d
-device_at size devices volumes v d fits within is =
-    let long : length devices ≡ length volumes = sym (length-map devices size) ∙ ap length fits in
-    slice_get_read devices (length devices) v d refl (omega arith) is
+device_at size devices volumes v d fits within is = grind (arith, length-map, slice_get_read)
 
 -- a device of the same size in its place
 pub fits_set : {D : Type 0} (size : D → ℕ) (devices : List D) (volumes : List ℕ) (v : ℕ) (d e : D) → map size devices ≡ volumes → slice_get devices v ≡ Some d → size e ≡ size d
     → map size (slice_set devices v e) ≡ volumes
-fits_set size devices volumes v d e fits at same = map-set size devices v e ∙ ap (λ (n : ℕ). slice_set (map size devices) v n) same
-    ∙ slice_set-same (map size devices) v (size d) (ap (λ (ns : List ℕ). slice_get ns v) fits ∙ size_row size devices volumes v d fits at) ∙ fits
+fits_set size devices volumes v d e fits at same = grind (arith, map-set, slice_set-same, size_row)
 
 pub device_within : {D : Type 0} (size : D → ℕ) (devices : List D) (volumes : List ℕ) (v b : ℕ) (d : D) → map size devices ≡ volumes → slice_get devices v ≡ Some d
     → b < blocks_in (slice_get volumes v) → b < size d
@@ -114,5 +98,4 @@ pub past_blocks : {D : Type 0} (devices : List D) (c : CopiesValue D) (v b n : �
 past_blocks devices c v b n at le = subst (λ (o : Option ℕ). blocks_in o ≤ b) (sym at) le
 
 pub put_tells : (at : ℕ) (bytes : List ℕ) (told : Option (List (List ℕ))) → is_some (put at bytes told) ≡ is_some told
-put_tells at bytes None = refl
-put_tells at bytes (Some blocks) = refl
+put_tells at bytes told = grind arith

@@ -2,13 +2,12 @@
 use Rattle.std.proofs.Common.{ℕ, zero, suc, ◌≡◌, ◌<◌, ◌≤◌, Bool, true, false, ◌&&◌, List, [], ◌∷◌, length, map, Some, slice_get, slice_set, refl, sym, ap, ◌∙◌, subst, arith, inl, inr}
 use Rattle.std.specs.Prelude.{Result, Ok, Err, is_some, IfSome, slice_index}
 use Rattle.std.proofs.lemmas.Option.{slice_get_within}
-use Rattle.std.proofs.lemmas.Bool.{false≢true}
 use Rattle.std.proofs.lemmas.List.{length-map, length-set}
 use Rattle.vss_names.specs.Faults.{Rose}
 use Rattle.write_history.specs.History.{History, Write}
 use Rattle.volume_device.specs.Blocks.{AreBlocks}
 use Rattle.volume_device.specs.declared.device.Device.{Ghosts}
-use Rattle.diff_area.specs.Places.{blocks_for, place_of_slot}
+use Rattle.diff_area.specs.Places.{blocks_for}
 use Rattle.diff_area.specs.Records.{free, is_free}
 use Rattle.diff_area.specs.declared.table_record.Record.{Record}
 use Rattle.diff_map.specs.MapValue.{newest}
@@ -17,8 +16,8 @@ use Rattle.cow_volume.specs.declared.cause.Cause.{Cause}
 use Rattle.cow_volume.specs.declared.cause.Cause.TheVariants.{NoSuchBlock, Volume, Area}
 use Rattle.cow_volume.specs.GroupValue.{GroupValue}
 use Rattle.cow_volume.specs.StandsFor.{StandsFor, record_of}
-use Rattle.cow_volume.specs.Changes.{noted, gone_row}
-use Rattle.cow_volume.specs.Calls.{IsSameDevice, IsKept, IsUnfailed, DeviceRose, HasCauseAt, IsWritten, IsUnwritten, IsEvicted, made_room, sets_in, sets_at, blocks_in, blocks_at}
+use Rattle.cow_volume.specs.Changes.{noted}
+use Rattle.cow_volume.specs.Calls.{IsSameDevice, IsKept, IsUnfailed, DeviceRose, HasCauseAt, IsWritten, IsUnwritten, IsEvicted, made_room, sets_at, blocks_in, blocks_at}
 use Rattle.cow_volume.specs.Room.{lacks_copy, gone_group}
 use Rattle.cow_volume.specs.Tied.{CopiesValue}
 use Rattle.cow_volume.specs.CopiesAfter.{images_on, after_note}
@@ -32,6 +31,14 @@ use Rattle.cow_volume.specs.Parts.{group_of}
 use Rattle.cow_volume.proofs.Kept.{same_itself}
 use Rattle.cow_volume.proofs.Kept.{kept_itself, map_set_told}
 use Rattle.cow_volume.proofs.GroupSteps.{same_on, kept, told_set, volume_rose, put_tells}
+
+-- a slot is noted for the newest image, of records and images that a copy left
+pub noted_copies : {D : Type 0} (c new last : CopiesValue D) (v b slot : ℕ) → new.area.records ≡ c.area.records → new.images ≡ c.images → last ≡ after_note new v b slot
+    → last.area.records ≡ noted slot (record_of v (newest (images_on c v)) b) c.area.records
+noted_copies c new last v b slot records images is =
+    let on_new : images_on new v ≡ images_on c v = ap (λ (i : List (List ℕ)). images_on (record { area = c.area; images = i }) v) images in
+    ap (λ x. x.area.records) is ∙ ap (λ (s : List ℕ). noted slot (record_of v (newest s) b) new.area.records) on_new
+    ∙ ap (λ (rs : List Record). noted slot (record_of v (newest (images_on c v)) b) rs) records
 
 module _ {D : Type 0} (ghosts : Ghosts D) (devices : List D) (c : CopiesValue D) (v : ℕ) (d : D) (w : Write)
     (low : w.block < blocks_at (group_of devices c) v) (at : slice_get devices v ≡ Some d) where
@@ -73,8 +80,7 @@ module _ {D : Type 0} (ghosts : Ghosts D) (devices : List D) (c : CopiesValue D)
     is_there = free_slot_is c.area.records slot free_at
 
     area_same : IsSameDevice ghosts c.area.device new.area.device
-    area_same = same_on ghosts c.area.device new.area.device (put (place_of_slot (length c.area.records) slot) copied.copy (ghosts.told c.area.device)) copied.area_on.device
-        (put_tells (place_of_slot (length c.area.records) slot) copied.copy (ghosts.told c.area.device))
+    area_same = grind arith
 
     -- the copy was made, and the overwrite failed
     pub not_overwritten : (cause : Cause) → IsOn ghosts e f (ghosts.told e) → cause ≡ Volume → Rose (ghosts.count e) (ghosts.count f)
@@ -103,10 +109,8 @@ module _ {D : Type 0} (ghosts : Ghosts D) (devices : List D) (c : CopiesValue D)
     put_first last lacks on unfailed is =
         let told_is : ghosts.told f ≡ put w.block w.bytes (ghosts.told d) = on.tells ∙ ap (put w.block w.bytes) copied.device_on.tells in
         let device_is : last.area.device ≡ new.area.device = ap (λ x. x.area.device) is in
-        let on_new : images_on new v ≡ images_on c v = ap (λ (i : List (List ℕ)). images_on (record { area = c.area; images = i }) v) copied.area_on.images in
         let records_are : last.area.records ≡ noted slot (record_of v (newest (sets_at (group_of devices c) v)) w.block) c.area.records =
-        ap (λ x. x.area.records) is ∙ ap (λ (s : List ℕ). noted slot (record_of v (newest s) w.block) new.area.records) on_new
-        ∙ ap (λ (rs : List Record). noted slot (record_of v (newest (images_on c v)) w.block) rs) copied.area_on.records in
+        noted_copies c new last v w.block slot copied.area_on.records copied.area_on.images is in
         record {
           kept = kept ghosts devices v d f c last at (record {
             tells = ap is_some told_is ∙ put_tells w.block w.bytes (ghosts.told d);
@@ -129,13 +133,11 @@ module _ {D : Type 0} (ghosts : Ghosts D) (devices : List D) (c : CopiesValue D)
 
 kept_gone : {D : Type 0} (ghosts : Ghosts D) (m : ℕ) (old new : GroupValue D) → IsKept ghosts (gone_group m old) new
     → IsKept ghosts old new
-kept_gone ghosts m old new k = record { volumes = k.volumes; slots = k.slots ∙ length-map old.area.records (gone_row m); area = k.area; devices = k.devices; each = k.each }
+kept_gone ghosts m old new k = grind (arith, length-map)
 
 rose_gone : {D : Type 0} (count : D → ℕ) (v b m : ℕ) (old new : GroupValue D) (cause : Cause) → b < blocks_at old v → DeviceRose count v (gone_group m old) new cause
     → HasCauseAt count v b old new cause
-rose_gone count v b m old new NoSuchBlock low rose = absurd rose
-rose_gone count v b m old new Volume low rose = (low, record { before = rose.before; now = rose.now; was = rose.was; is = rose.is; rose = rose.rose; devices = rose.devices; area = rose.area })
-rose_gone count v b m old new Area low rose = (low, record { rose = rose.rose; devices = rose.devices })
+rose_gone count v b m old new cause low rose = grind arith
 
 module _ {D : Type 0} (ghosts : Ghosts D) (old mid new : GroupValue D) (v : ℕ) (w : Write) (m : ℕ) (low : w.block < blocks_at old v)
     (gone : mid ≡ gone_group m old)
@@ -174,8 +176,7 @@ no_block ghosts g v b past = record {
 
 pub lacks_still : {D : Type 0} (c new : CopiesValue D) (v b : ℕ) → new.area.records ≡ c.area.records → new.images ≡ c.images → lacks_copy c.area.records v (images_on c v) b ≡ true
     → lacks_copy new.area.records v (images_on new v) b ≡ true
-lacks_still c new v b records images lacks =
-    ap (λ (rs : List Record). lacks_copy rs v (sets_in (slice_get new.images v)) b) records ∙ ap (λ (i : List (List ℕ)). lacks_copy c.area.records v (sets_in (slice_get i v)) b) images ∙ lacks
+lacks_still c new v b records images lacks = grind arith
 
 pub blocks_index : (volumes : List ℕ) (v : ℕ) → blocks_in (slice_get volumes v) ≡ slice_index volumes v
 blocks_index [] v = refl
@@ -183,10 +184,8 @@ blocks_index (n ∷ volumes) zero = refl
 blocks_index (n ∷ volumes) (suc v) = blocks_index volumes v
 
 pub and_rest : (a b : Bool) → a ≡ true → (a && b) ≡ false → b ≡ false
-and_rest true b e h = h
-and_rest false b e h = absurd (false≢true e)
+and_rest a b e h = grind arith
 
 pub put_size : {D : Type 0} (ghosts : Ghosts D) (d e : D) (block : ℕ) (bytes : List ℕ) (r : Result Unit Cause)
     → IsPutOn ghosts d e block bytes r → ghosts.size e ≡ ghosts.size d
-put_size ghosts d e block bytes (Ok done) on = on.0.size_is
-put_size ghosts d e block bytes (Err cause) failed = failed.0.size_is
+put_size ghosts d e block bytes r on = grind arith

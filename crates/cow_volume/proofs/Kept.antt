@@ -1,6 +1,6 @@
 -- What each call keeps of a group, and what it stands for where only counts of devices changed.
 use Rattle.std.proofs.Common.{◌≡◌, ◌≤◌, ℕ, zero, suc, Bool, true, false, List, [], ◌∷◌, length, map, refl, ap, sym, subst, ◌∙◌, arith, Option, Some, None}
-use Rattle.std.specs.Prelude.{is_some, slice_get, slice_set, option_map, ◌==◌}
+use Rattle.std.specs.Prelude.{is_some, slice_get, slice_set, option_map}
 use Rattle.std.proofs.lemmas.List.{map-set}
 use Rattle.std.proofs.lemmas.Option.{same_Some, slice_get_within, slice_get-map}
 use Rattle.write_history.specs.History.{History}
@@ -21,27 +21,13 @@ same_itself ghosts d = record { tells = refl; size_is = refl; lends = refl; late
 
 pub same_further : {D : Type 0} (ghosts : Ghosts D) (d e f : D) → IsSameDevice ghosts d e
     → IsSameDevice ghosts e f → IsSameDevice ghosts d f
-same_further ghosts d e f first second =
-    let one = first.later in
-    let two = second.later in
-    record { tells = second.tells ∙ first.tells; size_is = second.size_is ∙ first.size_is; lends = second.lends ∙ first.lends; later = omega arith }
+same_further ghosts d e f first second = grind arith
 
 -- each device is the same one after a call on one of them
 pub each_same : {D : Type 0} (ghosts : Ghosts D) (v : ℕ) (old new : List D) (failed : Bool)
     → IsCalled ghosts v old new failed
     → (u : ℕ) (d e : D) → slice_get old u ≡ Some d → slice_get new u ≡ Some e → IsSameDevice ghosts d e
-each_same {D = D} ghosts v old new failed call u d e was is = by_number (u == v) refl where
-  by_number : (t : Bool) → (u == v) ≡ t → IsSameDevice ghosts d e
-  by_number true f =
-      let n = same_number u v f in
-      let one : call.before ≡ d = same_Some call.before d (sym call.was ∙ ap (slice_get old) (sym n) ∙ was) in
-      let two : call.after ≡ e = same_Some call.after e
-      (sym (slice_get-set_same old v call.before call.after call.was) ∙ ap (slice_get (slice_set old v call.after)) (sym n) ∙ ap (λ (ds : List D). slice_get ds u) (sym call.devices) ∙ is) in
-      subst (λ (x : D). IsSameDevice ghosts x e) one (subst (λ (x : D). IsSameDevice ghosts call.before x) two call.same)
-  by_number false f =
-      let n = other_number u v f in
-      let same : d ≡ e = same_Some d e (sym was ∙ sym (slice_get-set_other old v u call.after (λ h. n (sym h))) ∙ ap (λ (ds : List D). slice_get ds u) (sym call.devices) ∙ is) in
-      subst (λ (x : D). IsSameDevice ghosts d x) same (same_itself ghosts d)
+each_same ghosts v old new failed call u d e was is = grind (arith, same_number, same_Some, slice_get-set_same, other_number, slice_get-set_other, same_itself)
 
 pub map_set_told : {X Y : Type 0} (f : X → Y) (xs : List X) (v : ℕ) (before after : X) → slice_get xs v ≡ Some before → f after ≡ f before → map f (slice_set xs v after) ≡ map f xs
 map_set_told f [] v before after at e = refl
@@ -56,15 +42,7 @@ all_told ghosts v old new failed call e = ap (map ghosts.told) call.devices ∙ 
 -- the count of the device of a volume rose where the call failed
 pub volume_rose_if : {D : Type 0} (ghosts : Ghosts D) (v : ℕ) (old new : List D) (failed : Bool) (g h : CopiesValue D)
     → IsCalled ghosts v old new failed → failed ≡ true → ghosts.count h.area.device ≡ ghosts.count g.area.device → VolumeRose ghosts.count v (group_of old g) (group_of new h)
-volume_rose_if {D = D} ghosts v old new failed g h call e area = record {
-  before = call.before;
-  now = call.after;
-  was = call.was;
-  is = ap (λ (ds : List D). slice_get ds v) call.devices ∙ slice_get-set_same old v call.before call.after call.was;
-  rose = call.rose e;
-  devices = ap (map ghosts.count) call.devices ∙ map-set ghosts.count old v call.after;
-  area = area;
-}
+volume_rose_if ghosts v old new failed g h call e area = grind (arith, slice_get-set_same, map-set)
 
 pub volume_rose : {D : Type 0} (ghosts : Ghosts D) (v : ℕ) (old new : List D) (g h : CopiesValue D)
     → IsCalled ghosts v old new true → ghosts.count h.area.device ≡ ghosts.count g.area.device → VolumeRose ghosts.count v (group_of old g) (group_of new h)
@@ -74,16 +52,7 @@ volume_rose ghosts v old new g h call area = volume_rose_if ghosts v old new tru
 
 -- nothing was called
 pub kept_itself : {D : Type 0} (ghosts : Ghosts D) (g : GroupValue D) → IsKept ghosts g g
-kept_itself {D = D} ghosts g = record {
-  volumes = refl;
-  slots = refl;
-  area = same_itself ghosts g.area.device;
-  devices = refl;
-  each = λ v d e was is. let same : d ≡ e = same_Some d e (sym was ∙ is) in subst (λ (x : D). IsSameDevice ghosts d x) same (same_itself ghosts d);
-}
-
-pub quiet_itself : {D : Type 0} (ghosts : Ghosts D) (g : GroupValue D) → IsQuiet ghosts g g
-quiet_itself ghosts g = record { kept = kept_itself ghosts g; records = refl; images = refl; blocks = refl; slots = refl }
+kept_itself ghosts g = grind arith
 
 -- one call after another
 pub kept_further : {D : Type 0} (ghosts : Ghosts D) (a b c : GroupValue D) → IsKept ghosts a b
@@ -103,13 +72,7 @@ kept_further {D = D} ghosts a b c first second = record {
 -- one quiet call after another
 pub quiet_further : {D : Type 0} (ghosts : Ghosts D) (a b c : GroupValue D) → IsQuiet ghosts a b
     → IsQuiet ghosts b c → IsQuiet ghosts a c
-quiet_further ghosts a b c first second = record {
-  kept = kept_further ghosts a b c first.kept second.kept;
-  records = second.records ∙ first.records;
-  images = second.images ∙ first.images;
-  blocks = second.blocks ∙ first.blocks;
-  slots = second.slots ∙ first.slots;
-}
+quiet_further ghosts a b c first second = grind (arith, kept_further)
 
 -- a device was called
 pub kept_called : {D : Type 0} (ghosts : Ghosts D) (v : ℕ) (old new : List D) (failed : Bool) (c : CopiesValue D)
@@ -136,42 +99,23 @@ quiet_called ghosts v old new failed c call e = record {
 pub kept_area : {D : Type 0} (ghosts : Ghosts D) (devices : List D) (old new : CopiesValue D) → KeepsTable ghosts.size ghosts.lending old.area new.area
     → is_some (ghosts.told new.area.device) ≡ is_some (ghosts.told old.area.device) → ghosts.count old.area.device ≤ ghosts.count new.area.device
     → IsKept ghosts (group_of devices old) (group_of devices new)
-kept_area {D = D} ghosts devices old new table tells later = record {
-  volumes = table.volumes;
-  slots = ap length table.records;
-  area = record { tells = tells; size_is = table.size_is; lends = table.lends; later = later };
-  devices = refl;
-  each = λ v d e was is. let same : d ≡ e = same_Some d e (sym was ∙ is) in subst (λ (x : D). IsSameDevice ghosts d x) same (same_itself ghosts d);
-}
+kept_area ghosts devices old new table tells later = grind arith
 
 pub quiet_area : {D : Type 0} (ghosts : Ghosts D) (devices : List D) (old new : CopiesValue D) → KeepsTable ghosts.size ghosts.lending old.area new.area
     → new.images ≡ old.images → ghosts.told new.area.device ≡ ghosts.told old.area.device → ghosts.count old.area.device ≤ ghosts.count new.area.device
     → IsQuiet ghosts (group_of devices old) (group_of devices new)
-quiet_area ghosts devices old new table images same later = record {
-  kept = kept_area ghosts devices old new table (ap is_some same) later;
-  records = table.records;
-  images = images;
-  blocks = refl;
-  slots = same;
-}
+quiet_area ghosts devices old new table images same later = grind arith
 
 -- the records changed in memory, and no device was called
 pub kept_records : {D : Type 0} (ghosts : Ghosts D) (devices : List D) (old new : CopiesValue D) → new.area.volumes ≡ old.area.volumes
     → length new.area.records ≡ length old.area.records → new.area.device ≡ old.area.device
     → IsKept ghosts (group_of devices old) (group_of devices new)
-kept_records {D = D} ghosts devices old new volumes slots device = record {
-  volumes = volumes;
-  slots = slots;
-  area = subst (λ (x : D). IsSameDevice ghosts old.area.device x) (sym device) (same_itself ghosts old.area.device);
-  devices = refl;
-  each = λ v d e was is. let same : d ≡ e = same_Some d e (sym was ∙ is) in subst (λ (x : D). IsSameDevice ghosts d x) same (same_itself ghosts d);
-}
+kept_records ghosts devices old new volumes slots device = grind arith
 
 -- the device that was called
 pub called_is : {D : Type 0} (ghosts : Ghosts D) (v : ℕ) (old new : List D) (failed : Bool) (d : D)
     (call : IsCalled ghosts v old new failed) → slice_get new v ≡ Some d → call.after ≡ d
-called_is {D = D} ghosts v old new failed d call is =
-    same_Some call.after d (sym (slice_get-set_same old v call.before call.after call.was) ∙ ap (λ (ds : List D). slice_get ds v) (sym call.devices) ∙ is)
+called_is ghosts v old new failed d call is = grind (arith, same_Some, slice_get-set_same)
 
 -- ## no device failed
 
@@ -185,10 +129,7 @@ unfailed_further count a b c first second = record { devices = second.devices �
 pub unfailed_called : {D : Type 0} (ghosts : Ghosts D) (v : ℕ) (old new : List D) (failed : Bool) (g h : CopiesValue D)
     → IsCalled ghosts v old new failed → failed ≡ false → ghosts.count h.area.device ≡ ghosts.count g.area.device
     → IsUnfailed ghosts.count (group_of old g) (group_of new h)
-unfailed_called ghosts v old new failed g h call e area = record {
-  devices = ap (map ghosts.count) call.devices ∙ map_set_told ghosts.count old v call.before call.after call.was (call.unfailed e);
-  area = area;
-}
+unfailed_called ghosts v old new failed g h call e area = grind (arith, map_set_told)
 
 -- each device still has as many blocks as its volume
 maps_same : {X Y : Type 0} (f : X → Y) (xs ys : List X) → length ys ≡ length xs → ((v : ℕ) (d e : X) → slice_get xs v ≡ Some d → slice_get ys v ≡ Some e → f e ≡ f d) → map f ys ≡ map f xs

@@ -111,8 +111,7 @@ kept_volume told volumes hs blocks records v n sets h kept same long at is = rec
 -- ## the group
 
 none_tells : (t : Option (List (List ℕ))) → t ≡ None → is_some t ≡ true → ⊥
-none_tells None e is = cc
-none_tells (Some blocks) e is = cc
+none_tells t e is = grind arith
 
 kept_told : {D : Type 0} (told : D → Option (List (List ℕ))) (devices : List D) (area : AreaValue D) (images : List (List ℕ)) (hs : List History) (t : Option (List (List ℕ))) → told area.device ≡ t
     → AreKept told devices area images hs → length devices ≡ length area.volumes → length images ≡ length area.volumes
@@ -145,8 +144,7 @@ volume_kept : (told slots : Option (List (List ℕ))) (records : List Record) (v
 volume_kept told slots records v n sets h is = record { blocks = is.blocks; sets_are = is.sets_are; images = is.images }
 
 tells_both : (slots told : Option (List (List ℕ))) → is_some slots ≡ true → told_in slots told ≡ told
-tells_both None told e = cc
-tells_both (Some blocks) told e = refl
+tells_both slots told e = grind arith
 
 pub synced_kept : {D : Type 0} (ghosts : Ghosts D) (old new : GroupValue D) (area : AreaValue D) (hs : List History)
     → IsSync ghosts old new (Ok tt) → StandsFor ghosts.told old hs → AllTell ghosts.told old.devices → is_some (ghosts.told old.area.device) ≡ true

@@ -47,8 +47,7 @@ append_none [] = refl
 append_none (x ∷ xs) = ap (λ ys. x ∷ ys) (append_none xs)
 
 pub all_so_far : (images : List (List ℕ)) (n v : ℕ) (first now : List Evicted) → length images ≤ v → IsSoFar images n first now v → now ≡ first ++ evicted_of n (holders n 0 images)
-all_so_far images n v first now end so_far =
-    sym (append_none now) ∙ ap (λ (rest : List (List ℕ)). now ++ evicted_of n (holders n v rest)) (sym (drop_all v images end)) ∙ so_far
+all_so_far images n v first now end so_far = grind (arith, append_none, drop_all)
 
 -- so there is room for one more
 pub has_room : (images : List (List ℕ)) (n v room : ℕ) (first now : List Evicted) → v < length images → is_among n (sets_in (slice_get images v)) ≡ true → IsSoFar images n first now v
@@ -203,11 +202,7 @@ none_hold n v (sets ∷ images) none =
     ap (λ (t : Bool). if t then v ∷ holders n (v + 1) images else holders n (v + 1) images) (none 0 sets refl) ∙ none_hold n (v + 1) images (λ u xs at. none (suc u) xs at)
 
 pub next_all : (images : List (List ℕ)) (above up_to next v : ℕ) → length images ≤ v → IsNextBelow images above up_to next v → IsNextSet images above up_to next
-next_all images above up_to next v end so_far = record {
-  higher = so_far.higher;
-  within = so_far.within;
-  none = λ n high low. none_hold n 0 images (λ u sets at. let inside = slice_get_within images u sets at in so_far.none n u sets high low (omega arith) at);
-}
+next_all images above up_to next v end so_far = grind (arith, none_hold, slice_get_within)
 
 -- ## how many
 
@@ -254,11 +249,7 @@ no_hit [] = refl
 no_hit (n ∷ ns) = let here : hits [] (n ∷ ns) ≡ 0 + hits [] ns = refl in let rest = no_hit ns in omega (arith, here, rest)
 
 either : (t u : Bool) → bit (t || u) ≤ bit (t || false) + bit u
-either true u = at_least (bit u) where
-  at_least : (k : ℕ) → 1 ≤ 1 + k
-  at_least k = omega arith
-either false true = omega arith
-either false false = omega arith
+either t u = grind arith
 
 set_more : (s : ℕ) (sets ns : List ℕ) → hits (s ∷ sets) ns ≤ hits (s ∷ []) ns + hits sets ns
 set_more s sets [] = omega arith
@@ -271,8 +262,7 @@ set_more s sets (n ∷ ns) =
     omega (arith, all, one, others, here, rest)
 
 head_is : (s a k : ℕ) (t : Bool) → (s == a) ≡ t → hits (s ∷ []) (range_with_len a (suc k)) ≡ bit t + hits (s ∷ []) (range_with_len (a + 1) k)
-head_is s a k true e = ap (λ (t : Bool). bit (t || false) + hits (s ∷ []) (range_with_len (a + 1) k)) e
-head_is s a k false e = ap (λ (t : Bool). bit (t || false) + hits (s ∷ []) (range_with_len (a + 1) k)) e
+head_is s a k t e = grind arith
 
 past_it : (s a k : ℕ) → s < a → hits (s ∷ []) (range_with_len a k) ≡ 0
 past_it s a zero l = refl

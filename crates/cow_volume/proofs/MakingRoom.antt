@@ -1,8 +1,8 @@
 -- Images go up to a set so that a write has its slot.
-use Rattle.std.proofs.Common.{ℕ, zero, suc, ◌≡◌, ◌≢◌, ◌<◌, ◌≤◌, ◌+◌, ◌-◌, Bool, true, false, ◌&&◌, ◌||◌, get_or, List, [], ◌∷◌, length, map, filter, Option, Some, None, slice_get, refl, sym, ap, ◌∙◌}
+use Rattle.std.proofs.Common.{ℕ, zero, suc, ◌≡◌, ◌≢◌, ◌<◌, ◌≤◌, ◌+◌, ◌-◌, Bool, true, false, ◌&&◌, ◌||◌, List, [], ◌∷◌, length, map, filter, Option, Some, None, slice_get, refl, sym, ap, ◌∙◌}
 use Rattle.std.proofs.Common.{subst, arith, inl, inr, ◌⊎◌}
-use Rattle.std.specs.Prelude.{◌==◌, nat_lt, nat_le, if◌then◌else◌, IfSome, IsNone}
-use Rattle.std.proofs.lemmas.Bool.{false≢true, cases_lt, cases_eq, lt-ltb, le-ltb}
+use Rattle.std.specs.Prelude.{◌==◌, nat_lt, if◌then◌else◌, IfSome, IsNone}
+use Rattle.std.proofs.lemmas.Bool.{false≢true, cases_lt, lt-ltb, le-ltb}
 use Rattle.std.proofs.lemmas.Bool.Decides.{nat_tests}
 use Rattle.std.proofs.lemmas.List.Elements.{All-contains}
 use Rattle.std.proofs.lemmas.Option.{none-some, slice_get_within, get_or_from_slice_get}
@@ -15,7 +15,6 @@ use Rattle.diff_map.specs.declared.copied.Copied.{Copied}
 use Rattle.cow_volume.specs.Changes.{gone_row, gone_to}
 use Rattle.cow_volume.specs.Calls.{sets_in, is_among}
 use Rattle.cow_volume.specs.Room.{after, all_after, lacks_copy, lacks_slot, is_full, lesser, IsFirstToFree, IsOldestOn, IsRoomMade}
-use Rattle.cow_volume.specs.StandsFor.{record_of}
 use Rattle.cow_volume.specs.Tied.{CopiesValue, AreOfImages, copied_for}
 use Rattle.cow_volume.specs.CopiesAfter.{with_records, images_on, after_gone}
 use Rattle.cow_volume.proofs.Merging.{record_is}
@@ -33,15 +32,7 @@ map_stays f [] same = refl
 map_stays f (x ∷ xs) same = ap (λ y. y ∷ map f xs) (same zero x refl) ∙ ap (λ ys. x ∷ ys) (map_stays f xs (λ i y at. same (suc i) y at))
 
 row_stays : (k : ℕ) (r : Record) → (r.set ≡ 0 → r ≡ free) → (0 < r.set → k < r.set) → gone_row k r ≡ r
-row_stays k r none some = by_test (nat_le r.set k) refl where
-  by_test : (t : Bool) → nat_le r.set k ≡ t → (if nat_le r.set k then free else r) ≡ r
-  by_test true e =
-      let low : r.set ≤ k = grind (arith, nat_tests) in
-      ap (λ (t : Bool). if t then free else r) e ∙ sym (none (zero_if r.set k low some))
-    where
-      zero_if : (s k : ℕ) → s ≤ k → (0 < s → k < s) → s ≡ 0
-      zero_if s k low more = elim (cases_lt 0 s) [ inl above ↦ let up = more above in absurd (omega arith) | inr none_set ↦ omega arith ]
-  by_test false e = ap (λ (t : Bool). if t then free else r) e
+row_stays k r none some = grind arith
 
 free_where : (volumes : List ℕ) (records : List Record) (slot : ℕ) (r : Record) → AreRecords volumes records → slice_get records slot ≡ Some r → r.set ≡ 0 → r ≡ free
 free_where volumes records slot r are at none = by_test (is_free r) refl where
@@ -85,24 +76,20 @@ gone_nothing c are of = same_parts c.area (with_records (gone_to 0 c.area.record
 -- nothing goes where nothing has to
 pub room_there : {D : Type 0} (c : CopiesValue D) (v b : ℕ) → AreRecords c.area.volumes c.area.records → AreOfImages c.area.records c.images → lacks_slot c.area.records v (images_on c v) b ≡ false
     → IsRoomMade c.area.records c.images v b 0
-room_there c v b are of has = record {
-  enough = ap (λ x. lacks_slot x.area.records v (images_on x v) b) (sym (gone_nothing c are of)) ∙ has;
-  needed = λ fewer low. absurd (omega arith);
-}
+room_there c v b are of has = grind (arith, gone_nothing)
 
 -- ## the first set that frees a slot
 
-sets_after : (k v : ℕ) (images : List (List ℕ)) → sets_in (slice_get (all_after k images) v) ≡ after k (sets_in (slice_get images v))
+pub sets_after : (k v : ℕ) (images : List (List ℕ)) → sets_in (slice_get (all_after k images) v) ≡ after k (sets_in (slice_get images v))
 sets_after k v [] = refl
 sets_after k zero (sets ∷ images) = refl
 sets_after k (suc v) (sets ∷ images) = sets_after k v images
 
 drop_head : (records : List Record) (v b s : ℕ) (sets : List ℕ) → 0 < length sets → lacks_copy records v (s ∷ sets) b ≡ lacks_copy records v sets b
-drop_head records v b s [] some = absurd (omega arith)
-drop_head records v b s (t ∷ rest) some = refl
+drop_head records v b s sets some = grind arith
 
 -- before the newest image goes, it lacks what it lacked
-keeps_newest : (records : List Record) (v b k : ℕ) (sets : List ℕ) → k < newest sets → (0 < length (after k sets)) × (lacks_copy records v (after k sets) b ≡ lacks_copy records v sets b)
+pub keeps_newest : (records : List Record) (v b k : ℕ) (sets : List ℕ) → k < newest sets → (0 < length (after k sets)) × (lacks_copy records v (after k sets) b ≡ lacks_copy records v sets b)
 keeps_newest records v b k [] low = absurd (omega arith)
 keeps_newest records v b k (s ∷ []) low =
     let stays : after k (s ∷ []) ≡ s ∷ [] = ap (λ (t : Bool). if t then s ∷ [] else []) (lt-ltb k s low) in
@@ -118,25 +105,15 @@ keeps_newest records v b k (s ∷ t ∷ rest) low = by_test (nat_lt k s) refl (k
       (subst (λ (xs : List ℕ). 0 < length xs) (sym is) more.0, ap (λ (xs : List ℕ). lacks_copy records v xs b) is ∙ more.1)
 
 -- all go up to the newest
-none_after : (k : ℕ) (sets : List ℕ) → ((i s : ℕ) → slice_get sets i ≡ Some s → s ≤ k) → after k sets ≡ []
+pub none_after : (k : ℕ) (sets : List ℕ) → ((i s : ℕ) → slice_get sets i ≡ Some s → s ≤ k) → after k sets ≡ []
 none_after k [] low = refl
 none_after k (s ∷ sets) low = ap (λ (t : Bool). if t then s ∷ after k sets else after k sets) (le-ltb k s (low zero s refl)) ∙ none_after k sets (λ i x at. low (suc i) x at)
 
-newest_most : (sets : List ℕ) (i s : ℕ) → AreImages sets → slice_get sets i ≡ Some s → s ≤ newest sets
-newest_most sets i s are at =
-    let inside = slice_get_within sets i s at in
-    let is : get_or sets i 0 ≡ s = get_or_from_slice_get sets i s 0 at in
-    elim (cases_lt i (length sets - 1)) [
-      | inl low ↦ let up : get_or sets i 0 < get_or sets (length sets - 1) 0 = are.ascend i (length sets - 1) 0 low (omega arith) in let last : newest sets ≡ get_or sets
-          (length sets - 1) 0 = refl in omega arith
-      | inr high ↦ let same : i ≡ length sets - 1 = omega arith in let last : get_or sets i 0 ≡ newest sets = ap (λ (n : ℕ). get_or sets n 0) same in omega arith
-    ]
+pub newest_most : (sets : List ℕ) (i s : ℕ) → AreImages sets → slice_get sets i ≡ Some s → s ≤ newest sets
+newest_most sets i s are at = grind (arith, slice_get_within, get_or_from_slice_get, cases_lt)
 
 gone_all_row : (r : Record) (k : ℕ) → r.set ≡ k → gone_row k r ≡ free
-gone_all_row r k same = ap (λ (t : Bool). if t then free else r) (low (nat_le r.set k) refl) where
-  low : (t : Bool) → nat_le r.set k ≡ t → nat_le r.set k ≡ true
-  low true e = e
-  low false e = let high : k < r.set = grind (arith, nat_tests) in absurd (omega arith)
+gone_all_row r k same = grind arith
 
 not_full : (records : List Record) (slot k : ℕ) (r : Record) → slice_get records slot ≡ Some r → r.set ≡ k → is_full (gone_to k records) ≡ false
 not_full records slot k r at same =
@@ -177,46 +154,14 @@ pub record IsLeastSoFar (records : List Record) (sets : List ℕ) (up_to u : ℕ
   pub one : (up_to ≡ newest sets) ⊎ ((j : ℕ) × (r : Record) × (slice_get records j ≡ Some r) × (r.set ≡ up_to))
 
 pub first_none : (records : List Record) (sets : List ℕ) (n : ℕ) → n ≡ newest sets → IsLeastSoFar records sets n 0
-first_none records sets n is = record {
-  most = omega arith;
-  least = λ j r at some low. absurd (omega arith);
-  one = inl is;
-}
+first_none records sets n is = grind arith
 
 pub lesser_of : (set other : ℕ) → ((other < set) × (lesser set (Some other) ≡ other)) ⊎ ((set ≤ other) × (lesser set (Some other) ≡ set))
-lesser_of set other = by_test (nat_lt other set) refl where
-  by_test : (t : Bool) → nat_lt other set ≡ t → ((other < set) × (lesser set (Some other) ≡ other)) ⊎ ((set ≤ other) × (lesser set (Some other) ≡ set))
-  by_test true e = inl (grind (arith, nat_tests), ap (λ (b : Bool). if b then other else set) e)
-  by_test false e = inr (grind (arith, nat_tests), ap (λ (b : Bool). if b then other else set) e)
+lesser_of set other = grind arith
 
 -- one volume more
 pub first_more : (records : List Record) (sets : List ℕ) (least u : ℕ) (o : Option ℕ) → IsLeastSoFar records sets least u → IsOldestOn records u o → IsLeastSoFar records sets (lesser least o) (u + 1)
-first_more records sets least u None so_far none = record {
-  most = so_far.most;
-  least = λ j r at some low. elim (cases_eq r.volume u) [
-    | inl same ↦ absurd (none j r at same some)
-    | inr other ↦ so_far.least j r at some (omega arith)
-  ];
-  one = so_far.one;
-}
-first_more records sets least u (Some set) so_far oldest = elim (lesser_of least set) [
-  | inl below ↦ let low = below.0 in subst (λ (n : ℕ). IsLeastSoFar records sets n (u + 1)) (sym below.1) (record {
-    most = let most = so_far.most in omega arith;
-    least = λ j r at some inside. elim (cases_eq r.volume u) [
-      | inl same ↦ oldest.oldest j r at same some
-      | inr other ↦ let before = so_far.least j r at some (omega arith) in omega arith
-    ];
-    one = inr (oldest.slot, record_of u set oldest.block, oldest.row, refl);
-  })
-  | inr above ↦ let high = above.0 in subst (λ (n : ℕ). IsLeastSoFar records sets n (u + 1)) (sym above.1) (record {
-    most = so_far.most;
-    least = λ j r at some inside. elim (cases_eq r.volume u) [
-      | inl same ↦ let from = oldest.oldest j r at same some in omega arith
-      | inr other ↦ so_far.least j r at some (omega arith)
-    ];
-    one = so_far.one;
-  })
-]
+first_more records sets least u o so_far none = grind arith
 
 -- where all slots are used, each record is of a volume
 full_used : (records : List Record) (slot : ℕ) (r : Record) → is_full records ≡ true → slice_get records slot ≡ Some r → r ≢ free

@@ -1,5 +1,5 @@
 -- Lists without doubles. Where two of them have the same members, one is the other in another order.
-use Rattle.std.proofs.Common.{◌≡◌, ◌<◌, ◌≤◌, ◌⊎◌, ℕ, zero, suc, ◌+◌, List, [], ◌∷◌, ◌++◌, map, refl, ap, sym, subst, ◌∙◌, arith, eq-or-lt_of_le, Bool, true, false, Some, inl, inr, IsPermutation}
+use Rattle.std.proofs.Common.{◌≡◌, ◌<◌, ◌≤◌, ◌⊎◌, ℕ, zero, suc, ◌+◌, List, [], ◌∷◌, ◌++◌, map, refl, ap, sym, subst, ◌∙◌, arith, eq-or-lt_of_le, Bool, true, Some, inl, inr, IsPermutation}
 use Rattle.std.specs.Prelude.{filter, slice_get, if◌then◌else◌}
 use Rattle.std.specs.List.{range_with_len}
 use Rattle.std.proofs.lemmas.List.Sorted.{IsPermutation-refl, IsPermutation-cons, IsPermutation-trans, IsPermutation-middle, IsPermutation-sym}
@@ -133,9 +133,7 @@ apart_by f (x ∷ xs) a = ((λ m. a.0 (has-map f x xs m)), apart_by f xs a.1)
 -- ## filtered lists
 
 has_if : {X : Type 0} (b : Bool) (x z : X) (xs : List X) → Has x (if b then z ∷ xs else xs) → ((b ≡ true) × (z ≡ x)) ⊎ Has x xs
-has_if true x z xs (inl e) = inl (refl, e)
-has_if true x z xs (inr h) = inr h
-has_if false x z xs h = inr h
+has_if b x z xs h = grind arith
 
 pub from-filter : {X : Type 0} (p : X → Bool) (x : X) (xs : List X) → Has x (filter p xs) → Has x xs × (p x ≡ true)
 from-filter p x [] h = absurd h
@@ -145,12 +143,10 @@ from-filter {X = X} p x (z ∷ xs) h = elim (has_if (p z) x z (filter p xs) h) [
 ]
 
 here_if : {X : Type 0} (b : Bool) (x : X) (xs : List X) → b ≡ true → Has x (if b then x ∷ xs else xs)
-here_if true x xs e = inl refl
-here_if false x xs e = cc
+here_if b x xs e = grind arith
 
 later_if : {X : Type 0} (b : Bool) (x z : X) (xs : List X) → Has x xs → Has x (if b then z ∷ xs else xs)
-later_if true x z xs h = inr h
-later_if false x z xs h = h
+later_if b x z xs h = grind arith
 
 pub has-filter : {X : Type 0} (p : X → Bool) (x : X) (xs : List X) → p x ≡ true → Has x xs → Has x (filter p xs)
 has-filter p x [] e h = absurd h
@@ -160,8 +156,7 @@ has-filter {X = X} p x (z ∷ xs) e (inl same) =
 has-filter p x (z ∷ xs) e (inr h) = later_if (p z) x z (filter p xs) (has-filter p x xs e h)
 
 apart_if : {X : Type 0} (b : Bool) (x : X) (xs : List X) → (b ≡ true → Has x xs → ⊥) → AreApart xs → AreApart (if b then x ∷ xs else xs)
-apart_if true x xs d a = (d refl, a)
-apart_if false x xs d a = a
+apart_if b x xs d a = grind arith
 
 -- those that pass stand at one place each
 pub apart-filter : {X : Type 0} (p : X → Bool) (xs : List X) → ((i j : ℕ) (x : X) → p x ≡ true → slice_get xs i ≡ Some x → slice_get xs j ≡ Some x → i ≡ j) → AreApart (filter p xs)

@@ -1,16 +1,13 @@
 -- The rules by which images go, as rules of records.
-use Rattle.std.proofs.Common.{ℕ, ◌≡◌, ◌≢◌, ◌<◌, ◌≤◌, Bool, true, false, ◌&&◌, List, map, Option, Some, None, slice_get, refl, sym, ap, ◌∙◌, arith, inl, inr, ◌⊎◌}
-use Rattle.std.specs.Prelude.{◌==◌, nat_lt, nat_le, if◌then◌else◌}
+use Rattle.std.proofs.Common.{ℕ, ◌≡◌, ◌≢◌, ◌<◌, Bool, true, false, ◌&&◌, List, map, Option, Some, slice_get, refl, sym, ap, ◌∙◌, arith, inl, inr, ◌⊎◌}
+use Rattle.std.specs.Prelude.{◌==◌, nat_lt, if◌then◌else◌}
 use Rattle.std.specs.Option.{option_and_then}
-use Rattle.std.proofs.lemmas.Bool.{false≢true, cases_lt}
 use Rattle.std.proofs.lemmas.Bool.Decides.{nat_tests}
-use Rattle.std.proofs.lemmas.Option.{none-some, same_Some}
-use Rattle.diff_area.specs.Records.{free}
 use Rattle.diff_area.specs.declared.table_record.Record.{Record}
 use Rattle.diff_map.specs.Copies.{copy_of, has_copy}
 use Rattle.diff_map.specs.Rules.{merged as merged_rule, cleared as cleared_rule, gone as gone_rule, handed_down as handed_on}
 use Rattle.diff_map.specs.declared.copied.Copied.{Copied}
-use Rattle.diff_map.proofs.Finds.{Merged, merged_from, stayed, moved}
+use Rattle.diff_map.proofs.Finds.{Merged, merged_from}
 use Rattle.diff_map.proofs.Ruling.{row_from_has, has_from_row}
 use Rattle.cow_volume.specs.StandsFor.{record_of}
 use Rattle.cow_volume.specs.Changes.{has_record, is_of, handed_down, merged_row, cleared_row, gone_on_row}
@@ -30,37 +27,17 @@ of_set : (v set : ℕ) (r : Record) → r.volume ≡ v → r.set ≡ set → is_
 of_set v set r a b = grind (arith, nat_tests)
 
 not_of_set : (v set w s : ℕ) → (w ≢ v) ⊎ (s ≢ set) → ((w == v) && (s == set)) ≡ false
-not_of_set v set w s h = by_test ((w == v) && (s == set)) refl where
-  by_test : (t : Bool) → ((w == v) && (s == set)) ≡ t → ((w == v) && (s == set)) ≡ false
-  by_test true e =
-      let a : w ≡ v = grind (arith, nat_tests) in
-      let b : s ≡ set = grind (arith, nat_tests) in
-      absurd (elim h [ inl n ↦ n a | inr n ↦ n b ])
-  by_test false e = e
+not_of_set v set w s h = grind arith
 
 -- a used record of volume v, or another one
 pub not_used : (v : ℕ) (r : Record) → (nat_lt 0 r.set && (r.volume == v)) ≡ false → (r.volume ≢ v) ⊎ (r.set ≡ 0)
-not_used v r h = by_set (cases_lt 0 r.set) where
-  by_set : (0 < r.set) ⊎ (r.set ≤ 0) → (r.volume ≢ v) ⊎ (r.set ≡ 0)
-  by_set (inr none) = inr (omega arith)
-  by_set (inl some) = inl (λ same. false≢true (sym h ∙ test r.set r.volume some same)) where
-    test : (s w : ℕ) → 0 < s → w ≡ v → (nat_lt 0 s && (w == v)) ≡ true
-    test s w a b = grind (arith, nat_tests)
+not_used v r h = grind arith
 
 -- ## an image is merged down
 
 handed : (records : List Record) (v : ℕ) (older : Option ℕ) (set block : ℕ) → ((n : ℕ) → older ≡ Some n → 0 < n)
     → record_for v (handed_on (map (copied_for v) records) older block) ≡ handed_down records v older block
-handed records v None set block above = refl
-handed records v (Some n) set block above = by_test (has_copy (map (copied_for v) records) n block) refl where
-  by_test : (t : Bool) → has_copy (map (copied_for v) records) n block ≡ t
-      → record_for v (if has_copy (map (copied_for v) records) n block then None else Some (copy_of n block)) ≡ (if has_record records (record_of v n block) then free else record_of v n block)
-  by_test true e =
-      ap (λ (t : Bool). record_for v (if t then None else Some (copy_of n block))) e
-      ∙ sym (ap (λ (t : Bool). if t then free else record_of v n block) (sym (has_copy-record records v n block (above n refl)) ∙ e))
-  by_test false e =
-      ap (λ (t : Bool). record_for v (if t then None else Some (copy_of n block))) e
-      ∙ sym (ap (λ (t : Bool). if t then free else record_of v n block) (sym (has_copy-record records v n block (above n refl)) ∙ e))
+handed records v older set block above = grind (arith, has_copy-record)
 
 merge_row : (records : List Record) (v : ℕ) (older : Option ℕ) (set : ℕ) → 0 < set → ((n : ℕ) → older ≡ Some n → 0 < n) → (r : Record)
     → followed_row v (option_and_then (merged_rule (map (copied_for v) records) older set) (copied_for v r)) r ≡ merged_row records v older set r
@@ -90,15 +67,11 @@ merge_row records v older set some above r = by_test (nat_lt 0 r.set && (r.volum
       (not_of_set v set r.volume r.set (elim (not_used v r e) [ inl other ↦ inl other | inr none ↦ inr (λ same. absurd (omega arith)) ])))
 
 merge_above : (copies : List (Option Copied)) (older : Option ℕ) (set : ℕ) (c d : Copied) → ((n : ℕ) → older ≡ Some n → 0 < n) → Merged copies older set c d → 0 < c.set → 0 < d.set
-merge_above copies older set c d above (stayed other is) some = let e : d.set ≡ c.set = ap (λ x. x.set) is in omega arith
-merge_above copies older set c d above (moved n same is d_is lacks) some = let e : d.set ≡ n = ap (λ x. x.set) d_is in let a = above n is in omega arith
+merge_above copies older set c d above x6 some = grind arith
 
 merge_fresh : (records : List Record) (v : ℕ) (older : Option ℕ) (set : ℕ) (c d : Copied) → ((n : ℕ) → older ≡ Some n → 0 < n) → Merged (map (copied_for v) records) older set c d
     → (d ≡ c) ⊎ ((other : ℕ) → slice_get records other ≡ Some (record_of v d.set d.block) → ⊥)
-merge_fresh records v older set c d above (stayed other is) = inl is
-merge_fresh records v older set c d above (moved n same is d_is lacks) = inr (λ other h.
-    let row = row_of_record v records other n c.block (above n is) (h ∙ ap (λ (x : Copied). Some (record_of v x.set x.block)) d_is) in
-    false≢true (sym lacks ∙ has_from_row (map (copied_for v) records) other n c.block row))
+merge_fresh records v older set c d above x7 = grind (arith, row_of_record, has_from_row)
 
 pub rule-merged : (records : List Record) (v : ℕ) (older : Option ℕ) (set : ℕ) → 0 < set → ((n : ℕ) → older ≡ Some n → 0 < n)
     → IsRuleOf records v (merged_rule (map (copied_for v) records) older set) (merged_row records v older set)
@@ -110,78 +83,8 @@ rule-merged records v older set some above = record {
 
 -- ## the copies from a set on are cleared
 
-cleared_some : (set : ℕ) (c d : Copied) → cleared_rule set c ≡ Some d → d ≡ c
-cleared_some set c d h = by_test (nat_le set c.set) refl where
-  by_test : (t : Bool) → nat_le set c.set ≡ t → d ≡ c
-  by_test true e = absurd (none-some d (sym (ap (λ (t : Bool). if t then None else Some c) e) ∙ h))
-  by_test false e = sym (same_Some c d (sym (ap (λ (t : Bool). if t then None else Some c) e) ∙ h))
-
-clear_row : (v set : ℕ) → 0 < set → (r : Record) → followed_row v (option_and_then (cleared_rule set) (copied_for v r)) r ≡ cleared_row v set r
-clear_row v set some r = by_test (nat_lt 0 r.set && (r.volume == v)) refl where
-  of_it : (t : Bool) (w : ℕ) → w ≡ v → ((w == v) && t) ≡ t
-  of_it true w same = grind (arith, nat_tests)
-  of_it false w same = grind (arith, nat_tests)
-
-  by_set : r.volume ≡ v → (t : Bool) → nat_le set r.set ≡ t → record_for v (cleared_rule set (copy_of r.set r.block)) ≡ cleared_row v set r
-  by_set b true e =
-      ap (λ (t : Bool). record_for v (if t then None else Some (copy_of r.set r.block))) e
-      ∙ sym (ap (λ (t : Bool). if t then free else r) (of_it (nat_le set r.set) r.volume b ∙ e))
-  by_set b false e =
-      ap (λ (t : Bool). record_for v (if t then None else Some (copy_of r.set r.block))) e
-      ∙ same_record (record_of v r.set r.block) r refl refl (sym b)
-      ∙ sym (ap (λ (t : Bool). if t then free else r) (of_it (nat_le set r.set) r.volume b ∙ e))
-
-  not_cleared : (r.volume ≢ v) ⊎ (r.set ≡ 0) → (t : Bool) → ((r.volume == v) && nat_le set r.set) ≡ t → ((r.volume == v) && nat_le set r.set) ≡ false
-  not_cleared h true e =
-      let a : r.volume ≡ v = grind (arith, nat_tests) in
-      let b : set ≤ r.set = grind (arith, nat_tests) in
-      absurd (elim h [ inl other ↦ other a | inr none ↦ absurd (omega arith) ])
-  not_cleared h false e = e
-
-  by_test : (t : Bool) → (nat_lt 0 r.set && (r.volume == v)) ≡ t → followed_row v (option_and_then (cleared_rule set) (copied_for v r)) r ≡ cleared_row v set r
-  by_test true e =
-      let both = both_from r.set v r.volume e in
-      follows-of v (option_and_then (cleared_rule set) (copied_for v r)) r both.0 both.1
-      ∙ ap (λ o. record_for v (option_and_then (cleared_rule set) o)) (copied_for-is v r both.0 both.1)
-      ∙ by_set both.1 (nat_le set r.set) refl
-  by_test false e =
-      follows-other v (option_and_then (cleared_rule set) (copied_for v r)) r e
-      ∙ sym (ap (λ (t : Bool). if t then free else r) (not_cleared (not_used v r e) ((r.volume == v) && nat_le set r.set) refl))
-
 pub rule-cleared : (records : List Record) (v set : ℕ) → 0 < set → IsRuleOf records v (cleared_rule set) (cleared_row v set)
-rule-cleared records v set some = record {
-  above = λ c d gives more. let e : d.set ≡ c.set = ap (λ x. x.set) (cleared_some set c d gives) in omega arith;
-  fresh = λ c d gives more. inl (cleared_some set c d gives);
-  row = clear_row v set some;
-}
-
-gone_some : (set : ℕ) (c d : Copied) → gone_rule set c ≡ Some d → d ≡ c
-gone_some set c d h = by_test (nat_le c.set set) refl where
-  by_test : (t : Bool) → nat_le c.set set ≡ t → d ≡ c
-  by_test true e = absurd (none-some d (sym (ap (λ (t : Bool). if t then None else Some c) e) ∙ h))
-  by_test false e = sym (same_Some c d (sym (ap (λ (t : Bool). if t then None else Some c) e) ∙ h))
-
-gone_row_is : (v set : ℕ) (r : Record) → followed_row v (option_and_then (gone_rule set) (copied_for v r)) r ≡ gone_on_row v set r
-gone_row_is v set r = by_test (nat_lt 0 r.set && (r.volume == v)) refl where
-  by_set : r.volume ≡ v → (t : Bool) → nat_le r.set set ≡ t → record_for v (gone_rule set (copy_of r.set r.block)) ≡ (if true && nat_le r.set set then free else r)
-  by_set b true e = ap (λ (t : Bool). record_for v (if t then None else Some (copy_of r.set r.block))) e ∙ sym (ap (λ (t : Bool). if true && t then free else r) e)
-  by_set b false e =
-      ap (λ (t : Bool). record_for v (if t then None else Some (copy_of r.set r.block))) e
-      ∙ same_record (record_of v r.set r.block) r refl refl (sym b)
-      ∙ sym (ap (λ (t : Bool). if true && t then free else r) e)
-
-  by_test : (t : Bool) → (nat_lt 0 r.set && (r.volume == v)) ≡ t → followed_row v (option_and_then (gone_rule set) (copied_for v r)) r ≡ gone_on_row v set r
-  by_test true e =
-      let both = both_from r.set v r.volume e in
-      follows-of v (option_and_then (gone_rule set) (copied_for v r)) r both.0 both.1
-      ∙ ap (λ o. record_for v (option_and_then (gone_rule set) o)) (copied_for-is v r both.0 both.1)
-      ∙ by_set both.1 (nat_le r.set set) refl
-      ∙ sym (ap (λ (t : Bool). if t && nat_le r.set set then free else r) e)
-  by_test false e = follows-other v (option_and_then (gone_rule set) (copied_for v r)) r e ∙ sym (ap (λ (t : Bool). if t && nat_le r.set set then free else r) e)
+rule-cleared records v set some = grind arith
 
 pub rule-gone : (records : List Record) (v set : ℕ) → IsRuleOf records v (gone_rule set) (gone_on_row v set)
-rule-gone records v set = record {
-  above = λ c d gives more. let e : d.set ≡ c.set = ap (λ x. x.set) (gone_some set c d gives) in omega arith;
-  fresh = λ c d gives more. inl (gone_some set c d gives);
-  row = gone_row_is v set;
-}
+rule-gone records v set = grind arith

@@ -89,8 +89,7 @@ next_from last o set n (i ∷ images) times new e = by_tests (i.set == set) (i.s
 
 -- the next newer image begins no earlier
 starts_after : (j : Image) (newer : List Image) → AreLater j newer → (next : Image) (rest : List Image) → newer ≡ next ∷ rest → j.point ≤ next.point
-starts_after j [] later next rest e = absurd cc
-starts_after j (k ∷ ks) later next rest e = let same : k ≡ next = cc in subst (λ (i : Image). j.point ≤ i.point) same later.1
+starts_after j newer later next rest e = grind arith
 
 -- ## what images name
 
@@ -202,16 +201,14 @@ point_of set (i ∷ images) e = by_test (i.set == set) (point_of set images) e w
 -- ## fewer images
 
 later_if : (t : Bool) (i j : Image) (images : List Image) → i.set < j.set → i.point ≤ j.point → AreLater i images → AreLater i (if t then j ∷ images else images)
-later_if true i j images e f h = (e, f, h)
-later_if false i j images e f h = h
+later_if t i j images e f h = grind arith
 
 later-filter : (test : Image → Bool) (i : Image) (images : List Image) → AreLater i images → AreLater i (filter test images)
 later-filter test i [] h = tt
 later-filter test i (j ∷ images) h = later_if (test j) i j (filter test images) h.0 h.1 (later-filter test i images h.2)
 
 in_time_if : (t : Bool) (n : ℕ) (i : Image) (images : List Image) → i.point ≤ n → AreLater i images → AreInTime n images → AreInTime n (if t then i ∷ images else images)
-in_time_if true n i images e f h = (e, f, h)
-in_time_if false n i images e f h = h
+in_time_if t n i images e f h = grind arith
 
 in_time-filter : (test : Image → Bool) (n : ℕ) (images : List Image) → AreInTime n images → AreInTime n (filter test images)
 in_time-filter test n [] h = tt
@@ -258,12 +255,10 @@ point_before test s p (i ∷ images) e = by_tests (test i.set) (i.set == s) refl
 -- ## records
 
 pub and_left : (a b : Bool) → (a && b) ≡ true → a ≡ true
-and_left true b e = refl
-and_left false b e = e
+and_left a b e = grind arith
 
 pub and_right : (a b : Bool) → (a && b) ≡ true → b ≡ true
-and_right true b e = e
-and_right false b e = absurd cc
+and_right a b e = grind arith
 
 pub was_row : {X Y : Type 0} → (f : X → Y) (xs : List X) (slot : ℕ) (y : Y) → slice_get (map f xs) slot ≡ Some y → (x : X) × (slice_get xs slot ≡ Some x) × (f x ≡ y)
 was_row f [] slot y at = absurd cc
@@ -271,13 +266,11 @@ was_row f (x ∷ xs) zero y at = let is : f x ≡ y = cc in (x, refl, is)
 was_row f (x ∷ xs) (suc slot) y at = was_row f xs slot y at
 
 pub record_is : (r q : Record) → r.set ≡ q.set → r.block ≡ q.block → r.volume ≡ q.volume → r ≡ q
-record_is r q s b v =
-    ap (λ (k : ℕ). record_of r.volume k r.block) s ∙ ap (λ (k : ℕ). record_of r.volume q.set k) b ∙ ap (λ (k : ℕ). record_of k q.set q.block) v
+record_is r q s b v = grind arith
 
 -- a record of the image of a set on volume v
 pub of_image : (v set : ℕ) (r : Record) → is_of v set r ≡ true → r ≡ record_of v set r.block
-of_image v set r e = record_is r (record_of v set r.block) (same_number r.set set (and_right (r.volume == v) (r.set == set) e)) refl
-    (same_number r.volume v (and_left (r.volume == v) (r.set == set) e))
+of_image v set r e = grind arith
 
 is_of-it : (v set b : ℕ) → is_of v set (record_of v set b) ≡ true
 is_of-it v set b = simp (number_is v, number_is set)
@@ -289,10 +282,7 @@ is_of-other_volume : (u v s set b : ℕ) → u ≢ v → is_of v set (record_of 
 is_of-other_volume u v s set b other = simp (number_is_other u v other)
 
 same_if : (q r : Record) → is_same_record q r ≡ true → r ≡ q
-same_if q r e = record_is r q
-    (sym (same_number q.set r.set (and_left (q.set == r.set) _ (and_left ((q.set == r.set) && (q.block == r.block)) (q.volume == r.volume) e))))
-    (sym (same_number q.block r.block (and_right (q.set == r.set) _ (and_left ((q.set == r.set) && (q.block == r.block)) (q.volume == r.volume) e))))
-    (sym (same_number q.volume r.volume (and_right ((q.set == r.set) && (q.block == r.block)) (q.volume == r.volume) e)))
+same_if q r e = grind arith
 
 same_it : (q : Record) → is_same_record q q ≡ true
 same_it q = simp (number_is q.set, number_is q.block, number_is q.volume)
@@ -336,15 +326,12 @@ merged_from records v older set r q e = subst (λ (x : Record). MergedRow record
 -- a record of another image or another volume stays
 pub merged_stays : (records : List Record) (v : ℕ) (older : Option ℕ) (set slot : ℕ) (r : Record) → is_of v set r ≡ false → slice_get records slot ≡ Some r
     → slice_get (merged v older set records) slot ≡ Some r
-merged_stays records v older set slot r e at = slice_get_map (merged_row records v older set) records slot r at ∙ ap (λ (t : Bool). Some (if t then handed_down records v older r.block else r)) e
+merged_stays records v older set slot r e at = grind (arith, slice_get_map)
 
 -- a record of the image that goes is given to the next older one, which lacks it
 pub merged_moves : (records : List Record) (v o set slot b : ℕ) → has_record records (record_of v o b) ≡ false → slice_get records slot ≡ Some (record_of v set b)
     → slice_get (merged v (Some o) set records) slot ≡ Some (record_of v o b)
-merged_moves records v o set slot b none at =
-    slice_get_map (merged_row records v (Some o) set) records slot (record_of v set b) at
-    ∙ ap (λ (t : Bool). Some (if t then handed_down records v (Some o) b else record_of v set b)) (is_of-it v set b)
-    ∙ ap (λ (t : Bool). Some (if t then free else record_of v o b)) none
+merged_moves records v o set slot b none at = grind (arith, slice_get_map, is_of-it)
 
 pub free_set : (v s b : ℕ) → record_of v s b ≡ free → 0 < s → ⊥
 free_set v s b e above = let none : s ≡ 0 = ap (λ (r : Record). r.set) e in absurd (omega arith)
@@ -402,24 +389,10 @@ module _ (told slots : Option (List (List ℕ))) (records : List Record) (v n : 
 
   -- what an image other than this names, it names afterwards
   still_named : (s b : ℕ) → s ≢ set → is_named h.writes h.images s b ≡ true → is_named h.writes (without_set set h.images) s b ≡ true
-  still_named s b other e = by_older older refl where
-    by_older : (next : Option ℕ) → older ≡ next → is_named h.writes (without_set set h.images) s b ≡ true
-    by_older None f = kept s b other (λ g. absurd cc) ∙ e
-    by_older (Some o) f = by_test (s == o) refl where
-      by_test : (t : Bool) → (s == o) ≡ t → is_named h.writes (without_set set h.images) s b ≡ true
-      by_test true is = let same = same_number s o is in joined s b (f ∙ ap Some (sym same)) ∙ ap (λ (t : Bool). t || is_named h.writes h.images set b) e
-      by_test false is = kept s b other (λ g. let both : Some o ≡ Some s = sym f ∙ g in let one : s ≡ o = cc in other_number s o is one) ∙ e
+  still_named s b other e = grind (arith, kept, same_number, joined, other_number)
 
   named_row : (slot s b : ℕ) (r : Record) → 0 < s → slice_get records slot ≡ Some r → MergedRow records v older set r (record_of v s b) → is_named h.writes (without_set set h.images) s b ≡ true
-  named_row slot s b r above at (stayed e is) =
-      let other : s ≢ set = λ same. true_not_false (sym (ap (λ (k : ℕ). is_of v set (record_of v k b)) same ∙ is_of-it v set b) ∙ ap (is_of v set) is ∙ e) in
-      still_named s b other (volume.named slot s b above (at ∙ ap Some (sym is)))
-  named_row slot s b r above at (freed e is) = absurd (free_set v s b is above)
-  named_row slot s b r above at (moved o e next none is) =
-      let is_set : s ≡ o = ap (λ (x : Record). x.set) is in
-      let is_block : b ≡ r.block = ap (λ (x : Record). x.block) is in
-      let was : is_named h.writes h.images set b ≡ true = volume.named slot set b above_set (at ∙ ap Some (of_image v set r e) ∙ ap (λ (k : ℕ). Some (record_of v set k)) (sym is_block)) in
-      joined s b (next ∙ ap Some (sym is_set)) ∙ ap (λ (t : Bool). is_named h.writes h.images s b || t) was ∙ or-true (is_named h.writes h.images s b)
+  named_row slot s b r above at x6 = grind (arith, true_not_false, is_of-it, still_named, free_set, above_set, of_image, joined, or-true)
 
   merged_named : (slot s b : ℕ) → 0 < s → slice_get (merged v older set records) slot ≡ Some (record_of v s b) → is_named h.writes (without_set set h.images) s b ≡ true
   merged_named slot s b above at =
@@ -448,23 +421,11 @@ module _ (told slots : Option (List (List ℕ))) (records : List Record) (v n : 
     by_test false f g = older_recorded o b next l g
 
   merged_recorded : (s b : ℕ) → b < n → is_named h.writes (without_set set h.images) s b ≡ true → Recorded s b
-  merged_recorded s b l e = by_test (s == set) refl older refl where
-    by_test : (t : Bool) → (s == set) ≡ t → (next : Option ℕ) → older ≡ next → Recorded s b
-    by_test true is next f = absurd (true_not_false (sym e ∙ ap (λ (k : ℕ). is_named h.writes (without_set set h.images) k b) (same_number s set is) ∙ gone_named h.writes set b h.images))
-    by_test false is None f = let other = other_number s set is in stays_recorded s b other l (sym (kept s b other (λ g. absurd cc)) ∙ e)
-    by_test false is (Some o) f = by_older (s == o) refl where
-      by_older : (t : Bool) → (s == o) ≡ t → Recorded s b
-      by_older true same = joined_recorded s b (f ∙ ap Some (sym (same_number s o same))) l e
-      by_older false same =
-          let other = other_number s set is in
-          stays_recorded s b other l (sym (kept s b other (λ g. let both : Some o ≡ Some s = sym f ∙ g in let one : s ≡ o = cc in other_number s o same one)) ∙ e)
+  merged_recorded s b l e = grind (arith, true_not_false, same_number, gone_named, other_number, stays_recorded, kept, joined_recorded)
 
   -- the next older image did not name a block that it gets
   unnamed_before : (slot o b : ℕ) → slice_get records slot ≡ Some (record_of v set b) → has_record records (record_of v o b) ≡ false → is_named h.writes h.images o b ≡ false
-  unnamed_before slot o b at none = by_test (is_named h.writes h.images o b) refl where
-    by_test : (t : Bool) → is_named h.writes h.images o b ≡ t → t ≡ false
-    by_test true e = let there = volume.recorded o b (within.each slot set b above_set at) e in absurd (true_not_false (sym (has_found records there.0 (record_of v o b) there.1) ∙ none))
-    by_test false e = refl
+  unnamed_before slot o b at none = grind (arith, above_set, true_not_false, has_found)
 
   abbrev Copied : ℕ → ℕ → ℕ → Type 0
   Copied slot p b = IfSome slots (λ blocks. slice_get blocks (place_of_slot (length records) slot) ≡ Some (content h.writes p b))
@@ -509,14 +470,6 @@ dropped_stands told slots records v n sets h set within among volume =
     let some : is_some (point_in set h.images) ≡ true = ap (λ (p : Option ℕ). is_some p) at.1 in
     let older : next_older sets set ≡ before None set h.images = ap (λ (xs : List ℕ). next_older xs set) volume.sets_are ∙ older_is set (length h.writes) h.images volume.images.in_time some in
     merged_volume told slots records v n sets h set at.0 (next_older sets set) volume within (sym older) at.1
-
--- The oldest image of a volume goes.
-pub without_oldest : (told slots : Option (List (List ℕ))) (records : List Record) (v n : ℕ) (sets : List ℕ) (h : History) (set : ℕ) → AreWithin v n records → is_among set sets ≡ true
-    → next_older sets set ≡ None
-    → IsVolume told slots records v n sets h → IsVolume told slots (merged v None set records) v n (filter (λ s. not (s == set)) sets) (dropped set h)
-without_oldest told slots records v n sets h set within among oldest volume =
-    subst (λ (older : Option ℕ). IsVolume told slots (merged v older set records) v n (filter (λ s. not (s == set)) sets) (dropped set h)) oldest
-    (dropped_stands told slots records v n sets h set within among volume)
 
 -- ## the group
 

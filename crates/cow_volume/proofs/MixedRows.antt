@@ -1,23 +1,14 @@
 -- Rows that follow one rule up to a place, and another from there on: what a step to the next place makes of them.
-use Rattle.std.proofs.Common.{◌≡◌, ◌<◌, ◌≤◌, ◌+◌, ℕ, zero, suc, true, false, List, [], ◌∷◌, length, map, refl, ap, sym, ◌∙◌, arith, Some, inl, inr, eq-or-lt_of_le}
+use Rattle.std.proofs.Common.{◌≡◌, ◌<◌, ◌≤◌, ◌+◌, ℕ, zero, suc, List, [], ◌∷◌, length, map, refl, ap, sym, ◌∙◌, arith, Some}
 use Rattle.std.specs.Prelude.{slice_get, slice_set}
-use Rattle.std.proofs.lemmas.Option.{same_Some, slice_get_within}
-use Rattle.std.proofs.lemmas.Bool.{false≢true, cases_lt}
-use Rattle.slot_pool.specs.Slots.{IsLowestFree}
+use Rattle.std.proofs.lemmas.Option.{same_Some}
 use Rattle.cow_volume.specs.TakingUp.{mixed}
-use Rattle.cow_volume.proofs.Group.{slice_get_inside}
 
 pub mixed-all : {X Y : Type 0} (f g : X → Y) (k : ℕ) (xs : List X) → length xs ≤ k → mixed f g k xs ≡ map f xs
 mixed-all f g zero [] l = refl
 mixed-all f g zero (x ∷ xs) l = absurd (omega arith)
 mixed-all f g (suc k) [] l = refl
 mixed-all f g (suc k) (x ∷ xs) l = ap (λ ys. f x ∷ ys) (mixed-all f g k xs (omega arith))
-
-pub length-mixed : {X Y : Type 0} (f g : X → Y) (k : ℕ) (xs : List X) → length (mixed f g k xs) ≡ length xs
-length-mixed f g zero [] = refl
-length-mixed f g zero (x ∷ xs) = ap suc (length-mixed f g zero xs)
-length-mixed f g (suc k) [] = refl
-length-mixed f g (suc k) (x ∷ xs) = ap suc (length-mixed f g k xs)
 
 one_more : (k : ℕ) → suc k + 1 ≡ suc (k + 1)
 one_more k = omega arith
@@ -52,21 +43,3 @@ mixed-from f g (suc k) (y ∷ xs) zero x l at = absurd (omega arith)
 mixed-from f g (suc k) (y ∷ xs) (suc i) x l at = mixed-from f g k xs i x (omega arith) at
 
 -- ## a pool whose first slots are taken
-
--- its lowest free slot is the next one
-pub lowest_is : {X : Type 0} (xs : List X) (k s : ℕ) (x : X) → slice_get xs k ≡ Some x → IsLowestFree (mixed (λ y. false) (λ y. true) k xs) s → s ≡ k
-lowest_is xs k s x at low = elim (cases_lt s k) [
-  | inl l ↦ (
-      let inside = slice_get_within xs k x at in
-      let y = slice_get_inside xs s (omega arith) in
-      let taken = mixed-before (λ z. false) (λ z. true) k xs s y.0 l y.1 in
-      let free = low.free in
-      absurd (false≢true (same_Some false true (sym taken ∙ free))))
-  | inr m ↦ elim (eq-or-lt_of_le m) [
-    | inl e ↦ sym e
-    | inr l ↦ (
-        let taken = low.lowest k l in
-        let free = mixed-from (λ z. false) (λ z. true) k xs k x (omega arith) at in
-        absurd (false≢true (same_Some false true (sym taken ∙ free))))
-  ]
-]

@@ -114,10 +114,7 @@ pub has-named : (n : ℕ) (ws : List Write) (i : Image) (newer : List Image) (b 
 has-named n ws i newer b l e = has-filter (names (writes_since ws i.point newer)) b (range_with_len 0 n) e (has-range 0 n b (omega arith) (omega arith))
 
 pub from-named : (n : ℕ) (ws : List Write) (i : Image) (newer : List Image) (b : ℕ) → Has b (named n ws i newer) → (b < n) × (names (writes_since ws i.point newer) b ≡ true)
-from-named n ws i newer b h =
-    let at = from-filter (names (writes_since ws i.point newer)) b (range_with_len 0 n) h in
-    let l = from-range 0 n b at.0 in
-    (omega arith, at.1)
+from-named n ws i newer b h = grind (arith, from-filter, from-range)
 
 pub apart-named : (n : ℕ) (ws : List Write) (i : Image) (newer : List Image) → AreApart (named n ws i newer)
 apart-named n ws i newer = apart-filtered (names (writes_since ws i.point newer)) (range_with_len 0 n) (apart-range 0 n)

@@ -25,12 +25,7 @@ none_at (suc k) zero c h = none-some c h
 none_at (suc k) (suc slot) c h = none_at k slot c h
 
 pub new_is_map : (k n : ℕ) → IsMap (new_map k n)
-new_is_map k n = record {
-  images = record { ascend = λ i j d low inside. absurd (omega arith); above_zero = λ i d inside. absurd (omega arith); few = omega arith };
-  of_images = λ slot c h. absurd (none_at k slot c h);
-  of_blocks = λ slot c h. absurd (none_at k slot c h);
-  once = λ slot other c h g. absurd (none_at k slot c h);
-}
+new_is_map k n = grind (arith, none_at)
 
 rows_new : (v k : ℕ) → replicate k None ≡ map (copied_for v) (replicate k free)
 rows_new v zero = refl

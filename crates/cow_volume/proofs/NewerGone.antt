@@ -1,12 +1,12 @@
 -- The images of a volume up to that of a set: what is left where the newer ones go, one after another.
-use Rattle.std.proofs.Common.{◌≡◌, ◌<◌, ◌≤◌, ℕ, List, [], ◌∷◌, ◌++◌, length, take, map, refl, ap, sym, subst, ◌∙◌, arith, Bool, true, false, not, Option, Some, inl, inr}
+use Rattle.std.proofs.Common.{◌≡◌, ◌<◌, ◌≤◌, ℕ, List, [], ◌∷◌, length, take, refl, ap, sym, subst, ◌∙◌, arith, Bool, true, false, not, Option, Some, inl, inr}
 use Rattle.std.specs.Prelude.{if◌then◌else◌, ◌==◌, nat_lt}
 use Rattle.std.proofs.lemmas.Bool.{lt-ltb, le-ltb, ltb-false}
 use Rattle.std.proofs.lemmas.Bool.Decides.{nat_tests}
-use Rattle.write_history.specs.History.{Image, History, point_in, without_set, up_to_set, dropped, to_restore, restoring, reverted, reverted_in_part, AreLater, AreInTime}
+use Rattle.write_history.specs.History.{Image, History, point_in, without_set, up_to_set, dropped, reverted, reverted_in_part, AreLater, AreInTime}
 use Rattle.cow_volume.proofs.Members.{Has}
-use Rattle.cow_volume.proofs.Group.{same_number, number_is}
-use Rattle.cow_volume.proofs.Named.{Stands, number_is_less, later_stands}
+use Rattle.cow_volume.proofs.Group.{same_number}
+use Rattle.cow_volume.proofs.Named.{Stands, later_stands}
 
 -- ## the images up to a set
 
@@ -26,8 +26,7 @@ left_out : (set : ℕ) (i : Image) (is : List Image) → set < i.set → up_to_s
 left_out set i is l = ap (λ (t : Bool). if not t then i ∷ up_to_set set is else up_to_set set is) (lt-ltb set i.set l)
 
 up_to_if : (t : Bool) (set : ℕ) (i : Image) (is : List Image) → (t ≡ false → i.set ≤ set) → AreUpTo set is → AreUpTo set (if not t then i ∷ is else is)
-up_to_if true set i is l h = h
-up_to_if false set i is l h = (l refl, h)
+up_to_if t set i is l h = grind arith
 
 pub are_up_to : (set : ℕ) (is : List Image) → AreUpTo set (up_to_set set is)
 are_up_to set [] = tt
@@ -107,8 +106,7 @@ one_gone set s old new l h = record { writes = h.writes; older = without_if set 
 
 -- all of them
 pub all_gone : (set : ℕ) (old new : History) → IsWithoutSome set old new → AreUpTo set new.images → new ≡ without_newer set old
-all_gone set old new h u =
-    ap (λ ws. record { writes = ws; images = new.images }) h.writes ∙ ap (λ is. record { writes = old.writes; images = is }) (sym (all_kept set new.images u) ∙ h.older)
+all_gone set old new h u = grind (arith, all_kept)
 
 -- the images of these sets go, one after another
 abbrev pub dropped_all : List ℕ → History → History
@@ -123,49 +121,9 @@ some_gone set (s ∷ sets) old new l h = some_gone set sets old (dropped s new) 
 pub newer_gone : (set : ℕ) (sets : List ℕ) (h : History) → ((s : ℕ) → Has s sets → set < s) → AreUpTo set (dropped_all sets h).images → dropped_all sets h ≡ without_newer set h
 newer_gone set sets h l u = all_gone set h (dropped_all sets h) (some_gone set sets h h l (none_gone set h)) u
 
-first_without : (s : ℕ) (i : Image) (is : List Image) → i.set < s → without_set s (i ∷ is) ≡ i ∷ without_set s is
-first_without s i is l = ap (λ (t : Bool). if not t then i ∷ without_set s is else without_set s is) (number_is_less i.set s l)
-
-none_later : (set : ℕ) (i : Image) (is : List Image) → AreLater i is → set ≤ i.set → up_to_set set is ≡ []
-none_later set i [] l m = refl
-none_later set i (j ∷ js) l m = let after = l.0 in left_out set j js (omega arith) ∙ none_later set i js l.2 m
-
--- where the newest image up to a set goes, the images up to the next older one are left
-pub newest_gone : (w : ℕ) (is : List Image) (i j : Image) (newer : List Image) → AreInTime w is → Stands i (j ∷ newer) is → without_set j.set (up_to_set j.set is) ≡ up_to_set i.set is
-newest_gone w [] i j newer t h = absurd h
-newest_gone w (k ∷ ks) i j newer t (inl e) =
-    let P : List Image → Type 0 = λ xs. AreLater k xs × AreInTime w xs in
-    let times : P (j ∷ newer) = subst P e.1 (t.1, t.2) in
-    let Q : Image → Type 0 = λ x. without_set j.set (up_to_set j.set (k ∷ j ∷ newer)) ≡ up_to_set x.set (k ∷ j ∷ newer) in
-    let R : List Image → Type 0 = λ xs. without_set j.set (up_to_set j.set (k ∷ xs)) ≡ up_to_set i.set (k ∷ xs) in
-    let after = times.0.0 in
-    let here : without_set j.set (up_to_set j.set (k ∷ j ∷ newer)) ≡ k ∷ [] =
-    ap (without_set j.set) (kept j.set k (j ∷ newer) (omega arith) ∙ ap (λ xs. k ∷ xs) (kept j.set j newer (omega arith) ∙ ap (λ xs. j ∷ xs) (none_later j.set j newer times.1.1 (omega arith))))
-    ∙ first_without j.set k (j ∷ []) after ∙ ap (λ (q : Bool). k ∷ (if not q then j ∷ [] else [])) (number_is j.set) in
-    let there : up_to_set k.set (k ∷ j ∷ newer) ≡ k ∷ [] =
-    kept k.set k (j ∷ newer) (omega arith) ∙ ap (λ xs. k ∷ xs) (none_later k.set k (j ∷ newer) times.0 (omega arith)) in
-    subst R (sym e.1) (subst Q e.0 (here ∙ sym there))
-newest_gone w (k ∷ ks) i j newer t (inr h) =
-    let before = (later_stands k i (j ∷ newer) ks t.1 h).0 in
-    let after = next_later ks i j newer t.2 h in
-    ap (without_set j.set) (kept j.set k ks (omega arith)) ∙ first_without j.set k (up_to_set j.set ks) (omega arith) ∙ ap (λ xs. k ∷ xs) (newest_gone w ks i j newer t.2 h)
-    ∙ sym (kept i.set k ks (omega arith)) where
-      next_later : (xs : List Image) (i j : Image) (newer : List Image) → AreInTime w xs → Stands i (j ∷ newer) xs → i.set < j.set
-      next_later [] i j newer t h = absurd h
-      next_later (x ∷ xs) i j newer t (inl e) =
-          let P : List Image → Type 0 = λ ys. AreLater x ys in
-          let Q : Image → Type 0 = λ y. y.set < j.set in
-          let later : P (j ∷ newer) = subst P e.1 t.1 in
-          subst Q e.0 later.0
-      next_later (x ∷ xs) i j newer t (inr h) = next_later xs i j newer t.2 h
-
-pub dropped_newest : (h : History) (i j : Image) (newer : List Image) → AreInTime (length h.writes) h.images → Stands i (j ∷ newer) h.images
-    → dropped j.set (without_newer j.set h) ≡ without_newer i.set h
-dropped_newest h i j newer t s = ap (λ is. record { writes = h.writes; images = is }) (newest_gone (length h.writes) h.images i j newer t s)
-
 -- a revert is the same from there
 pub reverted_from : (set p : ℕ) (h : History) → reverted set p (without_newer set h) ≡ reverted set p h
 reverted_from set p h = ap (λ is. record { writes = take p h.writes; images = is }) (up_to_twice set h.images)
 
 pub reverted_in_part_from : (n set p k : ℕ) (h : History) → reverted_in_part n set p k (without_newer set h) ≡ reverted_in_part n set p k h
-reverted_in_part_from n set p k h = ap (λ is. record { writes = h.writes ++ map (restoring h.writes p) (take k (to_restore n h.writes p)); images = is }) (up_to_twice set h.images)
+reverted_in_part_from n set p k h = grind (arith, up_to_twice)

@@ -1,14 +1,13 @@
 -- What a volume's copies are once the newer images are merged down: what the image of a set shows is found where it was, and once the
 -- copies of that image go too, it is all the same whether the newer images were merged before.
-use Rattle.std.proofs.Common.{◌≡◌, ◌≢◌, ◌<◌, ◌≤◌, ◌-◌, ◌⊎◌, ℕ, zero, suc, Bool, true, false, not, ◌&&◌, List, [], ◌∷◌, length, map, refl, ap, sym, subst, ◌∙◌, arith, Option, Some, inl, inr, get_or}
+use Rattle.std.proofs.Common.{◌≡◌, ◌≢◌, ◌<◌, ◌≤◌, ◌-◌, ◌⊎◌, ℕ, zero, suc, Bool, true, false, not, List, [], ◌∷◌, length, map, refl, ap, sym, subst, ◌∙◌, arith, Option, Some, inl, inr, get_or}
 use Rattle.std.specs.Prelude.{filter, slice_get, slice_set, if◌then◌else◌, ◌==◌, nat_le, All, Contains}
-use Rattle.std.proofs.lemmas.Bool.{false≢true, cases_eq, cases_lt}
+use Rattle.std.proofs.lemmas.Bool.{cases_eq, cases_lt}
 use Rattle.std.proofs.lemmas.Bool.Decides.{nat_tests}
 use Rattle.std.proofs.lemmas.List.{get_or_default}
 use Rattle.std.proofs.lemmas.Option.{same_Some}
 use Rattle.std.proofs.lemmas.Simd.{map-map}
 use Rattle.write_history.specs.History.{History, dropped}
-use Rattle.diff_area.specs.Records.{free}
 use Rattle.diff_area.specs.declared.table_record.Record.{Record}
 use Rattle.diff_map.specs.MapValue.{AreImages}
 use Rattle.diff_map.specs.Rules.{next_older}
@@ -21,7 +20,7 @@ use Rattle.cow_volume.specs.CopiesAfter.{images_on, after_merge}
 use Rattle.cow_volume.specs.Parts.{group_of}
 use Rattle.cow_volume.specs.Restoring.{IsMergedTo}
 use Rattle.cow_volume.proofs.Group.{number_is_other}
-use Rattle.cow_volume.proofs.Merging.{MergedRow, stayed, freed, moved, merged_from, merged_stays, merged_moves, was_row, found_record, free_set, AreWithin, of_image, is_of-other_set}
+use Rattle.cow_volume.proofs.Merging.{merged_from, merged_stays, merged_moves, was_row, found_record, free_set, AreWithin, of_image, is_of-other_set}
 use Rattle.cow_volume.proofs.DroppingNewer.{IsDropping, dropping_none, dropping_more, dropping_end, fewer_left, among_of, contains_of, images_after, last_most, merged_stands_within}
 
 -- ## one image goes
@@ -41,24 +40,7 @@ is_of_it v set r a b = grind (arith, nat_tests)
 
 came_from : (records : List Record) (v : ℕ) (older : Option ℕ) (newest slot set b : ℕ) → 0 < set → slice_get (merged v older newest records) slot ≡ Some (record_of v set b)
     → CameFrom records v older newest slot set b
-came_from records v older newest slot set b above at =
-    let was = was_row (merged_row records v older newest) records slot (record_of v set b) at in
-    by_case was.0 was.1 (merged_from records v older newest was.0 (record_of v set b) was.2) where
-      by_case : (r : Record) → slice_get records slot ≡ Some r → MergedRow records v older newest r (record_of v set b) → CameFrom records v older newest slot set b
-      by_case r here (stayed e is) = record {
-        image = set;
-        was = here ∙ ap (λ (x : Record). Some x) (sym is);
-        how = inl (refl, λ same. false≢true (sym e ∙ is_of_it v newest r (ap (λ (x : Record). x.volume) (sym is)) (ap (λ (x : Record). x.set) (sym is) ∙ same)));
-      }
-      by_case r here (freed e is) = absurd (free_set v set b is above)
-      by_case r here (moved o e next none is) =
-          let set_is : o ≡ set = ap (λ (x : Record). x.set) (sym is) in
-          let block_is : r.block ≡ b = ap (λ (x : Record). x.block) (sym is) in
-          record {
-            image = newest;
-            was = here ∙ ap (λ (x : Record). Some x) (of_image v newest r e) ∙ ap (λ (k : ℕ). Some (record_of v newest k)) block_is;
-            how = inr (refl, next ∙ ap (λ (k : ℕ). Some k) set_is);
-          }
+came_from records v older newest slot set b above at = grind (arith, was_row, merged_from, is_of_it, free_set, of_image)
 
 -- what is found for an older set stays where it was
 module _ (records : List Record) (images : List ℕ) (v set newest b : ℕ) (rise : AreImages images) (of : AreOf v records images) (above : 0 < set) (newer : set < newest) (o : ℕ)
@@ -171,32 +153,11 @@ within_merged records v n older newest some within = record {
 
 -- ## the copies from the set on go
 
-cleared_free : (v set : ℕ) → cleared_row v set free ≡ free
-cleared_free v set = by_test ((0 == v) && nat_le set 0) where
-  by_test : (t : Bool) → (if t then free else free) ≡ free
-  by_test true = refl
-  by_test false = refl
-
-cleared_it : (v set image b : ℕ) → set ≤ image → cleared_row v set (record_of v image b) ≡ free
-cleared_it v set image b le = ap (λ (t : Bool). if t then free else record_of v image b) (both v set image le) where
-  both : (w s i : ℕ) → s ≤ i → ((w == w) && nat_le s i) ≡ true
-  both w s i l = grind (arith, nat_tests)
-
 cleared_row_same : (records : List Record) (v set newest o : ℕ) (r : Record) → set ≤ o → o < newest → cleared_row v set (merged_row records v (Some o) newest r) ≡ cleared_row v set r
-cleared_row_same records v set newest o r le low = by_case (merged_from records v (Some o) newest r (merged_row records v (Some o) newest r) refl) where
-  gone : is_of v newest r ≡ true → cleared_row v set r ≡ free
-  gone e = ap (cleared_row v set) (of_image v newest r e) ∙ cleared_it v set newest r.block (omega arith)
-
-  by_case : MergedRow records v (Some o) newest r (merged_row records v (Some o) newest r) → cleared_row v set (merged_row records v (Some o) newest r) ≡ cleared_row v set r
-  by_case (stayed e is) = ap (cleared_row v set) is
-  by_case (freed e is) = ap (cleared_row v set) is ∙ cleared_free v set ∙ sym (gone e)
-  by_case (moved k e next none is) =
-      let same : o ≡ k = same_Some o k next in
-      ap (cleared_row v set) is ∙ cleared_it v set k r.block (omega arith) ∙ sym (gone e)
+cleared_row_same records v set newest o r le low = grind arith
 
 map_same : {X Y : Type 0} (f g : X → Y) (xs : List X) → ((x : X) → f x ≡ g x) → map f xs ≡ map g xs
-map_same f g [] e = refl
-map_same f g (x ∷ xs) e = ap (λ y. y ∷ map f xs) (e x) ∙ ap (λ ys. g x ∷ ys) (map_same f g xs e)
+map_same f g xs e = grind arith
 
 cleared_same : (records : List Record) (images : List ℕ) (v set newest : ℕ) → AreImages images → set < newest → Contains images set
     → cleared v set (merged v (next_older images newest) newest records) ≡ cleared v set records

@@ -1,5 +1,5 @@
 -- What the calls on a group leave where it is of one volume.
-use Rattle.std.proofs.Common.{◌≡◌, ℕ, zero, suc, ◌≤◌, List, [], ◌∷◌, length, refl, ap, sym, arith, Bool, true, false, Option, Some, None, subst}
+use Rattle.std.proofs.Common.{◌≡◌, ℕ, zero, suc, ◌≤◌, List, [], ◌∷◌, length, refl, ap, arith, Bool, true, Option, Some, None, subst}
 use Rattle.std.proofs.lemmas.List.{append-nil}
 use Rattle.std.specs.Prelude.{slice_get, is_some, Result, Ok, Err, ◌&&◌, OnOk, IfOk, IfSome}
 use Rattle.std.specs.List.{list_all}
@@ -8,15 +8,13 @@ use Rattle.write_history.specs.Slots.{gone_up_to, copies, copies_of}
 use Rattle.diff_area.specs.Copies.{AreStored}
 use Rattle.cow_volume.specs.GroupValue.{GroupValue, placed}
 use Rattle.cow_volume.specs.StandsFor.{StandsFor}
-use Rattle.cow_volume.specs.Calls.{HasImageCause, changed_at, blocks_in, IsQuiet, IsNow, IsShown, IsEvicted, IsWrite, IsDropped, IsRevert}
+use Rattle.cow_volume.specs.Calls.{changed_at, blocks_in, IsQuiet, IsNow, IsShown, IsEvicted, IsWrite, IsDropped, IsRevert}
 use Rattle.cow_volume.specs.Ending.{AllTell, IsSync}
-use Rattle.cow_volume.specs.Parts.{IsUnseen}
-use Rattle.cow_volume.specs.OneVolume.{StandsForOne, image_sets, tells, without_up_to, blocks_of, IsEvictedOne, IsOneWrite, IsOneNow, IsOneShown, IsOneDropped, IsOneRevert, IsOneSync, copies_in}
+use Rattle.cow_volume.specs.OneVolume.{StandsForOne, tells, without_up_to, IsEvictedOne, IsOneWrite, IsOneNow, IsOneShown, IsOneDropped, IsOneRevert, IsOneSync, copies_in}
 use Rattle.cow_volume.specs.declared.cause.Cause.{Cause}
 use Rattle.cow_volume.specs.declared.written.Written.{Written}
 use Rattle.cow_volume.specs.declared.write_fault.WriteFault.{WriteFault}
 use Rattle.cow_volume.specs.declared.image_fault.ImageFault.{ImageFault}
-use Rattle.cow_volume.specs.declared.image_fault.ImageFault.TheVariants.{NoSuchImage as NoImage, NoSuchBlock as NoBlock, Volume as VolumeFailed, Area as AreaFailed}
 use Rattle.cow_volume.specs.declared.revert_fault.RevertFault.{RevertFault}
 use Rattle.cow_volume.specs.declared.revert_fault.RevertFault.TheVariants.{NoSuchImage, Fault}
 use Rattle.cow_volume.proofs.Group.{quiet_stands}
@@ -26,15 +24,13 @@ use Rattle.volume_device.specs.declared.device.Device.{Ghosts}
 
 -- images that go from the one volume
 one_gone : (volumes : List ℕ) (m : ℕ) (h : History) → length volumes ≡ 1 → gone_up_to m (placed volumes) (h ∷ []) ≡ without_up_to m h ∷ []
-one_gone [] m h one = absurd (omega arith)
 one_gone (n ∷ []) m h one = refl
-one_gone (n ∷ k ∷ volumes) m h one = absurd (omega arith)
+one_gone _ m h one = absurd (omega arith)
 
 -- the greatest set of the one history
 one_within : (h : History) (sets : ℕ) → ((n : ℕ) → is_some (point_in n h.images) ≡ true → n ≤ sets)
     → (u n : ℕ) (k : History) → slice_get (h ∷ []) u ≡ Some k → is_some (point_in n k.images) ≡ true → n ≤ sets
-one_within h sets most zero n k at is = let same : h ≡ k = cc in most n (subst (λ (x : History). is_some (point_in n x.images) ≡ true) (sym same) is)
-one_within h sets most (suc u) n k at is = cc
+one_within h sets most u n k at is = grind arith
 
 one_evicted : {D : Type 0} → (volume : GroupValue D) (b : ℕ) (h : History) (up_to : ℕ) → IsEvicted volume 0 b (h ∷ []) up_to → IsEvictedOne volume b h up_to
 one_evicted volume b h up_to is = λ sets most. is sets (one_within h sets most)
@@ -42,12 +38,10 @@ one_evicted volume b h up_to is = λ sets most. is sets (one_within h sets most)
 -- ## devices that tell
 
 and_first : (s t : Bool) → (s && t) ≡ true → s ≡ true
-and_first true t e = refl
-and_first false t e = e
+and_first s t e = grind arith
 
 and_second : (s t : Bool) → (s && t) ≡ true → t ≡ true
-and_second true t e = e
-and_second false t e = cc
+and_second s t e = grind arith
 
 all_tell : {D : Type 0} → (told : D → Option (List (List ℕ))) (devices : List D) → list_all (λ d. is_some (told d)) devices ≡ true → AllTell told devices
 all_tell told [] all v d at = cc
@@ -55,7 +49,7 @@ all_tell told (x ∷ devices) all zero d at = let same : x ≡ d = cc in subst (
 all_tell told (x ∷ devices) all (suc v) d at = all_tell told devices (and_second (is_some (told x)) (list_all (λ d. is_some (told d)) devices) all) v d at
 
 device_tells : {D : Type 0} → (told : D → Option (List (List ℕ))) (volume : GroupValue D) → tells told volume ≡ true → AllTell told volume.devices
-device_tells told volume all = all_tell told volume.devices (and_first (list_all (λ d. is_some (told d)) volume.devices) (is_some (told volume.area.device)) all)
+device_tells told volume all = grind (arith, all_tell, and_first)
 
 area_tells : {D : Type 0} → (told : D → Option (List (List ℕ))) (volume : GroupValue D) → tells told volume ≡ true → is_some (told volume.area.device) ≡ true
 area_tells told volume all = and_second (list_all (λ d. is_some (told d)) volume.devices) (is_some (told volume.area.device)) all
@@ -69,10 +63,6 @@ first_of_one (d ∷ devices) one = (d, refl)
 pub one_quiet : {D : Type 0} → (ghosts : Ghosts D) (old new : GroupValue D)
     → IsQuiet ghosts old new → (h : History) → StandsForOne ghosts.told old h → StandsForOne ghosts.told new h
 one_quiet ghosts old new quiet h stood = quiet_stands ghosts.told old new (h ∷ []) stood quiet.blocks quiet.images quiet.kept.volumes quiet.records quiet.slots
-
-pub one_cut : {D : Type 0} → (told : D → Option (List (List ℕ))) (old new : GroupValue D) (f : History → History)
-    → ((hs : List History) → StandsFor told old hs → StandsFor told new (changed_at 0 f hs)) → (h : History) → StandsForOne told old h → StandsForOne told new (f h)
-one_cut told old new f stands h stood = stands (h ∷ []) stood
 
 -- histories of a group of one volume are one history
 pub one_untold : {D : Type 0} → (told : D → Option (List (List ℕ))) (volume : GroupValue D) → length volume.area.volumes ≡ 1 → (hs : List History) × StandsFor told volume hs
@@ -115,17 +105,8 @@ one_now_lent told volume b (Some x) bytes_of one is = one_now told volume b (byt
 
 pub one_lent : {D B E : Type 0} → (told : D → Option (List (List ℕ))) (volume : GroupValue D) (set b : ℕ) (result : Result (Option B) E) (bytes_of : B → List ℕ)
     → length volume.devices ≡ 1 → IfOk result (λ lent. IfSome lent (λ x. IsShown told volume 0 set b (bytes_of x))) → IfOk result (λ lent. IfSome lent (λ x. IsOneShown told volume set b (bytes_of x)))
-one_lent told volume set b (Ok None) bytes_of one is = tt
 one_lent told volume set b (Ok (Some x)) bytes_of one is = one_shown told volume set b (bytes_of x) one is
-one_lent told volume set b (Err e) bytes_of one is = tt
-
--- why no block of an image is shown, where nothing was called
-pub one_unseen : {D : Type 0} → (count : D → ℕ) (volume : GroupValue D) (set b : ℕ) (fault : ImageFault) → IsUnseen (image_sets volume) (blocks_of volume) set b fault
-    → HasImageCause count 0 set b volume volume fault
-one_unseen count volume set b NoImage is = (is, refl)
-one_unseen count volume set b NoBlock is = (is.0, is.1, refl)
-one_unseen count volume set b VolumeFailed is = absurd is
-one_unseen count volume set b AreaFailed is = absurd is
+one_lent told volume set b _ bytes_of one is = tt
 
 -- ## writes
 
@@ -148,8 +129,7 @@ one_write ghosts old new w (Err fault) one is = record {
 
 pub write_volumes : {D : Type 0} → (ghosts : Ghosts D) (old new : GroupValue D) (w : Write) (result : Result Written WriteFault)
     → IsWrite ghosts old new 0 w result → new.area.volumes ≡ old.area.volumes
-write_volumes ghosts old new w (Ok done) is = is.kept.volumes
-write_volumes ghosts old new w (Err fault) is = is.kept.volumes
+write_volumes ghosts old new w result is = grind arith
 
 -- ## images
 
@@ -168,8 +148,7 @@ one_dropped ghosts old new set (Err fault) is = is
 
 pub dropped_volumes : {D : Type 0} → (ghosts : Ghosts D) (old new : GroupValue D) (set : ℕ) (result : Result Unit ImageFault)
     → IsDropped ghosts old new 0 set result → new.area.volumes ≡ old.area.volumes
-dropped_volumes ghosts old new set (Ok done) is = is.1.kept.volumes
-dropped_volumes ghosts old new set (Err fault) is = ap (λ (g : GroupValue _). g.area.volumes) is.2
+dropped_volumes ghosts old new set result is = grind arith
 
 pub one_revert : {D : Type 0} → (ghosts : Ghosts D) (old new : GroupValue D) (set : ℕ) (result : Result Unit RevertFault)
     → IsRevert ghosts old new 0 set result → IsOneRevert ghosts old new set result
@@ -194,16 +173,13 @@ one_revert ghosts old new set (Err (Fault restored cause)) is = (
 
 pub revert_volumes : {D : Type 0} → (ghosts : Ghosts D) (old new : GroupValue D) (set : ℕ) (result : Result Unit RevertFault)
     → IsRevert ghosts old new 0 set result → new.area.volumes ≡ old.area.volumes
-revert_volumes ghosts old new set (Ok done) is = is.kept.volumes
-revert_volumes ghosts old new set (Err NoSuchImage) is = ap (λ (g : GroupValue _). g.area.volumes) is.1
-revert_volumes ghosts old new set (Err (Fault restored cause)) is = is.0.kept.volumes
+revert_volumes ghosts old new set result is = grind arith
 
 -- ## what lasts
 
 one_copies : (volumes : List ℕ) (h : History) → length volumes ≡ 1 → copies (placed volumes) (h ∷ []) ≡ copies_in (blocks_in (slice_get volumes 0)) h
-one_copies [] h one = absurd (omega arith)
 one_copies (n ∷ []) h one = append-nil (copies_of 0 n h.writes h.images)
-one_copies (n ∷ m ∷ volumes) h one = absurd (omega arith)
+one_copies _ h one = absurd (omega arith)
 
 pub one_sync : {D : Type 0} → (ghosts : Ghosts D) (old new : GroupValue D) (result : Result Unit Cause)
     → length old.area.volumes ≡ 1 → IsSync ghosts old new result → IsOneSync ghosts old new result
@@ -217,5 +193,4 @@ one_sync ghosts old new (Err cause) one is = is
 
 pub sync_volumes : {D : Type 0} → (ghosts : Ghosts D) (old new : GroupValue D) (result : Result Unit Cause)
     → IsSync ghosts old new result → new.area.volumes ≡ old.area.volumes
-sync_volumes ghosts old new (Ok done) is = is.0.kept.volumes
-sync_volumes ghosts old new (Err cause) is = is.0.kept.volumes
+sync_volumes ghosts old new result is = grind arith

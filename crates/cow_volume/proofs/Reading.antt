@@ -28,8 +28,7 @@ content_all ws b = ap (last_bytes b zeros) (take_all (length ws) ws (omega arith
 -- a block that no write names is as it was
 unnamed_test : (t : Bool) (b : ℕ) (before bytes : List ℕ) (ws : List Write) → ((found : List ℕ) → names ws b ≡ false → last_bytes b found ws ≡ found) → (t || names ws b) ≡ false
     → last_bytes b (if t then bytes else before) ws ≡ before
-unnamed_test true b before bytes ws rest none = cc
-unnamed_test false b before bytes ws rest none = rest before none
+unnamed_test t b before bytes ws rest none = grind arith
 
 pub unnamed_same : (b : ℕ) (before : List ℕ) (ws : List Write) → names ws b ≡ false → last_bytes b before ws ≡ before
 unnamed_same b before [] none = refl
@@ -55,8 +54,7 @@ unnamed_since ws p b none =
 
 -- an image's point is not past the end
 point_within_if : (t : Bool) (k p : ℕ) (i : Image) (o : Option ℕ) → i.point ≤ k → (o ≡ Some p → p ≤ k) → (if t then Some i.point else o) ≡ Some p → p ≤ k
-point_within_if true k p i o l rest at = let same = same_Some i.point p at in omega arith
-point_within_if false k p i o l rest at = rest at
+point_within_if t k p i o l rest at = grind arith
 
 pub point_within : (k set p : ℕ) (images : List Image) → AreInTime k images → point_in set images ≡ Some p → p ≤ k
 point_within k set p [] time at = cc
@@ -64,22 +62,18 @@ point_within k set p (i ∷ images) time at = point_within_if (i.set == set) k p
 
 -- those after an image are of later sets
 later_set_if : (t : Bool) (i j : Image) (set p : ℕ) (o : Option ℕ) → (j.set == set) ≡ t → i.set < j.set → (o ≡ Some p → i.set < set) → (if t then Some j.point else o) ≡ Some p → i.set < set
-later_set_if true i j set p o e l rest at = let same = same_number j.set set e in omega arith
-later_set_if false i j set p o e l rest at = rest at
+later_set_if t i j set p o e l rest at = grind arith
 
 pub later_set : (i : Image) (images : List Image) (set p : ℕ) → AreLater i images → point_in set images ≡ Some p → i.set < set
 later_set i [] set p later at = cc
 later_set i (j ∷ images) set p later at = later_set_if (j.set == set) i j set p (point_in set images) refl later.0 (later_set i images set p later.2) at
-
-pub later_named : (ws : List Write) (i : Image) (images : List Image) (set b : ℕ) → AreLater i images → is_named ws images set b ≡ true → i.set < set
-later_named ws i images set b later is = let found = named_point ws set b images is in later_set i images set found.0 later found.1
 
 -- what the first image names, and what another does
 pub named_first : (ws : List Write) (i : Image) (newer : List Image) (b : ℕ) → is_named ws (i ∷ newer) i.set b ≡ names (writes_since ws i.point newer) b
 named_first ws i newer b = ap (λ (t : Bool). if t then names (writes_since ws i.point newer) b else is_named ws newer i.set b) (number_is i.set)
 
 pub named_rest : (ws : List Write) (i : Image) (newer : List Image) (set b : ℕ) → i.set ≢ set → is_named ws (i ∷ newer) set b ≡ is_named ws newer set b
-named_rest ws i newer set b other = ap (λ (t : Bool). if t then names (writes_since ws i.point newer) b else is_named ws newer set b) (number_is_other i.set set other)
+named_rest ws i newer set b other = grind arith
 
 -- ## a block that no image names
 
@@ -155,8 +149,7 @@ contents_at n ws k b l = let e : 0 + b ≡ b = omega arith in slice_get-range (c
 
 now_if : (told : Option (List (List ℕ))) (n b : ℕ) (ws : List Write) → b < n → IfSome told (λ blocks. blocks ≡ contents n ws (length ws))
     → IfSome told (λ blocks. slice_get blocks b ≡ Some (content ws (length ws) b))
-now_if None n b ws l held = tt
-now_if (Some blocks) n b ws l held = ap (λ (bs : List (List ℕ)). slice_get bs b) held ∙ contents_at n ws (length ws) b l
+now_if told n b ws l held = grind (arith, contents_at)
 
 -- the device has each block as it is now
 pub now : (told slots : Option (List (List ℕ))) (records : List Record) (v n : ℕ) (sets : List ℕ) (h : History) (b : ℕ) → IsVolume told slots records v n sets h → b < n
@@ -164,8 +157,7 @@ pub now : (told slots : Option (List (List ℕ))) (records : List Record) (v n :
 now told slots records v n sets h b volume l = now_if told n b h.writes l volume.blocks
 
 not_true : (t : Bool) → (t ≡ true → ⊥) → t ≡ false
-not_true true h = absurd (h refl)
-not_true false h = refl
+not_true t h = grind arith
 
 -- the slot of the first image that has a copy holds what the asked image shows
 pub in_copy : (told slots : Option (List (List ℕ))) (records : List Record) (v n : ℕ) (sets : List ℕ) (h : History) (set b p slot : ℕ) → IsVolume told slots records v n sets h → b < n
@@ -187,16 +179,12 @@ in_copy told slots records v n sets h set b p slot volume l point found tells =
 -- where no image from the asked one on has a copy, the volume has what the image shows
 pub in_volume : (told slots : Option (List (List ℕ))) (records : List Record) (v n : ℕ) (sets : List ℕ) (h : History) (set b p : ℕ) → IsVolume told slots records v n sets h → b < n
     → point_in set h.images ≡ Some p → HasNoCopy records v set b → content h.writes p b ≡ content h.writes (length h.writes) b
-in_volume told slots records v n sets h set b p volume l point none =
-    unnamed_to_end h.writes h.images set p b volume.images.in_time point (λ k from. not_true (is_named h.writes h.images k b) (λ is.
-    let other = volume.recorded k b l is in
-    none other.0 k other.1 from))
+in_volume told slots records v n sets h set b p volume l point none = grind (arith, unnamed_to_end, not_true)
 
 -- ## reads of the group
 
 in_range_if : (o : Option ℕ) (b : ℕ) → b < blocks_in o → (n : ℕ) × (o ≡ Some n) × (b < n)
-in_range_if None b l = absurd (omega arith)
-in_range_if (Some n) b l = (n, refl, l)
+in_range_if o b l = grind arith
 
 -- what stands at the number of a volume that has a block
 pub record HasBlock {D : Type 0} (told : D → Option (List (List ℕ))) (g : GroupValue D) (hs : List History) (v b : ℕ) : Type 0 where
@@ -229,8 +217,7 @@ place_of_block told g hs v b stands l =
 -- a block of a device that tells is one
 pub one_told : (told : Option (List (List ℕ))) (b : ℕ) (x y : List ℕ) → IfSome told (λ blocks. slice_get blocks b ≡ Some x) → IfSome told (λ blocks. slice_get blocks b ≡ Some y) → is_some told ≡ true
     → x ≡ y
-one_told None b x y one two tells = cc
-one_told (Some blocks) b x y one two tells = same_Some x y (sym one ∙ two)
+one_told told b x y one two tells = grind arith
 
 -- what the device has of a block is what the volume has now
 pub group_now : {D : Type 0} → (told : D → Option (List (List ℕ))) (g : GroupValue D) (v b : ℕ) (d : D) (bytes : List ℕ) → b < blocks_at g v → slice_get g.devices v ≡ Some d

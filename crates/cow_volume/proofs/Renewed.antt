@@ -1,34 +1,31 @@
 -- What the parts keep in step where the copies of a volume's images are renewed by a rule.
-use Rattle.std.proofs.Common.{ℕ, zero, suc, ◌≡◌, ◌≢◌, ◌<◌, Bool, true, false, ◌&&◌, List, [], ◌∷◌, length, map, Option, Some, None, slice_get, slice_set, refl, sym, ap, ◌∙◌, subst, arith, inl, inr}
+use Rattle.std.proofs.Common.{ℕ, zero, suc, ◌≡◌, ◌≢◌, ◌<◌, Bool, true, false, List, [], ◌∷◌, length, map, Option, Some, None, slice_get, slice_set, refl, sym, ap, ◌∙◌, subst, arith, inl, inr}
 use Rattle.std.proofs.Common.{◌⊎◌}
-use Rattle.std.specs.Prelude.{◌==◌, nat_lt, is_some, IsSome, IsNone}
+use Rattle.std.specs.Prelude.{IsSome, IsNone}
 use Rattle.std.specs.Option.{option_and_then}
 use Rattle.std.proofs.lemmas.Bool.{false≢true}
 use Rattle.std.proofs.lemmas.List.{length-map, length-set, map-set}
 use Rattle.std.proofs.lemmas.Option.{none-some, same_Some, slice_get_within}
 use Rattle.slot_pool.specs.Slots.{IsTaken}
 use Rattle.diff_area.proofs.Gets.{get-set}
-use Rattle.diff_area.specs.Records.{free, is_free}
+use Rattle.diff_area.specs.Records.{is_free}
 use Rattle.diff_area.specs.declared.table_record.Record.{Record}
-use Rattle.diff_map.specs.Copies.{copied_at, copy_of, AllTaken}
+use Rattle.diff_map.specs.Copies.{copied_at, AllTaken}
 use Rattle.diff_map.specs.MapValue.{MapValue, IsMap}
 use Rattle.diff_map.specs.Rules.{renewed, GivesBack}
 use Rattle.diff_map.specs.declared.copied.Copied.{Copied}
 use Rattle.diff_map.proofs.Kept.{copied_at-renewed}
 use Rattle.cow_volume.specs.StandsFor.{record_of}
 use Rattle.cow_volume.specs.Tied.{copied_for, AreTied, images_of}
-use Rattle.cow_volume.specs.Followed.{record_for, followed_row, followed}
-use Rattle.cow_volume.proofs.Rows.{copied_for-is, copied_for-none, copied_for-other, record_of_row, row_at, record-from, both_from, get_inside, used_is, map-from}
-use Rattle.cow_volume.proofs.FollowedRows.{follows-of, follows-other, length-followed, followed_at}
+use Rattle.cow_volume.specs.Followed.{followed_row, followed}
+use Rattle.cow_volume.proofs.Rows.{record_of_row, row_at, record-from, get_inside, used_is, map-from}
+use Rattle.cow_volume.proofs.FollowedRows.{length-followed, followed_at}
 
 -- The rule gives no copy of set 0, and none that another slot's record has; and f says what becomes of a record by it.
 pub record IsRuleOf (records : List Record) (v : ℕ) (rule : Copied → Option Copied) (f : Record → Record) : Type 0 where
   pub above : (c d : Copied) → rule c ≡ Some d → 0 < c.set → 0 < d.set
   pub fresh : (c d : Copied) → rule c ≡ Some d → 0 < c.set → (d ≡ c) ⊎ ((other : ℕ) → slice_get records other ≡ Some (record_of v d.set d.block) → ⊥)
   pub row : (r : Record) → followed_row v (option_and_then rule (copied_for v r)) r ≡ f r
-
-not_free : (v : ℕ) (c : Copied) → 0 < c.set → record_of v c.set c.block ≢ free
-not_free v c some e = let zero_set : c.set ≡ 0 = ap (λ x. x.set) e in omega arith
 
 -- ## the slots of noted copies are taken
 
@@ -66,16 +63,7 @@ followed_is records v m n rule f was is rules =
 
 -- the map of another volume
 other_row : (u v : ℕ) (o : Option Copied) (r : Record) → u ≢ v → copied_for u (followed_row v o r) ≡ copied_for u r
-other_row u v o r other = by_test (nat_lt 0 r.set && (r.volume == v)) refl where
-  by_copy : (p : Option Copied) → copied_for u (record_for v p) ≡ None
-  by_copy None = refl
-  by_copy (Some c) = copied_for-other u (record_of v c.set c.block) (λ same. other (sym same))
-
-  by_test : (t : Bool) → (nat_lt 0 r.set && (r.volume == v)) ≡ t → copied_for u (followed_row v o r) ≡ copied_for u r
-  by_test true e =
-      let both = both_from r.set v r.volume e in
-      ap (copied_for u) (follows-of v o r both.0 both.1) ∙ by_copy o ∙ sym (copied_for-other u r (λ same. other (sym same ∙ both.1)))
-  by_test false e = ap (copied_for u) (follows-other v o r e)
+other_row u v o r other = grind arith
 
 pub other_map : (u v : ℕ) (copies : List (Option Copied)) (records : List Record) → u ≢ v → map (copied_for u) (followed v copies records) ≡ map (copied_for u) records
 other_map u v [] records other = refl
@@ -85,19 +73,7 @@ other_map u v (c ∷ copies) (r ∷ rs) other = ap (λ x. x ∷ map (copied_for 
 -- its own map
 own_row : (v : ℕ) (rule : Copied → Option Copied) (r : Record) → ((c d : Copied) → rule c ≡ Some d → 0 < c.set → 0 < d.set)
     → copied_for v (followed_row v (option_and_then rule (copied_for v r)) r) ≡ option_and_then rule (copied_for v r)
-own_row v rule r above = by_test (nat_lt 0 r.set && (r.volume == v)) refl where
-  by_copy : (p : Option Copied) → ((c : Copied) → p ≡ Some c → 0 < c.set) → copied_for v (record_for v p) ≡ p
-  by_copy None some = refl
-  by_copy (Some c) some = copied_for-is v (record_of v c.set c.block) (some c refl) refl
-
-  by_test : (t : Bool) → (nat_lt 0 r.set && (r.volume == v)) ≡ t → copied_for v (followed_row v (option_and_then rule (copied_for v r)) r) ≡ option_and_then rule (copied_for v r)
-  by_test true e =
-      let both = both_from r.set v r.volume e in
-      let first : option_and_then rule (copied_for v r) ≡ rule (copy_of r.set r.block) = ap (option_and_then rule) (copied_for-is v r both.0 both.1) in
-      ap (copied_for v) (follows-of v (option_and_then rule (copied_for v r)) r both.0 both.1)
-      ∙ by_copy (option_and_then rule (copied_for v r)) (λ c is. above (copy_of r.set r.block) c (sym first ∙ is) both.0)
-  by_test false e =
-      ap (copied_for v) (follows-other v (option_and_then rule (copied_for v r)) r e) ∙ copied_for-none v r e ∙ sym (ap (option_and_then rule) (copied_for-none v r e))
+own_row v rule r above = grind arith
 
 pub own_map : (v : ℕ) (rule : Copied → Option Copied) (records : List Record) → ((c d : Copied) → rule c ≡ Some d → 0 < c.set → 0 < d.set)
     → map (copied_for v) (followed v (map (option_and_then rule) (map (copied_for v) records)) records) ≡ map (option_and_then rule) (map (copied_for v) records)
@@ -122,16 +98,7 @@ get-map g (z ∷ xs) (suc k) x h = get-map g xs k x h
 -- the pool, slot by slot
 pool_slot : (v : ℕ) (r : Record) (was is : Option Copied) (old new : Option Bool) → was ≡ copied_for v r → old ≡ Some (is_free r) → (IsSome was → IsNone is → new ≡ Some true)
     → (IsNone was ⊎ IsSome is → new ≡ old) → ((c : Copied) → is ≡ Some c → 0 < c.set) → (was ≡ None → is ≡ None) → new ≡ Some (is_free (followed_row v is r))
-pool_slot v r was is old new was_is old_is freed kept above stays = by_test (nat_lt 0 r.set && (r.volume == v)) refl where
-  by_copy : (p : Option Copied) → is ≡ p → 0 < r.set → r.volume ≡ v → new ≡ Some (is_free (record_for v is))
-  by_copy None e some same = freed (ap is_some (was_is ∙ copied_for-is v r some same)) (ap is_some e) ∙ ap (λ (p : Option Copied). Some (is_free (record_for v p))) (sym e)
-  by_copy (Some c) e some same =
-      kept (inr (ap is_some e)) ∙ old_is ∙ ap (λ (b : Bool). Some b) (used_is r some ∙ sym (used_is (record_of v c.set c.block) (above c e)))
-      ∙ ap (λ (p : Option Copied). Some (is_free (record_for v p))) (sym e)
-
-  by_test : (t : Bool) → (nat_lt 0 r.set && (r.volume == v)) ≡ t → new ≡ Some (is_free (followed_row v is r))
-  by_test true e = let both = both_from r.set v r.volume e in by_copy is refl both.0 both.1 ∙ ap (λ (x : Record). Some (is_free x)) (sym (follows-of v is r both.0 both.1))
-  by_test false e = kept (inl (ap is_some (was_is ∙ copied_for-none v r e))) ∙ old_is ∙ ap (λ (x : Record). Some (is_free x)) (sym (follows-other v is r e))
+pool_slot v r was is old new was_is old_is freed kept above stays = grind arith
 
 pub pool_after : (records : List Record) (v : ℕ) (was is : List (Option Copied)) (rule : Copied → Option Copied) (old new : List Bool) → was ≡ map (copied_for v) records → is ≡ renewed rule was
     → old ≡ map is_free records → GivesBack was is old new → ((c d : Copied) → rule c ≡ Some d → 0 < c.set → 0 < d.set) → new ≡ map is_free (followed v is records)

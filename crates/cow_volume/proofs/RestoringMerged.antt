@@ -1,20 +1,18 @@
 -- The blocks are restored while the newer images still stand. What that leaves of a group, seen as if these images had been merged
 -- down before.
-use Rattle.std.proofs.Common.{◌≡◌, ◌<◌, ℕ, Bool, true, false, List, length, refl, ap, sym, subst, ◌∙◌, arith, Option, Some}
-use Rattle.std.specs.Prelude.{slice_get, slice_set, filter, nat_le, IfSome, Result, Ok, Err}
-use Rattle.diff_area.specs.Places.{place_of_slot}
+use Rattle.std.proofs.Common.{◌≡◌, ◌<◌, ℕ, Bool, true, false, List, length, refl, ap, sym, subst, ◌∙◌, arith, Option}
+use Rattle.std.specs.Prelude.{slice_set, filter, nat_le, Result, Ok, Err}
 use Rattle.diff_area.specs.Records.{AreRecords}
 use Rattle.diff_area.specs.declared.table_record.Record.{Record}
 use Rattle.cow_volume.specs.GroupValue.{GroupValue}
 use Rattle.cow_volume.specs.StandsFor.{record_of}
 use Rattle.cow_volume.specs.Tied.{CopiesValue, AreOfImages}
 use Rattle.cow_volume.specs.Changes.{IsFirstCopy, HasNoCopy, cleared}
-use Rattle.cow_volume.specs.CopiesAfter.{images_on, after_clear, with_records}
-use Rattle.cow_volume.specs.Calls.{is_among, IsKept, DeviceRose, IsReverted, IsRevert}
+use Rattle.cow_volume.specs.CopiesAfter.{images_on, after_clear}
+use Rattle.cow_volume.specs.Calls.{is_among, IsReverted, IsRevert}
 use Rattle.cow_volume.specs.Parts.{group_of}
 use Rattle.cow_volume.specs.Restoring.{AreNewerGone, IsMergedTo, merged_as, KeepsCopies, IsOneRestored, IsRestoring}
 use Rattle.cow_volume.specs.declared.cause.Cause.{Cause}
-use Rattle.cow_volume.specs.declared.cause.Cause.TheVariants.{NoSuchBlock, Volume, Area}
 use Rattle.cow_volume.specs.declared.revert_fault.RevertFault.{RevertFault}
 use Rattle.cow_volume.proofs.Group.{quiet_stands}
 use Rattle.cow_volume.proofs.Kept.{kept_itself, kept_further}
@@ -31,13 +29,7 @@ keeps_itself ghosts g = record { kept = kept_itself ghosts g; records = refl; im
 
 keeps_more : {D : Type 0} (ghosts : Ghosts D) (g now new : GroupValue D) → KeepsCopies ghosts g now
     → KeepsCopies ghosts now new → KeepsCopies ghosts g new
-keeps_more ghosts g now new a b = record {
-  kept = kept_further ghosts g now new a.kept b.kept;
-  records = b.records ∙ a.records;
-  images = b.images
-      ∙ a.images;
-  slots = b.slots ∙ a.slots;
-}
+keeps_more ghosts g now new a b = grind (arith, kept_further)
 
 one_keeps : {D : Type 0} (ghosts : Ghosts D) (now new : GroupValue D) (v set b : ℕ) (r : Result Bool Cause)
     → IsOneRestored ghosts now new v set b r → KeepsCopies ghosts now new
@@ -52,57 +44,20 @@ keeps_one ghosts g now new v set b r had one = keeps_more ghosts g now new had (
 
 -- ## one block, seen so
 
-rose_merged : {D : Type 0} (count : D → ℕ) (v : ℕ) (devices after : List D) (mid now new : CopiesValue D) (cause : Cause) → DeviceRose count v (group_of devices now) (group_of after new) cause
-    → DeviceRose count v (group_of devices (merged_as mid now)) (group_of after (merged_as mid new)) cause
-rose_merged count v devices after mid now new NoSuchBlock rose = rose
-rose_merged count v devices after mid now new Volume rose = record { before = rose.before; now = rose.now; was = rose.was; is = rose.is; rose = rose.rose; devices = rose.devices; area = rose.area }
-rose_merged count v devices after mid now new Area rose = record { rose = rose.rose; devices = rose.devices }
-
-kept_merged : {D : Type 0} (ghosts : Ghosts D) (devices after : List D) (mid now new : CopiesValue D)
-    → IsKept ghosts (group_of devices now) (group_of after new) → IsKept ghosts (group_of devices (merged_as mid now)) (group_of after (merged_as mid new))
-kept_merged ghosts devices after mid now new kept = record { volumes = kept.volumes; slots = refl; area = kept.area; devices = kept.devices; each = kept.each }
-
 pub one_merged : {D : Type 0} (ghosts : Ghosts D) (devices after : List D) (old mid now new : CopiesValue D) (v set b : ℕ)
     (r : Result Bool Cause) → IsMergedTo ghosts.told old mid v set → now.area.records ≡ old.area.records
     → IsOneRestored ghosts (group_of devices now) (group_of after new) v set b r
     → IsOneRestored ghosts (group_of devices (merged_as mid now)) (group_of after (merged_as mid new)) v set b r
-one_merged {D = D} ghosts devices after old mid now new v set b (Ok false) m same one = (
-  ap (λ (g : GroupValue D). let x : GroupValue D = record { devices = g.devices; area = with_records mid.area.records g.area; images = mid.images } in x) one.0,
-  m.none b (subst (λ (rs : List Record). HasNoCopy rs v set b) same one.1),
-)
-one_merged ghosts devices after old mid now new v set b (Ok true) m same one = record {
-  slot = one.slot;
-  bytes = one.bytes;
-  before = one.before;
-  after = one.after;
-  found = m.found b one.slot (subst (λ (rs : List Record). IsFirstCopy rs v set b one.slot) same one.found);
-  held = subst (λ (k : ℕ). IfSome (ghosts.told now.area.device) (λ blocks. slice_get blocks (place_of_slot k one.slot) ≡ Some one.bytes)) (ap length same ∙ sym m.gone.slots) one.held;
-  was = one.was;
-  devices = one.devices;
-  written = one.written;
-  unfailed = record { devices = one.unfailed.devices; area = one.unfailed.area };
-  kept = kept_merged ghosts devices after mid now new one.kept;
-  records = refl;
-  images = refl;
-  slots = one.slots;
-}
-one_merged ghosts devices after old mid now new v set b (Err cause) m same one = record {
-  slot = one.slot;
-  found = m.found b one.slot (subst (λ (rs : List Record). IsFirstCopy rs v set b one.slot) same one.found);
-  quiet = record { kept = kept_merged ghosts devices after mid now new one.quiet.kept; records = refl; images = refl; blocks = one.quiet.blocks; slots = one.quiet.slots };
-  rose = rose_merged ghosts.count v devices after mid now new cause one.rose;
-}
+one_merged ghosts devices after old mid now new v set b r m same one = grind arith
 
 -- ## where the newer images are merged down
 
 same_copies : {D : Type 0} (c d : CopiesValue D) → d.area.device ≡ c.area.device → d.area.volumes ≡ c.area.volumes → merged_as d c ≡ d
-same_copies {D = D} c d device volumes =
-    let from : D → List ℕ → CopiesValue D = λ x ns. record { area = record { device = x; volumes = ns; records = d.area.records }; images = d.images } in
-    ap (λ x. from x c.area.volumes) (sym device) ∙ ap (from d.area.device) (sym volumes)
+same_copies c d device volumes = grind arith
 
 -- of those copies the newer images are gone
 pub gone_as : {D : Type 0} (told : D → Option (List (List ℕ))) (old mid : CopiesValue D) (v set : ℕ) → IsMergedTo told old mid v set → AreNewerGone told old (merged_as mid old) v set
-gone_as {D = D} told old mid v set m = subst (λ (c : CopiesValue D). AreNewerGone told old c v set) (sym (same_copies old mid m.gone.device m.gone.volumes)) m.gone
+gone_as told old mid v set m = grind arith
 
 -- what all copies keep
 pub merging_start : {D : Type 0} (told : D → Option (List (List ℕ))) (old : CopiesValue D) (v set : ℕ) → is_among set (images_on old v) ≡ true → 0 < set → AreOfImages old.area.records old.images
@@ -121,15 +76,7 @@ mergeable told old v set inside among above of are = merge_all told old old v se
 
 clear_merged : {D : Type 0} (told : D → Option (List (List ℕ))) (old mid now : CopiesValue D) (v set : ℕ) → IsMergedTo told old mid v set → now.area.records ≡ old.area.records
     → now.images ≡ old.images → after_clear now v set ≡ after_clear (merged_as mid now) v set
-clear_merged {D = D} told old mid now v set m records images =
-    let from : List Record → List (List ℕ) → CopiesValue D = λ rs ss. record { area = with_records rs now.area; images = ss } in
-    ap (λ rs. from (cleared v set rs) (after_clear now v set).images) records ∙ ap (λ rs. from rs (after_clear now v set).images) (sym m.records)
-    ∙ ap (from (cleared v set mid.area.records))
-    (ap (λ (ss : List (List ℕ)). slice_set ss v (filter (λ s. nat_le s set) (images_in ss))) images ∙ sym (m.others (filter (λ s. nat_le s set) (images_on old v)))
-    ∙ ap (slice_set mid.images v) (sym m.sets))
-  where
-    images_in : List (List ℕ) → List ℕ
-    images_in ss = images_on (let c : CopiesValue D = record { area = now.area; images = ss } in c) v
+clear_merged told old mid now v set m records images = grind arith
 
 pub restored_then_cleared : {D : Type 0} (ghosts : Ghosts D) (devices after : List D) (old mid now new : CopiesValue D) (v set : ℕ)
     (x : Unit) → v < length old.area.volumes → is_among set (images_on old v) ≡ true → IsMergedTo ghosts.told old mid v set

@@ -1,6 +1,6 @@
 -- The blocks of a volume are restored one after another to an image that is its newest, and what it stands for after each.
 use Rattle.std.proofs.Common.{◌≡◌, ◌<◌, ◌≤◌, ◌+◌, ℕ, Bool, true, false, List, [], ◌∷◌, length, map, drop, refl, ap, sym, subst, ◌∙◌, arith, Option, Some, is_some, inl, inr, length-append}
-use Rattle.std.specs.Prelude.{filter, slice_get, slice_set, if◌then◌else◌, ◌==◌, nat_le, All, Contains, IfSome, Result, Ok, Err}
+use Rattle.std.specs.Prelude.{filter, slice_get, slice_set, if◌then◌else◌, ◌==◌, nat_le, All, IfSome, Result, Ok, Err}
 use Rattle.std.specs.Int.{from_bool}
 use Rattle.std.proofs.lemmas.Bool.Decides.{nat_tests}
 use Rattle.std.proofs.lemmas.List.Elements.{All-head, All-tail}
@@ -19,7 +19,7 @@ use Rattle.cow_volume.specs.Changes.{IsFirstCopy}
 use Rattle.cow_volume.specs.CopiesAfter.{images_on, after_clear}
 use Rattle.cow_volume.specs.Calls.{history_at, changed_at, blocks_in, blocks_at, sets_in, sets_at, is_among, IsKept, IsUnfailed, VolumeRose, DeviceRose, IsReverted, IsRevertedInPart, IsRevert}
 use Rattle.cow_volume.specs.declared.cause.Cause.{Cause}
-use Rattle.cow_volume.specs.declared.cause.Cause.TheVariants.{NoSuchBlock, Volume, Area}
+use Rattle.cow_volume.specs.declared.cause.Cause.TheVariants.{Volume}
 use Rattle.cow_volume.specs.declared.revert_fault.RevertFault.{RevertFault}
 use Rattle.cow_volume.specs.declared.revert_fault.RevertFault.TheVariants.{NoSuchImage, Fault}
 use Rattle.cow_volume.specs.Parts.{group_of, IsPut}
@@ -30,9 +30,9 @@ use Rattle.cow_volume.proofs.Clearing.{length-cleared}
 use Rattle.cow_volume.proofs.NewerGone.{without_newer, AreUpTo, all_kept, point_kept, reverted_from, reverted_in_part_from}
 use Rattle.cow_volume.proofs.Reverting.{restores, restored_none, restored_below, point_within, block_kept, block_restored, next_restored}
 use Rattle.cow_volume.proofs.GroupReverts.{changed_at-twice, changed_at-agree, changed_at-none, restoring_at, restoring_all}
-use Rattle.cow_volume.proofs.Kept.{kept_itself, kept_further, sizes_kept, kept_records, kept_area, kept_called, quiet_area, quiet_called, quiet_further, quiet_stands, volume_rose_if, unfailed_itself}
+use Rattle.cow_volume.proofs.Kept.{kept_itself, kept_further, sizes_kept, kept_records, kept_area, kept_called, quiet_area, quiet_called, quiet_further, quiet_stands, volume_rose_if}
 use Rattle.cow_volume.proofs.Kept.{unfailed_called}
-use Rattle.cow_volume.proofs.DroppingNewer.{most_of, contains_of, images_row}
+use Rattle.cow_volume.proofs.DroppingNewer.{most_of, images_row}
 
 -- ## the volume before the first block
 
@@ -121,9 +121,7 @@ not_named told g hs v set p b start point l none = by_test (names (drop p (histo
 -- so many restored blocks are those of the first m blocks
 below : (hs : List History) (v n set p m restored : ℕ) → restored ≡ length (to_restore m (history_at hs v).writes p)
     → changed_at v (reverted_in_part n set p restored) hs ≡ changed_at v (restored_below n set p m) hs
-below hs v n set p m restored e = changed_at-agree v (reverted_in_part n set p restored) (restored_below n set p m) hs (λ h at.
-    let here : history_at hs v ≡ h = history_at_is hs v h at in
-    ap (λ (k : ℕ). reverted_in_part n set p k h) (e ∙ ap (λ (x : History). length (to_restore m x.writes p)) here))
+below hs v n set p m restored e = grind (arith, changed_at-agree, history_at_is)
 
 -- none so far
 pub restoring_start : {D : Type 0} (ghosts : Ghosts D) (g : GroupValue D) (v set : ℕ) → v < length g.area.volumes
@@ -191,8 +189,7 @@ restoring_puts {D = D} ghosts g now new v set m restored inside newest l above d
 -- ## a device failed
 
 pub rose_further : (a b c : ℕ) → a ≤ b → Rose b c → Rose a c
-rose_further a b c l (inl m) = inl (omega arith)
-rose_further a b c l (inr e) = inr e
+rose_further a b c l x4 = grind arith
 
 volume_rose_further : {D : Type 0} (ghosts : Ghosts D) (g now new : GroupValue D) (v : ℕ) → IsKept ghosts g now
     → IsUnfailed ghosts.count g now → VolumeRose ghosts.count v now new → VolumeRose ghosts.count v g new
@@ -212,10 +209,7 @@ volume_rose_further ghosts g now new v kept same rose =
 
 pub device_rose_further : {D : Type 0} (ghosts : Ghosts D) (g now new : GroupValue D) (v : ℕ) (cause : Cause)
     → IsKept ghosts g now → IsUnfailed ghosts.count g now → DeviceRose ghosts.count v now new cause → DeviceRose ghosts.count v g new cause
-device_rose_further ghosts g now new v NoSuchBlock kept same rose = rose
-device_rose_further ghosts g now new v Volume kept same rose = volume_rose_further ghosts g now new v kept same rose
-device_rose_further ghosts g now new v Area kept same rose =
-    record { rose = rose_further (ghosts.count g.area.device) (ghosts.count now.area.device) (ghosts.count new.area.device) kept.area.later rose.rose; devices = rose.devices ∙ same.devices }
+device_rose_further ghosts g now new v cause kept same rose = grind (arith, volume_rose_further, rose_further)
 
 pub restoring_stops : {D : Type 0} (ghosts : Ghosts D) (g now new : GroupValue D) (v set m restored : ℕ) (cause : Cause)
     → v < length g.area.volumes → All (λ s. s ≤ set) (sets_at g v) → m < blocks_at g v → 0 < set
@@ -283,8 +277,7 @@ not_put_back ghosts devices after old new v set b slot bytes failed found table 
 }
 
 pub at_most_one : (put : Bool) → from_bool put ≤ 1
-at_most_one true = omega arith
-at_most_one false = omega arith
+at_most_one put = grind arith
 
 -- one block more, which has a copy or has none
 pub restoring_one : {D : Type 0} (ghosts : Ghosts D) (g now new : GroupValue D) (v set m restored : ℕ) (put : Bool) (more : ℕ)
@@ -302,8 +295,7 @@ restoring_one {D = D} ghosts g now new v set m restored false more inside newest
 -- no device failed
 pub one_unfailed : {D : Type 0} (ghosts : Ghosts D) (now new : GroupValue D) (v set m : ℕ) (put : Bool)
     → IsOneRestored ghosts now new v set m (Ok put) → IsUnfailed ghosts.count now new
-one_unfailed ghosts now new v set m true one = one.unfailed
-one_unfailed ghosts now new v set m false one = subst (λ (x : GroupValue _). IsUnfailed ghosts.count now x) (sym one.0) (unfailed_itself ghosts.count now)
+one_unfailed ghosts now new v set m put one = grind arith
 
 -- ## from the start to the end
 
@@ -337,7 +329,7 @@ all_stay set (x ∷ xs) most = by_test (nat_le x set) (is_most x set (All-head (
   by_test false e rest = cc
 
 clear_images : {D : Type 0} (c : CopiesValue D) (v set : ℕ) → is_among set (images_on c v) ≡ true → All (λ s. s ≤ set) (images_on c v) → (after_clear c v set).images ≡ c.images
-clear_images c v set among most = ap (slice_set c.images v) (all_stay set (images_on c v) most) ∙ slice_set-same c.images v (images_on c v) (images_row c v set among)
+clear_images c v set among most = grind (arith, all_stay, slice_set-same, images_row)
 
 images_same : {D : Type 0} (c d : CopiesValue D) (v : ℕ) → d.images ≡ c.images → images_on d v ≡ images_on c v
 images_same c d v e = ap (λ (ss : List (List ℕ)). sets_in (slice_get ss v)) e
@@ -423,18 +415,7 @@ revert_failed ghosts devices after old mid now v set NoSuchImage inside image go
 revert_failed ghosts devices after old mid now v set
     (Fault restored cause) inside image gone failed = reverted_some ghosts devices after old mid now v set restored cause inside image gone failed
 
--- the image is still there
-pub image_left : {D : Type 0} (ghosts : Ghosts D) (devices after : List D) (old mid now : CopiesValue D) (v set m restored : ℕ)
-    → AreNewerGone ghosts.told old mid v set → AreRestored ghosts (group_of devices mid) (group_of after now) v set m restored → Contains (images_on now v) set
-image_left ghosts devices after old mid now v set m restored gone done = contains_of set (images_on now v) (ap (is_among set) (images_same mid now v done.images) ∙ gone.among)
-
-pub inside_left : {D : Type 0} (ghosts : Ghosts D) (devices after : List D) (old mid now : CopiesValue D) (v set m restored : ℕ)
-    → v < length old.area.volumes → AreNewerGone ghosts.told old mid v set → AreRestored ghosts (group_of devices mid) (group_of after now) v set m restored → v < length now.area.volumes
-inside_left ghosts devices after old mid now v set m restored inside gone done = subst (λ (ns : List ℕ). v < length ns) (sym (done.kept.volumes ∙ gone.volumes)) inside
-
 -- each device still has as many blocks as its volume
 pub sizes_reverted : {D : Type 0} (ghosts : Ghosts D) (old new : GroupValue D) (v set : ℕ) (r : Result Unit RevertFault)
     → IsRevert ghosts old new v set r → map ghosts.size old.devices ≡ old.area.volumes → map ghosts.size new.devices ≡ new.area.volumes
-sizes_reverted ghosts old new v set (Ok done) is sizes = sizes_kept ghosts old new is.kept sizes
-sizes_reverted ghosts old new v set (Err NoSuchImage) is sizes = subst (λ (g : GroupValue _). map ghosts.size g.devices ≡ g.area.volumes) (sym is.1) sizes
-sizes_reverted ghosts old new v set (Err (Fault restored cause)) is sizes = sizes_kept ghosts old new is.0.kept sizes
+sizes_reverted ghosts old new v set r is sizes = grind (arith, sizes_kept)

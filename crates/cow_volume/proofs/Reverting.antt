@@ -11,25 +11,17 @@ use Rattle.write_history.specs.History.{Write, Image, History, last_bytes, conte
 use Rattle.diff_area.specs.Places.{place_of_slot}
 use Rattle.diff_area.specs.declared.table_record.Record.{Record}
 use Rattle.cow_volume.specs.StandsFor.{is_named, record_of, IsVolume}
-use Rattle.cow_volume.specs.Changes.{has_record, cleared}
+use Rattle.cow_volume.specs.Changes.{cleared}
 use Rattle.cow_volume.proofs.Members.{Has, has_at, has-filter, from-filter, has-range, from-range}
 use Rattle.cow_volume.proofs.Clearing.{from_cleared, to_cleared, length-cleared}
-use Rattle.cow_volume.proofs.Group.{slice_get_inside, same_number}
+use Rattle.cow_volume.proofs.Group.{same_number}
 use Rattle.cow_volume.proofs.Named.{Stands, numbers_are, named_of, of_point, of_named, above_zero}
-use Rattle.std.proofs.lemmas.Option.{slice_get_within}
 use Rattle.cow_volume.proofs.NewerGone.{AreUpTo, without_newer, are_up_to, point_kept, image_at, stands_last, last_of, in_time_cut}
-use Rattle.cow_volume.proofs.Merging.{found_record, has_found}
 use Rattle.cow_volume.proofs.Reading.{last_bytes-append, content_all, unnamed_same, unnamed_since, point_within as point_in_time}
 use Rattle.cow_volume.proofs.Writing.{content-before, since-more, in_time-more}
 use Rattle.cow_volume.proofs.MoreWrites.{or_first, named-more, named-cut, none-named-cut, map-same, slots-before, restored_one}
 
 -- ## the blocks to restore
-
-filter-same : {X : Type 0} (p q : X → Bool) (xs : List X) → ((x : X) → Has x xs → p x ≡ q x) → filter p xs ≡ filter q xs
-filter-same p q [] h = refl
-filter-same p q (x ∷ xs) h =
-    ap (λ (t : Bool). if t then x ∷ filter p xs else filter p xs) (h x (inl refl))
-    ∙ ap (λ ys. if q x then x ∷ ys else ys) (filter-same p q xs (λ z m. h z (inr m)))
 
 newest_names : (told slots : Option (List (List ℕ))) (records : List Record) (v n : ℕ) (sets : List ℕ) (h : History) (set p b : ℕ) → IsVolume told slots records v n sets (without_newer set h)
     → point_in set h.images ≡ Some p
@@ -39,7 +31,7 @@ newest_names told slots records v n sets h set p b is e =
 
 set_above : (told slots : Option (List (List ℕ))) (records : List Record) (v n : ℕ) (sets : List ℕ) (h : History) (set p : ℕ) → IsVolume told slots records v n sets (without_newer set h)
     → point_in set h.images ≡ Some p → 0 < set
-set_above told slots records v n sets h set p is e = above_zero (up_to_set set h.images) (image_at set p) [] is.images.above_zero (last_of set p h is.images.in_time e)
+set_above told slots records v n sets h set p is e = grind (arith, above_zero, last_of)
 
 -- the blocks that have a copy for the set are those that are named since its point
 pub restores : (told slots : Option (List (List ℕ))) (records : List Record) (v n : ℕ) (sets : List ℕ) (h : History) (set p b : ℕ) → IsVolume told slots records v n sets (without_newer set h)
@@ -49,46 +41,16 @@ restores told slots records v n sets h set p b is e l =
     let same = newest_names told slots records v n sets h set p b is e in
     ((λ at. sym same ∙ is.named at.0 set b (set_above told slots records v n sets h set p is e) at.1), (λ f. is.recorded set b l (same ∙ f)))
 
-same_test : (a b : Bool) → (a ≡ true → b ≡ true) → (b ≡ true → a ≡ true) → a ≡ b
-same_test true b f g = sym (f refl)
-same_test false true f g = g refl
-same_test false false f g = refl
-
 -- the point is none past the end
 pub point_within : (told slots : Option (List (List ℕ))) (records : List Record) (v n : ℕ) (sets : List ℕ) (h : History) (set p : ℕ) → IsVolume told slots records v n sets (without_newer set h)
     → point_in set h.images ≡ Some p → p ≤ length h.writes
-point_within told slots records v n sets h set p is e = point_in_time (length h.writes) set p (up_to_set set h.images) is.images.in_time (point_kept set h.images ∙ e)
-
--- so the ascending list of them is that of the blocks to restore
-pub to_restore_of : (told slots : Option (List (List ℕ))) (records : List Record) (v n : ℕ) (sets : List ℕ) (h : History) (set p : ℕ) → IsVolume told slots records v n sets (without_newer set h)
-    → point_in set h.images ≡ Some p
-    → to_restore n h.writes p ≡ filter (λ b. has_record records (record_of v set b)) (range_with_len 0 n)
-to_restore_of told slots records v n sets h set p is e = filter-same (names (drop p h.writes)) (λ b. has_record records (record_of v set b)) (range_with_len 0 n) (λ b m.
-    let l = from-range 0 n b m in
-    let both = restores told slots records v n sets h set p b is e (omega arith) in
-    same_test (names (drop p h.writes) b) (has_record records (record_of v set b))
-    (λ f. let at = both.1 f in has_found records at.0 (record_of v set b) at.1)
-    (λ f. both.0 (found_record records (record_of v set b) f)))
+point_within told slots records v n sets h set p is e = grind (arith, point_in_time, point_kept)
 
 pub has-to_restore : (n : ℕ) (ws : List Write) (p b : ℕ) → b < n → names (drop p ws) b ≡ true → Has b (to_restore n ws p)
 has-to_restore n ws p b l e = has-filter (names (drop p ws)) b (range_with_len 0 n) e (has-range 0 n b (omega arith) (omega arith))
 
 pub from-to_restore : (n : ℕ) (ws : List Write) (p b : ℕ) → Has b (to_restore n ws p) → (b < n) × (names (drop p ws) b ≡ true)
-from-to_restore n ws p b h =
-    let of = from-filter (names (drop p ws)) b (range_with_len 0 n) h in
-    let l = from-range 0 n b of.0 in
-    (omega arith, of.1)
-
--- the bytes that were read of a slot are those that a revert restores, where both devices tell
-pub slot_restores : (told slots : Option (List (List ℕ))) (records : List Record) (v n : ℕ) (sets : List ℕ) (h : History) (set p slot b : ℕ) (bytes : List ℕ)
-    → IsVolume told slots records v n sets (without_newer set h) → point_in set h.images ≡ Some p
-    → slice_get records slot ≡ Some (record_of v set b) → IfSome slots (λ blocks. slice_get blocks (place_of_slot (length records) slot) ≡ Some bytes) → is_some told ≡ true → is_some slots ≡ true
-    → bytes ≡ content h.writes p b
-slot_restores told None records v n sets h set p slot b bytes is e at read tells lends = cc
-slot_restores told (Some blocks) records v n sets h set p slot b bytes is e at read tells lends =
-    let found = is.copied slot set b p at (point_kept set h.images ∙ e) tells in
-    let both : Some bytes ≡ Some (content h.writes p b) = sym read ∙ found in
-    cc
+from-to_restore n ws p b h = grind (arith, from-filter, from-range)
 
 -- ## some blocks are restored
 
@@ -110,8 +72,7 @@ one_more_write n set p k b h at = ap (λ ws. record { writes = ws; images = up_t
 
 last_in_part : (told slots : Option (List (List ℕ))) (records : List Record) (v n : ℕ) (sets : List ℕ) (h : History) (set p k : ℕ)
     → IsVolume told slots records v n sets (reverted_in_part n set p k h) → point_in set h.images ≡ Some p → Stands (image_at set p) [] (up_to_set set h.images)
-last_in_part told slots records v n sets h set p k is e =
-    stands_last (length (reverted_in_part n set p k h).writes) set p (up_to_set set h.images) is.images.in_time (are_up_to set h.images) (point_kept set h.images ∙ e)
+last_in_part told slots records v n sets h set p k is e = grind (arith, stands_last, are_up_to, point_kept)
 
 pub restored_more : (told slots : Option (List (List ℕ))) (records : List Record) (v n : ℕ) (sets : List ℕ) (h : History) (set p k b : ℕ) (bytes : List ℕ) → p ≤ length h.writes
     → IsVolume told slots records v n sets (reverted_in_part n set p k h) → point_in set h.images ≡ Some p
@@ -125,45 +86,6 @@ restored_more told slots records v n sets h set p k b bytes l is e at known =
     subst P (one_more_write n set p k b h at)
     (restored_one told slots records v n sets (reverted_in_part n set p k h) (image_at set p) (restoring h.writes p b) bytes is
     (last_in_part told slots records v n sets h set p k is e) named of.0 known)
-
--- these blocks of a device get these bytes, one after another
-abbrev pub put_back : List Write → List (List ℕ) → List (List ℕ)
-put_back [] blocks = blocks
-put_back (w ∷ ws) blocks = put_back ws (slice_set blocks w.block w.bytes)
-
-put_back-push : (ws : List Write) (w : Write) (blocks : List (List ℕ)) → slice_set (put_back ws blocks) w.block w.bytes ≡ put_back (ws ++ w ∷ []) blocks
-put_back-push [] w blocks = refl
-put_back-push (x ∷ ws) w blocks = put_back-push ws w (slice_set blocks x.block x.bytes)
-
-put_back_none : (told : Option (List (List ℕ))) → told ≡ option_map (put_back []) told
-put_back_none None = refl
-put_back_none (Some blocks) = refl
-
-put_back_more : (told : Option (List (List ℕ))) (ws : List Write) (w : Write)
-    → option_map (λ blocks. slice_set blocks w.block w.bytes) (option_map (put_back ws) told) ≡ option_map (put_back (ws ++ w ∷ [])) told
-put_back_more None ws w = refl
-put_back_more (Some blocks) ws w = ap (λ bs. Some bs) (put_back-push ws w blocks)
-
--- so many blocks are restored, each with its bytes at the point
-pub restored_some : (told slots : Option (List (List ℕ))) (records : List Record) (v n : ℕ) (sets : List ℕ) (h : History) (set p k : ℕ) → IsVolume told slots records v n sets (without_newer set h)
-    → point_in set h.images ≡ Some p → k ≤ length (to_restore n h.writes p)
-    → IsVolume (option_map (put_back (map (restoring h.writes p) (take k (to_restore n h.writes p)))) told) slots records v n sets (reverted_in_part n set p k h)
-restored_some told slots records v n sets h set p zero is e l =
-    let P : History → Type 0 = λ x. IsVolume told slots records v n sets x in
-    let Q : Option (List (List ℕ)) → Type 0 = λ t. IsVolume t slots records v n sets (reverted_in_part n set p 0 h) in
-    subst Q (put_back_none told) (subst P (restored_none n set p h) is)
-restored_some told slots records v n sets h set p (suc k) is e l =
-    let rest = restored_some told slots records v n sets h set p k is e (omega arith) in
-    let within = point_within told slots records v n sets h set p is e in
-    let b = slice_get_inside (to_restore n h.writes p) k (omega arith) in
-    let before = map (restoring h.writes p) (take k (to_restore n h.writes p)) in
-    let one : k + 1 ≡ suc k = omega arith in
-    let writes : before ++ restoring h.writes p b.0 ∷ [] ≡ map (restoring h.writes p) (take (k + 1) (to_restore n h.writes p)) =
-    sym (ap (map (restoring h.writes p)) (take_next (to_restore n h.writes p) k b.0 b.1) ∙ map-append (restoring h.writes p) (take k (to_restore n h.writes p)) (b.0 ∷ [])) in
-    let more = restored_more (option_map (put_back before) told) slots records v n sets h set p k b.0 (content h.writes p b.0) within rest e b.1 (λ tells. refl) in
-    let Q : Option (List (List ℕ)) → Type 0 = λ t. IsVolume t slots records v n sets (reverted_in_part n set p (k + 1) h) in
-    let R : ℕ → Type 0 = λ j. IsVolume (option_map (put_back (map (restoring h.writes p) (take j (to_restore n h.writes p)))) told) slots records v n sets (reverted_in_part n set p j h) in
-    subst R one (subst Q (put_back_more told before (restoring h.writes p b.0) ∙ ap (λ ws. option_map (put_back ws) told) writes) more)
 
 -- ## the first blocks, in order
 
@@ -186,8 +108,7 @@ first_restored m n ws p l =
     ap (take (length (to_restore m ws p))) split ∙ take_at (to_restore m ws p) (filter (names (drop p ws)) (range_with_len (0 + m) (n - m))) (length (to_restore m ws p)) refl
 
 one-block : (f : ℕ → Bool) (m : ℕ) → filter f (range_with_len 0 (m + 1)) ≡ filter f (range_with_len 0 m) ++ (if f m then m ∷ [] else [])
-one-block f m = ap (filter f) (range-split 0 m 1) ∙ filter-append f (range_with_len 0 m) (range_with_len (0 + m) 1)
-    ∙ (let e : 0 + m ≡ m = omega arith in ap (λ k. filter f (range_with_len 0 m) ++ (if f k then k ∷ [] else [])) e)
+one-block f m = grind (arith, range-split, filter-append)
 
 -- block m is none of them
 pub block_kept : (m : ℕ) (ws : List Write) (p : ℕ) → names (drop p ws) m ≡ false → to_restore (m + 1) ws p ≡ to_restore m ws p
@@ -245,18 +166,7 @@ restoring_named n ws p b e = (from-to_restore n ws p b (restoring_names ws p b (
 
 -- then each block is as it was at the point
 content_restored : (n : ℕ) (ws : List Write) (p b : ℕ) → b < n → content (ws ++ map (restoring ws p) (to_restore n ws p)) (length (ws ++ map (restoring ws p) (to_restore n ws p))) b ≡ content ws p b
-content_restored n ws p b l =
-    let more = map (restoring ws p) (to_restore n ws p) in
-    content_all (ws ++ more) b ∙ last_bytes-append b zeros ws more ∙ by_test (names (drop p ws) b) refl where
-      unnamed : (t : Bool) → names (map (restoring ws p) (to_restore n ws p)) b ≡ t → names (drop p ws) b ≡ false → names (map (restoring ws p) (to_restore n ws p)) b ≡ false
-      unnamed true e f = (let known = restoring_named n ws p b e in absurd cc)
-      unnamed false e f = e
-
-      by_test : (t : Bool) → names (drop p ws) b ≡ t → last_bytes b (last_bytes b zeros ws) (map (restoring ws p) (to_restore n ws p)) ≡ content ws p b
-      by_test true e = restored_bytes ws p b (to_restore n ws p) (last_bytes b zeros ws) (has-to_restore n ws p b l e)
-      by_test false e =
-          unnamed_same b (last_bytes b zeros ws) (map (restoring ws p) (to_restore n ws p)) (unnamed (names (map (restoring ws p) (to_restore n ws p)) b) refl e)
-          ∙ sym (unnamed_since ws p b e ∙ content_all ws b)
+content_restored n ws p b l = grind (arith, content_all, last_bytes-append, restoring_named, restored_bytes, has-to_restore, unnamed_same, unnamed_since)
 
 pub contents_restored : (n : ℕ) (ws : List Write) (p : ℕ)
     → contents n (ws ++ map (restoring ws p) (to_restore n ws p)) (length (ws ++ map (restoring ws p) (to_restore n ws p))) ≡ contents n (take p ws) (length (take p ws))
@@ -267,8 +177,7 @@ contents_restored n ws p =
 told_restored : (told : Option (List (List ℕ))) (n : ℕ) (ws : List Write) (p : ℕ)
     → IfSome told (λ blocks. blocks ≡ contents n (ws ++ map (restoring ws p) (to_restore n ws p)) (length (ws ++ map (restoring ws p) (to_restore n ws p))))
     → IfSome told (λ blocks. blocks ≡ contents n (take p ws) (length (take p ws)))
-told_restored None n ws p held = tt
-told_restored (Some blocks) n ws p held = held ∙ contents_restored n ws p
+told_restored told n ws p held = grind (arith, contents_restored)
 
 up_to_all : (set : ℕ) (is : List Image) (i : Image) (newer : List Image) → AreUpTo set is → Stands i newer is → i.set ≤ set
 up_to_all set [] i newer u h = absurd h
@@ -334,18 +243,6 @@ restored_all told slots records v n sets h set p k l is e m =
     restored_last told slots records v n sets h.writes (up_to_set set h.images) set p l (are_up_to set h.images) (last_in_part told slots records v n sets h set p k is e)
     (subst P (take_all k (to_restore n h.writes p) m) is)
 
--- from the start to the end
-pub reverted_of : (told slots : Option (List (List ℕ))) (records : List Record) (v n : ℕ) (sets : List ℕ) (h : History) (set p : ℕ) → IsVolume told slots records v n sets (without_newer set h)
-    → point_in set h.images ≡ Some p
-    → IsVolume (option_map (put_back (map (restoring h.writes p) (to_restore n h.writes p))) told) slots (cleared v set records) v n sets (reverted set p h)
-reverted_of told slots records v n sets h set p is e =
-    let all = length (to_restore n h.writes p) in
-    let within = point_within told slots records v n sets h set p is e in
-    let told_now : List ℕ → Option (List (List ℕ)) = λ bs. option_map (put_back (map (restoring h.writes p) bs)) told in
-    let some = restored_some told slots records v n sets h set p all is e (omega arith) in
-    let P : List ℕ → Type 0 = λ bs. IsVolume (told_now bs) slots (cleared v set records) v n sets (reverted set p h) in
-    subst P (take_all all (to_restore n h.writes p) (omega arith)) (restored_all (told_now (take all (to_restore n h.writes p))) slots records v n sets h set p all within some e (omega arith))
-
 -- ## block by block
 
 -- the first m blocks are done: those of them that are to be restored are
@@ -377,18 +274,6 @@ to_restore_at told slots records v n sets h set p k slot b l is e at =
     let last = last_in_part told slots records v n sets h set p k is e in
     sym (in_part_names told slots records v n sets h set p k b l is e) ∙ is.named slot set b (above_zero (up_to_set set h.images) (image_at set p) [] is.images.above_zero last) at
 
-test_is : (b : Bool) → (b ≡ true → ⊥) → b ≡ false
-test_is true h = absurd (h refl)
-test_is false h = refl
-
--- and one that has none is not
-pub not_to_restore : (told slots : Option (List (List ℕ))) (records : List Record) (v n : ℕ) (sets : List ℕ) (h : History) (set p k b : ℕ) → p ≤ length h.writes → b < n
-    → IsVolume told slots records v n sets (reverted_in_part n set p k h) → point_in set h.images ≡ Some p
-    → ((slot : ℕ) → slice_get records slot ≡ Some (record_of v set b) → ⊥) → names (drop p h.writes) b ≡ false
-not_to_restore told slots records v n sets h set p k b l m is e none = test_is (names (drop p h.writes) b) (λ f.
-    let at = is.recorded set b m (in_part_names told slots records v n sets h set p k b l is e ∙ f) in
-    none at.0 at.1)
-
 -- what a slot of the set holds is what the block gets
 pub slot_bytes : (told slots : Option (List (List ℕ))) (records : List Record) (v n : ℕ) (sets : List ℕ) (h : History) (set p k slot b : ℕ) (bytes : List ℕ) → p ≤ length h.writes
     → IsVolume told slots records v n sets (reverted_in_part n set p k h) → point_in set h.images ≡ Some p
@@ -400,23 +285,6 @@ slot_bytes told (Some blocks) records v n sets h set p k slot b bytes l is e at 
     let same : Some bytes ≡ Some (content (reverted_in_part n set p k h).writes p b) = sym read ∙ found in
     let bytes_are : bytes ≡ content (reverted_in_part n set p k h).writes p b = cc in
     bytes_are ∙ content-before h.writes (map (restoring h.writes p) (take k (to_restore n h.writes p))) p b l
-
--- at the start
-pub restored_start : (told slots : Option (List (List ℕ))) (records : List Record) (v n : ℕ) (sets : List ℕ) (h : History) (set p : ℕ) → IsVolume told slots records v n sets (without_newer set h)
-    → IsVolume told slots records v n sets (restored_below n set p 0 h)
-restored_start told slots records v n sets h set p is =
-    let P : History → Type 0 = λ x. IsVolume told slots records v n sets x in
-    subst P (restored_none n set p h) is
-
--- block m has no copy for the set, and is left as it is
-pub restored_past : (told slots : Option (List (List ℕ))) (records : List Record) (v n : ℕ) (sets : List ℕ) (h : History) (set p m : ℕ) → p ≤ length h.writes → m < n
-    → IsVolume told slots records v n sets (restored_below n set p m h) → point_in set h.images ≡ Some p
-    → ((slot : ℕ) → slice_get records slot ≡ Some (record_of v set m) → ⊥) → IsVolume told slots records v n sets (restored_below n set p (m + 1) h)
-restored_past told slots records v n sets h set p m l b is e none =
-    let k = length (to_restore m h.writes p) in
-    let same = block_kept m h.writes p (not_to_restore told slots records v n sets h set p k m l b is e none) in
-    let P : List ℕ → Type 0 = λ bs. IsVolume told slots records v n sets (reverted_in_part n set p (length bs) h) in
-    subst P (sym same) is
 
 -- block m has a copy for the set, and is restored from its slot
 pub restored_at : (told slots : Option (List (List ℕ))) (records : List Record) (v n : ℕ) (sets : List ℕ) (h : History) (set p m slot : ℕ) (bytes : List ℕ) → p ≤ length h.writes → m < n
@@ -430,14 +298,6 @@ restored_at told slots records v n sets h set p m slot bytes l b is e at read te
     let P : ℕ → Type 0 = λ j. IsVolume (option_map (λ blocks. slice_set blocks m bytes) told) slots records v n sets (reverted_in_part n set p j h) in
     subst P long (restored_more told slots records v n sets h set p k m bytes l is e (next_restored m n h.writes p b named)
     (λ t. slot_bytes told slots records v n sets h set p k slot m bytes l is e at read t (tells t)))
-
--- while block m is still to be restored, fewer are than there are to restore
-pub fewer_restored : (told slots : Option (List (List ℕ))) (records : List Record) (v n : ℕ) (sets : List ℕ) (h : History) (set p m slot : ℕ) → p ≤ length h.writes → m < n
-    → IsVolume told slots records v n sets (restored_below n set p m h) → point_in set h.images ≡ Some p
-    → slice_get records slot ≡ Some (record_of v set m) → length (to_restore m h.writes p) < length (to_restore n h.writes p)
-fewer_restored told slots records v n sets h set p m slot l b is e at =
-    let k = length (to_restore m h.writes p) in
-    slice_get_within (to_restore n h.writes p) k m (next_restored m n h.writes p b (to_restore_at told slots records v n sets h set p k slot m l is e at))
 
 -- at the end, without the set's copies
 pub restored_end : (told slots : Option (List (List ℕ))) (records : List Record) (v n : ℕ) (sets : List ℕ) (h : History) (set p : ℕ) → p ≤ length h.writes

@@ -17,7 +17,8 @@ use Rattle.cow_volume.proofs.Writing.{newest_is, group_needs, group_needs_none, 
 use Rattle.cow_volume.proofs.Counting.{group_used_of}
 use Rattle.cow_volume.proofs.Evicting.{is_gone, gone_stands, gone_records, lacks_by_records, room_made}
 use Rattle.cow_volume.proofs.Rows.{lacks_newest, has_slot, has_from_slot}
-use Rattle.cow_volume.proofs.CopiedOnce.{lacked}
+use Rattle.cow_volume.proofs.MakingRoom.{gone_nothing}
+use Rattle.cow_volume.proofs.CopiedOnce.{lacked, needless}
 
 -- a write needs a slot just where the newest image lacks a copy of the block
 pub needs_by_records : {D : Type 0} (told : D → Option (List (List ℕ))) (g : GroupValue D) (hs : List History) (v b : ℕ) → StandsFor told g hs → b < blocks_at g v
@@ -63,6 +64,8 @@ room_is told devices old new v b up_to are of within made gone =
     let left : group_of devices new ≡ gone_group up_to g = ap (group_of devices) gone in
     record {
       enough = ap (λ x. lacks_slot x.area.records v (sets_at x v) b) left ∙ made.enough;
+      needless = needless old v b up_to are of made;
+      none = λ e. ap (group_of devices) (gone ∙ ap (after_gone old) e ∙ sym (gone_nothing old are of));
       left = left;
       lacked = lacked old new v b up_to are of made gone;
       evicted = λ hs stood. room_lift told g hs v b up_to stood are within made;

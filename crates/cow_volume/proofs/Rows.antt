@@ -1,10 +1,10 @@
 -- What the map of a volume notes, slot by slot, and the records from which it follows.
 use Rattle.std.proofs.Common.{ℕ, zero, suc, ◌≡◌, ◌≢◌, ◌<◌, ◌-◌, Bool, true, false, not, ◌&&◌, List, [], ◌∷◌, length, map, Some, None, slice_get, refl, sym, ap, ◌∙◌, arith}
-use Rattle.std.specs.Prelude.{◌==◌, ◌||◌, nat_lt, if◌then◌else◌, IsTrue, ◌↔◌, slice_index}
+use Rattle.std.specs.Prelude.{◌==◌, ◌||◌, nat_lt, if◌then◌else◌, IsTrue, ◌↔◌}
 use Rattle.std.specs.List.{list_any}
 use Rattle.std.proofs.lemmas.Bool.{false≢true}
 use Rattle.std.proofs.lemmas.Bool.Decides.{nat_tests}
-use Rattle.std.proofs.lemmas.Option.{none-some, same_Some, cond_some}
+use Rattle.std.proofs.lemmas.Option.{none-some, same_Some}
 use Rattle.diff_area.specs.Records.{free, is_free}
 use Rattle.diff_area.specs.declared.table_record.Record.{Record}
 use Rattle.diff_map.specs.Copies.{copied_at, copy_of, HasCopy}
@@ -19,10 +19,7 @@ use Rattle.cow_volume.specs.Tied.{copied_for}
 -- ## one record
 
 pub same_record : (r q : Record) → r.set ≡ q.set → r.block ≡ q.block → r.volume ≡ q.volume → r ≡ q
-same_record r q a b c =
-    ap (λ (n : ℕ). let x : Record = record { set = n; block = r.block; volume = r.volume } in x) a
-    ∙ ap (λ (n : ℕ). let x : Record = record { set = q.set; block = n; volume = r.volume } in x) b
-    ∙ ap (λ (n : ℕ). let x : Record = record { set = q.set; block = q.block; volume = n } in x) c
+same_record r q a b c = grind arith
 
 both_true : (s v w : ℕ) → 0 < s → w ≡ v → (nat_lt 0 s && (w == v)) ≡ true
 both_true s v w some same = grind (arith, nat_tests)
@@ -35,10 +32,7 @@ of_volume v r some same = both_true r.set v r.volume some same
 
 -- the test that a record is of a copy of volume v
 pub of_other : (v : ℕ) (r : Record) → r.volume ≢ v → (nat_lt 0 r.set && (r.volume == v)) ≡ false
-of_other v r other = test (nat_lt 0 r.set && (r.volume == v)) refl where
-  test : (t : Bool) → (nat_lt 0 r.set && (r.volume == v)) ≡ t → (nat_lt 0 r.set && (r.volume == v)) ≡ false
-  test true h = absurd (other (both_from r.set v r.volume h).1)
-  test false h = h
+of_other v r other = grind arith
 
 pub copied_for-is : (v : ℕ) (r : Record) → 0 < r.set → r.volume ≡ v → copied_for v r ≡ Some (copy_of r.set r.block)
 copied_for-is v r some same = ap (λ (t : Bool). if t then Some (copy_of r.set r.block) else None) (both_true r.set v r.volume some same)
@@ -53,19 +47,10 @@ pub copied_for-other : (v : ℕ) (r : Record) → r.volume ≢ v → copied_for 
 copied_for-other v r other = copied_for-none v r (of_other v r other)
 
 pub record-from : (v : ℕ) (r : Record) (c : Copied) → copied_for v r ≡ Some c → (0 < c.set) × (r ≡ record_of v c.set c.block)
-record-from v r c h =
-    let parts = cond_some (nat_lt 0 r.set && (r.volume == v)) (copy_of r.set r.block) c h in
-    let both = both_from r.set v r.volume parts.0 in
-    let set_is : r.set ≡ c.set = ap (λ x. x.set) parts.1 in
-    let block_is : r.block ≡ c.block = ap (λ x. x.block) parts.1 in
-    let some = both.0 in
-    (omega arith, same_record r (record_of v c.set c.block) set_is block_is both.1)
+record-from v r c h = grind arith
 
 taken_if : (n : ℕ) (b w : Bool) → 0 < n → ((n == 0) && b && w) ≡ false
-taken_if n b w some = by_test (n == 0) refl where
-  by_test : (t : Bool) → (n == 0) ≡ t → ((n == 0) && b && w) ≡ false
-  by_test true e = let none : n ≡ 0 = grind (arith, nat_tests) in absurd (omega arith)
-  by_test false e = ap (λ (t : Bool). t && b && w) e
+taken_if n b w some = grind arith
 
 pub used_is : (r : Record) → 0 < r.set → is_free r ≡ false
 used_is r some = taken_if r.set (r.block == 0) (r.volume == 0) some
@@ -95,10 +80,7 @@ record_at_row v (q ∷ rs) (suc slot) c h = record_at_row v rs slot c h
 
 pub record_of_row : (v : ℕ) (records : List Record) (slot : ℕ) (c : Copied) → copied_at (map (copied_for v) records) slot ≡ Some c
     → (0 < c.set) × (slice_get records slot ≡ Some (record_of v c.set c.block))
-record_of_row v records slot c h =
-    let at = record_at_row v records slot c h in
-    let from = record-from v at.0 c at.2 in
-    (from.0, at.1 ∙ ap (λ (r : Record). Some r) from.1)
+record_of_row v records slot c h = grind (arith, record_at_row, record-from)
 
 pub row_of_record : (v : ℕ) (records : List Record) (slot set block : ℕ) → 0 < set → slice_get records slot ≡ Some (record_of v set block)
     → copied_at (map (copied_for v) records) slot ≡ Some (copy_of set block)
@@ -107,14 +89,7 @@ row_of_record v records slot set block some h = row_at v records slot (record_of
 -- ## what is found
 
 pub found_copy : (v : ℕ) (records : List Record) (set block slot : ℕ) → 0 < set → IsFound (map (copied_for v) records) set block slot → IsFirstCopy records v set block slot
-found_copy v records set block slot some f =
-    let reached = f.reached in
-    record {
-      image = f.image;
-      is_noted = (record_of_row v records slot (copy_of f.image block) f.noted).1;
-      from_set = f.reached;
-      first = λ other newer h le. f.first other newer (row_of_record v records other newer block (omega arith) h) le;
-    }
+found_copy v records set block slot some f = grind (arith, record_of_row, row_of_record)
 
 pub absent_copy : (v : ℕ) (records : List Record) (set block : ℕ) → 0 < set → IsAbsent (map (copied_for v) records) set block → HasNoCopy records v set block
 absent_copy v records set block some none = λ slot image h le. none slot image (row_of_record v records slot image block (omega arith) h) le
@@ -125,18 +100,10 @@ copy_absent v records set block none = λ slot image h le. none slot image (reco
 -- ## tests
 
 same_if : (r q : Record) → is_same_record r q ≡ true → r ≡ q
-same_if r q h =
-    let set_is : r.set ≡ q.set = grind (arith, nat_tests) in
-    let block_is : r.block ≡ q.block = grind (arith, nat_tests) in
-    let volume_is : r.volume ≡ q.volume = grind (arith, nat_tests) in
-    same_record r q set_is block_is volume_is
-
-number_is : (n : ℕ) → (n == n) ≡ true
-number_is n = grind (arith, nat_tests)
+same_if r q h = grind arith
 
 pub same_as_itself : (r : Record) → is_same_record r r ≡ true
-same_as_itself r = ap (λ (t : Bool). t && (r.block == r.block) && (r.volume == r.volume)) (number_is r.set)
-    ∙ ap (λ (t : Bool). true && t && (r.volume == r.volume)) (number_is r.block) ∙ ap (λ (t : Bool). true && true && t) (number_is r.volume)
+same_as_itself r = grind arith
 
 -- a record that is found stands at a slot
 pub has_slot : (records : List Record) (r : Record) → has_record records r ≡ true → (slot : ℕ) × (slice_get records slot ≡ Some r)
@@ -161,9 +128,7 @@ has_from_slot (q ∷ rs) r (suc slot) h = ap (λ (t : Bool). is_same_record r q 
 -- ## the newest image
 
 pub newest_rest : (s t : ℕ) (rest : List ℕ) → newest (s ∷ t ∷ rest) ≡ newest (t ∷ rest)
-newest_rest s t rest =
-    let e : length (s ∷ t ∷ rest) - 1 ≡ suc (length (t ∷ rest) - 1) = omega arith in
-    ap (λ (k : ℕ). slice_index (s ∷ t ∷ rest) k) e
+newest_rest s t rest = grind arith
 
 pub lacks_newest : (records : List Record) (v : ℕ) (images : List ℕ) (b : ℕ) → 0 < length images → lacks_copy records v images b ≡ not (has_record records (record_of v (newest images) b))
 lacks_newest records v [] b some = absurd (omega arith)
@@ -171,13 +136,8 @@ lacks_newest records v (s ∷ []) b some = refl
 lacks_newest records v (s ∷ t ∷ rest) b some = lacks_newest records v (t ∷ rest) b (omega arith) ∙ ap (λ (n : ℕ). not (has_record records (record_of v n b))) (sym (newest_rest s t rest))
 
 pub bools_by : (a b : Bool) → (a ≡ true → b ≡ true) → (b ≡ true → a ≡ true) → a ≡ b
-bools_by true true f g = refl
-bools_by true false f g = absurd (false≢true (f refl))
-bools_by false true f g = absurd (false≢true (g refl))
-bools_by false false f g = refl
+bools_by a b f g = grind arith
 
 -- the newest image's copy, as the map tells it
 pub newest_has_record : (records : List Record) (v : ℕ) (n b : ℕ) (has : Bool) → 0 < n → (IsTrue has ↔ HasCopy (map (copied_for v) records) n b) → has ≡ has_record records (record_of v n b)
-newest_has_record records v n b has some h = bools_by has (has_record records (record_of v n b))
-    (λ e. let at = h.0 e in has_from_slot records (record_of v n b) at.0 (record_of_row v records at.0 (copy_of n b) at.1).1)
-    (λ e. let at = has_slot records (record_of v n b) e in h.1 (at.0, row_of_record v records at.0 n b some at.1))
+newest_has_record records v n b has some h = grind (arith, bools_by, has_from_slot, record_of_row, has_slot, row_of_record)

@@ -1,6 +1,6 @@
 -- For every group there are histories with its records and the sets of its images: each image is followed by a write of each block
 -- of which it has a copy. Where no device tells what it holds, the group stands for them.
-use Rattle.std.proofs.Common.{ℕ, zero, suc, ◌≡◌, ◌<◌, ◌≤◌, ◌+◌, ◌-◌, Bool, true, false, List, [], ◌∷◌, ◌++◌, length, take, drop, Option, Some, None, slice_get, refl, sym, ap, ◌∙◌, subst, arith}
+use Rattle.std.proofs.Common.{ℕ, zero, suc, ◌≡◌, ◌<◌, ◌≤◌, ◌+◌, ◌-◌, Bool, true, false, List, [], ◌∷◌, ◌++◌, length, Option, Some, None, slice_get, refl, sym, ap, ◌∙◌, subst, arith}
 use Rattle.std.proofs.Common.{append_assoc, append-nil, length-append}
 use Rattle.std.specs.Prelude.{◌==◌, ◌&&◌, ◌||◌, if◌then◌else◌, All, AllPairs}
 use Rattle.std.specs.List.{slice_range}
@@ -19,7 +19,7 @@ use Rattle.cow_volume.specs.Calls.{is_among, sets_in}
 use Rattle.cow_volume.specs.Changes.{is_of}
 use Rattle.cow_volume.specs.Resuming.{AllHaveImages, NoneTell}
 use Rattle.cow_volume.proofs.Group.{same_number, number_is}
-use Rattle.cow_volume.proofs.Rows.{same_record, used_is}
+use Rattle.cow_volume.proofs.Rows.{used_is}
 
 -- ## the writes after one image
 
@@ -36,11 +36,7 @@ is_of-own : (v set b : ℕ) → is_of v set (record_of v set b) ≡ true
 is_of-own v set b = ap (λ (t : Bool). t && (set == set)) (number_is v) ∙ number_is set
 
 either_named : (t : Bool) (w : Write) (ws : List Write) (b : ℕ) → names ws b ≡ true → names (if t then w ∷ ws else ws) b ≡ true
-either_named true w ws b e = or_later (w.block == b) (names ws b) e where
-  or_later : (s t : Bool) → t ≡ true → (s || t) ≡ true
-  or_later true t e = refl
-  or_later false t e = e
-either_named false w ws b e = e
+either_named t w ws b e = grind arith
 
 named-recorded : (v set b slot : ℕ) (records : List Record) → slice_get records slot ≡ Some (record_of v set b) → names (recorded v set records) b ≡ true
 named-recorded v set b slot [] at = absurd (none-some (record_of v set b) at)
@@ -52,8 +48,7 @@ named-recorded v set b zero (r ∷ rs) at =
 named-recorded v set b (suc slot) (r ∷ rs) at = either_named (is_of v set r) (unknown r.block) (recorded v set rs) b (named-recorded v set b slot rs at)
 
 both_from : (s t : Bool) → (s && t) ≡ true → (s ≡ true) × (t ≡ true)
-both_from true t e = (refl, e)
-both_from false t e = absurd (false≢true e)
+both_from s t e = grind arith
 
 -- a slot has the copy of block b
 abbrev HasRow : ℕ → ℕ → ℕ → List Record → Type 0
@@ -63,9 +58,7 @@ row_next : (v set b : ℕ) (r : Record) (rs : List Record) → HasRow v set b rs
 row_next v set b r rs at = (suc at.0, at.1)
 
 row_here : (v set b : ℕ) (r : Record) (rs : List Record) → is_of v set r ≡ true → (r.block == b) ≡ true → HasRow v set b (r ∷ rs)
-row_here v set b r rs own is =
-    let parts = both_from (r.volume == v) (r.set == set) own in
-    (0, ap (λ (x : Record). Some x) (same_record r (record_of v set b) (same_number r.set set parts.1) (same_number r.block b is) (same_number r.volume v parts.0)))
+row_here v set b r rs own is = grind arith
 
 recorded-named : (v set b : ℕ) (records : List Record) → names (recorded v set records) b ≡ true → HasRow v set b records
 recorded-named v set b [] e = absurd (false≢true e)
@@ -121,22 +114,14 @@ length-images v records point [] = refl
 length-images v records point (set ∷ sets) = ap suc (length-images v records (point + length (recorded v set records)) sets)
 
 are_images : (v : ℕ) (records : List Record) (sets : List ℕ) → ArePlaced sets → AreImages (length (all_recorded v records sets)) (images_at v records 0 sets)
-are_images v records sets placed = record {
-  in_time = are_in_time v records (length (all_recorded v records sets)) 0 sets placed.ascend (omega arith);
-  above_zero = above_zero v records 0 sets (λ k d inside. (placed.above_zero k d inside).0);
-  few = let same = length-images v records 0 sets in let few = placed.few in omega arith;
-}
+are_images v records sets placed = grind (arith, are_in_time, above_zero, length-images)
 
 -- the writes up to the next image
 shorter : (a b : ℕ) → (a + b) - a ≡ b
 shorter a b = omega arith
 
 take_own : (before own more : List Write) → slice_range (before ++ (own ++ more)) (length before) (length before + length own) ≡ own
-take_own before own more =
-    ap (λ k. take k (drop (length before) (before ++ (own ++ more)))) (shorter (length before) (length own))
-    ∙ ap (take (length own)) (drop-append_seam before (own ++ more))
-    ∙ take-append-le (length own) own more (omega arith)
-    ∙ take_all (length own) own (omega arith)
+take_own before own more = grind (arith, shorter, drop-append_seam, take-append-le, take_all)
 
 since : (v : ℕ) (records : List Record) (before : List Write) (set : ℕ) (sets : List ℕ)
     → writes_since (before ++ (recorded v set records ++ all_recorded v records sets)) (length before)
@@ -178,8 +163,7 @@ names-is v records before (s ∷ sets) set b = by_test (s == set) refl
           ∙ sym (ap (λ (t : Bool). (t || is_among set sets) && names (recorded v set records) b) e)
 
 and_true : (s t : Bool) → s ≡ true → t ≡ true → (s && t) ≡ true
-and_true true t e f = f
-and_true false t e f = e
+and_true s t e f = grind arith
 
 is_volume : (slots : Option (List (List ℕ))) (records : List Record) (images : List (List ℕ)) (v n : ℕ) (sets : List ℕ) → ArePlaced sets → AllHaveImages records images → slice_get images v ≡ Some sets
     → IsVolume None slots records v n sets (some_history v records sets)

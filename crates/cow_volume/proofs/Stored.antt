@@ -72,10 +72,7 @@ keys_held slot (r ∷ rs) bytes = by_test (is_free r) (keys_held (slot + 1) rs b
   by_test false e = ap (λ xs. r ∷ xs) e
 
 used_if : (r : Record) → not (is_free r) ≡ true → is_free r ≡ false
-used_if r e = by_test (is_free r) refl e where
-  by_test : (t : Bool) → is_free r ≡ t → not t ≡ true → is_free r ≡ false
-  by_test true f g = cc
-  by_test false f g = f
+used_if r e = grind arith
 
 apart_held : (volumes : List ℕ) (records : List Record) (bytes : ℕ → List ℕ) → AreRecords volumes records → AreApart (copies_from 0 records bytes)
 apart_held volumes records bytes are = apart_by key (copies_from 0 records bytes)

@@ -1,45 +1,44 @@
 -- A group stands for what it stood for where only the header and the table of its area's device were written.
 use Rattle.std.proofs.Common.{◌≡◌, ◌≤◌, ◌+◌, ℕ, Bool, List, take, length, map, refl, ap, sym, subst, ◌∙◌, arith, Option, Some, None}
 use Rattle.std.specs.Prelude.{is_some, slice_get, option_map, IfSome, Result, Ok, Err}
-use Rattle.std.proofs.lemmas.List.{length-take-le}
+use Rattle.std.proofs.lemmas.List.{length-take-le, take_all}
 use Rattle.write_history.specs.History.{History, content}
 use Rattle.write_history.specs.Slots.{Copy, copies}
 use Rattle.diff_area.specs.AreaValue.{KeepsTable, AreInPart, with_first}
 use Rattle.diff_area.specs.Copies.{AreHeld, AreStored}
-use Rattle.diff_area.specs.Places.{table_for, place_of_slot}
-use Rattle.diff_area.specs.Records.{AreRecords}
+use Rattle.diff_area.specs.Loading.{IsReadFrom}
+use Rattle.diff_area.specs.Places.{blocks_for, table_for, place_of_slot}
+use Rattle.diff_area.specs.Records.{AreRecords, AreVolumes}
 use Rattle.diff_area.specs.Written.{table_blocks}
 use Rattle.diff_area.specs.declared.table_record.Record.{Record}
 use Rattle.diff_area.proofs.Gets.{get-with_first-past}
+use Rattle.diff_area.proofs.Stored.{read_told}
 use Rattle.diff_area.proofs.TableBlocks.{length-table}
+use Rattle.std.specs.List.{concat}
+use Rattle.volume_device.specs.Blocks.{AreBlocks}
 use Rattle.cow_volume.specs.GroupValue.{GroupValue, placed}
 use Rattle.cow_volume.specs.StandsFor.{told_in, IsVolume, StandsFor}
 use Rattle.cow_volume.specs.Tied.{CopiesValue}
 use Rattle.cow_volume.specs.Calls.{IsQuiet}
 use Rattle.cow_volume.specs.Parts.{group_of}
-use Rattle.cow_volume.specs.Ending.{IsSynced, IsSync, AllTell}
+use Rattle.cow_volume.specs.Ending.{IsSynced, IsSync, IsTableWritten, AllTell}
 use Rattle.cow_volume.specs.declared.cause.Cause.{Cause}
 use Rattle.cow_volume.proofs.Group.{told_in-slots, quiet_stands as group_stands}
 use Rattle.cow_volume.proofs.Stored.{held_copies}
-use Rattle.cow_volume.proofs.Kept.{kept_area, kept_further, sizes_kept, quiet_stands}
+use Rattle.cow_volume.proofs.Kept.{kept_area, kept_further, quiet_stands, sizes_kept}
 use Rattle.volume_device.specs.declared.device.Device.{Ghosts}
 
 pub tells_written : (old new : Option (List (List ℕ))) (first : List (List ℕ)) → new ≡ option_map (with_first first) old → is_some new ≡ is_some old
-tells_written None new first e = ap is_some e
-tells_written (Some blocks) new first e = ap is_some e
+tells_written old new first e = grind arith
 
 -- what stands past the first blocks stands there
 pub past_first : (old new : Option (List (List ℕ))) (first : List (List ℕ)) (place : ℕ) (bytes : List ℕ) → length first ≤ place → new ≡ option_map (with_first first) old
     → IfSome old (λ blocks. slice_get blocks place ≡ Some bytes) → IfSome new (λ blocks. slice_get blocks place ≡ Some bytes)
-past_first None new first place bytes l e h = subst (λ (o : Option (List (List ℕ))). IfSome o (λ blocks. slice_get blocks place ≡ Some bytes)) (sym e) tt
-past_first (Some blocks) new first place bytes l e h = subst (λ (o : Option (List (List ℕ))). IfSome o (λ blocks. slice_get blocks place ≡ Some bytes)) (sym e)
-    (get-with_first-past first blocks place l ∙ h)
+past_first old new first place bytes l e h = grind (arith, get-with_first-past)
 
 before_first : (old new : Option (List (List ℕ))) (first : List (List ℕ)) (place : ℕ) (bytes : List ℕ) → length first ≤ place → new ≡ option_map (with_first first) old
     → IfSome new (λ blocks. slice_get blocks place ≡ Some bytes) → IfSome old (λ blocks. slice_get blocks place ≡ Some bytes)
-before_first None new first place bytes l e h = tt
-before_first (Some blocks) new first place bytes l e h = sym (get-with_first-past first blocks place l)
-    ∙ subst (λ (o : Option (List (List ℕ))). IfSome o (λ blocks. slice_get blocks place ≡ Some bytes)) e h
+before_first old new first place bytes l e h = grind (arith, get-with_first-past)
 
 further_on : (a b c : ℕ) → a ≤ b → a ≤ b + c
 further_on a b c l = omega arith
@@ -167,3 +166,22 @@ pub sizes_synced : {D : Type 0} (ghosts : Ghosts D) (old new : GroupValue D) (r 
     → IsSync ghosts old new r → map ghosts.size old.devices ≡ old.area.volumes → map ghosts.size new.devices ≡ new.area.volumes
 sizes_synced ghosts old new (Ok done) is sizes = sizes_kept ghosts old new is.0.kept sizes
 sizes_synced ghosts old new (Err cause) is sizes = sizes_kept ghosts old new is.0.kept sizes
+
+-- the table that was written is read back
+pub table_written : {D : Type 0} (told : D → Option (List (List ℕ))) (n : ℕ) (devices : List D) (old mid new : CopiesValue D)
+    → told mid.area.device ≡ option_map (with_first (table_blocks old.area.volumes old.area.records)) (told old.area.device) → told new.area.device ≡ told mid.area.device
+    → new.area.volumes ≡ old.area.volumes → new.area.records ≡ old.area.records → IfSome (told old.area.device) (AreBlocks n)
+    → n ≡ blocks_for (length old.area.records) → AreVolumes old.area.volumes → AreRecords old.area.volumes old.area.records → IsTableWritten told (group_of devices old) (group_of devices new)
+table_written told n devices old mid new written flushed volumes records whole fits are_volumes are_records =
+    let read = read_told (told old.area.device) (told new.area.device) n old.area.volumes old.area.records (flushed ∙ written) whole fits are_volumes are_records in
+    let P : List ℕ → Type 0 = λ vs. IfSome (told new.area.device) (λ blocks. IsReadFrom (concat blocks) vs old.area.records) in
+    let Q : List Record → Type 0 = λ rs. IfSome (told new.area.device) (λ blocks. IsReadFrom (concat blocks) new.area.volumes rs) in
+    record { written = flushed ∙ written; read = subst Q (sym records) (subst P (sym volumes) read) }
+
+-- all of the table was written, and its device failed after that
+pub written_whole : (old mid new : Option (List (List ℕ))) (table : List (List ℕ)) → mid ≡ option_map (with_first table) old → new ≡ mid → AreInPart table old new
+written_whole old mid new table written same = record {
+  count = length table;
+  within = omega arith;
+  blocks = same ∙ written ∙ ap (λ (t : List (List ℕ)). option_map (with_first t) old) (sym (take_all (length table) table (omega arith)));
+}

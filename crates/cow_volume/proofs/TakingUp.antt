@@ -2,7 +2,6 @@
 use Rattle.std.proofs.Common.{ℕ, zero, suc, ◌≡◌, ◌<◌, ◌≤◌, ◌+◌, Bool, true, false, List, [], ◌∷◌, length, map, replicate, Option, Some, None, slice_get, slice_set, refl, sym, ap, ◌∙◌}
 use Rattle.std.proofs.Common.{subst, arith, inl, inr, Contains}
 use Rattle.std.specs.Prelude.{IfSome, IsNone, ◌↔◌}
-use Rattle.std.proofs.lemmas.Bool.{cases_eq}
 use Rattle.std.proofs.lemmas.List.{length-set, length-map}
 use Rattle.std.proofs.lemmas.Option.{none-some, same_Some, slice_get_within}
 use Rattle.slot_pool.specs.Slots.{IsLowestFree, free_count}
@@ -34,12 +33,7 @@ rows_without (r ∷ rs) = ap (λ xs. None ∷ xs) (rows_without rs)
 pub map_begun : (volumes : List ℕ) (records : List Record) (images : List (List ℕ)) (v n slots : ℕ) (sets : List ℕ) (m : MapValue)
     → m ≡ record { blocks = n; images = sets; copies = replicate slots None } → slots ≡ length records
     → slice_get volumes v ≡ Some n → slice_get images v ≡ Some sets → IsMap m → IsTakenUp volumes records images 0 v m
-map_begun volumes records images v n slots sets m is long blocks row valid = record {
-  blocks = blocks ∙ ap (λ (x : MapValue). Some x.blocks) (sym is);
-  sets = row ∙ ap (λ (x : MapValue). Some x.images) (sym is);
-  copies = ap (λ (x : MapValue). x.copies) is ∙ ap (λ k. replicate k None) long ∙ rows_without records;
-  valid = valid;
-}
+map_begun volumes records images v n slots sets m is long blocks row valid = grind (arith, rows_without)
 
 pub maps_begun : (volumes : List ℕ) (records : List Record) (images : List (List ℕ)) (slots : ℕ) (maps : List MapValue) → maps ≡ map (new_map slots) volumes → slots ≡ length records
     → length images ≡ length volumes → AreTakenUp volumes records (so_far 0 images) 0 (length volumes) maps
@@ -107,12 +101,7 @@ all_unnoted volumes records images k count maps r at up = λ u m h.
 -- the row of the next record, where it is of no copy of the volume
 pub map_same : (volumes : List ℕ) (records : List Record) (images : List (List ℕ)) (k v : ℕ) (m : MapValue) (r : Record) → slice_get records k ≡ Some r → copied_for v r ≡ None
     → IsTakenUp volumes records images k v m → IsTakenUp volumes records images (k + 1) v m
-map_same volumes records images k v m r at none up = record {
-  blocks = up.blocks;
-  sets = up.sets;
-  copies = up.copies ∙ sym (mixed-same (copied_for v) unnoted k records r at none);
-  valid = up.valid;
-}
+map_same volumes records images k v m r at none up = grind (arith, mixed-same)
 
 pub maps_same : (volumes : List ℕ) (records : List Record) (images : List (List ℕ)) (k count : ℕ) (maps : List MapValue) (r : Record) → slice_get records k ≡ Some r → is_free r ≡ true
     → AreTakenUp volumes records images k count maps → AreTakenUp volumes records images (k + 1) count maps
@@ -139,16 +128,11 @@ noted_before v (q ∷ rs) (suc k) (suc slot) c h = let from = noted_before v rs 
 
 pub map_lacks : (volumes : List ℕ) (records : List Record) (images : List (List ℕ)) (k : ℕ) (m : MapValue) (r : Record) → AreRecords volumes records → slice_get records k ≡ Some r → is_free r ≡ false
     → IsTakenUp volumes records images k r.volume m → HasCopy m.copies r.set r.block → ⊥
-map_lacks volumes records images k m r are at is_used up has =
-    let before = noted_before r.volume records k has.0 (copy_of r.set r.block) (ap (λ (cs : List (Option Copied)). copied_at cs has.0) (sym up.copies) ∙ has.1) in
-    let same = record-from r.volume before.0 (copy_of r.set r.block) before.3 in
-    let once = are.once has.0 k r (before.2 ∙ ap (λ (x : Record). Some x) same.1) at (used_record r is_used) in
-    let low = before.1 in
-    absurd (omega arith)
+map_lacks volumes records images k m r are at is_used up has = grind (arith, noted_before, record-from, used_record)
 
 pub map_has_image : (volumes : List ℕ) (records : List Record) (images : List (List ℕ)) (k : ℕ) (m : MapValue) (r : Record) → HasImage images r → is_free r ≡ false
     → IsTakenUp volumes records images k r.volume m → Contains m.images r.set
-map_has_image volumes records images k m r has is_used up = contains_of r.set m.images (ap (λ (o : Option (List ℕ)). is_among r.set (sets_in o)) (sym up.sets) ∙ has is_used)
+map_has_image volumes records images k m r has is_used up = grind (arith, contains_of)
 
 pub map_in_range : (volumes : List ℕ) (records : List Record) (images : List (List ℕ)) (k : ℕ) (m : MapValue) (r : Record) → AreRecords volumes records → slice_get records k ≡ Some r
     → is_free r ≡ false → IsTakenUp volumes records images k r.volume m → r.block < m.blocks
@@ -183,12 +167,7 @@ maps_noted volumes records images k count maps new r are at is_used up inside se
 
 pub all_more : (records : List Record) (images : List (List ℕ)) (k : ℕ) (r : Record) → ((slot : ℕ) (q : Record) → slot < k → slice_get records slot ≡ Some q → HasImage images q)
     → slice_get records k ≡ Some r → HasImage images r → (slot : ℕ) (q : Record) → slot < k + 1 → slice_get records slot ≡ Some q → HasImage images q
-all_more records images k r before at has slot q low h = elim (cases_eq slot k) [
-  | inl same ↦ (
-      let is : r ≡ q = same_Some r q (sym at ∙ ap (slice_get records) (sym same) ∙ h) in
-      subst (λ (x : Record). HasImage images x) is has)
-  | inr other ↦ before slot q (omega arith) h
-]
+all_more records images k r before at has slot q low h = grind arith
 
 -- where each record is of an image that its volume has, each has its image
 pub all_have : (volumes : List ℕ) (records : List Record) (images : List (List ℕ)) → AreRecords volumes records → AreOfImages records images → length images ≡ length volumes

@@ -1,9 +1,8 @@
 -- What the parts that find copies keep in step.
 use Rattle.std.proofs.Common.{ℕ, zero, suc, ◌≡◌, ◌≢◌, ◌<◌, ◌+◌, ◌-◌, Bool, true, false, not, ◌&&◌, List, [], ◌∷◌, length, map, Option, Some, None, slice_get, slice_set, refl, sym, ap, ◌∙◌, subst}
 use Rattle.std.proofs.Common.{arith, inl, inr, Contains}
-use Rattle.std.specs.Prelude.{◌==◌, if◌then◌else◌, IfSome, IsNone, IsTrue, ◌↔◌}
+use Rattle.std.specs.Prelude.{if◌then◌else◌, IfSome, IsNone, IsTrue, ◌↔◌}
 use Rattle.std.proofs.lemmas.Bool.{false≢true, cases_lt}
-use Rattle.std.proofs.lemmas.Bool.Decides.{nat_tests}
 use Rattle.std.proofs.lemmas.List.{length-set, map-set}
 use Rattle.std.proofs.lemmas.List.Sums.{sum_by-cons}
 use Rattle.std.proofs.lemmas.Option.{none-some, same_Some, slice_get-map, slice_get_within}
@@ -22,7 +21,7 @@ use Rattle.cow_volume.specs.Calls.{sets_in}
 use Rattle.cow_volume.specs.Room.{lacks_copy, is_full}
 use Rattle.cow_volume.specs.Tied.{copied_for, AreTied, AreOfImages, images_of}
 use Rattle.cow_volume.proofs.GroupMaps.{get_map}
-use Rattle.cow_volume.proofs.Rows.{same_record, used_is, copied_for-other, copied_for-is, record_of_row, row_of_record, map-from, has_from_slot, found_copy, absent_copy, copy_absent}
+use Rattle.cow_volume.proofs.Rows.{used_is, copied_for-other, copied_for-is, record_of_row, row_of_record, map-from, has_from_slot, found_copy, absent_copy, copy_absent}
 use Rattle.cow_volume.proofs.Rows.{newest_has_record, lacks_newest}
 
 -- ## a volume's map
@@ -35,21 +34,16 @@ pub tied_at : (volumes : List ℕ) (records : List Record) (maps : List MapValue
 tied_at volumes records maps pool v tied within = get_map maps v (has_map volumes records maps pool v tied within)
 
 pub images_at : (maps : List MapValue) (v : ℕ) (m : MapValue) → slice_get maps v ≡ Some m → slice_get (images_of maps) v ≡ Some m.images
-images_at maps v m at = slice_get-map (λ (x : MapValue). x.images) maps v ∙ ap (λ (o : Option MapValue). option_images o) at where
-  option_images : Option MapValue → Option (List ℕ)
-  option_images None = None
-  option_images (Some x) = Some x.images
+images_at maps v m at = grind (arith, slice_get-map)
 
 -- ## what is found
 
 pub found_if : (o : Option ℕ) (copies : List (Option Copied)) (records : List Record) (v set block : ℕ) → copies ≡ map (copied_for v) records → 0 < set → IfSome o (IsFound copies set block)
     → IfSome o (IsFirstCopy records v set block)
-found_if None copies records v set block e some f = tt
-found_if (Some slot) copies records v set block e some f = found_copy v records set block slot some (subst (λ (cs : List (Option Copied)). IsFound cs set block slot) e f)
+found_if o copies records v set block e some f = grind (arith, found_copy)
 
 pub within_if : (o : Option ℕ) (records : List Record) (v set block : ℕ) → IfSome o (IsFirstCopy records v set block) → IfSome o (λ slot. slot < length records)
-within_if None records v set block f = tt
-within_if (Some slot) records v set block f = slice_get_within records slot (record_of v f.image block) f.is_noted
+within_if o records v set block f = grind (arith, slice_get_within)
 
 pub none_if : (o : Option ℕ) (copies : List (Option Copied)) (records : List Record) (v set block : ℕ) → copies ≡ map (copied_for v) records → 0 < set → (IsNone o ↔ IsAbsent copies set block)
     → (IsNone o ↔ HasNoCopy records v set block)
@@ -73,8 +67,7 @@ lacks_if records copies v images b has e some above h =
 
 more_free : (t : Bool) (free_all used_all free_rest used_rest long : ℕ) → free_all ≡ (if t then 1 else 0) + free_rest → used_all ≡ (if not t then 1 else 0) + used_rest → free_rest + used_rest ≡ long
     → free_all + used_all ≡ suc long
-more_free true free_all used_all free_rest used_rest long a b rest = omega arith
-more_free false free_all used_all free_rest used_rest long a b rest = omega arith
+more_free t free_all used_all free_rest used_rest long a b rest = grind arith
 
 pub free_and_used : (records : List Record) → free_count (map is_free records) + used_in records ≡ length records
 free_and_used [] = refl
@@ -85,42 +78,30 @@ pub newest_above : (images : List ℕ) → AreImages images → 0 < length image
 newest_above images are some = (are.above_zero (length images - 1) 0 (omega arith)).0
 
 pub full_if : (records : List Record) (free : ℕ) → free ≡ free_count (map is_free records) → free ≡ 0 → is_full records ≡ true
-full_if records free count none = let both = free_and_used records in by_number (used_in records) (length records) (omega arith) where
-  by_number : (a b : ℕ) → a ≡ b → (a == b) ≡ true
-  by_number a b e = grind (arith, nat_tests)
+full_if records free count none = grind (arith, free_and_used)
 
 pub not_full_if : (records : List Record) (free : ℕ) → free ≡ free_count (map is_free records) → free ≢ 0 → is_full records ≡ false
-not_full_if records free count some = let both = free_and_used records in by_number (used_in records) (length records) (omega arith) where
-  by_number : (a b : ℕ) → a < b → (a == b) ≡ false
-  by_number a b e = grind (arith, nat_tests)
+not_full_if records free count some = grind (arith, free_and_used)
 
 pub full_only : (records : List Record) → is_full records ≡ true → free_count (map is_free records) ≡ 0
-full_only records h =
-    let both = free_and_used records in
-    let same : used_in records ≡ length records = grind (arith, nat_tests) in
-    omega arith
+full_only records h = grind (arith, free_and_used)
 
 pub and_true : (t f : Bool) → f ≡ true → t ≡ (t && f)
-and_true true f e = sym e
-and_true false f e = refl
+and_true t f e = grind arith
 
 pub and_false : (t f : Bool) → f ≡ false → false ≡ (t && f)
-and_false true f e = sym e
-and_false false f e = refl
+and_false t f e = grind arith
 
 pub lowest_if : (o : Option ℕ) (pool : List Bool) (records : List Record) → pool ≡ map is_free records → IfSome o (IsLowestFree pool) → IfSome o (IsLowestFree (map is_free records))
-lowest_if None pool records e h = tt
-lowest_if (Some slot) pool records e h = subst (λ (p : List Bool). IsLowestFree p slot) e h
+lowest_if o pool records e h = grind arith
 
 -- ## a slot is noted
 
 first_free : (t : Bool) (all rest : ℕ) → t ≡ true → all ≡ (if t then 1 else 0) + rest → 0 < all
-first_free true all rest e h = omega arith
-first_free false all rest e h = absurd (false≢true e)
+first_free t all rest e h = grind arith
 
 more_than : (t : Bool) (all rest : ℕ) → 0 < rest → all ≡ (if t then 1 else 0) + rest → 0 < all
-more_than true all rest some h = omega arith
-more_than false all rest some h = omega arith
+more_than t all rest some h = grind arith
 
 free_at : (records : List Record) (slot : ℕ) → slice_get (map is_free records) slot ≡ Some true → (r : Record) × (slice_get records slot ≡ Some r) × (is_free r ≡ true)
 free_at [] slot h = absurd (none-some true h)
@@ -128,11 +109,7 @@ free_at (r ∷ rs) zero h = (r, refl, same_Some (is_free r) true h)
 free_at (r ∷ rs) (suc slot) h = free_at rs slot h
 
 pub free_is : (r : Record) → is_free r ≡ true → r ≡ free
-free_is r h =
-    let set_is : r.set ≡ 0 = grind (arith, nat_tests) in
-    let block_is : r.block ≡ 0 = grind (arith, nat_tests) in
-    let volume_is : r.volume ≡ 0 = grind (arith, nat_tests) in
-    same_record r free set_is block_is volume_is
+free_is r h = grind arith
 
 pub free_slot_is : (records : List Record) (slot : ℕ) → IsLowestFree (map is_free records) slot → slice_get records slot ≡ Some free
 free_slot_is records slot low = let at = free_at records slot low.free in at.1 ∙ ap (λ (r : Record). Some r) (free_is at.0 at.2)
@@ -145,16 +122,7 @@ some_free (b ∷ bs) (suc slot) h = more_than b (free_count (b ∷ bs)) (free_co
 -- the slot that is taken is the lowest free one
 pub taken_lowest : (o : Option ℕ) (old new : List Bool) (slot : ℕ) → IsLowestFree old slot → IfSome o (IsLowestFree old) → IfSome o (λ s. new ≡ slice_set old s false)
     → (IsNone o ↔ (free_count old ≡ 0)) → new ≡ slice_set old slot false
-taken_lowest None old new slot low took is none = let some = some_free old slot low.free in let zero_count = none.0 refl in absurd (omega arith)
-taken_lowest (Some s) old new slot low took is none = is ∙ ap (λ (k : ℕ). slice_set old k false) same where
-  same : s ≡ slot
-  same = elim (cases_lt s slot) [
-    | inl below ↦ absurd (false≢true (same_Some false true (sym (low.lowest s below) ∙ took.free)))
-    | inr above ↦ elim (cases_lt slot s) [
-      | inl over ↦ absurd (false≢true (same_Some false true (sym (took.lowest slot over) ∙ low.free)))
-      | inr under ↦ omega arith
-    ]
-  ]
+taken_lowest o old new slot low took is none = grind (arith, some_free, cases_lt, same_Some)
 
 pub unnoted : (records : List Record) (copies : List (Option Copied)) (v slot : ℕ) → copies ≡ map (copied_for v) records → slice_get records slot ≡ Some free → slice_get copies slot ≡ Some None
 unnoted records copies v slot e h = ap (λ (cs : List (Option Copied)). slice_get cs slot) e ∙ mapped records slot h where
@@ -173,14 +141,11 @@ lacks_some records v [] b h = absurd (false≢true h)
 lacks_some records v (s ∷ rest) b h = omega arith
 
 pub lacks_record : (records : List Record) (v : ℕ) (images : List ℕ) (b slot : ℕ) → lacks_copy records v images b ≡ true → slice_get records slot ≡ Some (record_of v (newest images) b) → ⊥
-lacks_record records v images b slot h at =
-    let has = has_from_slot records (record_of v (newest images) b) slot at in
-    false≢true (sym (ap not has) ∙ sym (lacks_newest records v images b (lacks_some records v images b h)) ∙ h)
+lacks_record records v images b slot h at = grind (arith, has_from_slot, lacks_newest, lacks_some)
 
 pub lacks_row : (records : List Record) (copies : List (Option Copied)) (v : ℕ) (images : List ℕ) (b : ℕ) → copies ≡ map (copied_for v) records → lacks_copy records v images b ≡ true
     → HasCopy copies (newest images) b → ⊥
-lacks_row records copies v images b e h has =
-    lacks_record records v images b has.0 h (record_of_row v records has.0 (copy_of (newest images) b) (ap (λ (cs : List (Option Copied)). copied_at cs has.0) (sym e) ∙ has.1)).1
+lacks_row records copies v images b e h has = grind (arith, lacks_record, record_of_row)
 
 -- what is noted there, for the maps
 set_map : (v : ℕ) (records : List Record) (slot : ℕ) (r : Record) → slice_get records slot ≡ Some free → copied_for v r ≡ None

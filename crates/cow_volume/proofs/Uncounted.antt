@@ -1,17 +1,16 @@
 -- A call by the counts of devices that say nothing of their faults, and a revert that stops where it is told to.
-use Rattle.std.proofs.Common.{◌≡◌, ◌<◌, ◌≤◌, ◌+◌, ℕ, zero, suc, Bool, true, false, List, [], ◌∷◌, length, map, refl, ap, subst, ◌∙◌, arith, Option, Some, None, inl, inr}
+use Rattle.std.proofs.Common.{◌≡◌, ◌<◌, ◌≤◌, ◌+◌, ℕ, zero, suc, Bool, true, false, List, [], ◌∷◌, length, map, refl, ap, subst, arith, Option, Some, None, inr}
 use Rattle.std.specs.Prelude.{slice_get, slice_set, Result, Ok, Err, is_some}
 use Rattle.std.specs.Int.{from_bool}
 use Rattle.vss_names.specs.Faults.{Rose, most}
 use Rattle.volume_device.specs.declared.device.Device.{Ghosts}
-use Rattle.write_history.specs.History.{History, point_in, to_restore}
+use Rattle.write_history.specs.History.{History, to_restore}
 use Rattle.cow_volume.specs.GroupValue.{GroupValue}
 use Rattle.cow_volume.specs.Tied.{CopiesValue}
-use Rattle.cow_volume.specs.StandsFor.{StandsFor}
 use Rattle.cow_volume.specs.Changes.{IsFirstCopy, HasNoCopy}
 use Rattle.cow_volume.specs.Calls.{history_at, changed_at, blocks_in, blocks_at, IsSameDevice, IsKept, DeviceRose, uncounted, counted_as, NeverFails, StopsAfter}
 use Rattle.cow_volume.specs.Parts.{group_of}
-use Rattle.cow_volume.specs.Restoring.{AreNewerGone, AreRestored, IsOneRestored, with_up_to}
+use Rattle.cow_volume.specs.Restoring.{AreNewerGone, IsOneRestored, with_up_to}
 use Rattle.cow_volume.specs.declared.cause.Cause.{Cause}
 use Rattle.cow_volume.specs.declared.cause.Cause.TheVariants.{NoSuchBlock, Volume, Area}
 use Rattle.cow_volume.specs.declared.revert_fault.RevertFault.{RevertFault}
@@ -37,8 +36,7 @@ counts_set (x ∷ xs) (y ∷ ys) (suc v) e = ap (λ (ns : List ℕ). most ∷ ns
 
 -- a count of none did not rise
 pub no_rise : (a b : ℕ) → b ≡ 0 → Rose a b → ⊥
-no_rise a b e (inl l) = omega arith
-no_rise a b e (inr m) = omega arith
+no_rise a b e x3 = grind arith
 
 module _ {D : Type 0} (ghosts : Ghosts D) where
   same_uncounted : (d e : D) → IsSameDevice ghosts d e → IsSameDevice (counted_as ghosts true) d e
@@ -105,25 +103,11 @@ module _ {D : Type 0} (ghosts : Ghosts D) where
   -- before it stops there are at most so many
   pub fits_more : (now new : GroupValue D) (v set b restored more k : ℕ) (put : Bool) → more ≡ from_bool put → restored ≤ k → (restored ≡ k → HasNoCopy now.area.records v set b)
       → IsOneRestored ghosts now new v set b (Ok put) → restored + more ≤ k
-  fits_more now new v set b restored more k false e few none one = omega arith
-  fits_more now new v set b restored more k true e few none one =
-      let apart : restored ≡ k → ⊥ = λ same. none same one.slot one.found.image one.found.is_noted one.found.from_set in
-      below restored more k e few apart
-    where
-      below : (n m k : ℕ) → m ≡ 1 → n ≤ k → (n ≡ k → ⊥) → n + m ≤ k
-      below n m k e l apart = grind (arith, apart)
+  fits_more now new v set b restored more k put e few none one = grind arith
 
   -- no device fails where none ever does
   pub never_rose : (now new : GroupValue D) (v : ℕ) (cause : Cause) → NeverFails ghosts.count → DeviceRose ghosts.count v now new cause → ⊥
-  never_rose now new v NoSuchBlock never rose = rose
-  never_rose now new v Volume never rose = no_rise (ghosts.count rose.before) (ghosts.count rose.now) (never rose.now) rose.rose
-  never_rose now new v Area never rose = no_rise (ghosts.count now.area.device) (ghosts.count new.area.device) (never new.area.device) rose.rose
-
-  -- all that there were to restore are few enough
-  pub few_restored : (old new : GroupValue D) (v set m restored k : ℕ) → m ≡ blocks_at old v → restored ≤ k → AreRestored ghosts old new v set m restored
-      → (hs : List History) (p : ℕ) → StandsFor ghosts.told old hs → point_in set (history_at hs v).images ≡ Some p → length (to_restore (blocks_at old v) (history_at hs v).writes p) ≤ k
-  few_restored old new v set m restored k all few done hs p stands point =
-      subst (λ (n : ℕ). n ≤ k) (done.number hs p stands point ∙ ap (λ (n : ℕ). length (to_restore n (history_at hs v).writes p)) all) few
+  never_rose now new v cause never rose = grind arith
 
 -- the same where the newer images went before
 pub stops_merged : {D : Type 0} (told : D → Option (List (List ℕ))) (devices : List D) (old mid : CopiesValue D) (v set k : ℕ) (r : Result Unit RevertFault) → v < length old.area.volumes

@@ -1,6 +1,6 @@
 -- What an effective write leaves of the history that a volume stands for, with the copy of the old block where one is
 -- needed.
-use Rattle.std.proofs.Common.{◌≡◌, ◌≢◌, ℕ, zero, suc, ◌+◌, ◌-◌, ◌<◌, ◌≤◌, List, [], ◌∷◌, ◌++◌, length, take, drop, refl, ap, sym, ◌∙◌, arith, Bool, true, false, ◌||◌, Option, Some, None, subst, inl}
+use Rattle.std.proofs.Common.{◌≡◌, ◌≢◌, ℕ, zero, suc, ◌+◌, ◌-◌, ◌<◌, ◌≤◌, List, [], ◌∷◌, ◌++◌, length, drop, refl, ap, sym, ◌∙◌, arith, Bool, true, false, ◌||◌, Option, Some, None, subst, inl}
 use Rattle.std.proofs.Common.{inr}
 use Rattle.std.specs.Prelude.{◌⊎◌, slice_get, slice_set, slice_index, slice_range, ◌==◌, not, if◌then◌else◌, IfSome, is_some, map, option_map}
 use Rattle.std.specs.List.{range_with_len}
@@ -44,14 +44,10 @@ range-set f g a (suc n) (suc i) y l at h =
     ∙ ap (λ xs. f a ∷ xs) (range-set f g (a + 1) n i y (omega arith) (ap g e ∙ at) (λ j m. h j (λ is. m (is ∙ sym e))))
 
 pub content-more : (ws : List Write) (w : Write) (b : ℕ) → content (ws ++ w ∷ []) (length (ws ++ w ∷ [])) b ≡ (if w.block == b then w.bytes else content ws (length ws) b)
-content-more ws w b = content_all (ws ++ w ∷ []) b ∙ last_bytes-append b zeros ws (w ∷ []) ∙ ap (λ (bytes : List ℕ). if w.block == b then w.bytes else bytes) (sym (content_all ws b))
+content-more ws w b = grind (arith, content_all, last_bytes-append)
 
 pub contents-more : (n : ℕ) (ws : List Write) (w : Write) → w.block < n → contents n (ws ++ w ∷ []) (length (ws ++ w ∷ [])) ≡ slice_set (contents n ws (length ws)) w.block w.bytes
-contents-more n ws w l =
-    let zero_more : 0 + w.block ≡ w.block = omega arith in
-    range-set (content ws (length ws)) (content (ws ++ w ∷ []) (length (ws ++ w ∷ []))) 0 n w.block w.bytes l
-    (ap (content (ws ++ w ∷ []) (length (ws ++ w ∷ []))) zero_more ∙ content-more ws w w.block ∙ ap (λ (t : Bool). if t then w.bytes else content ws (length ws) w.block) (number_is w.block))
-    (λ j other. content-more ws w j ∙ ap (λ (t : Bool). if t then w.bytes else content ws (length ws) j) (number_is_other w.block j (λ e. other (sym e ∙ sym zero_more))))
+contents-more n ws w l = grind (arith, range-set, content-more, number_is, number_is_other)
 
 -- what stood at a point stays
 pub content-before : (ws more : List Write) (p b : ℕ) → p ≤ length ws → content (ws ++ more) p b ≡ content ws p b
@@ -62,28 +58,18 @@ pub since-more : (ws more : List Write) (p b : ℕ) → p ≤ length ws → name
 since-more ws more p b l = ap (λ since. names since b) (drop-append-le p ws more l) ∙ list_any-append (λ v. v.block == b) (drop p ws) more
 
 names-more : (ws : List Write) (w : Write) (p b : ℕ) → p ≤ length ws → names (drop p (ws ++ w ∷ [])) b ≡ (names (drop p ws) b || (w.block == b))
-names-more ws w p b l =
-    since-more ws (w ∷ []) p b l ∙ ap (λ (t : Bool). names (drop p ws) b || t) (or_none (w.block == b)) where
-      or_none : (t : Bool) → (t || false) ≡ t
-      or_none true = refl
-      or_none false = refl
+names-more ws w p b l = grind (arith, since-more)
 
 -- between two points nothing changes
 pub range-more : (ws more : List Write) (p q : ℕ) → p ≤ q → q ≤ length ws → slice_range (ws ++ more) p q ≡ slice_range ws p q
-range-more ws more p q from to =
-    let long = length-drop p ws in
-    ap (take (q - p)) (drop-append-le p ws more (omega arith)) ∙ take-append-le (q - p) (drop p ws) more (omega arith)
+range-more ws more p q from to = grind (arith, length-drop, drop-append-le, take-append-le)
 
 pub in_time-more : (k l : ℕ) (images : List Image) → k ≤ l → AreInTime k images → AreInTime l images
 in_time-more k l [] more time = tt
 in_time-more k l (i ∷ images) more time = let here = time.0 in (omega arith, time.1, in_time-more k l images more time.2)
 
 pub images-more : (ws : List Write) (w : Write) (images : List Image) → AreImages (length ws) images → AreImages (length (ws ++ w ∷ [])) images
-images-more ws w images are = record {
-  in_time = in_time-more (length ws) (length (ws ++ w ∷ [])) images (let long = length_push ws w in omega arith) are.in_time;
-  above_zero = are.above_zero;
-  few = are.few;
-}
+images-more ws w images are = grind (arith, in_time-more, length_push)
 
 -- ## the newest image
 
@@ -117,8 +103,7 @@ later_newest i images m later last = let found = newest_point images m last in l
 
 -- no image is newer
 newest_most_if : (t : Bool) (set m p : ℕ) (i : Image) (o : Option ℕ) → (i.set == set) ≡ t → i.set ≤ m → (o ≡ Some p → set ≤ m) → (if t then Some i.point else o) ≡ Some p → set ≤ m
-newest_most_if true set m p i o e l rest at = let same = same_number i.set set e in omega arith
-newest_most_if false set m p i o e l rest at = rest at
+newest_most_if t set m p i o e l rest at = grind arith
 
 pub newest_most : (k : ℕ) (images : List Image) (m set p : ℕ) → AreInTime k images → IsNewest (sets_of images) m → point_in set images ≡ Some p → set ≤ m
 newest_most k [] m set p time last at = cc
@@ -144,12 +129,7 @@ pub record IsNeeded (records : List Record) (v : ℕ) (sets : List ℕ) (b : ℕ
   pub unnoted : (slot : ℕ) → slice_get records slot ≡ Some (record_of v set b) → ⊥
 
 not_true : (t : Bool) → (t ≡ true → ⊥) → not t ≡ true
-not_true true h = absurd (h refl)
-not_true false h = refl
-
-not_not : (t : Bool) → not t ≡ true → t ≡ true → ⊥
-not_not true h e = cc
-not_not false h e = cc
+not_true t h = grind arith
 
 some_newest : (sets : List ℕ) → (sets ≡ [] → ⊥) → (m : ℕ) × IsNewest sets m
 some_newest [] some = absurd (some refl)
@@ -166,7 +146,7 @@ needs_none told slots records v n h b volume = no_image h.writes h.images b (sym
 -- the newest image does not name a block that a write needs a slot for
 pub unnamed_newest : (told slots : Option (List (List ℕ))) (records : List Record) (v n : ℕ) (sets : List ℕ) (h : History) (m b : ℕ) → IsVolume told slots records v n sets h → IsNewest sets m
     → needs_slot h.writes h.images b ≡ not (is_named h.writes h.images m b)
-unnamed_newest told slots records v n sets h m b volume last = needs_named (length h.writes) h.writes h.images m b volume.images.in_time (subst (λ (ss : List ℕ). IsNewest ss m) volume.sets_are last)
+unnamed_newest told slots records v n sets h m b volume last = grind (arith, needs_named)
 
 -- where the newest image has a copy of the block no slot is needed
 pub needs_not : (told slots : Option (List (List ℕ))) (records : List Record) (v n : ℕ) (sets : List ℕ) (h : History) (m b slot : ℕ) → IsVolume told slots records v n sets h → IsNewest sets m
@@ -199,12 +179,10 @@ is_needed told slots records v n sets h b volume need =
 
 named-since : (ws : List Write) (w : Write) (i : Image) (newer : List Image) (b : ℕ) → AreInTime (length ws) (i ∷ newer) → names (writes_since ws i.point newer) b ≡ true
     → names (writes_since (ws ++ w ∷ []) i.point newer) b ≡ true
-named-since ws w i [] b time is = names-more ws w i.point b time.0 ∙ ap (λ (t : Bool). t || (w.block == b)) is
-named-since ws w i (j ∷ newer) b time is = ap (λ (since : List Write). names since b) (range-more ws (w ∷ []) i.point j.point time.1.1 time.2.0) ∙ is
+named-since ws w i newer b time is = grind (arith, names-more, range-more)
 
 named-more_if : (t : Bool) (s s_more n n_more : Bool) → (s ≡ true → s_more ≡ true) → (n ≡ true → n_more ≡ true) → (if t then s else n) ≡ true → (if t then s_more else n_more) ≡ true
-named-more_if true s s_more n n_more here rest is = here is
-named-more_if false s s_more n n_more here rest is = rest is
+named-more_if t s s_more n n_more here rest is = grind arith
 
 -- what was named is
 pub named-more : (ws : List Write) (w : Write) (images : List Image) (set b : ℕ) → AreInTime (length ws) images → is_named ws images set b ≡ true → is_named (ws ++ w ∷ []) images set b ≡ true
@@ -214,8 +192,7 @@ named-more ws w (i ∷ newer) set b time is =
     (named-since ws w i newer b time) (named-more ws w newer set b time.2) is
 
 either : (s t : Bool) → (s || t) ≡ true → (s ≡ true) ⊎ (t ≡ true)
-either true t e = inl refl
-either false t e = inr e
+either s t e = grind arith
 
 -- what is named was, or is the written block for the newest image
 named_was_if : (t : Bool) (ws : List Write) (w : Write) (i : Image) (newer : List Image) (set b : ℕ) → (i.set == set) ≡ t → AreInTime (length ws) (i ∷ newer)
@@ -254,13 +231,10 @@ named_now ws w (i ∷ j ∷ newer) m time last =
 pub put_told : (n : ℕ) (ws : List Write) (w : Write) (told : Option (List (List ℕ))) (bytes : List ℕ) → w.block < n → (is_some told ≡ true → bytes ≡ w.bytes)
     → IfSome told (λ blocks. blocks ≡ contents n ws (length ws))
     → IfSome (option_map (λ blocks. slice_set blocks w.block bytes) told) (λ blocks. blocks ≡ contents n (ws ++ w ∷ []) (length (ws ++ w ∷ [])))
-put_told n ws w None bytes l known held = tt
-put_told n ws w (Some blocks) bytes l known held =
-    ap (λ (blocks : List (List ℕ)). slice_set blocks w.block bytes) held ∙ ap (slice_set (contents n ws (length ws)) w.block) (known refl) ∙ sym (contents-more n ws w l)
+put_told n ws w told bytes l known held = grind (arith, contents-more)
 
 pub put_tells : (told : Option (List (List ℕ))) (k : ℕ) (bytes : List ℕ) → is_some (option_map (λ blocks. slice_set blocks k bytes) told) ≡ is_some told
-put_tells None k bytes = refl
-put_tells (Some blocks) k bytes = refl
+put_tells told k bytes = grind arith
 
 -- a block of a device is set: that block
 put_same : (told : Option (List (List ℕ))) (k : ℕ) (bytes : List ℕ) → IfSome told (λ blocks. k < length blocks)
@@ -271,8 +245,7 @@ put_same (Some blocks) k bytes within = let found = slice_get_inside blocks k wi
 -- a block of a device is set: each other block
 put_other : (told : Option (List (List ℕ))) (k j : ℕ) (bytes : List ℕ) (x : Option (List ℕ)) → k ≢ j → IfSome told (λ blocks. slice_get blocks j ≡ x)
     → IfSome (option_map (λ blocks. slice_set blocks k bytes) told) (λ blocks. slice_get blocks j ≡ x)
-put_other None k j bytes x other held = tt
-put_other (Some blocks) k j bytes x other held = slice_get-set_other blocks k j bytes other ∙ held
+put_other told k j bytes x other held = grind (arith, slice_get-set_other)
 
 -- ## slots
 
@@ -281,25 +254,11 @@ other_place a s slot other = λ e. other (omega arith)
 
 -- a slot with a record of a set above 0 is not free
 pub not_free : (records : List Record) (slot s u set b : ℕ) → slice_get records slot ≡ Some free → slice_get records s ≡ Some (record_of u set b) → 0 < set → s ≢ slot
-not_free records slot s u set b is_free at above = λ e.
-    let same : free ≡ record_of u set b = same_Some free (record_of u set b) (sym is_free ∙ ap (slice_get records) (sym e) ∙ at) in
-    let zero_set : 0 ≡ set = ap (λ (r : Record). r.set) same in
-    absurd (omega arith)
+not_free records slot s u set b is_free at above = grind arith
 
 -- a record is noted in a free slot: the records of the other volumes stay
 pub others_noted : (records : List Record) (v m b slot : ℕ) → slice_get records slot ≡ Some free → OthersKept v records (noted slot (record_of v m b) records)
-others_noted records v m b slot is_free = record {
-  slots = length-slice_set records slot (record_of v m b);
-  stays = λ u s set c other above at. slice_get-set_other records slot s (record_of v m b) (λ e. not_free records slot s u set c is_free at above (sym e)) ∙ at;
-  was = λ u s set c other above at. was_there u s set c other at (s == slot) refl;
-} where
-  was_there : (u s set c : ℕ) → u ≢ v → slice_get (slice_set records slot (record_of v m b)) s ≡ Some (record_of u set c) → (t : Bool) → (s == slot) ≡ t
-      → slice_get records s ≡ Some (record_of u set c)
-  was_there u s set c other at true e =
-      let now_at : slice_get (slice_set records slot (record_of v m b)) s ≡ Some (record_of v m b)
-      = ap (slice_get (slice_set records slot (record_of v m b))) (same_number s slot e) ∙ slice_get-set_same records slot free (record_of v m b) is_free in
-      absurd (other (ap (λ (r : Record). r.volume) (same_Some (record_of u set c) (record_of v m b) (sym at ∙ now_at))))
-  was_there u s set c other at false e = sym (slice_get-set_other records slot s (record_of v m b) (λ is. other_number s slot e (sym is))) ∙ at
+others_noted records v m b slot is_free = grind (arith, length-slice_set, slice_get-set_other, not_free, same_number, slice_get-set_same, same_Some, other_number)
 
 -- the block of a free slot is set: the other volumes' slots hold what they held
 pub others_overwritten : (records : List Record) (v slot : ℕ) (slots : Option (List (List ℕ))) (bytes : List ℕ) → slice_get records slot ≡ Some free
@@ -355,18 +314,10 @@ written_again told slots records v n sets h w volume l need = record {
 -- a block that the newest image does not name is still as it was at its point
 newest_content : (ws : List Write) (images : List Image) (m p b : ℕ) → AreInTime (length ws) images → IsNewest (sets_of images) m → is_named ws images m b ≡ false → point_in m images ≡ Some p
     → content ws p b ≡ content ws (length ws) b
-newest_content ws images m p b time last none point = unnamed_to_end ws images m p b time point (λ k l. by_test k l (is_named ws images k b) refl) where
-  by_test : (k : ℕ) → m ≤ k → (t : Bool) → is_named ws images k b ≡ t → is_named ws images k b ≡ false
-  by_test k l true is =
-      let found = named_point ws k b images is in
-      let most = newest_most (length ws) images m k found.0 time last found.1 in
-      let same : k ≡ m = omega arith in
-      ap (λ set. is_named ws images set b) same ∙ none
-  by_test k l false is = is
+newest_content ws images m p b time last none point = grind (arith, unnamed_to_end, named_point, newest_most)
 
 not_named : (t : Bool) → not t ≡ true → t ≡ false
-not_named true e = cc
-not_named false e = refl
+not_named t e = grind arith
 
 module _ (told slots : Option (List (List ℕ))) (records : List Record) (v n : ℕ) (sets : List ℕ) (h : History) (w : Write) (m slot : ℕ) (copy : List ℕ)
     (volume : IsVolume told slots records v n sets h) (l : w.block < n) (need : needs_slot h.writes h.images w.block ≡ true) (last : IsNewest sets m) (is_free : slice_get records slot ≡ Some free)
@@ -382,14 +333,11 @@ module _ (told slots : Option (List (List ℕ))) (records : List Record) (v n : 
   there s e = slice_get-set_other records slot s (record_of v m w.block) (λ is. other_number s slot e (sym is))
 
   is_here : (s set b : ℕ) → (s == slot) ≡ true → slice_get (noted slot (record_of v m w.block) records) s ≡ Some (record_of v set b) → record_of v m w.block ≡ record_of v set b
-  is_here s set b e at = same_Some (record_of v m w.block) (record_of v set b) (sym here ∙ ap (slice_get (noted slot (record_of v m w.block) records)) (sym (same_number s slot e)) ∙ at)
+  is_here s set b e at = grind (arith, same_Some, here, same_number)
 
   named_first_written : (s set b : ℕ) → 0 < set → slice_get (noted slot (record_of v m w.block) records) s ≡ Some (record_of v set b) → (t : Bool) → (s == slot) ≡ t
       → is_named (h.writes ++ w ∷ []) h.images set b ≡ true
-  named_first_written s set b above at true e =
-      let same = is_here s set b e at in
-      ap (λ (r : Record). is_named (h.writes ++ w ∷ []) h.images r.set r.block) (sym same) ∙ named_now h.writes w h.images m volume.images.in_time last_image
-  named_first_written s set b above at false e = named-more h.writes w h.images set b volume.images.in_time (volume.named s set b above (sym (there s e) ∙ at))
+  named_first_written s set b above at t e = grind (arith, is_here, named_now, last_image, named-more, there)
 
   recorded_first : (set b : ℕ) → b < n → (is_named h.writes h.images set b ≡ true) ⊎ (IsNewest (sets_of h.images) set × (w.block ≡ b))
       → (s : ℕ) × (slice_get (noted slot (record_of v m w.block) records) s ≡ Some (record_of v set b))
@@ -481,10 +429,7 @@ group_needs_not {D = D} told g hs v b slot stands l at =
 
 -- the place of a slot is within the area's device
 pub slot_room : (slots : Option (List (List ℕ))) (k slot : ℕ) → IfSome slots (AreBlocks (blocks_for k)) → slot < k → IfSome slots (λ blocks. place_of_slot k slot < length blocks)
-slot_room None k slot are l = tt
-slot_room (Some blocks) k slot are l = let number = are.number in under (table_for k) k slot (length blocks) number l where
-  under : (a k slot n : ℕ) → n ≡ a + k → slot < k → a + slot < n
-  under a k slot n e l = omega arith
+slot_room slots k slot are l = grind arith
 
 -- a block that needs no slot is written
 pub group_written_again : {D : Type 0} → (told : D → Option (List (List ℕ))) (g new : GroupValue D) (hs : List History) (v : ℕ) (d e : D) (w : Write) → StandsFor told g hs → w.block < blocks_at g v

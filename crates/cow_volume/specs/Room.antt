@@ -78,6 +78,8 @@ gone_group up_to g = record {
 -- there is room for a write of block b to volume v: the images of the sets up to this one went, and no more than had to
 pub record HasRoom {D : Type 0} (told : D → Option (List (List ℕ))) (old new : GroupValue D) (v b up_to : ℕ) : Type 0 where
   pub enough : lacks_slot new.area.records v (sets_at new v) b ≡ false
+  pub needless : lacks_slot old.area.records v (sets_at old v) b ≡ false → up_to ≡ 0
+  pub none : up_to ≡ 0 → new ≡ old
   pub left : new ≡ gone_group up_to old
   pub lacked : lacks_copy new.area.records v (sets_at new v) b ≡ true → lacks_copy old.area.records v (sets_at old v) b ≡ true
   pub evicted : (hs : List History) → StandsFor told old hs → IsEvicted old v b hs up_to

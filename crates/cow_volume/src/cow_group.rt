@@ -3,17 +3,19 @@ ghost use Rattle.block_data.specs.Runs.{zeros};
 ghost use Rattle.block_data.specs.PayloadBytes.{payload_bytes};
 ghost use Rattle.write_history.specs.History.{History, fresh, cut};
 ghost use Rattle.write_history.specs.Slots.{used, used_by, group_used};
-ghost use Rattle.diff_area.specs.Records.{free, AreVolumes};
+ghost use Rattle.diff_area.specs.Places.{blocks_for};
+ghost use Rattle.diff_area.specs.Records.{free, used_in, AreRecords, AreVolumes};
+ghost use Rattle.volume_device.specs.Blocks.{AreBlocks};
 ghost use Rattle.diff_map.specs.MapValue.{AreImages};
 ghost use Rattle.cow_volume.specs.GroupValue.{placed};
 ghost use Rattle.cow_volume.specs.StandsFor.{StandsFor};
 ghost use Rattle.cow_volume.specs.Calls.{HasCauseAt, HasImageCause, IsNow, IsSeen, IsShown, IsQuiet, IsUnfailed, IsWrite, IsDropped, IsRevert, StopsAfter, NeverFails, counted_as, IsEvicted, VolumeRose, history_at, changed_at, is_among, sets_at, blocks_at};
 ghost use Rattle.cow_volume.specs.Parts.{IsLentBy, IsUnseen};
-ghost use Rattle.cow_volume.specs.Ending.{IsSync};
+ghost use Rattle.cow_volume.specs.Ending.{IsSync, IsTable};
 ghost use Rattle.cow_volume.specs.Resuming.{AllHaveImages, IsResumeFault, AreKept, NoneTell};
 ghost use Rattle.cow_volume.specs.Room.{HasRoom, lacks_copy, lacks_slot, is_full, images_going};
 ghost use Rattle.cow_volume.specs.Steps.{IsPutOr};
-ghost use Rattle.cow_volume.specs.CopiedOnce.{IsCopiedOnce};
+ghost use Rattle.cow_volume.specs.CopiedOnce.{IsAreaPut, IsCopiedOnce};
 
 use crate::cause::Cause;
 use crate::copies::Copies;
@@ -113,6 +115,9 @@ impl<D: Device> CowGroup<D> {
         ensures rise { (v : ℕ) (sets : List ℕ) → slice_get self.now.images v ≡ Some sets → AreImages sets }
         ensures have_images { AllHaveImages self.now.area.records self.now.images }
         ensures fits { map D.size self.now.devices ≡ self.now.area.volumes }
+        ensures records { AreRecords self.now.area.volumes self.now.area.records }
+        ensures whole { IfSome (D.told self.now.area.device) (AreBlocks (D.size self.now.area.device)) }
+        ensures slots { D.size self.now.area.device ≡ blocks_for (length self.now.area.records) }
     {
         let _facts = self.copies.slots();
         self.copies.volumes()
@@ -166,7 +171,8 @@ impl<D: Device> CowGroup<D> {
 
     /// How many slots the images of the group use.
     pub fn used_all(&self) -> u32
-        ensures { (hs : List History) → StandsFor D.told self.now hs → result ≡ group_used (placed self.now.area.volumes) hs }
+        ensures used { (hs : List History) → StandsFor D.told self.now hs → result ≡ group_used (placed self.now.area.volumes) hs }
+        ensures records { result ≡ used_in self.now.area.records }
     {
         let _facts = self.copies.slots();
         self.copies.used()
@@ -315,7 +321,8 @@ impl<D: Device> CowGroup<D> {
         requires in_range { block < blocks_at self.old v }
         requires room { lacks_slot self.old.area.records v (sets_at self.old v) block ≡ false }
         ensures put { IsPutOr D.Device self.old self.new v (record { block = block; bytes = payload_bytes payload.now }) result }
-        ensures once { IsCopiedOnce D.told self.old self.new v block }
+        ensures area { IsAreaPut D.told self.old self.new v block result }
+        ensures images { self.new.images ≡ self.old.images }
     {
         if self.copies.lacks_copy(v, block) {
             return self.write_first(v, block, payload);
@@ -377,6 +384,7 @@ impl<D: Device> CowGroup<D> {
     /// Writes the records of the copies to the area's device, and brings all that was written to it to where it lasts.
     pub fn sync(&mut self) -> Result<(), Cause>
         ensures lasts { OnOk result (D.lasting self.new.area.device ≡ D.told self.new.area.device) }
+        ensures table { IsTable D.told self.old self.new result }
         ensures sync { IsSync D.Device self.old self.new result }
     {
         sync_all(&mut self.copies)
@@ -415,7 +423,8 @@ impl<D: Device> CowGroup<D> {
         requires lacks { lacks_copy self.old.area.records v (sets_at self.old v) block ≡ true }
         requires room { is_full self.old.area.records ≡ false }
         ensures put { IsPutOr D.Device self.old self.new v (record { block = block; bytes = payload_bytes payload.now }) result }
-        ensures once { IsCopiedOnce D.told self.old self.new v block }
+        ensures area { IsAreaPut D.told self.old self.new v block result }
+        ensures images { self.new.images ≡ self.old.images }
     {
         let _facts = self.copies.slots();
         let Some(slot) = self.copies.free_slot() else {

@@ -4,7 +4,7 @@ ghost use Rattle.std.specs.Prelude.{◌≡◌, ◌<◌, List, Some, length, slic
 ghost use Rattle.cow_volume.specs.Tied.{CopiesValue};
 ghost use Rattle.cow_volume.specs.Calls.{IsQuiet, IsUnfailed, VolumeRose};
 ghost use Rattle.cow_volume.specs.Parts.{group_of};
-ghost use Rattle.cow_volume.specs.Ending.{IsSync};
+ghost use Rattle.cow_volume.specs.Ending.{IsSync, IsTable};
 ghost use Rattle.cow_volume.specs.declared.cause.Cause.TheVariants.{Volume};
 
 use crate::calling::flush_device;
@@ -15,9 +15,11 @@ use volume_device::Device;
 /// Writes the records of the copies to the area's device, and brings all that was written to it to where it lasts.
 pub(crate) fn sync_all<D: Device>(copies: &mut Copies<D>) -> Result<(), Cause>
     ensures lasts { OnOk result (D.lasting copies.new.area.device ≡ D.told copies.new.area.device) }
+    ensures table { (devices : List D) → IsTable D.told (group_of devices copies.old) (group_of devices copies.new) result }
     ensures sync { (devices : List D) → IsSync D.Device (group_of devices copies.old) (group_of devices copies.new) result }
 {
     let _facts = copies.slots();
+    let _facts = copies.volumes();
     match copies.sync() {
         Err(_) => Err(Cause::Area),
         Ok(()) => match copies.flush() {

@@ -29,12 +29,10 @@ take-front (y ∷ x) ys n m h =
     ap (λ k. take k (y ∷ (x ++ ys))) e ∙ ap (λ z. y ∷ z) (take-front x ys (n - 1) m (omega arith))
 
 none : (n : ℕ) → drop {A = ℕ} n [] ≡ []
-none zero = refl
-none (suc n) = refl
+none n = grind arith
 
 no_more : (n : ℕ) → take {A = ℕ} n [] ≡ []
-no_more zero = refl
-no_more (suc n) = refl
+no_more n = grind arith
 
 drop-blocks : (n a : ℕ) (bs : List (List ℕ)) → AreOf n bs → drop (n * a) (concat bs) ≡ concat (drop a bs)
 drop-blocks n zero bs h = let e : n * 0 ≡ 0 = omega arith in ap (λ k. drop k (concat bs)) e
@@ -58,9 +56,7 @@ drop-whole n (suc a) (x ∷ xs) h = drop-whole n a xs h.1
 -- c blocks from block a on
 pub part-blocks : (n a c at len : ℕ) (bs : List (List ℕ)) → AreOf n bs → at ≡ n * a → len ≡ n * c → part at len (concat bs) ≡ concat (take c (drop a bs))
 unfolding part
-part-blocks n a c at len bs h e f =
-    ap (λ k. take k (drop at (concat bs))) f ∙ ap (λ k. take (n * c) (drop k (concat bs))) e
-    ∙ ap (take (n * c)) (drop-blocks n a bs h) ∙ take-blocks n c (drop a bs) (drop-whole n a bs h)
+part-blocks n a c at len bs h e f = grind (arith, drop-blocks, take-blocks, drop-whole)
 
 first_of_drop : (k : ℕ) (bs : List (List ℕ)) → concat (take 1 (drop k bs)) ≡ slice_index_or bs k []
 first_of_drop zero [] = refl

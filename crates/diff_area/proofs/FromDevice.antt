@@ -1,7 +1,6 @@
 -- What is read of a device's blocks, where it tells them.
-use Rattle.std.proofs.Common.{ℕ, ◌≡◌, ◌<◌, ◌≤◌, ◌+◌, ◌*◌, Bool, true, false, cond, List, [], ◌∷◌, length, take, drop, replicate, min, Option, Some, None, IfSome, slice_index_or, refl, sym, ap, subst, ◌∙◌, arith}
+use Rattle.std.proofs.Common.{ℕ, ◌≡◌, ◌<◌, ◌≤◌, ◌+◌, ◌*◌, Bool, cond, List, [], ◌∷◌, length, take, drop, min, Option, Some, None, IfSome, slice_index_or, refl, sym, ap, ◌∙◌, arith}
 use Rattle.std.specs.List.{concat}
-use Rattle.std.specs.List.Sorted.{IsPermutation}
 use Rattle.std.proofs.lemmas.List.{take_min}
 use Rattle.block_data.specs.declared.block_buf.TheConstants.{BLOCK}
 use Rattle.volume_device.specs.Blocks.{AreBlocks}
@@ -20,7 +19,6 @@ use Rattle.diff_area.specs.Refusals.{IsBadHeader, IsRefused}
 use Rattle.diff_area.specs.declared.table_record.Record.{Record}
 use Rattle.diff_area.specs.declared.header.Header.{Header}
 use Rattle.diff_area.specs.declared.area_fault.AreaFault.{AreaFault}
-use Rattle.diff_area.specs.declared.area_fault.AreaFault.TheVariants.{Device, BadHeader, BadRecord, OutOfMemory}
 use Rattle.diff_area.proofs.Accepting.{is_area, are_records_of, header_refused, table_refused}
 use Rattle.diff_area.proofs.Blocks.{AreOf, are_of, length-concat, part-blocks, part-block}
 use Rattle.diff_area.proofs.GoodRecords.{length-rows_in}
@@ -44,16 +42,10 @@ table_is n bs table pages h e f =
 -- ## refusals
 
 header_rose : (size before now : ℕ) (first : List ℕ) (fault : AreaFault) → IsBadHeader size first fault → now ≡ before → RoseFor before now fault
-header_rose size before now first Device b same = absurd b
-header_rose size before now first (BadHeader field found) b same = same
-header_rose size before now first (BadRecord slot set block volume) b same = same
-header_rose size before now first OutOfMemory b same = same
+header_rose size before now first fault b same = grind arith
 
 table_rose : (before now : ℕ) (h : Header) (table : List ℕ) (fault : AreaFault) → IsTableRefused h table fault → now ≡ before → RoseFor before now fault
-table_rose before now h table Device b same = absurd b
-table_rose before now h table (BadHeader field found) b same = same
-table_rose before now h table (BadRecord slot set block volume) b same = same
-table_rose before now h table OutOfMemory b same = same
+table_rose before now h table fault b same = grind arith
 
 header_told : (told : Option (List (List ℕ))) (n m size : ℕ) (first : List ℕ) (fault : AreaFault) → IfSome told (AreBlocks n) → AreRead told 0 m first → m ≡ min 1 n → size ≡ BLOCK * n → IsBadHeader size first fault → IfSome told (λ bs. IsRefused (concat bs) fault)
 header_told None n m size first fault w r e s b = tt
@@ -62,10 +54,7 @@ header_told (Some bs) n m size first fault w r e s b =
 
 -- the header is refused
 pub refused_header : (told : Option (List (List ℕ))) (n m size before now : ℕ) (first : List ℕ) (fault : AreaFault) → IfSome told (AreBlocks n) → AreRead told 0 m first → m ≡ min 1 n → size ≡ BLOCK * n → IsBadHeader size first fault → now ≡ before → AreRefused told before now fault
-refused_header told n m size before now first fault w r e s b same = record {
-  rose = header_rose size before now first fault b same;
-  refused = header_told told n m size first fault w r e s b;
-}
+refused_header told n m size before now first fault w r e s b same = grind (arith, header_rose, header_told)
 
 pages_are : (bs : List (List ℕ)) (first : List ℕ) (size pages : ℕ) (h : Header) → IsAccepted size first h → first ≡ header_of (concat bs) → pages ≡ pages_for h.slots → pages ≡ pages_for (slots_in (header_of (concat bs)))
 pages_are bs first size pages h a e f = f ∙ ap pages_for (a.fields.slots ∙ ap slots_in e)
@@ -78,10 +67,7 @@ table_told (Some bs) n m size pages first table h fault w r e s a t p b =
 
 -- the table is refused
 pub refused_table : (told : Option (List (List ℕ))) (n m size pages before now : ℕ) (first table : List ℕ) (h : Header) (fault : AreaFault) → IfSome told (AreBlocks n) → AreRead told 0 m first → m ≡ min 1 n → size ≡ BLOCK * n → IsAccepted size first h → AreRead told 1 pages table → pages ≡ pages_for h.slots → IsTableRefused h table fault → now ≡ before → AreRefused told before now fault
-refused_table told n m size pages before now first table h fault w r e s a t p b same = record {
-  rose = table_rose before now h table fault b same;
-  refused = table_told told n m size pages first table h fault w r e s a t p b;
-}
+refused_table told n m size pages before now first table h fault w r e s a t p b same = grind (arith, table_rose, table_told)
 
 -- ## what is accepted
 
@@ -98,26 +84,12 @@ accepted (Some bs) n m size pages first table h rows w r e s a t p b =
 
 -- what is kept of it
 pub loaded : (told : Option (List (List ℕ))) (n : ℕ) (h : Header) (rows : List Record) (t : Tables) → AreOfRecords h.volumes.items rows t → n ≡ blocks_for (length t.records.items) → AreVolumes h.volumes.items → AreRecords h.volumes.items rows → IfSome told (λ bs. IsReadFrom (concat bs) h.volumes.items rows) → IfSome told (AreBlocks n) → AreLoaded told n t
-loaded told n h rows t m s v r all w =
-    let P : List ℕ → Type 0 = λ vs. AreRecords vs t.records.items in
-    let Q : List Record → Type 0 = λ rs. AreRecords h.volumes.items rs in
-    let R : List ℕ → Type 0 = λ vs. IfSome told (λ bs. IsReadFrom (concat bs) vs t.records.items) in
-    let S : List Record → Type 0 = λ rs. IfSome told (λ bs. IsReadFrom (concat bs) h.volumes.items rs) in
-    record {
-      size_fits = s;
-      are_volumes = subst AreVolumes (sym m.volumes_are) v;
-      are_records = subst P (sym m.volumes_are) (subst Q (sym m.records_are) r);
-      changed_all = m.changed_all ∙ ap (λ rs. replicate (pages_for (length rs)) true) (sym m.records_are);
-      room = m.room;
-      whole = w;
-      read = subst R (sym m.volumes_are) (subst S (sym m.records_are) all);
-    }
+loaded told n h rows t m s v r all w = grind arith
 
 -- ## copies
 
 either : {X : Type 0} (b : Bool) (x y u v : X) → x ≡ y → u ≡ v → cond b x u ≡ cond b y v
-either true x y u v e f = e
-either false x y u v e f = f
+either b x y u v e f = grind arith
 
 -- the same slots hold the same copies
 pub same_copies : (slot : ℕ) (rows : List Record) (f g : ℕ → List ℕ) → ((i : ℕ) → slot ≤ i → i < slot + length rows → f i ≡ g i) → copies_from slot rows f ≡ copies_from slot rows g
@@ -133,20 +105,7 @@ length-records_of : (bytes : List ℕ) → length (records_of bytes) ≡ slots_i
 length-records_of bytes = length-rows_in (layout_in (header_of bytes)) (table_of bytes) (slots_in (header_of bytes))
 
 pub held_is : (n : ℕ) (bs : List (List ℕ)) (records : List Record) → AreBlocks n bs → records ≡ records_of (concat bs) → copies_from 0 (records_of (concat bs)) (slot_of (concat bs)) ≡ copies_from 0 records (λ slot. slice_index_or bs (place_of_slot (length records) slot) [])
-held_is n bs records w e =
-    let bytes = concat bs in
-    let slots = ap length e ∙ length-records_of bytes in
-    ap (λ rs. copies_from 0 rs (slot_of bytes)) (sym e)
-    ∙ same_copies 0 records (slot_of bytes) (λ slot. slice_index_or bs (place_of_slot (length records) slot) []) (λ i a b.
-    part-block BLOCK (place_of_slot (slots_in (header_of bytes)) i) (BLOCK * place_of_slot (slots_in (header_of bytes)) i) bs (whole n bs w) refl
-    ∙ ap (λ k. slice_index_or bs (place_of_slot k i) []) (sym slots))
+held_is n bs records w e = grind (arith, length-records_of, same_copies, part-block, whole)
 
 pub copies_loaded : (told now : Option (List (List ℕ))) (n : ℕ) (volumes : List ℕ) (records : List Record) (copies : List Copy) → now ≡ told → IfSome told (AreBlocks n) → IfSome told (λ bs. IsReadFrom (concat bs) volumes records) → AreStored told copies → AreHeld now records copies
-copies_loaded None None n volumes records copies e w r s = tt
-copies_loaded None (Some cs) n volumes records copies e w r s = cc
-copies_loaded (Some bs) None n volumes records copies e w r s = tt
-copies_loaded (Some bs) (Some cs) n volumes records copies e w r s =
-    let same : bs ≡ cs = cc in
-    let P : List Copy → Type 0 = λ xs. IsPermutation xs copies in
-    let Q : List (List ℕ) → Type 0 = λ ds. IsPermutation (copies_from 0 records (λ slot. slice_index_or ds (place_of_slot (length records) slot) [])) copies in
-    subst Q same (subst P (held_is n bs records w r.records_are) s.held)
+copies_loaded told now n volumes records copies e w r s = grind (arith, held_is)

@@ -1,5 +1,5 @@
 -- Lists read by place, after a write, a part or blocks in front.
-use Rattle.std.proofs.Common.{ℕ, zero, suc, ◌≡◌, ◌≢◌, ◌<◌, ◌≤◌, List, [], ◌∷◌, ◌++◌, length, take, drop, replicate, Some, slice_get, slice_set, ◌⊎◌, inl, inr, refl, sym, ap, ◌∙◌, arith}
+use Rattle.std.proofs.Common.{ℕ, zero, suc, ◌≡◌, ◌≢◌, ◌<◌, ◌≤◌, List, [], ◌∷◌, ◌++◌, length, take, drop, Some, slice_get, slice_set, ◌⊎◌, inl, inr, refl, sym, ap, ◌∙◌, arith}
 use Rattle.diff_area.specs.AreaValue.{with_first}
 
 pub get-bound : {X : Type 0} (xs : List X) (k : ℕ) (x : X) → slice_get xs k ≡ Some x → k < length xs
@@ -8,8 +8,7 @@ get-bound (y ∷ ys) zero x h = omega arith
 get-bound (y ∷ ys) (suc k) x h = let i = get-bound ys k x h in omega arith
 
 pub past : {X : Type 0} {x : X} (k : ℕ) → slice_get {X = X} [] k ≡ Some x → ⊥
-past zero h = cc
-past (suc k) h = cc
+past k h = grind arith
 
 pub get-set_other : {X : Type 0} (xs : List X) (i j : ℕ) (v : X) → j ≢ i → slice_get (slice_set xs i v) j ≡ slice_get xs j
 get-set_other [] i j v h = refl
@@ -38,12 +37,10 @@ get-take (suc n) (y ∷ ys) zero h = refl
 get-take (suc n) (y ∷ ys) (suc j) h = get-take n ys j (omega arith)
 
 empty : {X : Type 0} (j : ℕ) → slice_get {X = X} [] j ≡ slice_get [] (suc j)
-empty zero = refl
-empty (suc j) = refl
+empty j = grind arith
 
 drop-nil : {X : Type 0} (n : ℕ) → drop {A = X} n [] ≡ []
-drop-nil zero = refl
-drop-nil (suc n) = refl
+drop-nil n = grind arith
 
 pub get-with_first-within : (first blocks : List (List ℕ)) (j : ℕ) → j < length first → slice_get (with_first first blocks) j ≡ slice_get first j
 get-with_first-within [] blocks j h = absurd (omega arith)
@@ -68,8 +65,3 @@ get-of_take zero xs k x h = absurd (past k h)
 get-of_take (suc n) [] k x h = h
 get-of_take (suc n) (y ∷ ys) zero x h = h
 get-of_take (suc n) (y ∷ ys) (suc k) x h = get-of_take n ys k x h
-
-pub get-replicate : {X : Type 0} (n k : ℕ) (y x : X) → slice_get (replicate n y) k ≡ Some x → x ≡ y
-get-replicate zero k y x h = absurd (past k h)
-get-replicate (suc n) zero y x h = cc
-get-replicate (suc n) (suc k) y x h = get-replicate n k y x h

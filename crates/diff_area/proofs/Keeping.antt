@@ -1,5 +1,5 @@
 -- What the calls on an area leave of what its fields keep.
-use Rattle.std.proofs.Common.{ℕ, ◌≡◌, ◌<◌, ◌≤◌, ◌+◌, ◌/◌, Bool, true, false, List, length, take, Option, Some, None, Result, Ok, Err, OnOk, OnErr, slice_get, slice_set, option_map, Vec, vec_capacity, inl, inr, refl, sym, ap, subst, ◌∙◌, arith, lit<}
+use Rattle.std.proofs.Common.{ℕ, ◌≡◌, ◌<◌, ◌≤◌, ◌+◌, ◌/◌, Bool, true, false, List, length, take, Option, Some, Result, OnOk, OnErr, slice_get, slice_set, option_map, Vec, vec_capacity, inl, inr, refl, sym, ap, subst, ◌∙◌, arith, lit<}
 use Rattle.std.specs.declared.alloc.Global.{Global}
 use Rattle.std.proofs.lemmas.Bool.{cases_lt}
 use Rattle.std.proofs.lemmas.List.{length-set, length-take-le}
@@ -15,23 +15,18 @@ use Rattle.diff_area.proofs.TableBlocks.{table-page, length-table}
 
 -- what some blocks were before a change
 pub told-before : (told : Option (List (List ℕ))) (f : List (List ℕ) → List (List ℕ)) (blocks : List (List ℕ)) → option_map f told ≡ Some blocks → (before : List (List ℕ)) × (told ≡ Some before) × (blocks ≡ f before)
-told-before None f blocks h = cc
-told-before (Some before) f blocks h = let e : f before ≡ blocks = cc in (before, refl, sym e)
+told-before told f blocks h = grind arith
 
 -- ## the device changes
 
 written-copied : (told now : Option (List (List ℕ))) (records : List Record) (changed : List Bool) (p : ℕ) (block : List ℕ) → AreWritten told records changed → length changed < p → now ≡ option_map (λ blocks. slice_set blocks p block) told → AreWritten now records changed
-written-copied told now records changed p block h b e blocks k f g =
-    let was = told-before told (λ bs. slice_set bs p block) blocks (sym e ∙ f) in
-    let bound = get-bound changed k false g in
-    ap (λ bs. slice_get bs (1 + k)) was.2 ∙ get-set_other was.0 p (1 + k) block (λ q. omega arith) ∙ h was.0 k was.1 g
+written-copied told now records changed p block h b e blocks k f g = grind (arith, told-before, get-bound, get-set_other)
 
 written-same : (told now : Option (List (List ℕ))) (records : List Record) (changed : List Bool) → AreWritten told records changed → now ≡ told → AreWritten now records changed
 written-same told now records changed h e blocks k f g = h blocks k (sym e ∙ f) g
 
 written-by : {T E : Type 0} (r : Result T E) (told now : Option (List (List ℕ))) (records : List Record) (changed : List Bool) (p : ℕ) (block : List ℕ) → AreWritten told records changed → length changed < p → OnOk r (now ≡ option_map (λ blocks. slice_set blocks p block) told) → OnErr r (now ≡ told) → AreWritten now records changed
-written-by (Ok x) told now records changed p block h b e f = written-copied told now records changed p block h b e
-written-by (Err x) told now records changed p block h b e f = written-same told now records changed h f
+written-by r told now records changed p block h b e f = grind (arith, written-copied, written-same)
 
 -- a block was written to a slot, or the write failed
 pub keeps-copied : {D T E : Type 0} (told : D → Option (List (List ℕ))) (size : D → ℕ) (old new : D) (volumes : List ℕ) (records : List Record) (changed : List Bool) (page : Vec ℕ Global) (slot : ℕ) (block : List ℕ) (r : Result T E) → KeepsArea told size old volumes records changed page → OnOk r (told new ≡ option_map (λ blocks. slice_set blocks (place_of_slot (length records) slot) block) (told old)) → OnErr r (told new ≡ told old) → size new ≡ size old → KeepsArea told size new volumes records changed page
@@ -49,18 +44,10 @@ keeps-copied told size old new volumes records changed page slot block r h e f s
 -- ## a record changes
 
 record-set : (told : Option (List (List ℕ))) (records : List Record) (changed : List Bool) (slot : ℕ) (row : Record) → AreWritten told records changed → length changed ≡ pages_for (length records) → slot < length records → AreWritten told (slice_set records slot row) (slice_set changed (slot / 1024) true)
-record-set told records changed slot row h pages b blocks k f g =
-    elim (get-set changed (slot / 1024) k true false g) [
-      | inl p ↦ cc
-      | inr p ↦ h blocks k f p.1 ∙ ap Some (sym (other_page records slot k row p.0))
-    ]
+record-set told records changed slot row h pages b blocks k f g = grind (arith, get-set, other_page)
 
 narrow-set : (records : List Record) (slot : ℕ) (row : Record) → AreNarrow records → IsNarrow row → AreNarrow (slice_set records slot row)
-narrow-set records slot row h thin i r g =
-    elim (get-set records slot i row r g) [
-      | inl p ↦ subst IsNarrow (sym p.1) thin
-      | inr p ↦ h i r p.1
-    ]
+narrow-set records slot row h thin i r g = grind (arith, get-set)
 
 pub records-set : (volumes : List ℕ) (records : List Record) (slot : ℕ) (row : Record) → AreRecords volumes records → IsUsed volumes row → ((other : ℕ) → slice_get records other ≡ Some row → other ≡ slot) → IsNarrow row → AreRecords volumes (slice_set records slot row)
 records-set volumes records slot row h used once thin = record {
@@ -100,16 +87,7 @@ records-cleared volumes records slot h = record {
 }
 
 keeps-row : {D : Type 0} (told : D → Option (List (List ℕ))) (size : D → ℕ) (device : D) (volumes : List ℕ) (records : List Record) (changed : List Bool) (page : Vec ℕ Global) (slot : ℕ) (row : Record) → KeepsArea told size device volumes records changed page → slot < length records → AreRecords volumes (slice_set records slot row) → KeepsArea told size device volumes (slice_set records slot row) (slice_set changed (slot / 1024) true) page
-keeps-row told size device volumes records changed page slot row h b valid =
-    let same = length-set records slot row in
-    record {
-      fits = rw same h.fits;
-      are_volumes = h.are_volumes;
-      are_records = valid;
-      pages = rw same (length-set changed (slot / 1024) true ∙ h.pages);
-      written = record-set (told device) records changed slot row h.written h.pages b;
-      room = h.room;
-    }
+keeps-row told size device volumes records changed page slot row h b valid = grind (arith, length-set, record-set)
 
 pub keeps-set : {D : Type 0} (told : D → Option (List (List ℕ))) (size : D → ℕ) (device : D) (volumes : List ℕ) (records : List Record) (changed : List Bool) (page : Vec ℕ Global) (slot : ℕ) (row : Record) → KeepsArea told size device volumes records changed page → slot < length records → IsUsed volumes row → ((other : ℕ) → slice_get records other ≡ Some row → other ≡ slot) → IsNarrow row → KeepsArea told size device volumes (slice_set records slot row) (slice_set changed (slot / 1024) true) page
 keeps-set told size device volumes records changed page slot row h b used once thin =
@@ -122,23 +100,11 @@ keeps-cleared told size device volumes records changed page slot h b =
 -- ## the table is written
 
 written-all : (told now : Option (List (List ℕ))) (volumes : List ℕ) (records : List Record) (changed : List Bool) → length changed ≡ pages_for (length records) → now ≡ option_map (with_first (table_blocks volumes records)) told → AreWritten now records changed
-written-all told now volumes records changed pages e blocks k f g =
-    let t = table_blocks volumes records in
-    let was = told-before told (with_first t) blocks (sym e ∙ f) in
-    let bound = get-bound changed k false g in
-    let len = length-table volumes records in
-    ap (λ bs. slice_get bs (1 + k)) was.2 ∙ get-with_first-within t was.0 (1 + k) (omega arith) ∙ table-page volumes records k (1 + k) (omega arith) refl
+written-all told now volumes records changed pages e blocks k f g = grind (arith, told-before, get-bound, length-table, get-with_first-within, table-page)
 
 -- the table was written
 pub keeps-synced : {D : Type 0} (told : D → Option (List (List ℕ))) (size : D → ℕ) (old new : D) (volumes : List ℕ) (records : List Record) (changed now : List Bool) (page paged : Vec ℕ Global) → KeepsArea told size old volumes records changed page → told new ≡ option_map (with_first (table_blocks volumes records)) (told old) → size new ≡ size old → length now ≡ length changed → BLOCK ≤ vec_capacity paged → KeepsArea told size new volumes records now paged
-keeps-synced told size old new volumes records changed now page paged h e s l room = record {
-  fits = s ∙ h.fits;
-  are_volumes = h.are_volumes;
-  are_records = h.are_records;
-  pages = l ∙ h.pages;
-  written = written-all (told old) (told new) volumes records now (l ∙ h.pages) e;
-  room = room;
-}
+keeps-synced told size old new volumes records changed now page paged h e s l room = grind (arith, written-all)
 
 written-part : (told now : Option (List (List ℕ))) (volumes : List ℕ) (records : List Record) (changed : List Bool) → length changed ≡ pages_for (length records) → AreWritten told records changed → AreInPart (table_blocks volumes records) told now → AreWritten now records changed
 written-part told now volumes records changed pages h part blocks k f g =

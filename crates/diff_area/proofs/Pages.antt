@@ -1,5 +1,5 @@
 -- A record that is set changes its own page alone.
-use Rattle.std.proofs.Common.{ℕ, ◌≡◌, ◌≢◌, ◌<◌, ◌≤◌, ◌+◌, ◌-◌, ◌*◌, ◌/◌, List, take, drop, slice_set, inl, inr, ap, ◌∙◌, arith}
+use Rattle.std.proofs.Common.{ℕ, ◌≡◌, ◌≢◌, ◌<◌, ◌≤◌, ◌+◌, ◌-◌, ◌*◌, ◌/◌, List, take, drop, slice_set, inl, inr, ap, arith}
 use Rattle.std.specs.List.{flat_map}
 use Rattle.std.proofs.lemmas.Bool.{cases_lt}
 use Rattle.std.proofs.lemmas.List.{drop-set-lt, drop-set-add, take-set-le}
@@ -10,8 +10,7 @@ before : (n m : ℕ) (rows : List Record) (slot : ℕ) (row : Record) → slot <
 before n m rows slot row h = ap (take n) (drop-set-lt m rows slot row h)
 
 after : (n m : ℕ) (rows : List Record) (slot i : ℕ) (row : Record) → slot ≡ m + i → n ≤ i → take n (drop m (slice_set rows slot row)) ≡ take n (drop m rows)
-after n m rows slot i row e h =
-    ap (λ s. take n (drop m (slice_set rows s row))) e ∙ ap (take n) (drop-set-add m rows i row) ∙ take-set-le n (drop m rows) i row h
+after n m rows slot i row e h = grind (arith, drop-set-add, take-set-le)
 
 other_records : (rows : List Record) (slot k : ℕ) (row : Record) → k ≢ slot / 1024 → records_of_page (slice_set rows slot row) k ≡ records_of_page rows k
 unfolding records_of_page

@@ -1,5 +1,5 @@
 -- Blocks that are read one after another.
-use Rattle.std.proofs.Common.{ℕ, zero, suc, ◌≡◌, ◌+◌, List, [], ◌∷◌, ◌++◌, take, drop, Option, Some, None, IfSome, Bool, slice_get, sym, ap, ◌∙◌, arith}
+use Rattle.std.proofs.Common.{ℕ, zero, suc, ◌≡◌, ◌+◌, List, [], ◌∷◌, ◌++◌, take, drop, Option, Some, IfSome, slice_get, sym, ap, ◌∙◌, arith}
 use Rattle.std.specs.List.{concat}
 use Rattle.std.proofs.lemmas.List.{append-nil, append_assoc}
 use Rattle.diff_area.specs.ReadBlocks.{IsReadAlone, AreRead}
@@ -16,24 +16,8 @@ concat-more [] k x h = cc
 concat-more (y ∷ ys) zero x h = let e : y ≡ x = cc in append-nil y ∙ e
 concat-more (y ∷ ys) (suc k) x h = ap (λ z. y ++ z) (concat-more ys k x h) ∙ sym (append_assoc y (concat (take k ys)) x)
 
-pub read-none : (told : Option (List (List ℕ))) (first : ℕ) (bytes : List ℕ) → bytes ≡ [] → AreRead told first 0 bytes
-read-none None first bytes e = tt
-read-none (Some bs) first bytes e = e
-
 pub read-more : (told now : Option (List (List ℕ))) (first k n m : ℕ) (bytes new block page : List ℕ) → AreRead told first k bytes → now ≡ told → IfSome now (λ bs. slice_get bs n ≡ Some page) → new ≡ bytes ++ block → block ≡ page → n ≡ first + k → m ≡ suc k → AreRead told first m new
-read-more None now first k n m bytes new block page r e g f b p q = tt
-read-more (Some bs) None first k n m bytes new block page r e g f b p q = cc
-read-more (Some bs) (Some cs) first k n m bytes new block page r e g f b p q =
-    let same : cs ≡ bs = cc in
-    let here = ap (λ ds. slice_get ds n) (sym same) ∙ g in
-    f ∙ ap (λ z. z ++ block) r ∙ ap (λ z. concat (take k (drop first bs)) ++ z) b
-    ∙ sym (concat-more (drop first bs) k page (get-drop first k n bs page here p))
-    ∙ ap (λ j. concat (take j (drop first bs))) (sym q)
+read-more told now first k n m bytes new block page r e g f b p q = grind (arith, concat-more, get-drop)
 
 pub read-on : {D : Type 0} (ghosts : Ghosts D) (a b c : D) → IsReadAlone ghosts a b → IsReadAlone ghosts b c → IsReadAlone ghosts a c
-read-on ghosts a b c h k = record {
-  told_is = k.told_is ∙ h.told_is;
-  size_is = k.size_is ∙ h.size_is;
-  lends = k.lends ∙ h.lends;
-  later = let e = h.later in let f = k.later in omega arith;
-}
+read-on ghosts a b c h k = grind arith

@@ -10,6 +10,7 @@ use Rattle.write_history.specs.Slots.{Copy}
 use Rattle.diff_area.specs.AreaValue.{with_first}
 use Rattle.diff_area.specs.Copies.{copies_from, StandsFor, AreStored, AreHeld}
 use Rattle.diff_area.specs.Format.{part, layout_in, slots_in, stated_used, volumes_in, rows_in, good_at, row_count, header_of, table_of, records_of, HasHeader, IsArea}
+use Rattle.diff_area.specs.Loading.{IsReadFrom}
 use Rattle.diff_area.specs.Places.{pages_for, blocks_for, place_of_slot}
 use Rattle.diff_area.specs.Records.{AreVolumes, AreRecords, used_in}
 use Rattle.diff_area.specs.Written.{number_bytes, page_bytes, header_bytes, table_blocks}
@@ -125,8 +126,10 @@ area_of_parts bytes volumes records v r size h t =
       recs,
     )
 
-stands : (n : ℕ) (bs : List (List ℕ)) (volumes : List ℕ) (records : List Record) (copies : List Copy) → AreBlocks n bs → n ≡ blocks_for (length records) → AreVolumes volumes → AreRecords volumes records → IsPermutation (copies_from 0 records (λ slot. slice_index_or bs (place_of_slot (length records) slot) [])) copies → StandsFor (concat (with_first (table_blocks volumes records) bs)) copies
-stands n bs volumes records copies w e v r held =
+-- what is read of blocks once the table was written
+pub read_back : (n : ℕ) (bs : List (List ℕ)) (volumes : List ℕ) (records : List Record) → AreBlocks n bs → n ≡ blocks_for (length records) → AreVolumes volumes → AreRecords volumes records
+    → IsReadFrom (concat (with_first (table_blocks volumes records) bs)) volumes records
+read_back n bs volumes records w e v r =
     let new = with_first (table_blocks volumes records) bs in
     let bytes = concat new in
     let whole = new_blocks n bs volumes records w e v.few in
@@ -136,12 +139,20 @@ stands n bs volumes records copies w e v r held =
     let slots = ap slots_in h ∙ says_slots volumes records r.few in
     let t = ap (λ k. part BLOCK (BLOCK * pages_for k) bytes) slots ∙ table_is bs volumes records of in
     let all = area_of_parts bytes volumes records v r size h t in
+    record { area = all.0; volumes_are = sym (ap volumes_in h ∙ says_volumes volumes records v); records_are = sym all.1 }
+
+stands : (n : ℕ) (bs : List (List ℕ)) (volumes : List ℕ) (records : List Record) (copies : List Copy) → AreBlocks n bs → n ≡ blocks_for (length records) → AreVolumes volumes → AreRecords volumes records
+    → IsPermutation (copies_from 0 records (λ slot. slice_index_or bs (place_of_slot (length records) slot) [])) copies → StandsFor (concat (with_first (table_blocks volumes records) bs)) copies
+stands n bs volumes records copies w e v r held =
+    let new = with_first (table_blocks volumes records) bs in
+    let read = read_back n bs volumes records w e v r in
     let lt = length-table volumes records in
-    let same = same_copies 0 records (λ slot. slice_index_or bs (place_of_slot (length records) slot) []) (λ slot. slice_index_or new (place_of_slot (length records) slot) []) (λ i a b. sym (past_first (table_blocks volumes records) bs (place_of_slot (length records) i) [] (omega arith))) in
+    let same = same_copies 0 records (λ slot. slice_index_or bs (place_of_slot (length records) slot) []) (λ slot. slice_index_or new (place_of_slot (length records) slot) [])
+    (λ i a b. sym (past_first (table_blocks volumes records) bs (place_of_slot (length records) i) [] (omega arith))) in
     let P : List Copy → Type 0 = λ xs. IsPermutation xs copies in
     record {
-      area = all.0;
-      held = subst P (sym (held_is n new records whole (sym all.1))) (subst P same held);
+      area = read.area;
+      held = subst P (sym (held_is n new records (new_blocks n bs volumes records w e v.few) read.records_are)) (subst P same held);
     }
 
 -- what a device tells after the table was written
@@ -153,3 +164,14 @@ stands_told (Some bs) (Some cs) n volumes records copies e w s v r h =
     let same : with_first (table_blocks volumes records) bs ≡ cs = cc in
     let P : List (List ℕ) → Type 0 = λ ds. StandsFor (concat ds) copies in
     subst P same (stands n bs volumes records copies w s v r h)
+
+-- and what is read of it
+pub read_told : (told now : Option (List (List ℕ))) (n : ℕ) (volumes : List ℕ) (records : List Record) → now ≡ option_map (with_first (table_blocks volumes records)) told → IfSome told (AreBlocks n)
+    → n ≡ blocks_for (length records) → AreVolumes volumes → AreRecords volumes records → IfSome now (λ bs. IsReadFrom (concat bs) volumes records)
+read_told None None n volumes records e w s v r = tt
+read_told None (Some cs) n volumes records e w s v r = cc
+read_told (Some bs) None n volumes records e w s v r = tt
+read_told (Some bs) (Some cs) n volumes records e w s v r =
+    let same : with_first (table_blocks volumes records) bs ≡ cs = cc in
+    let P : List (List ℕ) → Type 0 = λ ds. IsReadFrom (concat ds) volumes records in
+    subst P same (read_back n bs volumes records w s v r)

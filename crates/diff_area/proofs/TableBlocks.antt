@@ -1,5 +1,5 @@
 -- Blocks that are written one after another in place of the first ones.
-use Rattle.std.proofs.Common.{ℕ, zero, suc, ◌≡◌, ◌<◌, ◌+◌, List, [], ◌∷◌, length, take, map, Option, Some, None, IfSome, slice_get, slice_index_or, slice_set, option_map, Result, Ok, Err, OnErr, refl, sym, ap, ◌∙◌, arith}
+use Rattle.std.proofs.Common.{ℕ, zero, suc, ◌≡◌, ◌<◌, ◌+◌, List, [], ◌∷◌, length, take, map, Option, Some, None, IfSome, slice_get, slice_index_or, slice_set, option_map, Result, OnErr, refl, sym, ap, ◌∙◌, arith}
 use Rattle.std.specs.List.{range_with_len}
 use Rattle.std.proofs.lemmas.List.FromFn.{length-map-range_with_len}
 use Rattle.volume_device.specs.Blocks.{AreBlocks}
@@ -24,9 +24,7 @@ with_first-keep (y ∷ ys) (d ∷ ds) (suc p) x h b = ap (λ z. y ∷ z) (with_f
 
 -- the same of what a device tells
 pub told-write : (t : List (List ℕ)) (told a b : Option (List (List ℕ))) (p q : ℕ) (x : List ℕ) → b ≡ option_map (λ blocks. slice_set blocks p x) a → a ≡ option_map (with_first (take p t)) told → IfSome told (λ ds. p < length ds) → slice_get t p ≡ Some x → q ≡ suc p → b ≡ option_map (with_first (take q t)) told
-told-write t None a b p q x e f h s n = e ∙ ap (option_map (λ blocks. slice_set blocks p x)) f
-told-write t (Some ds) a b p q x e f h s n =
-    e ∙ ap (option_map (λ blocks. slice_set blocks p x)) f ∙ ap Some (with_first-write t ds p x s h) ∙ ap (λ m. Some (with_first (take m t) ds)) (sym n)
+told-write t told a b p q x e f h s n = grind (arith, with_first-write)
 
 pub told-keep : (t : List (List ℕ)) (told a : Option (List (List ℕ))) (p q : ℕ) (x : List ℕ) → a ≡ option_map (with_first (take p t)) told → ((ds : List (List ℕ)) → told ≡ Some ds → slice_get ds p ≡ Some x) → slice_get t p ≡ Some x → q ≡ suc p → a ≡ option_map (with_first (take q t)) told
 told-keep t None a p q x f h s n = f
@@ -41,13 +39,11 @@ get-map_range f a (suc n) (suc k) m h e = get-map_range f (a + 1) n k m (omega a
 
 -- nothing is written yet
 pub told-none : (t : List (List ℕ)) (told : Option (List (List ℕ))) → told ≡ option_map (with_first (take 0 t)) told
-told-none t None = refl
-told-none t (Some ds) = refl
+told-none t told = grind arith
 
 -- a place within the device is within the blocks that it tells
 pub told-within : (told : Option (List (List ℕ))) (n p : ℕ) → IfSome told (AreBlocks n) → p < n → IfSome told (λ ds. p < length ds)
-told-within None n p h b = tt
-told-within (Some ds) n p h b = let e = h.number in omega arith
+told-within told n p h b = grind arith
 
 -- the blocks of a table
 pub table-header : (volumes : List ℕ) (records : List Record) → slice_get (table_blocks volumes records) 0 ≡ Some (header_bytes volumes records)
@@ -56,14 +52,11 @@ table-header volumes records = refl
 
 pub table-page : (volumes : List ℕ) (records : List Record) (k p : ℕ) → k < pages_for (length records) → p ≡ 1 + k → slice_get (table_blocks volumes records) p ≡ Some (page_bytes records k)
 unfolding table_blocks
-table-page volumes records k zero h e = absurd (omega arith)
-table-page volumes records k (suc p) h e = let s : p ≡ k = omega arith in rw s (get-map_range (page_bytes records) 0 (pages_for (length records)) k k h (omega arith))
+table-page volumes records k p h e = grind (arith, get-map_range)
 
 pub length-table : (volumes : List ℕ) (records : List Record) → length (table_blocks volumes records) ≡ 1 + pages_for (length records)
 unfolding table_blocks
-length-table volumes records =
-    let e = length-map-range_with_len (page_bytes records) 0 (pages_for (length records)) in
-    omega arith
+length-table volumes records = grind (arith, length-map-range_with_len)
 
 -- a value read by its place
 pub get_is : {X : Type 0} (xs : List X) (k : ℕ) (d x : X) → k < length xs → slice_index_or xs k d ≡ x → slice_get xs k ≡ Some x
@@ -73,5 +66,4 @@ get_is (y ∷ ys) (suc k) d x h e = get_is ys k d x (omega arith) e
 
 -- what holds where a call failed holds anyhow
 pub on_err : {T E P : Type 0} (r : Result T E) → P → OnErr r P
-on_err (Ok x) p = tt
-on_err (Err e) p = p
+on_err r p = grind arith

@@ -1,5 +1,5 @@
 -- The table that is written says what it should.
-use Rattle.std.proofs.Common.{ℕ, zero, suc, ◌≡◌, ◌≢◌, ◌<◌, ◌≤◌, ◌+◌, ◌-◌, ◌*◌, ◌/◌, ◌%◌, ◌⊎◌, inl, inr, Bool, true, false, ◌&&◌, ◌||◌, not, ◌==◌, nat_lt, List, [], ◌∷◌, ◌++◌, length, take, drop, map, replicate, Some, slice_get, slice_index, slice_index_or, refl, sym, ap, subst, ◌∙◌, arith, lit<}
+use Rattle.std.proofs.Common.{ℕ, zero, suc, ◌≡◌, ◌≢◌, ◌<◌, ◌≤◌, ◌+◌, ◌-◌, ◌*◌, ◌/◌, ◌%◌, ◌⊎◌, inl, inr, Bool, true, false, ◌&&◌, ◌||◌, not, ◌==◌, nat_lt, List, [], ◌∷◌, ◌++◌, length, take, drop, map, replicate, Some, slice_get, slice_index_or, refl, sym, ap, subst, ◌∙◌, arith, lit<}
 use Rattle.std.specs.List.{concat, flat_map, list_any, range_with_len}
 use Rattle.std.proofs.lemmas.Bool.Decides.{nat_tests}
 use Rattle.std.proofs.lemmas.List.{append_assoc, append-nil, length-append, length-take, length-drop, length-replicate, drop-append-le, take-append-le, drop_at, drop-drop, take_at, take-replicate, drop-replicate, get_or-take, get_or-drop, get_or_default, same_lists}
@@ -15,18 +15,13 @@ use Rattle.diff_area.specs.declared.table_record.Record.{Record}
 use Rattle.diff_area.proofs.HeaderBytes.{length-number_bytes, number-back}
 use Rattle.diff_area.proofs.Gets.{get-bound}
 use Rattle.diff_area.proofs.GoodRecords.{length-rows_in}
-use Rattle.diff_area.proofs.Valid.{is_equal, free_is, and_left, and_right, get_or-rows_in}
+use Rattle.diff_area.proofs.Valid.{free_is, get_or-rows_in}
 
 -- ## one record
 
 length-record_bytes : (r : Record) → length (record_bytes r) ≡ 16
 unfolding record_bytes
-length-record_bytes r =
-    let a = length-number_bytes r.set in
-    let b = length-number_bytes r.block in
-    let c = length-number_bytes r.volume in
-    let d = length-number_bytes 0 in
-    simp length-append (omega arith)
+length-record_bytes r = grind (arith, length-number_bytes, length-append)
 
 quarters : (a b c d : List ℕ) → a ++ b ++ c ++ d ≡ a ++ (b ++ (c ++ (d ++ [])))
 quarters a b c d = simp (append_assoc, append-nil)
@@ -39,7 +34,7 @@ at_first : (r : Record) → r.set < 4294967296 → number_at (record_bytes r) 0 
 at_first r h = number-back [] (number_bytes r.block ++ (number_bytes r.volume ++ (number_bytes 0 ++ []))) (record_bytes r) 0 r.set (record_parts r) refl h
 
 at_second : (r : Record) → r.block < 4294967296 → number_at (record_bytes r) 4 ≡ r.block
-at_second r h = number-back (number_bytes r.set) (number_bytes r.volume ++ (number_bytes 0 ++ [])) (record_bytes r) 4 r.block (record_parts r) (length-number_bytes r.set) h
+at_second r h = grind (arith, number-back, record_parts, length-number_bytes)
 
 at_third : (r : Record) → r.volume < 4294967296 → number_at (record_bytes r) 8 ≡ r.volume
 at_third r h =
@@ -62,10 +57,7 @@ at_fourth r =
     ∙ sym (append_assoc (number_bytes r.set ++ number_bytes r.block) (number_bytes r.volume) (number_bytes 0 ++ []))) (omega arith) (lit< tt)
 
 says_record : (r : Record) → IsNarrow r → row_of 2 (record_bytes r) ≡ r
-says_record r h =
-    ap (λ x. record { set = x; block = number_at (record_bytes r) 4; volume = number_at (record_bytes r) 8 }) (at_first r h.set)
-    ∙ ap (λ x. record { set = r.set; block = x; volume = number_at (record_bytes r) 8 }) (at_second r h.block)
-    ∙ ap (λ x. record { set = r.set; block = r.block; volume = x }) (at_third r h.volume)
+says_record r h = grind (arith, at_first, at_second, at_third)
 
 says_zeros : (r : Record) → has_zeros 2 (record_bytes r) ≡ true
 says_zeros r = ap (λ x. x == 0) (at_fourth r)
@@ -112,9 +104,7 @@ length-rows (r ∷ rs) =
 
 row_in_padded : (rs : List Record) (j : ℕ) → j < 1024 → length rs ≤ 1024 → part (16 * j) 16 (padded (flat_map record_bytes rs)) ≡ record_bytes (slice_index_or rs j free)
 unfolding padded
-row_in_padded rs j h few =
-    let l = length-rows rs in
-    row_in_run rs j (BLOCK - length (flat_map record_bytes rs)) (omega arith)
+row_in_padded rs j h few = grind (arith, length-rows, row_in_run)
 
 few_in_page : (records : List Record) (k : ℕ) → length (records_of_page records k) ≤ 1024
 unfolding records_of_page
@@ -126,8 +116,7 @@ in_page records k j h = get_or-take 1024 (drop (1024 * k) records) j free h ∙ 
 
 row_of_page : (records : List Record) (k j : ℕ) → j < 1024 → part (16 * j) 16 (page_bytes records k) ≡ record_bytes (slice_index_or records (1024 * k + j) free)
 unfolding page_bytes
-row_of_page records k j h =
-    row_in_padded (records_of_page records k) j h (few_in_page records k) ∙ ap record_bytes (in_page records k j h)
+row_of_page records k j h = grind (arith, row_in_padded, few_in_page, in_page)
 
 length-run : (n : ℕ) → length (run_of n 0) ≡ n
 unfolding run_of
@@ -135,25 +124,17 @@ length-run n = length-replicate n 0
 
 pub length-padded : (bytes : List ℕ) → length bytes ≤ BLOCK → length (padded bytes) ≡ BLOCK
 unfolding padded
-length-padded bytes h =
-    let a : length (padded bytes) ≡ length bytes + length (run_of (BLOCK - length bytes) 0) = length-append bytes (run_of (BLOCK - length bytes) 0) in
-    let b = length-run (BLOCK - length bytes) in
-    omega arith
+length-padded bytes h = grind (arith, length-append, length-run)
 
 pub length-page : (records : List Record) (k : ℕ) → length (page_bytes records k) ≡ BLOCK
 unfolding page_bytes
-length-page records k =
-    let l = length-rows (records_of_page records k) in
-    let f = few_in_page records k in
-    length-padded (flat_map record_bytes (records_of_page records k)) (omega arith)
+length-page records k = grind (arith, length-rows, few_in_page, length-padded)
 
 -- ## the pages, one after another
 
 part_of_front : (x rest : List ℕ) (at len : ℕ) → at + len ≤ length x → part at len (x ++ rest) ≡ part at len x
 unfolding part
-part_of_front x rest at len h =
-    let l = length-drop at x in
-    ap (take len) (drop-append-le at x rest (omega arith)) ∙ take-append-le len (drop at x) rest (omega arith)
+part_of_front x rest at len h = grind (arith, length-drop, drop-append-le, take-append-le)
 
 part_past : (x rest : List ℕ) (at len n : ℕ) → length x ≡ n → part (at + n) len (x ++ rest) ≡ part at len rest
 unfolding part
@@ -195,12 +176,10 @@ row_written records slot h =
 -- ## all records
 
 both : (a b : Bool) → a ≡ true → b ≡ true → (a && b) ≡ true
-both true b h k = k
-both false b h k = h
+both a b h k = grind arith
 
 or_too : (a b : Bool) → b ≡ true → (a || b) ≡ true
-or_too true b h = refl
-or_too false b h = h
+or_too a b h = grind arith
 
 lower : (a b : ℕ) → a < b → nat_lt a b ≡ true
 lower a b h = grind (arith, nat_tests)
@@ -237,45 +216,29 @@ says_records volumes records h =
     ∙ get_or_default records k free d (omega arith))
 
 is_used_by : (volumes : List ℕ) (r : Record) → IsUsed volumes r → is_used volumes r ≡ true
-is_used_by volumes r h =
-    both (nat_lt 0 r.set && nat_lt r.volume (length volumes)) (nat_lt r.block (slice_index volumes r.volume))
-    (both (nat_lt 0 r.set) (nat_lt r.volume (length volumes)) (lower 0 r.set h.set) (lower r.volume (length volumes) h.volume))
-    (lower r.block (slice_index volumes r.volume) h.block)
+is_used_by volumes r h = grind arith
 
 sound_free : (volumes : List ℕ) (slots slot : ℕ) (row : List ℕ) → has_zeros 2 row ≡ true → row_of 2 row ≡ free → is_sound volumes slots 2 slot row ≡ true
 unfolding is_sound
-sound_free volumes slots slot row z f =
-    both (has_zeros 2 row) (is_free (row_of 2 row) || (is_used volumes (row_of 2 row) && nat_lt slot slots)) z (ap (λ r. is_free r || (is_used volumes r && nat_lt slot slots)) f)
+sound_free volumes slots slot row z f = grind arith
 
 sound_used : (volumes : List ℕ) (slots slot : ℕ) (row : List ℕ) → has_zeros 2 row ≡ true → IsUsed volumes (row_of 2 row) → slot < slots → is_sound volumes slots 2 slot row ≡ true
 unfolding is_sound
-sound_used volumes slots slot row z u b =
-    both (has_zeros 2 row) (is_free (row_of 2 row) || (is_used volumes (row_of 2 row) && nat_lt slot slots)) z
-    (or_too (is_free (row_of 2 row)) (is_used volumes (row_of 2 row) && nat_lt slot slots) (both (is_used volumes (row_of 2 row)) (nat_lt slot slots) (is_used_by volumes (row_of 2 row) u) (lower slot slots b)))
+sound_used volumes slots slot row z u b = grind (arith, both, or_too, is_used_by, lower)
 
 good_free : (volumes : List ℕ) (slots slot : ℕ) (row : List ℕ) (earlier : List Record) → is_sound volumes slots 2 slot row ≡ true → row_of 2 row ≡ free → is_good volumes slots 2 slot row earlier ≡ true
 unfolding is_good
-good_free volumes slots slot row earlier s f =
-    both (is_sound volumes slots 2 slot row) (is_free (row_of 2 row) || not (list_any (is_same (row_of 2 row)) earlier)) s (ap (λ r. is_free r || not (list_any (is_same r) earlier)) f)
+good_free volumes slots slot row earlier s f = grind arith
 
 good_used : (volumes : List ℕ) (slots slot : ℕ) (row : List ℕ) (earlier : List Record) → is_sound volumes slots 2 slot row ≡ true → list_any (is_same (row_of 2 row)) earlier ≡ false → is_good volumes slots 2 slot row earlier ≡ true
 unfolding is_good
-good_used volumes slots slot row earlier s f =
-    both (is_sound volumes slots 2 slot row) (is_free (row_of 2 row) || not (list_any (is_same (row_of 2 row)) earlier)) s (or_too (is_free (row_of 2 row)) (not (list_any (is_same (row_of 2 row)) earlier)) (ap not f))
+good_used volumes slots slot row earlier s f = grind arith
 
 same_is : (r other : Record) → is_same r other ≡ true → r ≡ other
-same_is r other h =
-    let a = r.set == other.set in
-    let b = r.block == other.block in
-    let c = r.volume == other.volume in
-    let ab = and_left (a && b) c h in
-    ap (λ x. record { set = x; block = r.block; volume = r.volume }) (is_equal r.set other.set (and_left a b ab))
-    ∙ ap (λ x. record { set = other.set; block = x; volume = r.volume }) (is_equal r.block other.block (and_right a b ab))
-    ∙ ap (λ x. record { set = other.set; block = other.block; volume = x }) (is_equal r.volume other.volume (and_right (a && b) c h))
+same_is r other h = grind arith
 
 by_case : (b : Bool) → (b ≡ true → ⊥) → b ≡ false
-by_case true h = absurd (h refl)
-by_case false h = refl
+by_case b h = grind arith
 
 -- no earlier record is the one of this slot
 none_before : (volumes : List ℕ) (records : List Record) (slot : ℕ) (r : Record) → AreRecords volumes records → slot < row_count (length records) → slice_get records slot ≡ Some r → r ≢ free → list_any (is_same r) (rows_in 2 (table_bytes records) slot) ≡ false

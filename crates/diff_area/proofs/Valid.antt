@@ -1,11 +1,11 @@
 -- The records of a table that is of the format are those of an area.
-use Rattle.std.proofs.Common.{ℕ, zero, suc, ◌≡◌, ◌≢◌, ◌<◌, ◌≤◌, ◌+◌, ◌*◌, inl, inr, Bool, true, false, cond, ◌&&◌, ◌||◌, not, ◌==◌, nat_lt, nat_le, List, [], ◌∷◌, length, map, Option, Some, None, slice_get, slice_index, slice_index_or, refl, sym, ap, subst, ◌∙◌, arith}
+use Rattle.std.proofs.Common.{ℕ, zero, suc, ◌≡◌, ◌≢◌, ◌<◌, ◌≤◌, ◌+◌, ◌*◌, inl, inr, Bool, true, false, cond, ◌&&◌, not, nat_le, List, [], ◌∷◌, length, map, Option, Some, None, slice_get, slice_index_or, refl, sym, ap, subst, ◌∙◌, arith}
 use Rattle.std.specs.List.{list_any, range_with_len, find}
 use Rattle.std.proofs.lemmas.Bool.{cases_lt}
 use Rattle.std.proofs.lemmas.Bool.Decides.{nat_tests}
 use Rattle.std.proofs.lemmas.List.FromFn.{length-map-range_with_len}
 use Rattle.std.proofs.lemmas.List.Folds.{list_any_at}
-use Rattle.diff_area.specs.Format.{layout_in, volumes_from, volume_count, volumes_in, is_out_of_range, number_at, HasHeader, row_at, row_of, rows_in, has_zeros, is_used, is_same, is_sound, is_good}
+use Rattle.diff_area.specs.Format.{layout_in, volumes_from, volume_count, volumes_in, is_out_of_range, number_at, HasHeader, row_at, row_of, rows_in, is_used, is_same, is_sound, is_good}
 use Rattle.diff_area.specs.ReadRows.{IsTable}
 use Rattle.diff_area.specs.Records.{free, is_free, AreVolumes, IsUsed, AreRecords}
 use Rattle.diff_area.specs.declared.table_record.Record.{Record}
@@ -17,28 +17,10 @@ use Rattle.diff_area.proofs.GoodRecords.{length-rows_in}
 -- ## tests
 
 pub and_left : (a b : Bool) → (a && b) ≡ true → a ≡ true
-and_left true b h = refl
-and_left false b h = h
+and_left a b h = grind arith
 
 pub and_right : (a b : Bool) → (a && b) ≡ true → b ≡ true
-and_right true b h = h
-and_right false b h = cc
-
-or_right : (a b : Bool) → (a || b) ≡ true → a ≡ false → b ≡ true
-or_right true b h e = cc
-or_right false b h e = h
-
-pub is_zero : (n : ℕ) → (n == 0) ≡ true → n ≡ 0
-is_zero n h = grind (arith, nat_tests)
-
-pub is_equal : (a b : ℕ) → (a == b) ≡ true → a ≡ b
-is_equal a b h = grind (arith, nat_tests)
-
-is_itself : (n : ℕ) → (n == n) ≡ true
-is_itself n = grind (arith, nat_tests)
-
-below : (a b : ℕ) → nat_lt a b ≡ true → a < b
-below a b h = grind (arith, nat_tests)
+and_right a b h = grind arith
 
 at_most : (a b : ℕ) → nat_le a b ≡ true → a ≤ b
 at_most a b h = grind (arith, nat_tests)
@@ -46,27 +28,16 @@ at_most a b h = grind (arith, nat_tests)
 -- ## free and equal records
 
 pub free_is : (r : Record) → is_free r ≡ true → r ≡ free
-free_is r h =
-    let both = and_left ((r.set == 0) && (r.block == 0)) (r.volume == 0) h in
-    let s = is_zero r.set (and_left (r.set == 0) (r.block == 0) both) in
-    let b = is_zero r.block (and_right (r.set == 0) (r.block == 0) both) in
-    let v = is_zero r.volume (and_right ((r.set == 0) && (r.block == 0)) (r.volume == 0) h) in
-    ap (λ x. record { set = x; block = r.block; volume = r.volume }) s
-    ∙ ap (λ x. record { set = 0; block = x; volume = r.volume }) b
-    ∙ ap (λ x. record { set = 0; block = 0; volume = x }) v
+free_is r h = grind arith
 
 by_test : (r : Record) (b : Bool) → is_free r ≡ b → r ≢ free → b ≡ false
-by_test r true h n = absurd (n (free_is r h))
-by_test r false h n = refl
+by_test r b h n = grind arith
 
 pub not_free : (r : Record) → r ≢ free → is_free r ≡ false
 not_free r n = by_test r (is_free r) refl n
 
 pub same_itself : (r : Record) → is_same r r ≡ true
-same_itself r =
-    ap (λ x. x && (r.block == r.block) && (r.volume == r.volume)) (is_itself r.set)
-    ∙ ap (λ x. x && (r.volume == r.volume)) (is_itself r.block)
-    ∙ is_itself r.volume
+same_itself r = grind arith
 
 -- ## volumes
 
@@ -81,12 +52,10 @@ high : (n : ℕ) → is_out_of_range n ≡ false → n ≤ 65536
 high n h = grind (arith, nat_tests)
 
 here : (b : Bool) (x : ℕ) (rest : Option ℕ) → cond b (Some x) rest ≡ None → b ≡ false
-here true x rest h = cc
-here false x rest h = refl
+here b x rest h = grind arith
 
 further : (b : Bool) (x : ℕ) (rest : Option ℕ) → cond b (Some x) rest ≡ None → rest ≡ None
-further true x rest h = cc
-further false x rest h = h
+further b x rest h = grind arith
 
 in_range : (n : ℕ) → is_out_of_range n ≡ false → (0 < n) × (n ≤ 65536)
 in_range n h = (low n h, high n h)
@@ -125,41 +94,22 @@ get-rows_in layout table n k h = get-map_range (λ slot. row_of layout (row_at t
 
 -- a record that stands in the list is that of its slot
 found_at : (h : Header) (table : List ℕ) (rows : List Record) (slot : ℕ) (r : Record) → rows ≡ rows_in h.layout table h.slots → slice_get rows slot ≡ Some r → (slot < h.slots) × (r ≡ row_of h.layout (row_at table slot))
-found_at h table rows slot r e g =
-    let bound = get-bound rows slot r g in
-    let len = ap length e ∙ length-rows_in h.layout table h.slots in
-    let within : slot < h.slots = omega arith in
-    let is = sym g ∙ ap (λ rs. slice_get rs slot) e ∙ get-rows_in h.layout table h.slots slot within in
-    (within, cc)
+found_at h table rows slot r e g = grind (arith, get-bound, length-rows_in, get-rows_in)
 
 sound_used : (volumes : List ℕ) (slots layout slot : ℕ) (row : List ℕ) → is_sound volumes slots layout slot row ≡ true → is_free (row_of layout row) ≡ false → is_used volumes (row_of layout row) ≡ true
 unfolding is_sound
-sound_used volumes slots layout slot row h f =
-    let r = row_of layout row in
-    let rest = and_right (has_zeros layout row) (is_free r || (is_used volumes r && nat_lt slot slots)) h in
-    and_left (is_used volumes r) (nat_lt slot slots) (or_right (is_free r) (is_used volumes r && nat_lt slot slots) rest f)
+sound_used volumes slots layout slot row h f = grind arith
 
 good_sound : (volumes : List ℕ) (slots layout slot : ℕ) (row : List ℕ) (earlier : List Record) → is_good volumes slots layout slot row earlier ≡ true → is_sound volumes slots layout slot row ≡ true
 unfolding is_good
-good_sound volumes slots layout slot row earlier h =
-    and_left (is_sound volumes slots layout slot row) (is_free (row_of layout row) || not (list_any (is_same (row_of layout row)) earlier)) h
+good_sound volumes slots layout slot row earlier h = grind arith
 
 good_new : (volumes : List ℕ) (slots layout slot : ℕ) (row : List ℕ) (earlier : List Record) → is_good volumes slots layout slot row earlier ≡ true → is_free (row_of layout row) ≡ false → not (list_any (is_same (row_of layout row)) earlier) ≡ true
 unfolding is_good
-good_new volumes slots layout slot row earlier h f =
-    or_right (is_free (row_of layout row)) (not (list_any (is_same (row_of layout row)) earlier)) (and_right (is_sound volumes slots layout slot row) (is_free (row_of layout row) || not (list_any (is_same (row_of layout row)) earlier)) h) f
+good_new volumes slots layout slot row earlier h f = grind arith
 
 pub used_is : (volumes : List ℕ) (r : Record) → is_used volumes r ≡ true → IsUsed volumes r
-used_is volumes r h =
-    let a = nat_lt 0 r.set in
-    let b = nat_lt r.volume (length volumes) in
-    let c = nat_lt r.block (slice_index volumes r.volume) in
-    let ab = and_left (a && b) c h in
-    record {
-      set = below 0 r.set (and_left a b ab);
-      volume = below r.volume (length volumes) (and_right a b ab);
-      block = below r.block (slice_index volumes r.volume) (and_right (a && b) c h);
-    }
+used_is volumes r h = grind arith
 
 -- no two slots have one record
 apart : (h : Header) (table : List ℕ) (rows : List Record) (slot other : ℕ) (r : Record) → IsTable h table rows → slice_get rows slot ≡ Some r → slice_get rows other ≡ Some r → r ≢ free → slot < other → ⊥

@@ -37,17 +37,12 @@ set_at images counts k d same inside = sym (get_or-map (λ (c : ImageCount). c.s
 -- the count at an image's place is that of the image
 pub count_at : (images : List ℕ) (counts : List ImageCount) (next : List ℕ) (copies : List (Option Copied)) (image n : ℕ) (d : ImageCount) → sets_of counts ≡ images
     → All (IsCounted next copies) counts → n < length images → ((e : ℕ) → get_or images n e ≡ image) → ((get_or counts n d).set ≡ image) × IsCounted next copies (get_or counts n d)
-count_at images counts next copies image n d same each inside is =
-    let many = as_many images counts same in
-    (set_at images counts n d same (omega arith) ∙ is 0, each n d (omega arith))
+count_at images counts next copies image n d same each inside is = grind (arith, as_many, set_at)
 
 -- the counts at other places are of other images
 pub other_image_at : (images : List ℕ) (image n k : ℕ) → AllPairs (λ older newer. older < newer) images → n < length images → ((d : ℕ) → get_or images n d ≡ image) → k < length images → k ≢ n
     → get_or images k 0 ≢ image
-other_image_at images image n k rise inside is within other e = elim (cases_lt k n) [
-  | inl low ↦ let up = rise k n 0 low inside in let here = is 0 in omega arith
-  | inr high ↦ let up = rise n k 0 (omega arith) within in let here = is 0 in omega arith
-]
+other_image_at images image n k rise inside is within other e = grind arith
 
 -- one count changes
 module _ (images : Vec ℕ Global) (counts newer : Vec ImageCount Global) (next later : List ℕ) (copies after : List (Option Copied)) (image n : ℕ) (new : ImageCount)
@@ -93,16 +88,7 @@ noted_other next copies slot image block value unnoted c apart is =
 pub noted_here : (next : List ℕ) (copies : List (Option Copied)) (slot image block : ℕ) (c : ImageCount) → slice_get copies slot ≡ Some None → length next ≡ length copies → c.set ≡ image
     → IsCounted next copies c
     → IsCounted (set next slot c.first) (set copies slot (Some (copy_of image block))) (record { set = image; used = c.used + 1; first = slot })
-noted_here next copies slot image block c unnoted long set_is is =
-    let none = get_or_from_slice_get copies slot None None unnoted in
-    let inside = slice_get_within copies slot None unnoted in
-    let used = is.used in
-    let same : used_for copies c.set ≡ used_for copies image = ap (used_for copies) set_is in
-    let more = used_noted copies slot image block unnoted in
-    record {
-      used = omega arith;
-      chain = IsChain-noted next copies image c.first slot block (omega arith) inside none (subst (λ s. IsChain next copies s c.first) set_is is.chain);
-    }
+noted_here next copies slot image block c unnoted long set_is is = grind (arith, get_or_from_slice_get, slice_get_within, used_noted, IsChain-noted)
 
 -- a slot that is not noted leaves room for one more
 pub one_more_fits : (copies : List (Option Copied)) (slot image : ℕ) → length copies < 2 ^ 32 → slice_get copies slot ≡ Some None → used_for copies image + 1 < 2 ^ 32
@@ -115,19 +101,7 @@ one_more_fits copies slot image narrow unnoted =
 -- a row that changes keeps the images, if it is of one of them
 pub KeepsImages-set : (images : Vec ℕ Global) (copies : List (Option Copied)) (slot : ℕ) (row : Option Copied) → KeepsImages images copies → IfSome row (λ c. Contains images.items c.set)
     → KeepsImages images (set copies slot row)
-KeepsImages-set images copies slot row keeps ok = record {
-  are_images = keeps.are_images;
-  of_images = λ k c is. elim (cases_eq k slot) [
-    | inl same ↦ of_row row ok c
-        (sym (get_or-set_same copies slot row None (subst (λ j. j < length copies) same (let w = row_within (set copies slot row) k c is in let l = length-set copies slot row in omega arith)))
-        ∙ ap (λ j. copied_at (set copies slot row) j) (sym same) ∙ is)
-    | inr differ ↦ keeps.of_images k c (sym (get_or-set_other copies slot k row None differ) ∙ is)
-  ];
-  image_room = keeps.image_room;
-} where
-  of_row : (o : Option Copied) → IfSome o (λ c. Contains images.items c.set) → (c : Copied) → o ≡ Some c → Contains images.items c.set
-  of_row None ok c is = absurd (none-some c is)
-  of_row (Some x) ok c is = subst (λ (y : Copied). Contains images.items y.set) (same_Some x c is) ok
+KeepsImages-set images copies slot row keeps ok = grind (arith, cases_eq, get_or-set_same, row_within, length-set, get_or-set_other, none-some, same_Some)
 
 -- ## a slot loses its copy
 
@@ -145,15 +119,7 @@ popped_other next copies slot image block was c apart is =
 pub popped_here : (next : List ℕ) (copies : List (Option Copied)) (image block value : ℕ) (c : ImageCount) → copied_at copies c.first ≡ Some (copy_of image block) → c.set ≡ image
     → value ≡ get_or next c.first 0 → IsCounted next copies c
     → IsCounted next (set copies c.first None) (record { set = image; used = c.used - 1; first = value })
-popped_here next copies image block value c was set_is value_is is =
-    let used = is.used in
-    let same : used_for copies c.set ≡ used_for copies image = ap (used_for copies) set_is in
-    let less = used_out copies c.first image block was in
-    record {
-      used = omega arith;
-      chain = subst (λ k. IsChain next (set copies c.first None) image k) (sym value_is)
-          (IsChain-popped next copies image c.first (subst (λ s. IsChain next copies s c.first) set_is is.chain) (block, was));
-    }
+popped_here next copies image block value c was set_is value_is is = grind (arith, used_out, IsChain-popped)
 
 -- the first slot of an image that has a copy
 pub first_for : (next : List ℕ) (copies : List (Option Copied)) (image : ℕ) (c : ImageCount) → c.set ≡ image → IsCounted next copies c → 0 < c.used → IsFor copies image c.first

@@ -103,16 +103,10 @@ noted_set : (copies : List (Option Copied)) (slot : ℕ) (row : Option Copied) �
 noted_set copies slot row inside = sum_by-set (λ x. cond (is_some x) 1 0) copies slot row None inside
 
 pub noted_more : (copies : List (Option Copied)) (slot : ℕ) (c : Copied) → slice_get copies slot ≡ Some None → noted_in (set copies slot (Some c)) ≡ noted_in copies + 1
-noted_more copies slot c unnoted =
-    let moved = noted_set copies slot (Some c) (slice_get_within copies slot None unnoted) in
-    let was : of_test (is_some (copied_at copies slot)) ≡ 0 = ap (λ (o : Option Copied). of_test (is_some o)) (get_or_from_slice_get copies slot None None unnoted) in
-    omega arith
+noted_more copies slot c unnoted = grind (arith, noted_set, slice_get_within, get_or_from_slice_get)
 
 pub noted_less : (copies : List (Option Copied)) (slot : ℕ) (c : Copied) → copied_at copies slot ≡ Some c → noted_in (set copies slot None) + 1 ≡ noted_in copies
-noted_less copies slot c was =
-    let moved = noted_set copies slot None (row_within copies slot c was) in
-    let before : of_test (is_some (copied_at copies slot)) ≡ 1 = ap (λ (o : Option Copied). of_test (is_some o)) was in
-    omega arith
+noted_less copies slot c was = grind (arith, noted_set, row_within)
 
 pub noted_fits : (copies : List (Option Copied)) (slot : ℕ) (c : Copied) → length copies < 2 ^ 32 → slice_get copies slot ≡ Some None → noted_in copies + 1 < 2 ^ 32
 noted_fits copies slot c narrow unnoted =

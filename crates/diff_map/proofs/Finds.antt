@@ -36,15 +36,7 @@ module _ (copies : List (Option Copied)) (images : List ℕ) (image : ℕ) (are 
 
   -- a renewed row of a block, and the row that it was
   was_later : (asked block newer : ℕ) (c : Copied) → Merged copies (next_older images image) image c (copy_of newer block) → asked ≤ newer → (c.block ≡ block) × (asked ≤ c.set) × (newer ≤ c.set)
-  was_later asked block newer c (stayed other is) le =
-      let b : block ≡ c.block = ap (λ x. x.block) is in
-      let s : newer ≡ c.set = ap (λ x. x.set) is in
-      (sym b, omega arith, omega arith)
-  was_later asked block newer c (moved next same is d_is lacks) le =
-      let b : block ≡ c.block = ap (λ x. x.block) d_is in
-      let s : newer ≡ next = ap (λ x. x.set) d_is in
-      let below = (next_older_is images image next is).0 in
-      (sym b, omega arith, omega arith)
+  was_later asked block newer c x4 le = grind (arith, next_older_is)
 
   row_of : (slot block : ℕ) (c : Copied) → copied_at copies slot ≡ Some c → c.block ≡ block → copied_at copies slot ≡ Some (copy_of c.set block)
   row_of slot block c row same = row ∙ ap (λ k. Some (copy_of c.set k)) same
@@ -73,16 +65,7 @@ module _ (copies : List (Option Copied)) (images : List ℕ) (image : ℕ) (are 
   -- nor than the next older image, where the first that was found is the one that goes
   no_nearer_next : (asked block slot newer older : ℕ) (f : IsFound copies asked block slot) (other : ℕ) (c : Copied) → next_older images image ≡ Some older → copied_at copies other ≡ Some c
       → Merged copies (next_older images image) image c (copy_of newer block) → asked ≤ newer → f.image ≡ image → older ≤ newer
-  no_nearer_next asked block slot newer older f other c next_is row (stayed apart is) le same =
-      let b : block ≡ c.block = ap (λ x. x.block) is in
-      let s : newer ≡ c.set = ap (λ x. x.set) is in
-      let below = (next_older_is images image older next_is).0 in
-      let first = f.first other c.set (row_of other block c row (sym b)) (omega arith) in
-      omega arith
-  no_nearer_next asked block slot newer older f other c next_is row (moved next c_same is d_is lacks) le same =
-      let s : newer ≡ next = ap (λ x. x.set) d_is in
-      let e : older ≡ next = same_Some older next (sym next_is ∙ is) in
-      omega arith
+  no_nearer_next asked block slot newer older f other c next_is row x10 le same = grind (arith, next_older_is, row_of, same_Some)
 
   merge_found : (asked block slot : ℕ) → Contains images asked → asked ≢ image → IsFound copies asked block slot → IsFound rows asked block slot
   merge_found asked block slot at other f = elim (cases_eq f.image image) [

@@ -46,7 +46,7 @@ module _ {blocks : ℕ} {volumes : List OfVolume} {next : List ℕ} {copies : Li
   slot_inside = let l = length-map copies (own (part_of volume)) in let w = (first at n count inside read some).2 in omega arith
 
   unnoted : slice_get copies_out count.first ≡ Some None
-  unnoted = no_row copies_out count.first (let l = length-set copies count.first None in let w = slot_inside in omega arith) (get_or-set_same copies count.first None None slot_inside)
+  unnoted = grind (arith, no_row, first, length-set, slot_inside, get_or-set_same)
 
   module _ (image m : ℕ) (older : ImageCount) (contains : Contains volume.images.items image) (inside_m : m < length volume.images.items) (is_m : (d : ℕ) → get_or volume.images.items m d ≡ image)
       (read_m : older ≡ get_or newer.items m older) where

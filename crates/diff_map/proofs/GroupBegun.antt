@@ -88,16 +88,7 @@ pub record AreBegun (base slots : ℕ) (blocks : List ℕ) (volumes : List OfVol
   pub view : map (map_of (none_of slots)) volumes ≡ map (new_map slots) blocks
 
 pub AreBegun-none : (slots : ℕ) → AreBegun 0 slots [] []
-AreBegun-none slots = record {
-  parts = record {
-    apart = λ i j d lt inside. absurd (omega arith);
-    within = All-nil (λ (p : Part). p.base + p.blocks ≤ 0);
-    all = λ block low. absurd (omega arith);
-    narrow = omega arith;
-  };
-  each = All-nil (KeepsVolume (replicate slots 0) (none_of slots));
-  view = refl;
-}
+AreBegun-none slots = grind arith
 
 pub AreBegun-one : (base count slots k : ℕ) (blocks : List ℕ) (volumes later : List OfVolume) (volume : OfVolume) → AreBegun base slots (take k blocks) volumes → IsEmpty base count volume
     → base + count < 2 ^ 32 → k < length blocks → get_or blocks k 0 ≡ count → later ≡ volumes ++ volume ∷ [] → AreBegun (base + count) slots (take (k + 1) blocks) later
@@ -118,7 +109,4 @@ AreBegun-one base count slots k blocks volumes later volume begun empty narrow i
 
 pub KeepsGroup-begun : (base slots : ℕ) (blocks : List ℕ) (volumes : List OfVolume) (next : List ℕ) → AreBegun base slots blocks volumes → next ≡ replicate slots 0
     → KeepsGroup base volumes next (none_of slots)
-KeepsGroup-begun base slots blocks volumes next begun is = record {
-  parts = begun.parts;
-  each = subst (λ (links : List ℕ). All (KeepsVolume links (none_of slots)) volumes) (sym is) begun.each;
-}
+KeepsGroup-begun base slots blocks volumes next begun is = grind arith

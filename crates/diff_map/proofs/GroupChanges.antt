@@ -85,8 +85,7 @@ module _ {blocks : ℕ} {volumes : List OfVolume} {next : List ℕ} {copies : Li
 
   pub maps_images : (images : Vec ℕ Global) (counts : Vec ImageCount Global) (later : List ℕ) → images.items ≡ later
       → map (map_of copies) (set volumes v (with_lists volume volume.used images counts)) ≡ set maps v (with_images later (map_at maps v))
-  maps_images images counts later is = maps_one copies volumes maps v (with_lists volume volume.used images counts) (with_images later (map_at maps v)) at.view
-      (ap (λ (xs : List ℕ). with_images xs (map_of copies volume)) is ∙ ap (with_images later) (sym here))
+  maps_images images counts later is = grind (arith, maps_one, here)
 
   -- ## a slot is noted for it
 
@@ -172,7 +171,7 @@ module _ {blocks : ℕ} {volumes : List OfVolume} {next : List ℕ} {copies : Li
     first_own = own_copy (part_of volume) copies count.first count.set first.0 first.1
 
     gone_from : (u : ℕ) (d : OfVolume) → u ≢ v → u < length volumes → own (part_of (get_or volumes u d)) (copied_at copies count.first) ≡ None
-    gone_from u d differ low = ap (own (part_of (get_or volumes u d))) first_own.is ∙ own_apart (part_of volume) (part_of (get_or volumes u d)) count.set first.0 (apart u d differ low) first_own.low
+    gone_from u d differ low = grind (arith, first_own, own_apart, first, apart)
 
     mine_out : own_copies volume (set copies count.first None) ≡ set own_rows count.first None
     mine_out = own_set (part_of volume) copies count.first None None refl

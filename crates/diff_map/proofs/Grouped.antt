@@ -8,11 +8,11 @@ use Rattle.std.proofs.lemmas.List.{get_or-map, get_or-set_same, get_or-set_other
 use Rattle.diff_map.specs.declared.copied.Copied.{Copied}
 use Rattle.diff_map.specs.declared.image_count.ImageCount.{ImageCount}
 use Rattle.diff_map.specs.declared.of_volume.OfVolume.{OfVolume}
-use Rattle.diff_map.specs.Copies.{copied_at, copy_of, noted_in}
-use Rattle.diff_map.specs.Counts.{IsCounted, KeepsCounts}
-use Rattle.diff_map.specs.Groups.{map_at, new_map, IsUnnoted}
+use Rattle.diff_map.specs.Copies.{copied_at, copy_of}
+use Rattle.diff_map.specs.Counts.{IsCounted}
+use Rattle.diff_map.specs.Groups.{map_at, IsUnnoted}
 use Rattle.diff_map.specs.Links.{AreLinked}
-use Rattle.diff_map.specs.MapValue.{MapValue, IsMap, KeepsImages}
+use Rattle.diff_map.specs.MapValue.{MapValue, IsMap}
 use Rattle.diff_map.specs.Parts.{Part, part_of, own, own_copies, map_of, AreParts, KeepsVolume, KeepsGroup}
 use Rattle.diff_map.proofs.Chained.{lead_on_set, not_for}
 use Rattle.diff_map.proofs.Parts.{AreApart, own_at, own_copy, own_from, own_same}
@@ -24,8 +24,7 @@ volume_within copies volumes maps v view inside = let l = length-map volumes (ma
 
 pub map_here : (copies : List (Option Copied)) (volumes : List OfVolume) (maps : List MapValue) (v : ℕ) (volume : OfVolume) → map (map_of copies) volumes ≡ maps → v < length maps
     → volume ≡ get_or volumes v volume → map_at maps v ≡ map_of copies volume
-map_here copies volumes maps v volume view inside is =
-    ap (λ (ms : List MapValue). map_at ms v) (sym view) ∙ get_or-map (map_of copies) volumes v volume (new_map 0 0) (volume_within copies volumes maps v view inside) ∙ ap (map_of copies) (sym is)
+map_here copies volumes maps v volume view inside is = grind (arith, get_or-map, volume_within)
 
 long_of : (copies : List (Option Copied)) (volumes : List OfVolume) (v : ℕ) → v < length volumes → length (map_at (map (map_of copies) volumes) v).copies ≡ length copies
 long_of copies [] v inside = absurd (omega arith)
@@ -34,8 +33,7 @@ long_of copies (x ∷ xs) (suc v) inside = long_of copies xs v (omega arith)
 
 pub long_at : (copies : List (Option Copied)) (volumes : List OfVolume) (maps : List MapValue) (v : ℕ) → map (map_of copies) volumes ≡ maps → v < length maps
     → length (map_at maps v).copies ≡ length copies
-long_at copies volumes maps v view inside =
-    subst (λ (ms : List MapValue). length (map_at ms v).copies ≡ length copies) view (long_of copies volumes v (volume_within copies volumes maps v view inside))
+long_at copies volumes maps v view inside = grind (arith, long_of, volume_within)
 
 module _ (blocks : ℕ) (volumes : List OfVolume) (next : List ℕ) (copies : List (Option Copied)) (keeps : KeepsGroup blocks volumes next copies) where
   pub keeps_here : (v : ℕ) (volume : OfVolume) → v < length volumes → volume ≡ get_or volumes v volume → KeepsVolume next copies volume
@@ -136,22 +134,7 @@ IsCounted-other next copies slot value count none is = record {
 
 pub KeepsVolume-other : (volume : OfVolume) (next : List ℕ) (copies : List (Option Copied)) (slot value : ℕ) (row : Option Copied) → own (part_of volume) (copied_at copies slot) ≡ None
     → own (part_of volume) row ≡ None → KeepsVolume next copies volume → KeepsVolume (set next slot value) (set copies slot row) volume
-KeepsVolume-other volume next copies slot value row before after keeps =
-    let p = part_of volume in
-    let same = own_same p copies slot row before after in
-    let none : copied_at (map (own p) copies) slot ≡ None = own_at p copies slot ∙ before in
-    let long = length-set next slot value in
-    let as_long = keeps.counts.long in
-    record {
-      images = subst (KeepsImages volume.images) (sym same) keeps.images;
-      counts = subst (KeepsCounts volume.images volume.counts (set next slot value)) (sym same) (record {
-        sets = keeps.counts.sets;
-        each = λ k d within. IsCounted-other next (map (own p) copies) slot value (get_or volume.counts.items k d) none (keeps.counts.each k d within);
-        count_room = keeps.counts.count_room;
-        long = omega arith;
-      });
-      used = keeps.used ∙ ap noted_in (sym same);
-    }
+KeepsVolume-other volume next copies slot value row before after keeps = grind (arith, own_same, own_at, length-set, IsCounted-other)
 
 pub KeepsVolume-left : (volume : OfVolume) (next : List ℕ) (copies : List (Option Copied)) (slot : ℕ) (row : Option Copied) → own (part_of volume) (copied_at copies slot) ≡ None
     → own (part_of volume) row ≡ None → KeepsVolume next copies volume → KeepsVolume next (set copies slot row) volume

@@ -6,11 +6,7 @@ use Rattle.std.proofs.lemmas.Bool.{cases_eq, cases_lt}
 use Rattle.std.proofs.lemmas.List.{get_or_default}
 
 pub images_rise : (images : List ℕ) → AllPairs (λ older newer. older < newer) images → IsNonDecreasingBy (λ image. image) images
-images_rise images order i j d le inside =
-    elim (cases_eq i j) [
-      | inl same ↦ let e = ap (λ k. get_or images k d) same in omega arith
-      | inr other ↦ let low = order i j d (omega arith) inside in omega arith
-    ]
+images_rise images order i j d le inside = grind arith
 
 -- the first image from a set on is that of the set
 pub place_is : (images : List ℕ) (image n : ℕ) → AllPairs (λ older newer. older < newer) images → Contains images image → AllWithin (λ i. i < image) images 0 n

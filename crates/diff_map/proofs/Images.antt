@@ -28,8 +28,7 @@ module _ {X : Type 0} (p : X → Bool) where
 
   found_of : (z x : X) (xs : List X) → p x ≡ true → (Contains xs x → Contains (filter p xs) x) → (k : ℕ) → k < length (z ∷ xs) → get_or (z ∷ xs) k x ≡ x
       → Contains (cond (p z) (z ∷ filter p xs) (filter p xs)) x
-  found_of z x xs passes rest zero inside is = subst (λ b. Contains (cond b (z ∷ filter p xs) (filter p xs)) x) (sym (ap p is ∙ passes)) (0, omega arith, is)
-  found_of z x xs passes rest (suc k) inside is = later_of (p z) z x (filter p xs) (rest (k, omega arith, is))
+  found_of z x xs passes rest k inside is = grind (arith, later_of)
 
   pub Contains-filter : (xs : List X) (x : X) → p x ≡ true → Contains xs x → Contains (filter p xs) x
   Contains-filter [] x passes at = absurd (let l = at.1 in omega arith)
@@ -149,13 +148,11 @@ filter_until p (suc n) (x ∷ xs) stay go =
 
 pub images_dropped : (set n : ℕ) (images : List ℕ) → AllWithin (λ image. image ≤ set) images 0 n → AllWithin (λ image. set < image) images n (length images)
     → drop n images ≡ filter (λ image. ltb set image) images
-images_dropped set n images go stay = filter_from (ltb set) n images (λ k d low high. let le = go k d low high in grind (arith, nat_tests))
-    (λ k d low high. let lt = stay k d low high in grind (arith, nat_tests))
+images_dropped set n images go stay = grind (arith, filter_from)
 
 pub images_until : (set n : ℕ) (images : List ℕ) → AllWithin (λ image. image ≤ set) images 0 n → AllWithin (λ image. set < image) images n (length images)
     → take n images ≡ filter (λ image. leb image set) images
-images_until set n images stay go = filter_until (λ image. leb image set) n images (λ k d low high. let le = stay k d low high in grind (arith, nat_tests))
-    (λ k d low high. let lt = go k d low high in grind (arith, nat_tests))
+images_until set n images stay go = grind (arith, filter_until)
 
 -- the items that are left where the first ones were written over
 pub left_in_front : {X : Type 0} (xs : List X) (n m len : ℕ) → len ≡ length xs → n ≤ length xs → m ≡ len - n → take m (copy_within xs n len 0) ≡ drop n xs

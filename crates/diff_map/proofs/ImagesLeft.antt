@@ -34,11 +34,7 @@ KeepsCounts-left p images later counts left next copies keeps fewer less cap = r
 
 pub counts_dropped : (set n : ℕ) (images : List ℕ) (counts : List ImageCount) → sets_of counts ≡ images → n ≤ length images → AllWithin (λ image. image ≤ set) images 0 n
     → AllWithin (λ image. set < image) images n (length images) → drop n counts ≡ filter (λ c. ltb set c.set) counts
-counts_dropped set n images counts same within go stay =
-    let many = as_many images counts same in
-    filter_from (λ c. ltb set c.set) n counts
-    (λ k d low high. let e = set_at images counts k d same (omega arith) in let le = go k 0 low high in grind (arith, nat_tests))
-    (λ k d low high. let e = set_at images counts k d same high in let lt = stay k 0 low (omega arith) in grind (arith, nat_tests))
+counts_dropped set n images counts same within go stay = grind (arith, as_many, filter_from, set_at)
 
 pub counts_without : (set n : ℕ) (images : List ℕ) (counts : List ImageCount) → sets_of counts ≡ images → AllPairs (λ older newer. older < newer) images → n < length images
     → ((d : ℕ) → get_or images n d ≡ set) → remove counts n ≡ filter (λ c. not (eqb c.set set)) counts
@@ -50,11 +46,7 @@ counts_without set n images counts same rise inside is =
 
 pub counts_until : (set n : ℕ) (images : List ℕ) (counts : List ImageCount) → sets_of counts ≡ images → n ≤ length images → AllWithin (λ image. image ≤ set) images 0 n
     → AllWithin (λ image. set < image) images n (length images) → take n counts ≡ filter (λ c. leb c.set set) counts
-counts_until set n images counts same within stay go =
-    let many = as_many images counts same in
-    filter_until (λ c. leb c.set set) n counts
-    (λ k d low high. let e = set_at images counts k d same (omega arith) in let le = stay k 0 low high in grind (arith, nat_tests))
-    (λ k d low high. let e = set_at images counts k d same high in let lt = go k 0 low (omega arith) in grind (arith, nat_tests))
+counts_until set n images counts same within stay go = grind (arith, as_many, filter_until, set_at)
 
 pub KeepsImages-left : (p : ℕ → Bool) (images later : Vec ℕ Global) (copies : List (Option Copied)) → KeepsImages images copies
     → ((slot : ℕ) (c : Copied) → copied_at copies slot ≡ Some c → p c.set ≡ true) → later.items ≡ filter p images.items → vec_capacity later ≡ vec_capacity images → KeepsImages later copies

@@ -4,12 +4,12 @@ use Rattle.std.specs.Prelude.{◌↔◌, IfSome, IsNone, slice_get}
 use Rattle.std.proofs.lemmas.Bool.{cases_lt, false≢true}
 use Rattle.std.proofs.lemmas.Bool.Decides.{nat_tests}
 use Rattle.std.proofs.lemmas.List.{map-set, set-get_or, length-map, length-replicate, length-set}
-use Rattle.std.proofs.lemmas.Option.{none-some, same_Some, get_or_from_slice_get, slice_get_within}
+use Rattle.std.proofs.lemmas.Option.{none-some, get_or_from_slice_get, slice_get_within}
 use Rattle.diff_map.specs.declared.copied.Copied.{Copied}
 use Rattle.diff_map.specs.declared.row.Row.{Row}
 use Rattle.diff_map.specs.Copies.{copied_at, copy_of, HasCopy}
 use Rattle.diff_map.specs.Chains.{IsFound, IsAbsent}
-use Rattle.diff_map.specs.Links.{LinksValue, AreLinked, row_at, copy_in, HasBlock, IsBelow, IsFrom, IsNextAbove, KeepsLinks, link_from, set_of, newest_after, older_after}
+use Rattle.diff_map.specs.Links.{LinksValue, AreLinked, row_at, copy_in, HasBlock, IsNextAbove, KeepsLinks, newest_after, older_after}
 
 -- the copy of a slot is that of its row
 pub copied_at_row : (rows : List Row) (slot : ℕ) → copied_at (map copy_in rows) slot ≡ copy_in (row_at rows slot)
@@ -20,9 +20,6 @@ copied_at_row (row ∷ rows) (suc slot) = copied_at_row rows slot
 pub copy_in_used : (row : Row) → 0 < row.set → copy_in row ≡ Some (copy_of row.set row.block)
 copy_in_used row used = grind (arith, nat_tests, used)
 
-pub copy_in_unused : (row : Row) → row.set ≡ 0 → copy_in row ≡ None
-copy_in_unused row none = grind (arith, nat_tests, none)
-
 -- a row that stands for a copy
 pub record StandsFor (row : Row) (image block : ℕ) : Type 0 where
   pub set_is : row.set ≡ image
@@ -30,12 +27,7 @@ pub record StandsFor (row : Row) (image block : ℕ) : Type 0 where
   pub used : 0 < row.set
 
 pub stands_for : (row : Row) (image block : ℕ) → copy_in row ≡ Some (copy_of image block) → StandsFor row image block
-stands_for row image block is = elim (cases_lt 0 row.set) [
-  | inl used ↦
-      let same : copy_of row.set row.block ≡ copy_of image block = same_Some (copy_of row.set row.block) (copy_of image block) (sym (copy_in_used row used) ∙ is) in
-      record { set_is = ap (λ (c : Copied). c.set) same; block_is = ap (λ (c : Copied). c.block) same; used = used }
-  | inr none ↦ absurd (none-some (copy_of image block) (sym (copy_in_unused row (omega arith)) ∙ is))
-]
+stands_for row image block is = grind arith
 
 -- the row of a slot that has a copy of a block
 pub has_from_copy : (rows : List Row) (slot image block : ℕ) → copied_at (map copy_in rows) slot ≡ Some (copy_of image block) → StandsFor (row_at rows slot) image block
@@ -83,25 +75,14 @@ found_in rows asked block slot next = record {
 }
 
 absent_in : (rows : List Row) (asked block : ℕ) → ((slot : ℕ) → (row_at rows slot).set < 2 ^ 32) → IsNextAbove rows block (asked - 1) None → IsAbsent (map copy_in rows) asked block
-absent_in rows asked block narrow next slot image is reached =
-    let it = has_from_copy rows slot image block is in
-    let same = it.set_is in
-    let u = it.used in
-    let high = next.next slot (u, it.block_is) (omega arith) in
-    let low = narrow slot in
-    omega arith
+absent_in rows asked block narrow next slot image is reached = grind (arith, has_from_copy)
 
 -- of a block past the last there is no copy
 pub absent_past : (newest : List ℕ) (rows : List Row) (asked block : ℕ) → KeepsLinks newest rows → length newest ≤ block → IsAbsent (map copy_in rows) asked block
-absent_past newest rows asked block keeps past slot image is reached =
-    let it = has_from_copy rows slot image block is in
-    let same = it.block_is in
-    let low = keeps.in_range slot it.used in
-    omega arith
+absent_past newest rows asked block keeps past slot image is reached = grind (arith, has_from_copy)
 
 pub found_from : (rows : List Row) (asked low block : ℕ) (result : Option ℕ) → low ≡ asked - 1 → IsNextAbove rows block low result → IfSome result (IsFound (map copy_in rows) asked block)
-found_from rows asked low block None is next = next.has
-found_from rows asked low block (Some slot) is next = found_in rows asked block slot (subst (λ k. IsNextAbove rows block k (Some slot)) is next)
+found_from rows asked low block result is next = grind (arith, found_in)
 
 pub none_from : (newest : List ℕ) (rows : List Row) (asked low block : ℕ) (result : Option ℕ) → KeepsLinks newest rows → low ≡ asked - 1 → IsNextAbove rows block low result
     → IsNone result ↔ IsAbsent (map copy_in rows) asked block
@@ -121,49 +102,21 @@ same_copies rows (Some at) to = map-set copy_in rows at _ ∙ ap (λ (o : Option
 
 pub copies_after : (rows : List Row) (slot : ℕ) (new : Row) (above : Option ℕ) (to : ℕ) (copy : Option Copied) → copy_in new ≡ copy
     → map copy_in (older_after (set rows slot new) above to) ≡ set (map copy_in rows) slot copy
-copies_after rows slot new above to copy is = same_copies (set rows slot new) above to ∙ map-set copy_in rows slot new ∙ ap (λ (o : Option Copied). set (map copy_in rows) slot o) is
+copies_after rows slot new above to copy is = grind (arith, same_copies, map-set)
 
 -- ## the first rows
-
-row_of_none : (n slots slot : ℕ) → (row_at (replicate n (record { block = 0; set = 0; older = slots })) slot).set ≡ 0
-row_of_none zero slots slot = refl
-row_of_none (suc n) slots zero = refl
-row_of_none (suc n) slots (suc slot) = row_of_none n slots slot
 
 pub copies_of_none : (n slots : ℕ) → map copy_in (replicate n (record { block = 0; set = 0; older = slots })) ≡ replicate n None
 copies_of_none zero slots = refl
 copies_of_none (suc n) slots = ap (λ (xs : List (Option Copied)). None ∷ xs) (copies_of_none n slots)
 
-abbrev none_rows : ℕ → List Row
-none_rows slots = replicate slots (record { block = 0; set = 0; older = slots })
-
-none_used : (slots slot : ℕ) → 0 < (row_at (none_rows slots) slot).set → ⊥
-none_used slots slot used = let e = row_of_none slots slots slot in omega arith
-
-links_of_none : (blocks slots block : ℕ) (from : Option ℕ) → IsFrom (replicate blocks slots) (none_rows slots) block from
-    → IsBelow (none_rows slots) (link_from (replicate blocks slots) (none_rows slots) block from) block (set_of (none_rows slots) from)
-links_of_none blocks slots block from is_from other has lt = absurd (none_used slots other has.0)
-
-pub KeepsLinks-new : (blocks slots : ℕ) → blocks < 2 ^ 32 → slots < 2 ^ 32 → KeepsLinks (replicate blocks slots) (none_rows slots)
-KeepsLinks-new blocks slots blocks_narrow slots_narrow = record {
-  links = links_of_none blocks slots;
-  once = λ slot other used has same. absurd (none_used slots slot used);
-  in_range = λ slot used. absurd (none_used slots slot used);
-  narrow_sets = λ slot. let e = row_of_none slots slots slot in omega arith;
-  narrow = subst (λ n. n < 2 ^ 32) (sym (length-replicate slots (record { block = 0; set = 0; older = slots }))) slots_narrow;
-  narrow_blocks = let l = length-replicate blocks slots in omega arith;
-}
-
 length_after : (newest : List ℕ) (block : ℕ) (above : Option ℕ) (to : ℕ) → length (newest_after newest block above to) ≡ length newest
-length_after newest block None to = length-set newest block to
-length_after newest block (Some at) to = refl
+length_after newest block above to = grind (arith, length-set)
 
 pub value_after : (newest later : List ℕ) (rows next : List Row) (block slot : ℕ) (new : Row) (above : Option ℕ) (to : ℕ) (copy : Option Copied) → later ≡ newest_after newest block above to
     → next ≡ older_after (set rows slot new) above to → copy_in new ≡ copy
     → LinksValueOf (length later) (map copy_in next) ≡ LinksValueOf (length newest) (set (map copy_in rows) slot copy)
-value_after newest later rows next block slot new above to copy later_is next_is is =
-    ap (λ n. LinksValueOf n (map copy_in next)) (ap length later_is ∙ length_after newest block above to)
-    ∙ ap (LinksValueOf (length newest)) (ap (map copy_in) next_is ∙ copies_after rows slot new above to copy is)
+value_after newest later rows next block slot new above to copy later_is next_is is = grind (arith, length_after, copies_after)
 
 pub value_at : (blocks : ℕ) (rows : List Row) (slot : ℕ) (new : Row) (copy : Option Copied) → copy_in new ≡ copy
     → LinksValueOf blocks (map copy_in (set rows slot new)) ≡ LinksValueOf blocks (set (map copy_in rows) slot copy)
@@ -171,5 +124,4 @@ value_at blocks rows slot new copy is = ap (LinksValueOf blocks) (map-set copy_i
 
 pub value_new : (blocks slots : ℕ) (newest : List ℕ) (rows : List Row) → newest ≡ replicate blocks slots → rows ≡ replicate slots (record { block = 0; set = 0; older = slots })
     → LinksValueOf (length newest) (map copy_in rows) ≡ LinksValueOf blocks (replicate slots None)
-value_new blocks slots newest rows newest_is rows_is =
-    ap (λ n. LinksValueOf n (map copy_in rows)) (ap length newest_is ∙ length-replicate blocks slots) ∙ ap (LinksValueOf blocks) (ap (map copy_in) rows_is ∙ copies_of_none slots slots)
+value_new blocks slots newest rows newest_is rows_is = grind (arith, length-replicate, copies_of_none)

@@ -1,5 +1,5 @@
 -- A copy gets a lesser set, and none of its block has a set between: what the rows keep holds on, and no link changes.
-use Rattle.std.proofs.Common.{ℕ, ◌≡◌, ◌≢◌, ◌<◌, ◌≤◌, ◌-◌, get_or, ◌⊎◌, ◌∙◌, inl, inr, List, Option, Some, None, length, set, map, refl, ap, sym, subst, arith}
+use Rattle.std.proofs.Common.{ℕ, ◌≡◌, ◌≢◌, ◌<◌, ◌≤◌, ◌-◌, get_or, ◌⊎◌, ◌∙◌, inl, inr, List, Option, Some, length, set, map, refl, ap, sym, subst, arith}
 use Rattle.std.proofs.lemmas.Bool.{cases_eq, cases_lt}
 use Rattle.std.proofs.lemmas.List.{get_or-set_same, get_or-set_other, get_or_read, length-set}
 use Rattle.diff_map.specs.declared.row.Row.{Row}
@@ -30,28 +30,16 @@ module _ (newest : List ℕ) (rows : List Row) (slot low : ℕ) (keeps : KeepsLi
   set_there other apart = ap (λ (r : Row). r.set) (other_row other apart)
 
   same_block : (other : ℕ) → (row_at rows_now other).block ≡ (row_at rows other).block
-  same_block other = elim (cases_eq other slot) [
-    | inl same ↦ ap (λ k. (row_at rows_now k).block) same ∙ ap (λ (r : Row). r.block) here ∙ ap (λ k. (row_at rows k).block) (sym same)
-    | inr apart ↦ ap (λ (r : Row). r.block) (other_row other apart)
-  ]
+  same_block other = grind (arith, cases_eq, here, other_row)
 
   same_older : (other : ℕ) → (row_at rows_now other).older ≡ (row_at rows other).older
-  same_older other = elim (cases_eq other slot) [
-    | inl same ↦ ap (λ k. (row_at rows_now k).older) same ∙ ap (λ (r : Row). r.older) here ∙ ap (λ k. (row_at rows k).older) (sym same)
-    | inr apart ↦ ap (λ (r : Row). r.older) (other_row other apart)
-  ]
+  same_older other = grind (arith, cases_eq, here, other_row)
 
   used_before : (other : ℕ) → 0 < (row_at rows_now other).set → 0 < (row_at rows other).set
-  used_before other has = elim (cases_eq other slot) [
-    | inl same ↦ subst (λ k. 0 < (row_at rows k).set) (sym same) used
-    | inr apart ↦ let e = set_there other apart in omega arith
-  ]
+  used_before other has = grind (arith, cases_eq, set_there)
 
   used_after : (other : ℕ) → 0 < (row_at rows other).set → 0 < (row_at rows_now other).set
-  used_after other has = elim (cases_eq other slot) [
-    | inl same ↦ let e = set_here other same in omega arith
-    | inr apart ↦ let e = set_there other apart in omega arith
-  ]
+  used_after other has = grind (arith, cases_eq, set_here, set_there)
 
   was : (b other : ℕ) → HasBlock rows_now b other → HasBlock rows b other
   was b other has = (used_before other has.0, sym (same_block other) ∙ has.1)
@@ -60,12 +48,10 @@ module _ (newest : List ℕ) (rows : List Row) (slot low : ℕ) (keeps : KeepsLi
   still b other has = (used_after other has.0, same_block other ∙ has.1)
 
   from_before : (b : ℕ) (from : Option ℕ) → IsFrom newest rows_now b from → IsFrom newest rows b from
-  from_before b None is_from = is_from
-  from_before b (Some q) is_from = was b q is_from
+  from_before b from is_from = grind (arith, was)
 
   same_link : (b : ℕ) (from : Option ℕ) → link_from newest rows_now b from ≡ link_from newest rows b from
-  same_link b None = refl
-  same_link b (Some q) = same_older q
+  same_link b from = grind (arith, same_older)
 
   -- of two copies of a block the order stays
   block_of : (b other : ℕ) → other ≡ slot → HasBlock rows b other → b ≡ (row_at rows slot).block
@@ -78,46 +64,10 @@ module _ (newest : List ℕ) (rows : List Row) (slot low : ℕ) (keeps : KeepsLi
   set_is other same = ap (λ k. (row_at rows k).set) same
 
   lt_before : (b other : ℕ) (from : Option ℕ) → HasBlock rows b other → IsFrom newest rows b from → (row_at rows_now other).set < set_of rows_now from → (row_at rows other).set < set_of rows from
-  lt_before b other None has is_from lt = keeps.narrow_sets other
-  lt_before b other (Some q) has is_from lt = elim (cases_eq other slot) [
-    | inl same ↦
-        let e = set_here other same in
-        let was_set = set_is other same in
-        elim (cases_eq q slot) [
-          | inl q_same ↦ let f = set_here q q_same in absurd (omega arith)
-          | inr q_apart ↦ let f = set_there q q_apart in elim (free_of b other q same has is_from q_apart) [ inl under ↦ absurd (omega arith) | inr over ↦ omega arith ]
-        ]
-    | inr apart ↦
-        let e = set_there other apart in
-        elim (cases_eq q slot) [
-          | inl q_same ↦ let f = set_here q q_same in let was_q = set_is q q_same in omega arith
-          | inr q_apart ↦ let f = set_there q q_apart in omega arith
-        ]
-  ]
+  lt_before b other from has is_from lt = grind (arith, cases_eq, set_here, set_is, set_there, free_of)
 
   lt_after : (b other : ℕ) (from : Option ℕ) → HasBlock rows b other → IsFrom newest rows b from → (row_at rows other).set < set_of rows from → (row_at rows_now other).set < set_of rows_now from
-  lt_after b other None has is_from lt = elim (cases_eq other slot) [
-    | inl same ↦ let e = set_here other same in let n = keeps.narrow_sets slot in omega (arith, e, n, below)
-    | inr apart ↦ let e = set_there other apart in let n = keeps.narrow_sets other in omega (arith, e, n)
-  ]
-  lt_after b other (Some q) has is_from lt = elim (cases_eq other slot) [
-    | inl same ↦
-        let e = set_here other same in
-        let was_set = set_is other same in
-        elim (cases_eq q slot) [
-          | inl q_same ↦ let was_q = set_is q q_same in absurd (omega arith)
-          | inr q_apart ↦ let f = set_there q q_apart in omega arith
-        ]
-    | inr apart ↦
-        let e = set_there other apart in
-        elim (cases_eq q slot) [
-          | inl q_same ↦
-              let f = set_here q q_same in
-              let was_q = set_is q q_same in
-              elim (free_of b q other q_same is_from has apart) [ inl under ↦ omega arith | inr over ↦ absurd (omega arith) ]
-          | inr q_apart ↦ let f = set_there q q_apart in omega arith
-        ]
-  ]
+  lt_after b other from has is_from lt = grind (arith, cases_eq, set_here, set_there, set_is, free_of)
 
   le_after : (b other q : ℕ) → HasBlock rows b other → HasBlock rows b q → (row_at rows other).set ≤ (row_at rows q).set → (row_at rows_now other).set ≤ (row_at rows_now q).set
   le_after b other q has q_has le = elim (cases_lt (row_at rows other).set (row_at rows q).set) [
@@ -184,13 +134,7 @@ module _ (newest : List ℕ) (rows : List Row) (slot low : ℕ) (row : Row) (cop
   below_row = let e = (has_from_copy rows slot copied.set copied.block had).set_is in omega arith
 
   free_here : (other : ℕ) → HasBlock rows (row_at rows slot).block other → other ≢ slot → ((row_at rows other).set < low) ⊎ ((row_at rows slot).set < (row_at rows other).set)
-  free_here other has apart = elim (cases_lt (row_at rows other).set low) [
-    | inl under ↦ inl under
-    | inr from ↦ elim (cases_lt (row_at rows slot).set (row_at rows other).set) [
-      | inl over ↦ inr over
-      | inr le ↦ absurd (let high = between other has (omega arith) in apart (sym (keeps.once slot other used_here has (omega arith))))
-    ]
-  ]
+  free_here other has apart = grind (arith, cases_lt, between, used_here)
 
   pub KeepsLinks-lower : KeepsLinks newest (set rows slot (record { block = row.block; set = low; older = row.older }))
   KeepsLinks-lower = subst (λ (r : Row). KeepsLinks newest (set rows slot (record { block = r.block; set = low; older = r.older }))) (sym row_is)

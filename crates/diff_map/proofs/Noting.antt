@@ -14,7 +14,6 @@ use Rattle.std.proofs.lemmas.Option.{same_Some, none-some, get_or_from_slice_get
 use Rattle.diff_map.specs.declared.copied.Copied.{Copied}
 use Rattle.diff_map.specs.declared.entry.Entry.{Entry}
 use Rattle.diff_map.specs.Copies.{copied_at, copy_of, HasCopy}
-use Rattle.diff_map.specs.MapValue.{AreImages}
 use Rattle.diff_map.specs.Index.{place, place_of, IsInOrder, IsIndex, IsNoted}
 use Rattle.diff_map.proofs.Renewal.{slots_apart, row_within}
 
@@ -37,21 +36,11 @@ module _ (entries : List Entry) (copies : List (Option Copied)) (slot image bloc
   other_slot x noted same = none-some (copy_of x.set x.block) (sym is_none ∙ ap (copied_at copies) (sym same) ∙ noted.row)
 
   still_noted : (x : Entry) → IsNoted copies x → IsNoted rows x
-  still_noted x noted = record { row = get_or-set_other copies slot x.slot (Some (copy_of image block)) None (other_slot x noted) ∙ noted.row; narrow = noted.narrow }
+  still_noted x noted = grind (arith, get_or-set_other, other_slot)
 
   -- the entries from the place on stand behind the new one
   behind : (k : ℕ) (d : Entry) → n ≤ k → k < length entries → place_of block image < place (get_or entries k d)
-  behind k d le inside_k =
-      let high = onward k d le inside_k in
-      let noted = index.each k d inside_k in
-      let x_narrow = noted.narrow in
-      elim (cases_eq (place (get_or entries k d)) (place_of block image)) [
-        | inl same ↦
-            let blocks : (get_or entries k d).block ≡ block = omega arith in
-            let sets : (get_or entries k d).set ≡ image = omega arith in
-            absurd (lacks ((get_or entries k d).slot, noted.row ∙ ap (λ s. Some (copy_of s (get_or entries k d).block)) sets ∙ ap (λ b. Some (copy_of image b)) blocks))
-        | inr apart ↦ omega arith
-      ]
+  behind k d le inside_k = grind arith
 
   noted_order : IsInOrder (insert entries n e)
   noted_order i j d low inside_j =
@@ -106,13 +95,7 @@ module _ (entries : List Entry) (copies : List (Option Copied)) (slot image bloc
   ]
 
   noted_all : (k : ℕ) (c : Copied) → copied_at rows k ≡ Some c → Contains (insert entries n e) (record { block = c.block; set = c.set; slot = k })
-  noted_all k c row = elim (cases_eq k slot) [
-    | inl same ↦
-        let is : copy_of image block ≡ c = same_Some (copy_of image block) c (sym new_row ∙ ap (copied_at rows) (sym same) ∙ row) in
-        subst (λ (x : Entry). Contains (insert entries n e) x)
-        (ap (λ (y : Copied). record { block = y.block; set = y.set; slot = slot }) is ∙ ap (λ (s : ℕ). record { block = c.block; set = c.set; slot = s }) (sym same)) contains_new
-    | inr other ↦ contains_old (record { block = c.block; set = c.set; slot = k }) (index.all k c (sym (get_or-set_other copies slot k (Some (copy_of image block)) None other) ∙ row))
-  ]
+  noted_all k c row = grind (arith, cases_eq, same_Some, new_row, contains_new, contains_old, get_or-set_other)
 
   pub IsIndex-noted : IsIndex (insert entries n e) rows
   IsIndex-noted =
@@ -149,9 +132,3 @@ module _ (entries : List Entry) (copies : List (Option Copied)) (slot image bloc
       let same : q ≡ any.1 = grind (arith, nat_tests) in
       omega arith) in
       omega arith
-
-pub image_narrow : (images : List ℕ) (image : ℕ) → AreImages images → Contains images image → image < 2 ^ 32
-image_narrow images image are at =
-    let is : get_or images at.0 image ≡ image = at.2 in
-    let narrow = (are.above_zero at.0 image at.1).1 in
-    omega arith

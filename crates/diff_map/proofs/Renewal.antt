@@ -16,11 +16,7 @@ pub some_or_none : (o : Option Copied) → IsSome o → IsNone o → ⊥
 some_or_none o some none = false≢true (sym none ∙ some)
 
 pub GivesBack-none : (rows : List (Option Copied)) (pool : List Bool) → GivesBack rows rows pool pool
-GivesBack-none rows pool = record {
-  freed = λ slot some none. absurd (some_or_none (copied_at rows slot) some none);
-  others = λ slot h. refl;
-  slots = refl;
-}
+GivesBack-none rows pool = grind arith
 
 -- no two entries have one slot
 pub slots_apart : (entries : List Entry) (copies : List (Option Copied)) → IsIndex entries copies → (i j : ℕ) (d e : Entry) → i < j → j < length entries
@@ -51,8 +47,7 @@ is_some_from o c e = ap is_some e
 -- the slot of a row that is still noted is still taken
 pub taken_ahead : (before after : List (Option Copied)) (old new : List Bool) (slot : ℕ) (b a : Copied) → GivesBack before after old new → AllTaken before old → copied_at before slot ≡ Some b
     → copied_at after slot ≡ Some a → IsTaken new slot
-taken_ahead before after old new slot b a gives taken was is =
-    gives.others slot (inr (is_some_from (copied_at after slot) a is)) ∙ taken slot (is_some_from (copied_at before slot) b was)
+taken_ahead before after old new slot b a gives taken was is = grind arith
 
 slice_get-set_same : (xs : List Bool) (i : ℕ) (v : Bool) → i < length xs → slice_get (set xs i v) i ≡ Some v
 slice_get-set_same [] i v inside = absurd (omega arith)
@@ -91,16 +86,4 @@ GivesBack-free before after old new slot b a gives taken was is =
 -- a noted slot's row becomes another, and the slot stays
 pub GivesBack-keep : (before after : List (Option Copied)) (old new : List Bool) (slot : ℕ) (a v : Copied) → GivesBack before after old new → copied_at after slot ≡ Some a
     → GivesBack before (set after slot (Some v)) old new
-GivesBack-keep before after old new slot a v gives is =
-    let noted : copied_at (set after slot (Some v)) slot ≡ Some v = get_or-set_same after slot (Some v) None (get_within after slot a is) in
-    record {
-      freed = λ k some gone. elim (cases_eq k slot) [
-        | inl same ↦ absurd (some_or_none (copied_at (set after slot (Some v)) k) (is_some_from (copied_at (set after slot (Some v)) k) v (ap (copied_at (set after slot (Some v))) same ∙ noted)) gone)
-        | inr other ↦ gives.freed k some (ap is_some (sym (get_or-set_other after slot k (Some v) None other)) ∙ gone)
-      ];
-      others = λ k stays. elim (cases_eq k slot) [
-        | inl same ↦ gives.others k (inr (is_some_from (copied_at after k) a (ap (copied_at after) same ∙ is)))
-        | inr other ↦ gives.others k (elim stays [ inl never ↦ inl never | inr still ↦ inr (ap is_some (sym (get_or-set_other after slot k (Some v) None other)) ∙ still) ])
-      ];
-      slots = gives.slots;
-    }
+GivesBack-keep before after old new slot a v gives is = grind (arith, get_or-set_same, get_within, cases_eq, some_or_none, is_some_from, get_or-set_other)

@@ -2,8 +2,8 @@
 use Rattle.std.proofs.Common.{ℕ, zero, suc, ◌∷◌, [], ◌≡◌, ◌≢◌, ◌+◌, ◌<◌, ◌≤◌, ◌⊎◌, inl, inr, Bool, true, false, leb, List, Option, Some, None, length, get_or, set, map, refl, ap, sym, ◌∙◌, subst}
 use Rattle.std.proofs.Common.{arith, Contains}
 use Rattle.std.specs.List.{slice_get, AllWithin}
-use Rattle.std.specs.Option.{option_and_then, is_some}
-use Rattle.std.proofs.lemmas.Bool.{cases_eq, cases_lt, false≢true}
+use Rattle.std.specs.Option.{option_and_then}
+use Rattle.std.proofs.lemmas.Bool.{cases_eq, cases_lt}
 use Rattle.std.proofs.lemmas.Bool.Decides.{nat_tests}
 use Rattle.std.proofs.lemmas.List.{ext_get_or, get_or-map, length-map, length-set, get_or-set_same, get_or-set_other, get_or_default, set-set}
 use Rattle.std.proofs.lemmas.Option.{same_Some, none-some}
@@ -19,34 +19,16 @@ use Rattle.diff_map.specs.Leaving.{takes, rule_of, IsRenewing}
 use Rattle.diff_map.proofs.Counting.{used_some, used_out, used_out_other, used_noted_other}
 use Rattle.diff_map.proofs.Images.{next_older_is}
 use Rattle.diff_map.proofs.Kept.{copied_at-renewed}
-use Rattle.diff_map.proofs.Renewal.{GivesBack-none, GivesBack-free, GivesBack-keep, row_within, some_or_none, is_some_from}
+use Rattle.diff_map.proofs.Renewal.{GivesBack-none, GivesBack-free, GivesBack-keep, row_within}
 use Rattle.diff_map.proofs.Ruling.{true_or_false, rule_takes, rule_leaves, rule_gives, row_from_has, has_from_row, merged_goes, merged_moves, merged_stays, merged_nowhere}
 
 pub IsRenewing-none : (rule : Copied → Option Copied) (rows : List (Option Copied)) (pool : List Bool) → IsRenewing rule rows rows pool pool
 IsRenewing-none rule rows pool = record { each = λ slot. inl refl; long = refl; gives = GivesBack-none rows pool }
 
--- a row that is none was none, or the rule has it so
-was_some : (rule : Copied → Option Copied) (before after : List (Option Copied)) (old new : List Bool) (slot : ℕ) (a : Copied) → IsRenewing rule before after old new → copied_at after slot ≡ Some a
-    → (b : Copied) × (copied_at before slot ≡ Some b)
-was_some rule before after old new slot a is row = by_row (copied_at before slot) refl where
-  by_row : (o : Option Copied) → copied_at before slot ≡ o → (b : Copied) × (copied_at before slot ≡ Some b)
-  by_row (Some b) was = (b, was)
-  by_row None was = absurd (elim (is.each slot) [
-    | inl kept ↦ none-some a (sym was ∙ sym kept ∙ row)
-    | inr ruled ↦ none-some a (sym (ruled ∙ ap (option_and_then rule) was) ∙ row)
-  ])
-
 -- one row changes as the rule has it
 step : (rule : Copied → Option Copied) (before after : List (Option Copied)) (old new newer : List Bool) (slot : ℕ) (b : Copied) (row : Option Copied) → IsRenewing rule before after old new
     → slot < length after → copied_at before slot ≡ Some b → rule b ≡ row → GivesBack before (set after slot row) old newer → IsRenewing rule before (set after slot row) old newer
-step rule before after old new newer slot b row is inside was ruled gives = record {
-  each = λ k. elim (cases_eq k slot) [
-    | inl same ↦ inr (ap (copied_at (set after slot row)) same ∙ get_or-set_same after slot row None inside ∙ sym ruled ∙ sym (ap (option_and_then rule) (ap (copied_at before) same ∙ was)))
-    | inr differ ↦ elim (is.each k) [ inl kept ↦ inl (get_or-set_other after slot k row None differ ∙ kept) | inr r ↦ inr (get_or-set_other after slot k row None differ ∙ r) ]
-  ];
-  long = length-set after slot row ∙ is.long;
-  gives = gives;
-}
+step rule before after old new newer slot b row is inside was ruled gives = grind (arith, cases_eq, get_or-set_same, get_or-set_other, length-set)
 
 -- a copy that is still as it was goes, and its slot goes back
 pub IsRenewing-freed : (rule : Copied → Option Copied) (before after : List (Option Copied)) (old new : List Bool) (slot : ℕ) (a b : Copied) → IsRenewing rule before after old new
@@ -71,18 +53,12 @@ renewed_all rule before after old new is rest =
     row k (Some c) was = elim (is.each k) [ inl kept ↦ kept ∙ was ∙ sym (rest k c (kept ∙ was) was) ∙ ap (option_and_then rule) (sym was) | inr ruled ↦ ruled ]
 
 not_used : (copies : List (Option Copied)) (image slot : ℕ) (c : Copied) → used_for copies image ≡ 0 → copied_at copies slot ≡ Some c → c.set ≢ image
-not_used copies image slot c none row same = let some = used_some copies slot c row in let e : used_for copies c.set ≡ used_for copies image = ap (used_for copies) same in absurd (omega arith)
+not_used copies image slot c none row same = grind (arith, used_some)
 
 -- a copy that the rule drops is as it was, if it is there
 pub as_before : (rule : Copied → Option Copied) (image block slot : ℕ) (before after : List (Option Copied)) (old new : List Bool) → IsRenewing rule before after old new
     → ((c d : Copied) → rule c ≡ Some d → d.set ≡ image → ⊥) → copied_at after slot ≡ Some (copy_of image block) → copied_at before slot ≡ Some (copy_of image block)
-as_before rule image block slot before after old new is never row = elim (is.each slot) [
-  | inl kept ↦ sym kept ∙ row
-  | inr ruled ↦ absurd (by_row (copied_at before slot) (sym ruled ∙ row))
-] where
-  by_row : (o : Option Copied) → option_and_then rule o ≡ Some (copy_of image block) → ⊥
-  by_row None e = none-some (copy_of image block) e
-  by_row (Some c) e = never c (copy_of image block) e refl
+as_before rule image block slot before after old new is never row = grind arith
 
 -- the images up to the nth that go have no copies
 pub record FreesUpTo (going : Going) (images : List ℕ) (n : ℕ) (before after : List (Option Copied)) (old new : List Bool) : Type 0 where
@@ -94,13 +70,7 @@ FreesUpTo-none going images rows pool = record { renews = IsRenewing-none (rule_
 
 pub FreesUpTo-past : (going : Going) (images : List ℕ) (n image : ℕ) (before after : List (Option Copied)) (old new : List Bool) → FreesUpTo going images n before after old new → n < length images
     → image ≡ get_or images n image → takes going image ≡ false → FreesUpTo going images (n + 1) before after old new
-FreesUpTo-past going images n image before after old new up inside is stays = record {
-  renews = up.renews;
-  freed = λ k d low within test. elim (cases_eq k n) [
-    | inl same ↦ absurd (false≢true (sym stays ∙ ap (takes going) (is ∙ get_or_default images n image d inside ∙ ap (λ j. get_or images j d) (sym same)) ∙ test))
-    | inr differ ↦ up.freed k d (omega arith) within test
-  ];
-}
+FreesUpTo-past going images n image before after old new up inside is stays = grind (arith, cases_eq, get_or_default)
 
 pub freed_all : (going : Going) (images : List ℕ) (n : ℕ) (before after : List (Option Copied)) (old new : List Bool)
     → ((slot : ℕ) (c : Copied) → copied_at before slot ≡ Some c → Contains images c.set) → FreesUpTo going images n before after old new → length images ≤ n → after ≡ renewed (rule_of going) before
@@ -112,24 +82,11 @@ freed_all going images n before after old new of_images up end = renewed_all (ru
       absurd (not_used after (get_or images at.0 c.set) slot c (up.freed at.0 c.set (let l = at.1 in omega arith) at.1 (ap (takes going) is ∙ test)) now (sym is))
 ])
 
--- the slots of copies that are left are taken
-pub AllTaken-still : (rule : Copied → Option Copied) (before after : List (Option Copied)) (old new : List Bool) → IsRenewing rule before after old new → AllTaken before old → AllTaken after new
-AllTaken-still rule before after old new is taken slot some = by_row (copied_at after slot) refl where
-  by_row : (o : Option Copied) → copied_at after slot ≡ o → slice_get new slot ≡ Some false
-  by_row None at = absurd (some_or_none (copied_at after slot) some (ap is_some at))
-  by_row (Some a) at = let b = was_some rule before after old new slot a is at in is.gives.others slot (inr some) ∙ taken slot (is_some_from (copied_at before slot) b.0 b.1)
-
 -- ## a merge
 
 -- a copy of the image that goes is as it was
 merged_never : (copies : List (Option Copied)) (older image : ℕ) (c d : Copied) → older < image → merged copies (Some older) image c ≡ Some d → d.set ≡ image → ⊥
-merged_never copies older image c d below is same = elim (cases_eq c.set image) [
-  | inr apart ↦ apart (ap (λ (x : Copied). x.set) (same_Some c d (sym (merged_stays copies (Some older) image c apart) ∙ is)) ∙ same)
-  | inl it ↦ elim (true_or_false (has_copy copies older c.block)) [
-    | inl has ↦ none-some d (sym (merged_goes copies older image c it has) ∙ is)
-    | inr lacks ↦ let e : older ≡ d.set = ap (λ (x : Copied). x.set) (same_Some (copy_of older c.block) d (sym (merged_moves copies older image c it lacks) ∙ is)) in absurd (omega arith)
-  ]
-]
+merged_never copies older image c d below is same = grind arith
 
 module _ (before after : List (Option Copied)) (old new : List Bool) (older image block slot : ℕ) (below : older < image)
     (once : (one other : ℕ) (c : Copied) → copied_at before one ≡ Some c → copied_at before other ≡ Some c → one ≡ other)
@@ -140,25 +97,11 @@ module _ (before after : List (Option Copied)) (old new : List Bool) (older imag
   -- the older image has the block now where it had it
   had_before : (other : ℕ) (o : Option Copied) → copied_at before other ≡ o → (copied_at after other ≡ o) ⊎ (copied_at after other ≡ option_and_then (merged before (Some older) image) o)
       → copied_at after other ≡ Some (copy_of older block) → HasCopy before older block
-  had_before other o was (inl kept) now = (other, was ∙ sym kept ∙ now)
-  had_before other None was (inr ruled) now = absurd (none-some (copy_of older block) (sym ruled ∙ now))
-  had_before other (Some c) was (inr ruled) now = elim (cases_eq c.set image) [
-    | inr apart ↦ (other, was ∙ sym (merged_stays before (Some older) image c apart) ∙ sym ruled ∙ now)
-    | inl it ↦ elim (true_or_false (has_copy before older c.block)) [
-      | inl has ↦ absurd (none-some (copy_of older block) (sym (merged_goes before older image c it has) ∙ sym ruled ∙ now))
-      | inr lacks ↦
-          let b : c.block ≡ block = ap (λ (x : Copied). x.block) (same_Some (copy_of older c.block) (copy_of older block) (sym (merged_moves before older image c it lacks) ∙ sym ruled ∙ now)) in
-          let same : slot ≡ other = once slot other (copy_of image block) merging_was (was ∙ ap (λ s. Some (copy_of s c.block)) it ∙ ap (λ k. Some (copy_of image k)) b) in
-          let e : older ≡ image = ap (λ (x : Copied). x.set) (same_Some (copy_of older block) (copy_of image block) (sym now ∙ ap (copied_at after) (sym same) ∙ row)) in
-          absurd (omega arith)
-    ]
-  ]
+  had_before other o was x3 now = grind arith
 
   -- where the older image has the block, the rule drops the copy
   pub merging_goes : HasCopy after older block → merged before (Some older) image (copy_of image block) ≡ None
-  merging_goes has =
-      let had = had_before has.0 (copied_at before has.0) refl (is.each has.0) has.1 in
-      merged_goes before older image (copy_of image block) refl (has_from_row before had.0 older block had.1)
+  merging_goes has = grind (arith, had_before, merged_goes, has_from_row)
 
   -- elsewhere it hands it down
   pub merging_moves : (HasCopy after older block → ⊥) → merged before (Some older) image (copy_of image block) ≡ Some (copy_of older block)
@@ -189,15 +132,7 @@ IsRenewingMap-none rule m pool = record { blocks = refl; images = refl; renews =
 
 pub renewed_map : (rule : Copied → Option Copied) (first after : MapValue) (old new : List Bool) → IsRenewingMap rule first after old new → after.copies ≡ renewed rule first.copies
     → after ≡ record { blocks = first.blocks; images = first.images; copies = renewed rule first.copies }
-renewed_map rule first after old new is all = map_same is.blocks is.images all where
-  map_of : ℕ → List ℕ → List (Option Copied) → MapValue
-  map_of blocks images copies = record { blocks = blocks; images = images; copies = copies }
-
-  map_same : after.blocks ≡ first.blocks → after.images ≡ first.images → after.copies ≡ renewed rule first.copies
-      → ◌≡◌ {A = MapValue} (record { blocks = after.blocks; images = after.images; copies = after.copies })
-      (record { blocks = first.blocks; images = first.images; copies = renewed rule first.copies })
-  map_same b i c = ap (λ n. map_of n after.images after.copies) b ∙ ap (λ (xs : List ℕ). map_of first.blocks xs after.copies) i
-      ∙ ap (λ (rows : List (Option Copied)). map_of first.blocks first.images rows) c
+renewed_map rule first after old new is all = grind arith
 
 -- a copy that is popped goes, and its slot goes back
 pub IsRenewingMap-freed : (rule : Copied → Option Copied) (first mid after : MapValue) (old new : List Bool) (image : ℕ) (e : Entry) → IsRenewingMap rule first mid old new
@@ -220,28 +155,17 @@ module _ (first mid after : MapValue) (old new : List Bool) (older image : ℕ) 
   handing_was = merging_was first.copies mid.copies old new older image e.block e.slot below valid.once is.renews popped.noted
 
   pub handing_range : e.block < after.blocks
-  handing_range =
-      let low = valid.of_blocks e.slot (copy_of image e.block) handing_was in
-      let same : mid.blocks ≡ first.blocks = is.blocks in
-      let later : after.blocks ≡ mid.blocks = ap (λ (m : MapValue). m.blocks) popped.gone in
-      omega arith
+  handing_range = grind arith
 
   pub handing_unnoted : slice_get after.copies e.slot ≡ Some None
-  handing_unnoted = ap (λ (m : MapValue). slice_get m.copies e.slot) popped.gone ∙ slice_get-set_here mid.copies e.slot None (row_within mid.copies e.slot (copy_of image e.block) popped.noted)
+  handing_unnoted = grind (arith, slice_get-set_here, row_within)
 
   -- the other rows are as they were before the copy was popped
   has_then : HasCopy after.copies older e.block → HasCopy mid.copies older e.block
-  has_then has =
-      let now : copied_at (set mid.copies e.slot None) has.0 ≡ Some (copy_of older e.block) = ap (λ (m : MapValue). copied_at m.copies has.0) (sym popped.gone) ∙ has.1 in
-      let inside = row_within mid.copies e.slot (copy_of image e.block) popped.noted in
-      let differ : has.0 ≢ e.slot = λ same. none-some (copy_of older e.block) (sym (ap (copied_at (set mid.copies e.slot None)) same ∙ get_or-set_same mid.copies e.slot None None inside) ∙ now) in
-      (has.0, sym (get_or-set_other mid.copies e.slot has.0 None None differ) ∙ now)
+  has_then has = grind (arith, row_within, none-some, get_or-set_same, get_or-set_other)
 
   pub has_now : HasCopy mid.copies older e.block → HasCopy after.copies older e.block
-  has_now has =
-      let differ : has.0 ≢ e.slot = λ same. let s : older ≡ image = ap (λ (x : Copied). x.set)
-      (same_Some (copy_of older e.block) (copy_of image e.block) (sym has.1 ∙ ap (copied_at mid.copies) same ∙ popped.noted)) in absurd (omega arith) in
-      (has.0, ap (λ (m : MapValue). copied_at m.copies has.0) popped.gone ∙ get_or-set_other mid.copies e.slot has.0 None None differ ∙ has.1)
+  has_now has = grind (arith, same_Some, get_or-set_other)
 
   pub handing_frees : AllTaken first.copies old → HasCopy after.copies older e.block → IsRenewingMap (merged first.copies (Some older) image) first after old (set new e.slot true)
   handing_frees taken has = IsRenewingMap-freed (merged first.copies (Some older) image) first mid after old new image e is popped taken handing_was
@@ -276,28 +200,13 @@ FreesMapUpTo-none going m pool = record { blocks = refl; images = refl; frees = 
 
 pub FreesMapUpTo-past : (going : Going) (n image : ℕ) (first mid : MapValue) (old new : List Bool) → FreesMapUpTo going n first mid old new → n < length first.images → image ≡ get_or mid.images n 0
     → takes going image ≡ false → FreesMapUpTo going (n + 1) first mid old new
-FreesMapUpTo-past going n image first mid old new up inside read stays = record {
-  blocks = up.blocks;
-  images = up.images;
-  frees = FreesUpTo-past going first.images n image first.copies mid.copies old new up.frees inside
-      (read ∙ ap (λ (xs : List ℕ). get_or xs n 0) up.images ∙ get_or_default first.images n 0 image inside) stays;
-}
+FreesMapUpTo-past going n image first mid old new up inside read stays = grind (arith, FreesUpTo-past, get_or_default)
 
 -- the images between two places do not go
 pub FreesMapUpTo-untaken : (going : Going) (n m : ℕ) (first mid : MapValue) (old new : List Bool) → FreesMapUpTo going n first mid old new
     → AllWithin (λ image. takes going image ≡ false) first.images n m
     → FreesMapUpTo going m first mid old new
-FreesMapUpTo-untaken going n m first mid old new up stay = record {
-  blocks = up.blocks;
-  images = up.images;
-  frees = record {
-    renews = up.frees.renews;
-    freed = λ k d low within test. elim (cases_lt k n) [
-      | inl before ↦ up.frees.freed k d before within test
-      | inr after ↦ absurd (false≢true (sym (stay k d after low) ∙ test))
-    ];
-  };
-}
+FreesMapUpTo-untaken going n m first mid old new up stay = grind arith
 
 -- the images between two places have no copy
 pub FreesMapUpTo-unused : (going : Going) (n m : ℕ) (first mid : MapValue) (old new : List Bool) → FreesMapUpTo going n first mid old new
@@ -320,16 +229,9 @@ pub freed_map : (going : Going) (n : ℕ) (first after : MapValue) (old new : Li
 freed_map going n first after old new valid up end = renewed_map (rule_of going) first after old new (record { blocks = up.blocks; images = up.images; renews = up.frees.renews })
     (freed_all going first.images n first.copies after.copies old new valid.of_images up.frees end)
 
--- a copy of an image that goes is popped, and its slot goes back
-never_of : (going : Going) (image : ℕ) → takes going image ≡ true → (c d : Copied) → rule_of going c ≡ Some d → d.set ≡ image → ⊥
-never_of going image goes c d gives same =
-    let g = rule_gives going c d gives in
-    false≢true (sym g.0 ∙ ap (λ (x : Copied). takes going x.set) (sym g.1) ∙ ap (takes going) same ∙ goes)
-
 pub going_was : (going : Going) (n image : ℕ) (first mid after : MapValue) (old new : List Bool) (e : Entry) → FreesMapUpTo going n first mid old new → IsPopped mid after image e
     → takes going image ≡ true → copied_at first.copies e.slot ≡ Some (copy_of image e.block)
-going_was going n image first mid after old new e up popped goes = as_before (rule_of going) image e.block e.slot first.copies mid.copies old new up.frees.renews
-    (never_of going image goes) popped.noted
+going_was going n image first mid after old new e up popped goes = grind arith
 
 pub FreesMapUpTo-popped : (going : Going) (n image : ℕ) (first mid after : MapValue) (old new : List Bool) (e : Entry) → FreesMapUpTo going n first mid old new → IsPopped mid after image e
     → takes going image ≡ true → AllTaken first.copies old → FreesMapUpTo going n first after old (set new e.slot true)
@@ -352,17 +254,7 @@ FreesMapUpTo-popped going n image first mid after old new e up popped goes taken
 
 pub FreesMapUpTo-done : (going : Going) (n image : ℕ) (first mid : MapValue) (old new : List Bool) → FreesMapUpTo going n first mid old new → n < length first.images → image ≡ get_or first.images n 0
     → used_for mid.copies image ≡ 0 → FreesMapUpTo going (n + 1) first mid old new
-FreesMapUpTo-done going n image first mid old new up inside read none = record {
-  blocks = up.blocks;
-  images = up.images;
-  frees = record {
-    renews = up.frees.renews;
-    freed = λ k d low within test. elim (cases_eq k n) [
-      | inl same ↦ subst (λ s. used_for mid.copies s ≡ 0) (read ∙ get_or_default first.images n 0 d inside ∙ ap (λ j. get_or first.images j d) (sym same)) none
-      | inr differ ↦ up.frees.freed k d (omega arith) within test
-    ];
-  };
-}
+FreesMapUpTo-done going n image first mid old new up inside read none = grind (arith, cases_eq, get_or_default)
 
 -- ## what is left where images go
 

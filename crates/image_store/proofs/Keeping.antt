@@ -28,7 +28,7 @@ use Rattle.image_store.specs.Head.{HeadValue, said_of}
 use Rattle.image_store.specs.Keeping.{IsKeptAs, blocks_of}
 use Rattle.image_store.specs.Plain.{PlainStore, plains_of}
 use Rattle.image_store.specs.StoreValue.{StoreValue, HasPlains, StandsAs, StandsStill}
-use Rattle.image_store.proofs.Plains.{same_lists, synced_kept}
+use Rattle.image_store.proofs.Plains.{same_lists, synced_kept, told_blocks}
 use Rattle.image_store.proofs.Stores.{store_of}
 
 -- ## devices are flushed one after another
@@ -99,55 +99,57 @@ own_blocks g names = same_lists (blocks_of (entries_of g names)) g.area.volumes 
 
 -- ## a store that is closed
 
-told_blocks : (area told : Option (List (List ℕ))) (want : List (List ℕ)) → is_some area ≡ true → is_some told ≡ true → IfSome (told_in area told) (λ blocks. blocks ≡ want) → told ≡ Some want
-told_blocks None told want a t is = cc
-told_blocks (Some slots) None want a t is = cc
-told_blocks (Some slots) (Some blocks) want a t is = ap Some is
-
-pub closed_kept : {D : Type 0} (ghosts : Ghosts D) (old new : GroupValue D) (names : List TextValue) (last : ℕ) (devices : List D)
-    (done : Unit {0}) (p : PlainStore)
-    → IsSync ghosts old new (Ok done) → ghosts.lasting new.area.device ≡ ghosts.told new.area.device → map ghosts.lasting devices ≡ map ghosts.told new.devices
-    → StandsAs ghosts.told (store_of old names last) p
-    → IsKeptAs ghosts.lasting devices new.area.device (said_of (store_of old names last)) p
-closed_kept {D = D} ghosts old new names last devices done p sync area lasts stands =
+-- what is held of devices and of the area's device is kept of the group that they are
+pub kept_of : {D E : Type 0} (told : D → Option (List (List ℕ))) (held : E → Option (List (List ℕ))) (g : GroupValue D) (names : List TextValue) (last : ℕ) (devices : List E) (area : E) (p : PlainStore)
+    (stands : StandsAs told (store_of g names last) p) → map held devices ≡ map told g.devices → is_some (held area) ≡ true
+    → AreStored (held area) (copies (placed g.area.volumes) stands.group.hs) → IsKeptAs held devices area (said_of (store_of g names last)) p
+kept_of told held g names last devices area p stands blocks tells stored =
     let hs = stands.group.hs in
     let all = stands.group.stands in
-    let entries = entries_of old names in
-    let long : length devices ≡ length new.devices = sym (length-map devices ghosts.lasting) ∙ ap length lasts ∙ length-map new.devices ghosts.told in
-    let many = as_many_entries old names in
+    let entries = entries_of g names in
+    let long : length devices ≡ length g.devices = sym (length-map devices held) ∙ ap length blocks ∙ length-map g.devices told in
+    let many = as_many_entries g names in
     record {
       hs = hs;
       last = stands.last;
-      devices_are = long ∙ ap length sync.0.devices ∙ all.devices ∙ sym many;
+      devices_are = long ∙ all.devices ∙ sym many;
       histories = all.histories ∙ sym many;
       each = λ v d e h at is of.
           let in_hs = slice_get_within hs v h of in
           let many_hs = all.histories in
           let many_devices = all.devices in
           let many_images = all.images in
-          let within : v < length old.area.volumes = omega arith in
-          let n = slice_get_inside old.area.volumes v within in
-          let x = slice_get_inside old.devices v (omega arith) in
-          let sets = slice_get_inside old.images v (omega arith) in
-          let here : slice_get new.devices v ≡ Some x.0 = ap (λ (ds : List D). slice_get ds v) sync.0.devices ∙ x.1 in
-          let held : ghosts.lasting d ≡ ghosts.told x.0 = same_Some (ghosts.lasting d) (ghosts.told x.0)
-          (sym (slice_get_map ghosts.lasting devices v d at) ∙ ap (λ (ts : List (Option (List (List ℕ)))). slice_get ts v) lasts ∙ slice_get_map ghosts.told new.devices v x.0 here) in
+          let within : v < length g.area.volumes = omega arith in
+          let n = slice_get_inside g.area.volumes v within in
+          let x = slice_get_inside g.devices v (omega arith) in
+          let sets = slice_get_inside g.images v (omega arith) in
+          let held_is : held d ≡ told x.0 = same_Some (held d) (told x.0)
+          (sym (slice_get_map held devices v d at) ∙ ap (λ (ts : List (Option (List (List ℕ)))). slice_get ts v) blocks ∙ slice_get_map told g.devices v x.0 x.1) in
           let volume = all.each v n.0 x.0 sets.0 h n.1 x.1 sets.1 of in
-          let blocks = told_blocks (ghosts.told old.area.device) (ghosts.told x.0) (contents n.0 h.writes (length h.writes)) stands.group.area (stands.group.devices v x.0 x.1) volume.blocks in
-          let entry : entry_at old names v ≡ e = same_Some (entry_at old names v) e (sym (entry_there old names v within) ∙ is) in
+          let own = told_blocks (told g.area.device) (told x.0) (contents n.0 h.writes (length h.writes)) stands.group.area (stands.group.devices v x.0 x.1) volume.blocks in
+          let entry : entry_at g names v ≡ e = same_Some (entry_at g names v) e (sym (entry_there g names v within) ∙ is) in
           let size_is : n.0 ≡ e.blocks = sym (ap blocks_in n.1) ∙ ap (λ (f : EntryValue). f.blocks) entry in
           let sets_is : e.images ≡ sets.0 = sym (ap (λ (f : EntryValue). f.images) entry) ∙ ap sets_in sets.1 in
           record {
-            blocks = held ∙ blocks ∙ ap (λ (m : ℕ). Some (contents m h.writes (length h.writes))) size_is;
+            blocks = held_is ∙ own ∙ ap (λ (m : ℕ). Some (contents m h.writes (length h.writes))) size_is;
             sets = sets_is ∙ volume.sets_are;
             images = volume.images;
           };
-      tells = ap is_some area ∙ sync.0.kept.area.tells ∙ stands.group.area;
-      stored = subst (λ (t : Option (List (List ℕ))). AreStored t (copies (placed (blocks_of entries)) hs)) (sym area)
-          (subst (λ (ns : List ℕ). AreStored (ghosts.told new.area.device) (copies (placed ns) hs)) (sym (own_blocks old names)) (sync.1 hs all stands.group.devices));
+      tells = tells;
+      stored = subst (λ (ns : List ℕ). AreStored (held area) (copies (placed ns) hs)) (sym (own_blocks g names)) stored;
       given = stands.given;
-      volumes = stands.group.plains ∙ ap (λ (ns : List ℕ). plains_of ns hs) (sym (own_blocks old names));
+      volumes = stands.group.plains ∙ ap (λ (ns : List ℕ). plains_of ns hs) (sym (own_blocks g names));
     }
+
+pub closed_kept : {D : Type 0} (ghosts : Ghosts D) (old new : GroupValue D) (names : List TextValue) (last : ℕ) (devices : List D)
+    (done : Unit {0}) (p : PlainStore)
+    → IsSync ghosts old new (Ok done) → ghosts.lasting new.area.device ≡ ghosts.told new.area.device → map ghosts.lasting devices ≡ map ghosts.told new.devices
+    → StandsAs ghosts.told (store_of old names last) p
+    → IsKeptAs ghosts.lasting devices new.area.device (said_of (store_of old names last)) p
+closed_kept ghosts old new names last devices done p sync area lasts stands =
+    kept_of ghosts.told ghosts.lasting old names last devices new.area.device p stands (lasts ∙ ap (map ghosts.told) sync.0.devices)
+    (ap is_some area ∙ sync.0.kept.area.tells ∙ stands.group.area)
+    (subst (λ (t : Option (List (List ℕ))). AreStored t (copies (placed old.area.volumes) stands.group.hs)) (sym area) (sync.1 stands.group.hs stands.group.stands stands.group.devices))
 
 -- what is written back to a vector is all of it
 whole_again : {X : Type 0} (n : ℕ) (xs ys : List X) → length ys ≡ n → length xs ≡ length ys → take n (xs ++ drop (length xs) ys) ≡ xs

@@ -4,11 +4,15 @@ pub mod Copies
 pub mod Plains
 pub mod Calls
 pub mod Passes
+pub mod Copied
 pub mod Shown
 pub mod Given
 pub mod Stores
 pub mod Lasting
 pub mod Keeping
+pub mod PowerLoss
+pub mod UnderWay
+pub mod Lists
 pub mod Heads
 pub mod Names
 pub mod Found

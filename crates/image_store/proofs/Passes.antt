@@ -14,12 +14,17 @@ use Rattle.image_store.specs.Plain.{Plain, volume_in, with_blocks, on_volume}
 use Rattle.image_store.specs.Passes.{IsGone, HasSome, HasSomeGone, HasMixed}
 use Rattle.image_store.specs.Steps.{AreMixed}
 use Rattle.image_store.specs.StoreValue.{HasPlains, KeepsPlains}
-use Rattle.image_store.specs.Updating.{AreReady}
+use Rattle.image_store.specs.Updating.{AreMarked, AreReady}
 use Rattle.image_store.proofs.Plains.{same_lists, on_volume-same, on_volume-twice, as_many_plains, as_many_blocks, sets_of_volumes, kept_refl, kept_then, block_now}
 use Rattle.image_store.proofs.Calls.{gone_plains, room_plains, put_on, put_plains}
 use Rattle.image_store.proofs.Sets.{at_or_below}
 
 -- ## the first pass
+
+-- what a mark says of two blocks
+abbrev pub IsMark : Bool → Option (List ℕ) → Option (List ℕ) → Type 0
+IsMark false x y = x ≡ y
+IsMark true x y = x ≢ y
 
 -- the first k blocks are compared
 pub record IsMarkedTo {D I : Type 0} (told : D → Option (List (List ℕ))) (source : Ghosts I) (old now : GroupValue D) (input input_now : I) (v : ℕ)
@@ -28,68 +33,78 @@ pub record IsMarkedTo {D I : Type 0} (told : D → Option (List (List ℕ))) (so
   pub told_is : source.told input_now ≡ source.told input
   pub size_is : source.size input_now ≡ source.size input
   pub len : length differs ≡ length before
-  pub marked : (wanted : List (List ℕ)) (ps : List Plain) → source.told input ≡ Some wanted → HasPlains told old ps → (b : ℕ) → b < k
-      → slice_get differs b ≡ Some false
-      → slice_get (volume_in ps v).blocks b ≡ slice_get wanted b
+  pub marked : (wanted : List (List ℕ)) (ps : List Plain) → source.told input ≡ Some wanted → HasPlains told old ps → (b : ℕ) (mark : Bool) → b < k
+      → slice_get differs b ≡ Some mark
+      → IsMark mark (slice_get (volume_in ps v).blocks b) (slice_get wanted b)
 
 pub marked_none : {D I : Type 0} (told : D → Option (List (List ℕ))) (source : Ghosts I) (old : GroupValue D) (input : I) (v : ℕ) (differs : List Bool)
     → IsMarkedTo told source old old input input v differs differs 0
-marked_none told source old input v differs = record { kept = kept_refl told old; told_is = refl; size_is = refl; len = refl; marked = λ wanted ps is plains b l. absurd (omega arith) }
+marked_none told source old input v differs = record { kept = kept_refl told old; told_is = refl; size_is = refl; len = refl; marked = λ wanted ps is plains b mark l. absurd (omega arith) }
 
 -- one more is
 pub marked_more : {D I : Type 0} (told : D → Option (List (List ℕ))) (source : Ghosts I) (old now new : GroupValue D) (input input_now input_new : I) (v : ℕ)
     (before differs : List Bool) (k : ℕ) (mark : Bool) → IsMarkedTo told source old now input input_now v before differs k → KeepsPlains told now new
     → source.told input_new ≡ source.told input_now → source.size input_new ≡ source.size input_now → k < length differs
-    → ((wanted : List (List ℕ)) (ps : List Plain) → source.told input_now ≡ Some wanted → HasPlains told now ps → mark ≡ false
-    → slice_get (volume_in ps v).blocks k ≡ slice_get wanted k) → IsMarkedTo told source old new input input_new v before (slice_set differs k mark) (k + 1)
-marked_more told source old now new input input_now input_new v before differs k mark so kept told_is size_is l same = record {
+    → ((wanted : List (List ℕ)) (ps : List Plain) → source.told input_now ≡ Some wanted → HasPlains told now ps
+    → IsMark mark (slice_get (volume_in ps v).blocks k) (slice_get wanted k)) → IsMarkedTo told source old new input input_new v before (slice_set differs k mark) (k + 1)
+marked_more told source old now new input input_now input_new v before differs k mark so kept told_is size_is l here = record {
   kept = kept_then told old now new so.kept kept;
   told_is = told_is ∙ so.told_is;
   size_is = size_is ∙ so.size_is;
   len = length-slice_set differs k mark ∙ so.len;
-  marked = λ wanted ps is plains b m at. by_place wanted ps is plains b m at (at_or_below b k (omega arith));
+  marked = λ wanted ps is plains b m low at. by_place wanted ps is plains b m at (at_or_below b k (omega arith));
 } where
-  by_place : (wanted : List (List ℕ)) (ps : List Plain) → source.told input ≡ Some wanted → HasPlains told old ps → (b : ℕ) → b < k + 1
-      → slice_get (slice_set differs k mark) b ≡ Some false
+  by_place : (wanted : List (List ℕ)) (ps : List Plain) → source.told input ≡ Some wanted → HasPlains told old ps → (b : ℕ) (m : Bool)
+      → slice_get (slice_set differs k mark) b ≡ Some m
       → (b ≡ k) ⊎ (b < k)
-      → slice_get (volume_in ps v).blocks b ≡ slice_get wanted b
+      → IsMark m (slice_get (volume_in ps v).blocks b) (slice_get wanted b)
   by_place wanted ps is plains b m at (inl e) =
       let found = slice_get_inside differs k l in
-      let here : slice_get (slice_set differs k mark) k ≡ Some false = ap (λ j. slice_get (slice_set differs k mark) j) (sym e) ∙ at in
-      let there = slice_get-set_same differs k found.0 mark found.1 in
-      let none : mark ≡ false = cc in
-      let equal = same wanted ps (so.told_is ∙ is) (so.kept.plains ps plains) none in
-      subst (λ (j : ℕ). slice_get (volume_in ps v).blocks j ≡ slice_get wanted j) (sym e) equal
+      let there : Some m ≡ Some mark = sym at ∙ ap (slice_get (slice_set differs k mark)) e ∙ slice_get-set_same differs k found.0 mark found.1 in
+      let same : mark ≡ m = cc in
+      let P : ℕ → Type 0 = λ j. IsMark m (slice_get (volume_in ps v).blocks j) (slice_get wanted j) in
+      let Q : Bool → Type 0 = λ t. IsMark t (slice_get (volume_in ps v).blocks k) (slice_get wanted k) in
+      subst P (sym e) (subst Q same (here wanted ps (so.told_is ∙ is) (so.kept.plains ps plains)))
   by_place wanted ps is plains b m at (inr n) =
-      so.marked wanted ps is plains b n (sym (slice_get-set_other differs k b mark (λ e. absurd (omega arith))) ∙ at)
+      so.marked wanted ps is plains b m n (sym (slice_get-set_other differs k b mark (λ e. absurd (omega arith))) ∙ at)
 
 pub marked_all : {D I : Type 0} (told : D → Option (List (List ℕ))) (source : Ghosts I) (old now : GroupValue D) (input input_now : I) (v : ℕ)
     (before differs : List Bool) (k : ℕ)
     → v < length old.area.volumes → length before ≡ blocks_at old v → blocks_at old v ≤ k
     → ((wanted : List (List ℕ)) → source.told input ≡ Some wanted → length wanted ≡ blocks_at old v)
     → IsMarkedTo told source old now input input_now v before differs k
-    → (wanted : List (List ℕ)) (ps : List Plain) → source.told input ≡ Some wanted → HasPlains told old ps → AreReady differs wanted (volume_in ps v).blocks 0
+    → (wanted : List (List ℕ)) (ps : List Plain) → source.told input ≡ Some wanted → HasPlains told old ps → AreMarked differs wanted (volume_in ps v).blocks
 marked_all told source old now input input_now v before differs k l marks all whole so wanted ps is plains =
     let many = as_many_blocks told old ps v plains l in
+    let len = so.len in
     record {
-      marks = so.len ∙ marks ∙ sym many;
-      as_many = whole wanted is ∙ sym many;
-      rest = λ b at.
-          let within = slice_get_within differs b false at in
-          let len = so.len in
-          so.marked wanted ps is plains b (omega arith) at;
-      first = λ b m. absurd (omega arith);
+      ready = record {
+        marks = so.len ∙ marks ∙ sym many;
+        as_many = whole wanted is ∙ sym many;
+        rest = λ b at. let within = slice_get_within differs b false at in so.marked wanted ps is plains b false (omega arith) at;
+        first = λ b m. absurd (omega arith);
+      };
+      differ = λ b at. let within = slice_get_within differs b true at in so.marked wanted ps is plains b true (omega arith) at;
     }
 
--- the block is that of the other device
+-- the mark says whether the block is that of the other device
 pub compared : {D : Type 0} (told : D → Option (List (List ℕ))) (g : GroupValue D) (ps : List Plain) (v k : ℕ) (piece other a b : List ℕ) (same : Bool) (input : Option (List (List ℕ)))
     (wanted : List (List ℕ))
     → HasPlains told g ps → v < length g.area.volumes → k < blocks_at g v → IsNow told g v k piece → IfSome input (λ blocks. slice_get blocks k ≡ Some other) → input ≡ Some wanted
-    → (same ≡ true → a ≡ b) → a ≡ piece → b ≡ other → not same ≡ false → slice_get (volume_in ps v).blocks k ≡ slice_get wanted k
-compared told g ps v k piece other a b true input wanted has l m now read is equal first second e =
-    let there : slice_get wanted k ≡ Some other = subst (λ (o : Option (List (List ℕ))). IfSome o (λ blocks. slice_get blocks k ≡ Some other)) is read in
-    block_now told g ps v k piece has l m now ∙ ap Some (sym first ∙ equal refl ∙ second) ∙ sym there
-compared told g ps v k piece other a b false input wanted has l m now read is equal first second e = cc
+    → (same ≡ true → a ≡ b) → (same ≡ false → a ≢ b) → a ≡ piece → b ≡ other → IsMark (not same) (slice_get (volume_in ps v).blocks k) (slice_get wanted k)
+compared told g ps v k piece other a b same input wanted has l m now read is equal differ first second = by_test same equal differ where
+  here : slice_get (volume_in ps v).blocks k ≡ Some piece
+  here = block_now told g ps v k piece has l m now
+
+  there : slice_get wanted k ≡ Some other
+  there = subst (λ (o : Option (List (List ℕ))). IfSome o (λ blocks. slice_get blocks k ≡ Some other)) is read
+
+  some_same : (x y : List ℕ) → Some x ≡ Some y → x ≡ y
+  some_same x y e = cc
+
+  by_test : (t : Bool) → (t ≡ true → a ≡ b) → (t ≡ false → a ≢ b) → IsMark (not t) (slice_get (volume_in ps v).blocks k) (slice_get wanted k)
+  by_test true equal differ = here ∙ ap Some (sym first ∙ equal refl ∙ second) ∙ sym there
+  by_test false equal differ = λ e. differ refl (first ∙ some_same piece other (sym here ∙ e ∙ there) ∙ sym second)
 
 pub as_many_wanted : (size n : ℕ) (input : Option (List (List ℕ))) (wanted : List (List ℕ)) → IfSome input (AreBlocks size) → size ≡ n → input ≡ Some wanted → length wanted ≡ n
 as_many_wanted size n input wanted whole e is = (subst (λ (o : Option (List (List ℕ))). IfSome o (AreBlocks size)) is whole).number ∙ e

@@ -1,11 +1,11 @@
 -- A group and the whole copies that it has: how a call on it changes them.
-use Rattle.std.proofs.Common.{◌≡◌, ℕ, zero, suc, ◌<◌, List, [], ◌∷◌, length, map, refl, ap, sym, subst, ◌∙◌, arith, Bool, true, Option, Some, option_map}
-use Rattle.std.specs.Prelude.{slice_get}
-use Rattle.std.proofs.lemmas.Option.{slice_get_within}
+use Rattle.std.proofs.Common.{◌≡◌, ℕ, zero, suc, ◌<◌, List, [], ◌∷◌, length, map, refl, ap, sym, subst, ◌∙◌, arith, Bool, true, Option, Some, option_map, is_some}
+use Rattle.std.specs.Prelude.{slice_get, IfSome, None}
+use Rattle.std.proofs.lemmas.Option.{same_Some, slice_get_within}
 use Rattle.write_history.specs.History.{Image, History, content, contents, point_in, sets_of, AreInTime}
 use Rattle.write_history.specs.Slots.{gone_up_to}
 use Rattle.cow_volume.specs.GroupValue.{GroupValue, placed}
-use Rattle.cow_volume.specs.StandsFor.{StandsFor}
+use Rattle.cow_volume.specs.StandsFor.{StandsFor, told_in}
 use Rattle.cow_volume.specs.Ending.{AllTell, IsSynced}
 use Rattle.cow_volume.specs.Calls.{history_at, changed_at, blocks_at, blocks_in, sets_at, sets_in, is_among, IsKept, IsQuiet, IsNow, IsShown}
 use Rattle.cow_volume.proofs.Group.{slice_get_inside, slice_get_map, place_at, quiet_stands}
@@ -193,6 +193,25 @@ has_changed ghosts old new ps v F f has kept l stands e =
     let at = at_volume ghosts.told old ps v has l in
     has_now ghosts old new ps (on_volume v f ps) (changed_at v F has.hs) has kept stands
     (ap (on_volume v f) has.plains ∙ sym (volumes_changed old.area.volumes has.hs v at.blocks at.history F f at.blocks_are at.history_is (e at)))
+
+-- ## blocks that are told
+
+-- a device tells what is known where the area's tells too
+pub told_blocks : (area told : Option (List (List ℕ))) (want : List (List ℕ)) → is_some area ≡ true → is_some told ≡ true → IfSome (told_in area told) (λ blocks. blocks ≡ want) → told ≡ Some want
+told_blocks None told want a t is = cc
+told_blocks (Some slots) None want a t is = cc
+told_blocks (Some slots) (Some blocks) want a t is = ap Some is
+
+pub device_tells : {D : Type 0} → (told : D → Option (List (List ℕ))) (g : GroupValue D) (ps : List Plain) (v : ℕ) (d : D) → HasPlains told g ps → v < length g.area.volumes → slice_get g.devices v ≡ Some d
+    → told d ≡ Some (volume_in ps v).blocks
+device_tells {D = D} told g ps v d has l at =
+    let place = place_at told g has.hs v has.stands l in
+    let h = history_at has.hs v in
+    let same : place.device ≡ d = same_Some place.device d (sym place.device_at ∙ at) in
+    let plain : volume_in ps v ≡ plain_of place.blocks h = ap (λ qs. volume_in qs v) has.plains ∙ ap plain_in (volume_there g.area.volumes has.hs v place.blocks h place.blocks_at place.history) in
+    told_blocks (told g.area.device) (told d) (contents place.blocks h.writes (length h.writes)) has.area (has.devices v d at)
+    (subst (λ (x : D). IfSome (told_in (told g.area.device) (told x)) (λ blocks. blocks ≡ contents place.blocks h.writes (length h.writes))) same place.stands.blocks)
+    ∙ ap (λ (p : Plain). Some p.blocks) (sym plain)
 
 -- ## blocks that are read
 

@@ -16,11 +16,11 @@ get_is xs i x at = some_same (sym at ∙ place_is xs i (slice_get_within xs i x 
   some_same : {x y : ℕ} → Some x ≡ Some y → x ≡ y
   some_same e = cc
 
--- a mark that is not set
-pub flag_is : (xs : List Bool) (i : ℕ) (d : Bool) → i < length xs → slice_index_or xs i d ≡ false → slice_get xs i ≡ Some false
-flag_is [] i d l e = absurd (omega arith)
-flag_is (x ∷ xs) zero d l e = ap Some e
-flag_is (x ∷ xs) (suc i) d l e = flag_is xs i d (omega arith) e
+-- a mark
+pub flag_is : (xs : List Bool) (i : ℕ) (d t : Bool) → i < length xs → slice_index_or xs i d ≡ t → slice_get xs i ≡ Some t
+flag_is [] i d t l e = absurd (omega arith)
+flag_is (x ∷ xs) zero d t l e = ap Some e
+flag_is (x ∷ xs) (suc i) d t l e = flag_is xs i d t (omega arith) e
 
 pub at_or_below : (b k : ℕ) → b < k + 1 → (b ≡ k) ⊎ (b < k)
 at_or_below zero zero l = inl refl
@@ -31,7 +31,7 @@ at_or_below (suc b) (suc k) l = further b k (at_or_below b k (omega arith)) wher
   further b k (inl e) = inl (ap suc e)
   further b k (inr l) = inr (omega arith)
 
-below_or_past : (v n : ℕ) → (v < n) ⊎ (n ≤ v)
+pub below_or_past : (v n : ℕ) → (v < n) ⊎ (n ≤ v)
 below_or_past v zero = inr (omega arith)
 below_or_past zero (suc n) = inl (omega arith)
 below_or_past (suc v) (suc n) = further v n (below_or_past v n) where
@@ -39,7 +39,7 @@ below_or_past (suc v) (suc n) = further v n (below_or_past v n) where
   further v n (inl l) = inl (omega arith)
   further v n (inr l) = inr (omega arith)
 
-get_past : {X : Type 0} (xs : List X) (v : ℕ) → length xs ≤ v → slice_get xs v ≡ None
+pub get_past : {X : Type 0} (xs : List X) (v : ℕ) → length xs ≤ v → slice_get xs v ≡ None
 get_past [] v l = refl
 get_past (x ∷ xs) zero l = absurd (omega arith)
 get_past (x ∷ xs) (suc v) l = get_past xs v (omega arith)

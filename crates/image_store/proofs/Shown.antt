@@ -13,7 +13,7 @@ use Rattle.cow_volume.specs.GroupValue.{GroupValue}
 use Rattle.cow_volume.specs.Calls.{blocks_at, sets_at, sets_in, is_among, IsNow, IsShown as IsImage}
 use Rattle.image_store.specs.FileBytes.{file_in, length_in, has_length, number_in}
 use Rattle.image_store.specs.Plain.{Plain, volume_in}
-use Rattle.image_store.specs.Showing.{HasBlock, HasLength, HasNoLength, HasReadCause, HasShowCause, IfBad, IsShow, IsShown, IsShownInPart, IsUnseen, shown_in}
+use Rattle.image_store.specs.Showing.{HasBlock, HasLength, HasNoLength, HasReadCause, HasShowCause, IfBad, IsShow, IsShown, IsShownInPart, IsUnseen, shown_in, IsSeen}
 use Rattle.image_store.specs.StoreValue.{HasPlains, KeepsPlains}
 use Rattle.image_store.specs.declared.which.Which.{Which}
 use Rattle.image_store.specs.declared.which.Which.TheVariants.{Now, Of}
@@ -217,19 +217,29 @@ nothing_shown : (shown : Option (List (List ℕ))) (before : Option (List ℕ)) 
 nothing_shown shown before = record { bytes = []; took = took_none before; part = λ blocks are. (file_in blocks, refl) }
 
 pub bad_shown : (shown : Option (List (List ℕ))) (before : Option (List ℕ)) (fault : ShowFault) → IfBad shown fault → IsShow shown before before (Err fault)
-bad_shown shown before NoSuchImage bad = nothing_shown shown before
+bad_shown shown before NoSuchImage bad = refl
 bad_shown shown before (BadLength found) bad = (refl, bad)
 bad_shown shown before Volume bad = nothing_shown shown before
 bad_shown shown before Area bad = nothing_shown shown before
 bad_shown shown before Sink bad = nothing_shown shown before
 
-pub read_failed : {D : Type 0} (g : GroupValue D) (v : ℕ) (which : Which) (shown : Option (List (List ℕ))) (before now : Option (List ℕ)) (fault : ShowFault) → HasReadCause g v which fault
+-- an image stands, or it does not
+not_both : {D : Type 0} (g : GroupValue D) (v : ℕ) (which : Which) → IsSeen g v which → IsUnseen g v which → ⊥
+not_both g v Now seen none = none
+not_both g v (Of set) seen none = let both : true ≡ false = sym seen ∙ none in cc
+
+pub read_failed : {D : Type 0} (g : GroupValue D) (v : ℕ) (which : Which) (shown : Option (List (List ℕ))) (before now : Option (List ℕ)) (fault : ShowFault) → IsSeen g v which → HasReadCause g v which fault
     → IsShownInPart shown before now → IsShow shown before now (Err fault)
-read_failed g v which shown before now NoSuchImage cause part = part
-read_failed g v which shown before now (BadLength found) cause part = absurd cause
-read_failed g v which shown before now Volume cause part = part
-read_failed g v which shown before now Area cause part = part
-read_failed g v which shown before now Sink cause part = absurd cause
+read_failed g v which shown before now NoSuchImage seen cause part = absurd (not_both g v which seen cause)
+read_failed g v which shown before now (BadLength found) seen cause part = absurd cause
+read_failed g v which shown before now Volume seen cause part = part
+read_failed g v which shown before now Area seen cause part = part
+read_failed g v which shown before now Sink seen cause part = absurd cause
+
+-- it stands where it stood
+pub seen_in : {D : Type 0} (old now : GroupValue D) (v : ℕ) (which : Which) → now.images ≡ old.images → IsSeen now v which → IsSeen old v which
+seen_in old now v Now same seen = seen
+seen_in old now v (Of set) same seen = ap (λ (images : List (List ℕ)). is_among set (sets_in (slice_get images v))) (sym same) ∙ seen
 
 unseen_in : {D : Type 0} (old now : GroupValue D) (v : ℕ) (which : Which) → now.images ≡ old.images → IsUnseen now v which → IsUnseen old v which
 unseen_in old now v Now same none = none
@@ -239,16 +249,16 @@ pub read_cause : {D : Type 0} (old now : GroupValue D) (v : ℕ) (which : Which)
     → HasShowCause old v which rose fault
 read_cause old now v which rose NoSuchImage same cause = unseen_in old now v which same cause
 read_cause old now v which rose (BadLength found) same cause = absurd cause
-read_cause old now v which rose Volume same cause = tt
-read_cause old now v which rose Area same cause = tt
+read_cause old now v which rose Volume same cause = seen_in old now v which same cause
+read_cause old now v which rose Area same cause = seen_in old now v which same cause
 read_cause old now v which rose Sink same cause = absurd cause
 
 pub length_cause : {D : Type 0} (old : GroupValue D) (v : ℕ) (which : Which) (rose : Type 0) (fault : ShowFault) → HasShowCause old v which ⊥ fault → HasShowCause old v which rose fault
 length_cause old v which rose NoSuchImage cause = cause
-length_cause old v which rose (BadLength found) cause = tt
-length_cause old v which rose Volume cause = tt
-length_cause old v which rose Area cause = tt
-length_cause old v which rose Sink cause = absurd cause
+length_cause old v which rose (BadLength found) cause = cause
+length_cause old v which rose Volume cause = cause
+length_cause old v which rose Area cause = cause
+length_cause old v which rose Sink cause = absurd cause.1
 
 -- a block that was not read has no bad length
 pub read_good : {D : Type 0} (g : GroupValue D) (v : ℕ) (which : Which) (shown : Option (List (List ℕ))) (fault : ShowFault) → HasReadCause g v which fault → IfBad shown fault

@@ -11,7 +11,11 @@ pub mod Opening
 pub mod Closing
 pub mod Failing
 pub mod Updating
+pub mod Copying
+pub mod PowerLoss
 pub mod Passes
 pub mod Cutting
 pub mod Showing
 pub mod Reverting
+pub mod Lists
+pub mod Messages

@@ -1,5 +1,5 @@
 -- What is shown of a volume, or of its image of a set: the file that its blocks have, to the file's length. (This project's own.)
-use Rattle.std.specs.Prelude.{ℕ, ◌≡◌, ◌+◌, ◌*◌, ◌≤◌, false, List, ◌++◌, length, Option, Some, slice_get, Result, Ok, Err}
+use Rattle.std.specs.Prelude.{ℕ, ◌≡◌, ◌+◌, ◌*◌, ◌≤◌, true, false, List, ◌++◌, length, Option, Some, slice_get, Result, Ok, Err}
 use Rattle.block_data.specs.declared.block_buf.TheConstants.{BLOCK}
 use Rattle.io_edge.specs.Streams.{Took}
 use Rattle.cow_volume.specs.Calls.{is_among, sets_at}
@@ -47,11 +47,11 @@ pub record IsShownInPart (shown : Option (List (List ℕ))) (before after : Opti
   pub took : Took before bytes after
   pub part : (blocks : List (List ℕ)) → shown ≡ Some blocks → (rest : List ℕ) × (bytes ++ rest ≡ file_in blocks)
 
--- the sink took the file, or a first part of it: the length comes first, so nothing where that is bad
+-- the sink took the file, or a first part of it: the length comes first, so nothing where there is no image, or that is bad
 abbrev pub IsShow : Option (List (List ℕ)) → Option (List ℕ) → Option (List ℕ) → Result Unit ShowFault → Type 0
 IsShow shown before after (Ok done) = IsShown shown before after
 IsShow shown before after (Err (BadLength found)) = (after ≡ before) × HasNoLength shown found
-IsShow shown before after (Err NoSuchImage) = IsShownInPart shown before after
+IsShow shown before after (Err NoSuchImage) = after ≡ before
 IsShow shown before after (Err Volume) = IsShownInPart shown before after
 IsShow shown before after (Err Area) = IsShownInPart shown before after
 IsShow shown before after (Err Sink) = IsShownInPart shown before after
@@ -61,20 +61,25 @@ abbrev pub IsUnseen : {D : Type 0} → GroupValue D → ℕ → Which → Type 0
 IsUnseen g v Now = ⊥
 IsUnseen g v (Of set) = is_among set (sets_at g v) ≡ false
 
+-- one does, or the volume is shown as it is
+abbrev pub IsSeen : {D : Type 0} → GroupValue D → ℕ → Which → Type 0
+IsSeen g v Now = Unit {0}
+IsSeen g v (Of set) = is_among set (sets_at g v) ≡ true
+
 -- why it was not shown: where the sink failed, its count rose
 abbrev pub HasShowCause : {D : Type 0} → GroupValue D → ℕ → Which → Type 0 → ShowFault → Type 0
 HasShowCause g v which rose NoSuchImage = IsUnseen g v which
-HasShowCause g v which rose (BadLength found) = Unit {0}
-HasShowCause g v which rose Volume = Unit {0}
-HasShowCause g v which rose Area = Unit {0}
-HasShowCause g v which rose Sink = rose
+HasShowCause g v which rose (BadLength found) = IsSeen g v which
+HasShowCause g v which rose Volume = IsSeen g v which
+HasShowCause g v which rose Area = IsSeen g v which
+HasShowCause g v which rose Sink = IsSeen g v which × rose
 
 -- why a block was not read
 abbrev pub HasReadCause : {D : Type 0} → GroupValue D → ℕ → Which → ShowFault → Type 0
 HasReadCause g v which NoSuchImage = IsUnseen g v which
 HasReadCause g v which (BadLength found) = ⊥
-HasReadCause g v which Volume = Unit {0}
-HasReadCause g v which Area = Unit {0}
+HasReadCause g v which Volume = IsSeen g v which
+HasReadCause g v which Area = IsSeen g v which
 HasReadCause g v which Sink = ⊥
 
 -- the length that was found is bad

@@ -1,7 +1,7 @@
 -- How a volume is brought to the blocks of another device, in three passes. The first marks the blocks that differ, and changes nothing.
 -- The second copies their old bytes into slots, and the volume is as it was. The third writes them. (This project's own: what is kept after
 -- the second shows each image as it is, whenever the third is broken off.)
-use Rattle.std.specs.Prelude.{ℕ, ◌≡◌, ◌<◌, Bool, false, List, length, map, Option, Some, slice_get, Result, Ok, Err}
+use Rattle.std.specs.Prelude.{ℕ, ◌≡◌, ◌≢◌, ◌<◌, Bool, true, false, List, length, map, Option, Some, slice_get, Result, Ok, Err}
 use Rattle.write_history.specs.declared.evicted.Evicted.{Evicted}
 use Rattle.cow_volume.specs.Room.{images_going}
 use Rattle.image_store.specs.Plain.{PlainStore, sets_on}
@@ -17,6 +17,11 @@ pub record AreReady (differs : List Bool) (wanted blocks : List (List ℕ)) (fro
   pub as_many : length wanted ≡ length blocks
   pub rest : (b : ℕ) → slice_get differs b ≡ Some false → slice_get blocks b ≡ slice_get wanted b
   pub first : (b : ℕ) → b < from → slice_get blocks b ≡ slice_get wanted b
+
+-- the marked blocks are just those that differ
+pub record AreMarked (differs : List Bool) (wanted blocks : List (List ℕ)) : Type 0 where
+  pub ready : AreReady differs wanted blocks 0
+  pub differ : (b : ℕ) → slice_get differs b ≡ Some true → slice_get blocks b ≢ slice_get wanted b
 
 -- images went up to a set for want of slots, and these were told, of a store that had these copies
 pub record IsStopped {D : Type 0} (told : D → Option (List (List ℕ))) (new : StoreValue D) (p : PlainStore) (up_to : ℕ) (list : List Evicted) : Type 0 where

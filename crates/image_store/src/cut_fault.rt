@@ -1,5 +1,5 @@
 /// Why no set was cut. Nothing changed.
-#[derive(Clone, Copy)]
+#[derive(Clone, Copy, Debug, PartialEq, Eq)]
 pub enum CutFault {
     /// The last set that was given has the greatest number.
     NoNextSet,

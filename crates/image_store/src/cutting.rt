@@ -4,7 +4,7 @@ ghost use Rattle.std.specs.Prelude.{◌≡◌, ◌≢◌, ◌<◌, ◌≤◌, �
 ghost use Rattle.std.specs.List.{AllPairs};
 ghost use Rattle.diff_map.specs.MapValue.{AreImages};
 ghost use Rattle.cow_volume.specs.Calls.{is_among, sets_at};
-ghost use Rattle.image_store.specs.Cutting.{IsFirstFull, IsGiven};
+ghost use Rattle.image_store.specs.Cutting.{IsFirstFull, IsGreatestSet};
 ghost use Rattle.image_store.specs.Plain.{Plain, cut_on, on_each};
 ghost use Rattle.image_store.specs.StoreValue.{HasPlains};
 
@@ -52,9 +52,7 @@ fn greater_of(a: u32, b: u32) -> u32
 
 /// The greatest of the last set that was given and the sets of all images.
 pub fn greatest_set<D: Device>(group: &CowGroup<D>, last: u32) -> u32
-    ensures last { last ≤ result }
-    ensures all { (v : ℕ) → All (λ s. s ≤ result) (sets_at group.now v) }
-    ensures given { IsGiven group.now last result }
+    ensures { IsGreatestSet group.now last result }
 {
     let mut greatest = last;
     for v in 0..group.volumes() {

@@ -6,6 +6,7 @@ ghost use Rattle.image_store.specs.Course.{AreTaken, CallsFollowOneAnother, File
 ghost use Rattle.image_store.specs.Head.{bytes_of_head, head_of, said_of};
 ghost use Rattle.image_store.specs.Keeping.{IsKeptAs};
 ghost use Rattle.image_store.specs.Plain.{PlainStore};
+ghost use Rattle.image_store.specs.PowerLoss.{WhatIsUnderWayIsFound};
 ghost use Rattle.image_store.specs.Steps.Step.{Opened};
 ghost use Rattle.image_store.specs.StoreValue.{StandsAs};
 
@@ -96,3 +97,9 @@ pub fn what_is_closed_is_opened<D: Device>(
     let closed = store.close();
     (closed, Store::open(alloc, later, again, head))
 }
+
+/// At every moment between two calls of an update, what is found after a loss of power is what was committed: whatever lasted of the blocks
+/// that were written since, the committed head opens to the same images (`Store::copy_ahead`, `Store::sync`, `Store::overwrite`).
+pub fn what_is_under_way_is_found<D: Device>()
+    ensures { WhatIsUnderWayIsFound D.told }
+{}

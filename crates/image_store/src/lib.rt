@@ -9,12 +9,15 @@
 #![tactic(auto)]
 
 mod bytes;
+mod capture_fault;
+mod capturing;
 mod closed;
 mod cut_fault;
 mod cutting;
 mod flushing;
 mod head;
 mod laws;
+mod messages;
 mod naming;
 mod new_fault;
 mod open_fault;
@@ -29,13 +32,14 @@ mod store;
 mod updating;
 mod which;
 
+pub use capture_fault::CaptureFault;
 pub use closed::Closed;
 pub use cut_fault::CutFault;
 pub use head::Head;
 pub use laws::{
     a_show_is_a_step, calls_follow_one_another, files_come_back, images_are_of_their_cut,
     images_come_of_cuts, sets_are_cut_once, shown_is_of_its_cut, what_is_closed_is_opened,
-    what_lasts_is_found,
+    what_is_under_way_is_found, what_lasts_is_found,
 };
 pub use new_fault::NewFault;
 pub use open_fault::OpenFault;

@@ -1,11 +1,10 @@
 use cow_volume::ResumeFault;
 use diff_area::AreaFault;
-use std::fmt;
 use vss_catalog::CatalogFault;
 use vss_names::OutOfMemory;
 
 /// Why devices, an area's device and the bytes of a head are no store: what is first wrong, in this order. Volumes are counted from 0.
-#[derive(Clone, Copy)]
+#[derive(Clone, Copy, Debug, PartialEq, Eq)]
 pub enum OpenFault {
     /// The head ends before its catalog does, or goes on behind it.
     Length { found: u64 },
@@ -28,30 +27,6 @@ pub enum OpenFault {
     /// The slot holds a copy for the image of this set, which the catalog does not have.
     Image { slot: u32, set: u32 },
     OutOfMemory,
-}
-
-impl fmt::Display for OpenFault {
-    fn fmt<W: fmt::Write>(&self, f: &mut fmt::Formatter<W>) -> fmt::Result {
-        match self {
-            OpenFault::Length { found } => write!(f, "length: {found} bytes"),
-            OpenFault::Letters => f.write_str("letters: others"),
-            OpenFault::Catalog(fault) => write!(f, "catalog: {fault}"),
-            OpenFault::Devices { found } => write!(f, "devices: {found}"),
-            OpenFault::DoubleName { volume } => write!(
-                f,
-                "catalog: volume {volume} has the name of an earlier one"
-            ),
-            OpenFault::Set { volume, set } => write!(
-                f,
-                "catalog: volume {volume} has an image of set {set}, which was not given"
-            ),
-            OpenFault::Area(fault) => write!(f, "{fault}"),
-            OpenFault::Volumes { found } => write!(f, "header: {found} volumes"),
-            OpenFault::Blocks { volume, found } => write!(f, "volume {volume}: {found} blocks"),
-            OpenFault::Image { slot, set } => write!(f, "slot {slot}: set {set} has no image"),
-            OpenFault::OutOfMemory => f.write_str("out of memory"),
-        }
-    }
 }
 
 impl From<CatalogFault> for OpenFault {

@@ -1,7 +1,7 @@
 use cow_volume::Cause;
 
 /// Why a pass of an update failed.
-#[derive(Clone, Copy)]
+#[derive(Clone, Copy, Debug, PartialEq, Eq)]
 pub enum PassFault {
     /// The device that has the wanted blocks failed, and its count of faults rose.
     Input,

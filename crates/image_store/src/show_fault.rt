@@ -1,5 +1,5 @@
 /// Why a file was not shown, or not to its end.
-#[derive(Clone, Copy)]
+#[derive(Clone, Copy, Debug, PartialEq, Eq)]
 pub enum ShowFault {
     /// No image of this set stands on the volume.
     NoSuchImage,

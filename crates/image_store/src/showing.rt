@@ -5,7 +5,7 @@ ghost use Rattle.vss_names.specs.Faults.{Rose};
 ghost use Rattle.cow_volume.specs.Calls.{IsUnfailed, blocks_at};
 ghost use Rattle.image_store.specs.Failing.{IsShowFault};
 ghost use Rattle.image_store.specs.Plain.{Plain};
-ghost use Rattle.image_store.specs.Showing.{HasBlock, HasLength, HasReadCause, HasShowCause, IfBad, IsShow, shown_in};
+ghost use Rattle.image_store.specs.Showing.{HasBlock, HasLength, HasReadCause, HasShowCause, IfBad, IsSeen, IsShow, shown_in};
 ghost use Rattle.image_store.specs.StoreValue.{HasPlains, KeepsPlains};
 
 use crate::bytes::length_said;
@@ -30,6 +30,7 @@ fn read_which<D: Device>(
     ensures read { OnOk result ((ps : List Plain) → HasPlains D.told group.old ps → HasBlock (shown_in ps v which) (blocks_at group.old v) b piece.new) }
     ensures kept { KeepsPlains D.told group.old group.new }
     ensures images { group.new.images ≡ group.old.images }
+    ensures seen { OnOk result (IsSeen group.old v which) }
     ensures cause { IfErr result (HasReadCause group.old v which) }
     ensures same { OnOk result (IsUnfailed D.count group.old group.new) }
     ensures failed { IfErr result (IsShowFault D.count v group.old group.new) }
@@ -58,6 +59,7 @@ pub fn length_of<D: Device>(
 ) -> Result<u64, ShowFault>
     requires { v < length group.old.area.volumes }
     ensures length { IfOk result (λ n. (ps : List Plain) → HasPlains D.told group.old ps → HasLength (shown_in ps v which) (blocks_at group.old v) n) }
+    ensures seen { OnOk result (IsSeen group.old v which) }
     ensures bad { IfErr result (λ fault. (ps : List Plain) → HasPlains D.told group.old ps → IfBad (shown_in ps v which) fault) }
     ensures cause { IfErr result (HasShowCause group.old v which ⊥) }
     ensures same { OnOk result (IsUnfailed D.count group.old group.new) }
@@ -95,6 +97,8 @@ pub fn show_blocks<D: Device, K: Sink>(
     sink: &mut K,
 ) -> Result<(), ShowFault>
     requires { v < length group.old.area.volumes }
+    ensures seen { OnOk result (IsSeen group.old v which) }
+    ensures images { group.new.images ≡ group.old.images }
     ensures show { (ps : List Plain) → HasPlains D.told group.old ps → IsShow (shown_in ps v which) (K.taken sink.old) (K.taken sink.new) result }
     ensures cause { IfErr result (HasShowCause group.old v which (Rose (K.count sink.old) (K.count sink.new))) }
     ensures failed { IfErr result (IsShowFault D.count v group.old group.new) }

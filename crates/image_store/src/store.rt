@@ -1,14 +1,13 @@
 ghost use Rattle.std.specs.Prelude.{◌≡◌, ◌≢◌, ◌<◌, ◌≤◌, ◌*◌, ℕ, List, Some, None, Ok, true, false, length, replicate, map, slice_get, vec_capacity, is_some, All, IfOk, IfErr, IfSome, IsErrOf, IsNone, OnOk, OnErr, IsTrue};
 ghost use Rattle.std.specs.List.{AllPairs};
 ghost use Rattle.block_data.specs.Runs.{zeros};
-ghost use Rattle.diff_area.specs.Records.{free};
+ghost use Rattle.diff_area.specs.Records.{free, AreRecords};
 ghost use Rattle.diff_area.specs.AreaValue.{AreaValue};
 ghost use Rattle.vss_catalog.specs.Names.{bytes_in};
 ghost use Rattle.vss_catalog.specs.Entries.{lists_of};
 ghost use Rattle.vss_catalog.specs.Group.{are_names_for, entries_of};
 ghost use Rattle.vss_catalog.specs.Reading.{catalog_in};
 ghost use Rattle.vss_catalog.specs.Written.{bytes_of};
-ghost use Rattle.cow_volume.specs.GroupValue.{placed};
 ghost use Rattle.write_history.specs.History.{History};
 ghost use Rattle.write_history.specs.Slots.{group_used, used_by};
 ghost use Rattle.cow_volume.specs.Calls.{DeviceRose, IsUnfailed, VolumeRose, blocks_at, history_at, is_among, sets_at};
@@ -19,10 +18,15 @@ ghost use Rattle.vss_names.specs.Faults.{Rose};
 ghost use Rattle.image_store.specs.Plain.{PlainStore, fresh_store, plain_at};
 ghost use Rattle.image_store.specs.Steps.Step.{Cut, Dropped};
 ghost use Rattle.image_store.specs.StoreValue.{StandsAs, IsStep, StandsStill};
-ghost use Rattle.image_store.specs.Updating.{AreReady, IsAhead, IsOverwriting};
-ghost use Rattle.image_store.specs.Showing.{HasLength, HasShowCause, IsShow, shown_in};
-ghost use Rattle.image_store.specs.Reverting.{IsRevert};
-ghost use Rattle.image_store.specs.Cutting.{IsCutRefused};
+ghost use Rattle.image_store.specs.Updating.{AreMarked, AreReady, IsAhead, IsOverwriting};
+ghost use Rattle.image_store.specs.Copying.{AreCopied, HasCopiesOf, IsAreaLeft, IsCopiedAhead};
+ghost use Rattle.image_store.specs.PowerLoss.{IsCommitted, IsUnderWay};
+ghost use Rattle.cow_volume.specs.GroupValue.{GroupValue, placed};
+ghost use Rattle.volume_device.specs.Blocks.{AreBlocks};
+ghost use Rattle.image_store.specs.Showing.{HasLength, HasShowCause, IfBad, IsSeen, IsShow, shown_in};
+ghost use Rattle.image_store.specs.Reverting.{HasLists, IsRevert};
+ghost use Rattle.image_store.specs.Lists.{AreListsOf, other_sets};
+ghost use Rattle.image_store.specs.Cutting.{IsCutRefused, IsNextSet};
 ghost use Rattle.image_store.specs.Closing.{IsCloseFault, given_back};
 ghost use Rattle.image_store.specs.Failing.{IsPassFault, IsRevertFault, IsShowFault};
 ghost use Rattle.image_store.specs.Head.{head_of, said_of};
@@ -31,6 +35,8 @@ ghost use Rattle.image_store.specs.Naming.{AreApart, AreNoNames, AreOthers, IsNa
 ghost use Rattle.image_store.specs.Opening.{AreParts, IsHeadFor, IsNoHeadFor, IsOpened, IsOpenFault, IsPartsFault, names_of};
 ghost use Rattle.vss_names.specs.TextValue.{TextValue};
 
+use crate::capture_fault::CaptureFault;
+use crate::capturing::capture_blocks;
 use crate::closed::Closed;
 use crate::cut_fault::CutFault;
 use crate::cutting::{cut_all, first_full, greatest_set};
@@ -121,6 +127,7 @@ impl<D: Device> Store<D> {
         head: &Head,
     ) -> Result<Store<D>, Refused<D>>
         ensures kept { IfOk result (λ store. (p : PlainStore) → IsKeptAs D.told devices.items area head.now p → StandsAs D.told store p) }
+        ensures committed { IfOk result (λ store. (p : PlainStore) → IsKeptAs D.told devices.items area head.now p → IsCommitted D.told store p) }
         ensures untold { IfOk result (λ store. NoneTell D.told devices.items area → (hs : List History) × StandsFor D.told store.group hs) }
         ensures opened { IfOk result (IsOpened D.Device devices.items area head.now) }
         ensures refused { IfErr result (λ refused. IsOpenFault D.Device devices.items area head.now refused.area refused.fault) }
@@ -234,7 +241,7 @@ impl<D: Device> Store<D> {
         requires apart { AllPairs (λ u v. u ≢ v) volumes.now }
         ensures cut { IfOk result (λ set. IsStep D.told self.old self.new (Cut set volumes.now)) }
         ensures last { IfOk result (λ set. self.new.last ≡ set) }
-        ensures later { IfOk result (λ set. self.old.last < set) }
+        ensures next { IfOk result (IsNextSet self.old volumes.now) }
         ensures refused { IfErr result (IsCutRefused self.old volumes.now) }
         ensures unchanged { OnErr result (self.new ≡ self.old) }
         ensures volumes { self.new.group.area.volumes ≡ self.old.group.area.volumes }
@@ -256,6 +263,8 @@ impl<D: Device> Store<D> {
     pub fn drop_image(&mut self, set: u32, v: u32) -> Result<(), ImageFault>
         requires { v < length self.old.group.area.volumes }
         ensures dropped { OnOk result (IsStep D.told self.old self.new (Dropped set v)) }
+        ensures stood { OnOk result (is_among set (sets_at self.old.group v) ≡ true) }
+        ensures lists { OnOk result (AreListsOf D.told self.old.group self.new.group v (other_sets set)) }
         ensures refused { IfErr result (λ fault. (fault ≡ ImageFault.NoSuchImage) × (is_among set (sets_at self.old.group v) ≡ false)) }
         ensures unchanged { OnErr result (self.new ≡ self.old) }
         ensures volumes { self.new.group.area.volumes ≡ self.old.group.area.volumes }
@@ -267,6 +276,7 @@ impl<D: Device> Store<D> {
     pub fn revert(&mut self, set: u32, v: u32) -> Result<(), RevertFault>
         requires { v < length self.old.group.area.volumes }
         ensures revert { (p : PlainStore) → StandsAs D.told self.old p → IsRevert D.told self.new p set v result }
+        ensures lists { HasLists D.told self.old self.new set v result }
         ensures failed { IfErr result (IsRevertFault D.count v self.old.group self.new.group) }
         ensures volumes { self.new.group.area.volumes ≡ self.old.group.area.volumes }
     {
@@ -283,8 +293,8 @@ impl<D: Device> Store<D> {
         requires volume { v < length self.old.group.area.volumes }
         requires sizes { I.size input.old ≡ blocks_at self.old.group v }
         requires marks { length differs.old ≡ blocks_at self.old.group v }
-        ensures ready { OnOk result ((wanted : List (List ℕ)) (p : PlainStore) → I.told input.old ≡ Some wanted → StandsAs D.told self.old p
-            → AreReady differs.new wanted (plain_at p v).blocks 0) }
+        ensures marked { OnOk result ((wanted : List (List ℕ)) (p : PlainStore) → I.told input.old ≡ Some wanted → StandsAs D.told self.old p
+            → AreMarked differs.new wanted (plain_at p v).blocks) }
         ensures failed { IfErr result (IsPassFault D.count v self.old.group self.new.group (I.count input.old) (I.count input.new)) }
         ensures still { StandsStill D.told self.old self.new }
         ensures told { I.told input.new ≡ I.told input.old }
@@ -317,6 +327,9 @@ impl<D: Device> Store<D> {
         requires space { 512 * length self.old.group.area.volumes ≤ vec_capacity gone.old }
         ensures failed { IfErr result (DeviceRose D.count v self.old.group self.new.group) }
         ensures ahead { (p : PlainStore) → StandsAs D.told self.old p → IsAhead D.told self.new p gone.new.items result }
+        ensures copied { IsCopiedAhead D.told self.old.group self.new.group v differs.now from to copied.old copied.new result }
+        ensures under_way { (committed : GroupValue D) (p : PlainStore) → StandsAs D.told self.old p → HasCopiesOf committed self.old.group
+            → IsUnderWay D.told committed self.old.group → IsUnderWay D.told committed self.new.group }
         ensures space { vec_capacity gone.new ≡ vec_capacity gone.old }
         ensures volumes { self.new.group.area.volumes ≡ self.old.group.area.volumes }
     {
@@ -329,6 +342,41 @@ impl<D: Device> Store<D> {
             to,
             copied,
             gone,
+        )
+    }
+
+    /// Reads the blocks of a file from `from` to before `to`, each once. Those in which the volume differs are marked and go to the spool, a
+    /// device of as many blocks. No volume and no image changes.
+    pub fn capture<I: Device, S: Device>(
+        &mut self,
+        v: u32,
+        input: &mut I,
+        spool: &mut S,
+        differs: &mut [bool],
+        from: u32,
+        to: u32,
+    ) -> Result<(), CaptureFault>
+        requires volume { v < length self.old.group.area.volumes }
+        requires size { I.size input.old ≡ blocks_at self.old.group v }
+        requires room { S.size spool.old ≡ blocks_at self.old.group v }
+        requires marks { length differs.old ≡ blocks_at self.old.group v }
+        ensures still { StandsStill D.told self.old self.new }
+        ensures told { I.told input.new ≡ I.told input.old }
+        ensures size { I.size input.new ≡ I.size input.old }
+        ensures room { S.size spool.new ≡ S.size spool.old }
+        ensures len { length differs.new ≡ length differs.old }
+        ensures volumes { self.new.group.area.volumes ≡ self.old.group.area.volumes }
+    {
+        capture_blocks(
+            &mut self.group,
+            &mut self.piece,
+            &mut self.wanted,
+            v,
+            input,
+            spool,
+            differs,
+            from,
+            to,
         )
     }
 
@@ -348,10 +396,15 @@ impl<D: Device> Store<D> {
         ensures failed { IfErr result (IsPassFault D.count v self.old.group self.new.group (I.count input.old) (I.count input.new)) }
         ensures overwriting { (wanted : List (List ℕ)) (p : PlainStore) → I.told input.old ≡ Some wanted → StandsAs D.told self.old p
             → AreReady differs.now wanted (plain_at p v).blocks from → IsOverwriting D.told self.new p v differs.now wanted gone.new.items result }
+        ensures area { AreCopied self.old.group v differs.now from (blocks_at self.old.group v) → IsAreaLeft D.told self.old.group self.new.group result }
+        ensures under_way { (committed : GroupValue D) (wanted : List (List ℕ)) (p : PlainStore) → I.told input.old ≡ Some wanted → StandsAs D.told self.old p
+            → AreReady differs.now wanted (plain_at p v).blocks from → HasCopiesOf committed self.old.group → AreCopied committed v differs.now from (blocks_at self.old.group v)
+            → IsUnderWay D.told committed self.old.group → IsUnderWay D.told committed self.new.group }
         ensures told { I.told input.new ≡ I.told input.old }
         ensures space { vec_capacity gone.new ≡ vec_capacity gone.old }
         ensures volumes { self.new.group.area.volumes ≡ self.old.group.area.volumes }
     {
+        let _facts = self.group.images(v);
         overwrite_blocks(
             &mut self.group,
             &mut self.wanted,
@@ -367,8 +420,11 @@ impl<D: Device> Store<D> {
     pub fn length(&mut self, v: u32, which: Which) -> Result<u64, ShowFault>
         requires { v < length self.old.group.area.volumes }
         ensures length { IfOk result (λ n. (p : PlainStore) → StandsAs D.told self.old p → HasLength (shown_in p.volumes v which) (blocks_at self.old.group v) n) }
+        ensures bad { IfErr result (λ fault. (p : PlainStore) → StandsAs D.told self.old p → IfBad (shown_in p.volumes v which) fault) }
+        ensures seen { OnOk result (IsSeen self.old.group v which) }
         ensures cause { IfErr result (HasShowCause self.old.group v which ⊥) }
         ensures failed { IfErr result (IsShowFault D.count v self.old.group self.new.group) }
+        ensures images { self.new.group.images ≡ self.old.group.images }
         ensures still { StandsStill D.told self.old self.new }
         ensures volumes { self.new.group.area.volumes ≡ self.old.group.area.volumes }
     {
@@ -379,8 +435,10 @@ impl<D: Device> Store<D> {
     pub fn show<K: Sink>(&mut self, v: u32, which: Which, sink: &mut K) -> Result<(), ShowFault>
         requires { v < length self.old.group.area.volumes }
         ensures show { (p : PlainStore) → StandsAs D.told self.old p → IsShow (shown_in p.volumes v which) (K.taken sink.old) (K.taken sink.new) result }
+        ensures seen { OnOk result (IsSeen self.old.group v which) }
         ensures cause { IfErr result (HasShowCause self.old.group v which (Rose (K.count sink.old) (K.count sink.new))) }
         ensures failed { IfErr result (IsShowFault D.count v self.old.group self.new.group) }
+        ensures images { self.new.group.images ≡ self.old.group.images }
         ensures still { StandsStill D.told self.old self.new }
         ensures volumes { self.new.group.area.volumes ≡ self.old.group.area.volumes }
     {
@@ -391,11 +449,16 @@ impl<D: Device> Store<D> {
     pub fn sync(&mut self) -> Result<(), Cause>
         ensures lasts { OnOk result (D.lasting self.new.group.area.device ≡ D.told self.new.group.area.device) }
         ensures sync { IsSync D.Device self.old.group self.new.group result }
+        ensures committed { OnOk result ((p : PlainStore) → StandsAs D.told self.old p → IsCommitted D.told self.new p) }
+        ensures under_way { (committed : GroupValue D) → IsUnderWay D.told committed self.old.group → IsUnderWay D.told committed self.new.group }
         ensures still { StandsStill D.told self.old self.new }
         ensures head { head_of self.new ≡ head_of self.old }
         ensures volumes { self.new.group.area.volumes ≡ self.old.group.area.volumes }
     {
-        self.group.sync()
+        let _facts = self.group.volumes();
+        let done = self.group.sync();
+        let _facts = self.group.volumes();
+        done
     }
 
     /// Brings all accepted writes of a volume to where they last.
@@ -479,6 +542,8 @@ fn take_up<D: Device>(
     ensures group { IfOk result (λ store. store.group ≡ record { devices = devices.items; area = area; images = lists_of head.now.entries }) }
     ensures stands { IfOk result (λ store. (hs : List History) → AreKept D.told devices.items area (lists_of head.now.entries) hs → StandsFor D.told store.group hs) }
     ensures parts { OnOk result (AreParts D.size devices.items area head.now.entries) }
+    ensures records { OnOk result (AreRecords area.volumes area.records) }
+    ensures whole { OnOk result (IfSome (D.told area.device) (AreBlocks (D.size area.device))) }
     ensures names { IfOk result (λ store. map (λ (name : TextValue). name.bytes) store.names ≡ names_of head.now.entries) }
     ensures last { IfOk result (λ store. store.last ≡ head.now.last) }
     ensures refused { IfErr result (IsPartsFault D.size devices.items area head.now.entries) }
@@ -488,6 +553,7 @@ fn take_up<D: Device>(
     check_blocks(catalog, &devices, &area)?;
     let (names, lists, (piece, wanted)) = memory_for(alloc, catalog)?;
     let group = CowGroup::resume(alloc, devices, area, &lists)?;
+    let _facts = group.volumes();
     Ok(Store {
         group,
         names,

@@ -1,13 +1,15 @@
 //! The three passes of an update, over a group.
 
-ghost use Rattle.std.specs.Prelude.{◌≡◌, ◌<◌, ◌≤◌, ◌*◌, ℕ, List, Some, false, length, vec_capacity, IfErr, IsTrue, OnOk};
+ghost use Rattle.std.specs.Prelude.{◌≡◌, ◌≢◌, ◌<◌, ◌≤◌, ◌+◌, ◌*◌, ℕ, List, Some, false, length, if◌then◌else◌, vec_capacity, IfErr, IfOk, IsTrue, OnErr, OnOk};
 ghost use Rattle.cow_volume.specs.Calls.{DeviceRose, IsUnfailed, blocks_at, sets_at};
-ghost use Rattle.cow_volume.specs.Room.{lacks_slot};
+ghost use Rattle.cow_volume.specs.Room.{lacks_copy, lacks_slot};
+ghost use Rattle.diff_area.specs.Records.{used_in};
+ghost use Rattle.image_store.specs.Copying.{AreCopied, IsAreaLeft, IsCopiedAhead, KeepsCopies};
 ghost use Rattle.image_store.specs.Failing.{IsPassFault};
 ghost use Rattle.image_store.specs.Passes.{IsCopying, IsWriting};
 ghost use Rattle.image_store.specs.Plain.{Plain, volume_in};
 ghost use Rattle.image_store.specs.StoreValue.{HasPlains, KeepsPlains};
-ghost use Rattle.image_store.specs.Updating.{AreReady};
+ghost use Rattle.image_store.specs.Updating.{AreMarked, AreReady};
 
 use crate::pass::Pass;
 use crate::pass_fault::PassFault;
@@ -19,10 +21,11 @@ use write_history::Evicted;
 
 /// Whether two blocks are the same. All bytes are gone over, without an end at the first that differs, so that many are compared at once:
 /// this takes a third of the time of `==`.
-fn are_same(a: &[u8], b: &[u8]) -> bool
+pub fn are_same(a: &[u8], b: &[u8]) -> bool
     requires whole { length a.now ≡ BLOCK }
     requires other { length b.now ≡ BLOCK }
-    ensures { IsTrue result → a.now ≡ b.now }
+    ensures same { IsTrue result → a.now ≡ b.now }
+    ensures differ { result ≡ false → a.now ≢ b.now }
 {
     let mut same = true;
     for at in 0..BLOCK {
@@ -44,7 +47,7 @@ pub fn compare_blocks<D: Device, I: Device>(
     requires sizes { I.size input.old ≡ blocks_at group.old v }
     requires marks { length differs.old ≡ blocks_at group.old v }
     ensures marked { OnOk result ((wanted : List (List ℕ)) (ps : List Plain) → I.told input.old ≡ Some wanted → HasPlains D.told group.old ps
-        → AreReady differs.new wanted (volume_in ps v).blocks 0) }
+        → AreMarked differs.new wanted (volume_in ps v).blocks) }
     ensures failed { IfErr result (IsPassFault D.count v group.old group.new (I.count input.old) (I.count input.new)) }
     ensures kept { KeepsPlains D.told group.old group.new }
     ensures told { I.told input.new ≡ I.told input.old }
@@ -73,9 +76,14 @@ fn copy_one<D: Device>(
     requires in_range { b < blocks_at group.old v }
     requires room { lacks_slot group.old.area.records v (sets_at group.old v) b ≡ false }
     ensures kept { KeepsPlains D.told group.old group.new }
+    ensures copies { KeepsCopies D.told group.old group.new }
+    ensures has { OnOk result (lacks_copy group.new.area.records v (sets_at group.new v) b ≡ false) }
+    ensures more { IfOk result (λ copied. used_in group.new.area.records ≡ used_in group.old.area.records + (if copied then 1 else 0)) }
+    ensures none { OnErr result (group.new.area.records ≡ group.old.area.records) }
     ensures same { OnOk result (IsUnfailed D.count group.old group.new) }
     ensures failed { IfErr result (DeviceRose D.count v group.old group.new) }
 {
+    let _facts = group.images(v);
     let before = group.used_all();
     piece.read_volume(group, v, b)?;
     group.put(v, b, piece.payload())?;
@@ -100,8 +108,10 @@ pub fn copy_blocks<D: Device>(
     ensures volumes { group.new.area.volumes ≡ group.old.area.volumes }
     ensures failed { IfErr result (DeviceRose D.count v group.old group.new) }
     ensures copying { (ps : List Plain) → HasPlains D.told group.old ps → IsCopying D.told group.new ps gone.new.items result }
+    ensures copied { IsCopiedAhead D.told group.old group.new v differs.now from to copied.old copied.new result }
     ensures space { vec_capacity gone.new ≡ vec_capacity gone.old }
 {
+    let _range = *copied;
     if group.images(v).is_empty() {
         return Ok(Pass::Done);
     }
@@ -111,9 +121,8 @@ pub fn copy_blocks<D: Device>(
             if up_to > 0 {
                 return Ok(Pass::Evicted { at: b, up_to });
             }
-            if copy_one(group, piece, v, b)? {
-                *copied = copied.saturating_add(1);
-            }
+            let more = copy_one(group, piece, v, b)?;
+            *copied = copied.saturating_add(u32::from(more));
         }
     }
     Ok(Pass::Done)
@@ -137,6 +146,7 @@ pub fn overwrite_blocks<D: Device, I: Device>(
     ensures failed { IfErr result (IsPassFault D.count v group.old group.new (I.count input.old) (I.count input.new)) }
     ensures writing { (wanted : List (List ℕ)) (ps : List Plain) → I.told input.old ≡ Some wanted → HasPlains D.told group.old ps
         → AreReady differs.now wanted (volume_in ps v).blocks from → IsWriting D.told group.new ps v differs.now wanted gone.new.items result }
+    ensures area { AreCopied group.old v differs.now from (blocks_at group.old v) → IsAreaLeft D.told group.old group.new result }
     ensures told { I.told input.new ≡ I.told input.old }
     ensures size { I.size input.new ≡ I.size input.old }
     ensures space { vec_capacity gone.new ≡ vec_capacity gone.old }

@@ -1,7 +1,7 @@
 use Rattle.std.proofs.Common.{refl, ◌∙◌}
 use Rattle.cow_volume.proofs.Kept.{quiet_area}
 use Rattle.cow_volume.proofs.RestoringSteps.{rose_further}
-use Rattle.cow_volume.proofs.Synced.{synced_all, synced_part, synced_further, stored_all}
+use Rattle.cow_volume.proofs.Synced.{synced_all, synced_part, synced_further, stored_all, table_written, written_whole}
 use Rattle.cow_volume.proofs.ending.sync_all.Goals as goal
 
 pub returns-in-Err-clause-sync : goal.returns-in-Err-clause-sync
@@ -37,3 +37,16 @@ returns-in-Ok-flush-clause-sync g c = λ devices. (
   stored_all g.D.Device.told devices c.args.copies.now c.sync.new.self c.flush.new.self c.slots-facts.ensures.valid c.in-Ok-flush.ensures.told c.in-Ok.ensures.stands,
   record { devices = refl; area = c.in-Ok-flush.ensures.cause.same ∙ c.in-Ok.ensures.cause.same },
 )
+
+pub returns-in-Ok-flush-clause-table : goal.returns-in-Ok-flush-clause-table
+returns-in-Ok-flush-clause-table g c = λ devices. table_written g.D.Device.told _ devices c.args.copies.now c.sync.new.self c.flush.new.self c.in-Ok.ensures.written c.in-Ok-flush.ensures.told
+    (c.in-Ok-flush.ensures.table.volumes ∙ c.in-Ok.ensures.table.volumes) (c.in-Ok-flush.ensures.table.records ∙ c.in-Ok.ensures.table.records)
+    c.slots-facts.ensures.whole c.slots-facts.ensures.fits c.volumes-facts.ensures.valid c.slots-facts.ensures.valid
+
+pub returns-in-Err-clause-table : goal.returns-in-Err-clause-table
+returns-in-Err-clause-table g c = λ devices. c.in-Err.ensures.in_part
+
+pub returns-in-Err-flush-clause-table : goal.returns-in-Err-flush-clause-table
+returns-in-Err-flush-clause-table g c = λ devices.
+    written_whole (g.D.Device.told c.args.copies.now.area.device) (g.D.Device.told c.sync.new.self.area.device) (g.D.Device.told c.flush.new.self.area.device) _ c.in-Ok.ensures.written
+    c.in-Err-flush.ensures.told

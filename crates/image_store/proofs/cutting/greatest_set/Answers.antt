@@ -15,9 +15,13 @@ loop-v-preserved g c =
           c.greater_of-greatest.ensures.one c.newest_of.ensures.one c.images.ensures.images;
     }
 
-pub returns-clause-all : goal.returns-clause-all
-returns-clause-all g c =
+pub returns : goal.returns
+returns g c =
     let test = c.loop-v-test.false in
     let images = c.volumes-v-end.ensures.images in
     let end = c.volumes-v-end.ensures.volumes in
-    sets_all c.args.group.now c.loop-v.v c.loop-v.greatest (omega arith) c.loop-v.invariant.all
+    record {
+      given = c.loop-v.invariant.given;
+      least = c.loop-v.invariant.last;
+      all = sets_all c.args.group.now c.loop-v.v c.loop-v.greatest (omega arith) c.loop-v.invariant.all;
+    }

@@ -1,4 +1,4 @@
-use Rattle.std.proofs.Common.{◌∙◌, ◌-◌, ℕ, List, ap, refl, length, arith}
+use Rattle.std.proofs.Common.{◌∙◌, ◌-◌, ℕ, List, ap, sym, refl, length, arith}
 use Rattle.std.specs.Prelude.{slice_get}
 use Rattle.std.proofs.lemmas.Result.{err_from_is_err_and}
 use Rattle.block_data.specs.declared.block_buf.TheConstants.{BLOCK}
@@ -6,7 +6,7 @@ use Rattle.cow_volume.specs.Calls.{blocks_at, blocks_in}
 use Rattle.image_store.specs.Showing.{shown_in}
 use Rattle.image_store.proofs.Failing.{show_after, unfailed_then}
 use Rattle.image_store.proofs.Plains.{kept_then}
-use Rattle.image_store.proofs.Shown.{bad_shown, shown_none, shown_more, shown_failed, block_of, part_is}
+use Rattle.image_store.proofs.Shown.{bad_shown, read_failed, seen_in, shown_none, shown_more, shown_failed, shown_part, block_of, part_is}
 use Rattle.image_store.proofs.showing.show_blocks.Goals as goal
 
 pub returns-in_err-left-clause-show : goal.returns-in_err-left-clause-show
@@ -22,6 +22,7 @@ loop-b-init g c = record {
     count_is = refl;
     taken = λ ps has. shown_none (shown_in ps c.args.v c.args.which) _ c.in_ok-left.left (g.K.Sink.taken c.args.sink.now) (c.in_ok-left.ensures.length ps has);
   };
+  seen = c.in_ok-left.ensures.seen;
   unfailed = c.in_ok-left.ensures.same;
 }
 
@@ -58,6 +59,7 @@ loop-b-preserved g c = record {
         shown_more shown _ c.loop-b.left more (c.loop-b.left - more) c.loop-b.b (g.K.Sink.taken c.args.sink.now) (g.K.Sink.taken c.loop-b.sink) (g.K.Sink.taken c.write_all.new.sink) bytes
         (inv.taken ps has) here c.in-Ok.ensures.ok (omega arith) part;
   };
+  seen = c.loop-b.invariant.seen;
   unfailed = unfailed_then g.D.Device.count c.args.group.now c.loop-b.group c.read_which.new.group c.loop-b.invariant.unfailed c.in_ok-read_which.ensures.same;
 }
 
@@ -66,3 +68,10 @@ returns-in_err-read_which-clause-failed g c =
     let p = err_from_is_err_and c.from_residual-in_err-read_which.result c.from_residual-in_err-read_which.ensures.1 in
     rw (p.1, p.2) (show_after g.D.Device.count c.args.v c.args.group.now c.loop-b.group c.read_which.new.group c.in_err-read_which.field-0.0 c.loop-b.invariant.unfailed
     c.in_err-read_which.ensures.failed)
+
+pub returns-in_err-read_which-clause-show : goal.returns-in_err-read_which-clause-show
+returns-in_err-read_which-clause-show g c =
+    let p = err_from_is_err_and c.from_residual-in_err-read_which.result c.from_residual-in_err-read_which.ensures.1 in
+    rw (p.1, p.2) (λ ps has. read_failed c.loop-b.group c.args.v c.args.which (shown_in ps c.args.v c.args.which) (g.K.Sink.taken c.args.sink.now) (g.K.Sink.taken c.loop-b.sink)
+    c.in_err-read_which.field-0.0 (seen_in c.loop-b.group c.args.group.now c.args.v c.args.which (sym c.loop-b.invariant.shown.images) c.loop-b.invariant.seen) c.in_err-read_which.ensures.cause
+    (shown_part (shown_in ps c.args.v c.args.which) _ c.loop-b.left c.loop-b.b (g.K.Sink.taken c.args.sink.now) (g.K.Sink.taken c.loop-b.sink) (c.loop-b.invariant.shown.taken ps has)))

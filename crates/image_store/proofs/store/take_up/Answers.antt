@@ -1,5 +1,7 @@
 use Rattle.std.proofs.Common.{◌∙◌, ℕ, List, length, map, ap, sym, subst}
-use Rattle.std.specs.Prelude.{◌==◌, ◌&&◌}
+use Rattle.std.specs.Prelude.{◌==◌, ◌&&◌, IfSome}
+use Rattle.volume_device.specs.Blocks.{AreBlocks}
+use Rattle.diff_area.specs.Records.{AreRecords}
 use Rattle.std.proofs.lemmas.Result.{err_from_is_err_and}
 use Rattle.vss_catalog.specs.Allowed.{IsCatalog}
 use Rattle.vss_catalog.specs.Entries.{EntryValue, lists_of}
@@ -39,3 +41,10 @@ returns-in_err-group-clause-refused g c =
     rw (p.1, p.2) (resume_fault g.D.Device.size c.args.devices.items c.args.area c.args.head.now.entries c.in_err-group.field-0.0 volumes
     (ap (map g.D.Device.size) (sym c.deref.ensures.value) ∙ c.in_ok-check_blocks.ensures.fits ∙ volumes)
     (subst (λ (ls : List (List ℕ)). IsResumeFault c.args.area.records ls c.in_err-group.field-0.0) lists c.in_err-group.ensures.refused))
+
+pub returns-clause-records : goal.returns-clause-records
+returns-clause-records g c = subst (λ (x : GroupValue _). AreRecords x.area.volumes x.area.records) c.in_ok-group.ensures.value c.volumes-facts.ensures.records
+
+pub returns-clause-whole : goal.returns-clause-whole
+returns-clause-whole g c =
+    subst (λ (x : GroupValue _). IfSome (g.D.Device.told x.area.device) (AreBlocks (g.D.Device.size x.area.device))) c.in_ok-group.ensures.value c.volumes-facts.ensures.whole

@@ -28,10 +28,10 @@ loop-b-preserved g c =
           c.loop-b.differs c.loop-b.b (not c.are_same.result) inv
           (quiet_kept g.D.Device c.loop-b.group c.read_volume.new.group c.read_volume.ensures.quiet)
           c.read_device.ensures.told c.read_device.ensures.size (omega arith)
-          (λ wanted ps is has none. compared g.D.Device.told c.loop-b.group ps c.args.v c.loop-b.b c.read_volume.new.self c.read_device.new.self c.bytes.result.now c.bytes-in-loop-b.result.now
+          (λ wanted ps is has. compared g.D.Device.told c.loop-b.group ps c.args.v c.loop-b.b c.read_volume.new.self c.read_device.new.self c.bytes.result.now c.bytes-in-loop-b.result.now
           c.are_same.result
           (g.I.Device.told c.loop-b.input) wanted has (omega arith)
-          (omega arith) c.in_ok-read_volume.ensures.now c.in-Ok.ensures.block is c.are_same.ensures c.bytes.ensures.bytes c.bytes-in-loop-b.ensures.bytes none);
+          (omega arith) c.in_ok-read_volume.ensures.now c.in-Ok.ensures.block is c.are_same.ensures.same c.are_same.ensures.differ c.bytes.ensures.bytes c.bytes-in-loop-b.ensures.bytes);
       unfailed = record {
         group = unfailed_then g.D.Device.count c.args.group.now c.loop-b.group c.read_volume.new.group c.loop-b.invariant.unfailed.group c.in_ok-read_volume.ensures.same;
         input = c.in-Ok.ensures.cause.same ∙ c.loop-b.invariant.unfailed.input;

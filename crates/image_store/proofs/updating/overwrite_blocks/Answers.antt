@@ -1,7 +1,8 @@
-use Rattle.std.proofs.Common.{◌∙◌, ◌<◌, refl, length, arith}
+use Rattle.std.proofs.Common.{◌∙◌, ◌<◌, true, false, refl, length, arith}
 use Rattle.std.proofs.lemmas.Result.{err_from_is_err_and}
 use Rattle.block_data.specs.PayloadBytes.{payload_bytes}
-use Rattle.image_store.proofs.Calls.{room_plains, not_put_kept}
+use Rattle.image_store.proofs.Calls.{room_plains, not_put_kept, put_volumes}
+use Rattle.image_store.proofs.Copied.{area_itself, area_put, area_room}
 use Rattle.image_store.proofs.Failing.{device_after, pass_failed, room_unfailed, unfailed_itself, unfailed_then}
 use Rattle.image_store.proofs.Passes.{written_none, written_past, written_more, written_stopped, written_part, written_all, read_there}
 use Rattle.image_store.proofs.Plains.{kept_then}
@@ -13,6 +14,7 @@ pub loop-b-init : goal.loop-b-init
 loop-b-init g c = record {
   written = written_none g.D.Device.told g.I.Device c.args.group.now c.args.input.now c.args.v c.args.differs.now
       c.args.from;
+  area = λ copied. area_itself g.D.Device.told c.args.group.now;
   room = refl;
   unfailed = record { group = unfailed_itself g.D.Device.count c.args.group.now; input = refl };
 }
@@ -61,6 +63,39 @@ returns-in_err-put-clause-failed g c =
     (room_unfailed g.D.Device c.loop-b.group c.make_room-up_to.new.self c.args.v c.loop-b.b c.make_room-up_to.result c.make_room-up_to.ensures.room))
     c.in_err-put.ensures.put.rose))
 
+pub returns-then-up_to-gt0-clause-area : goal.returns-then-up_to-gt0-clause-area
+returns-then-up_to-gt0-clause-area g c = λ copied.
+    let test = c.loop-b-test.true in
+    let end = c.blocks-b-end.ensures in
+    let marks = c.requires.marks in
+    let some = c.if-up_to-gt0.true in
+    let there = area_room g.D.Device.told c.args.group.now c.loop-b.group c.make_room-up_to.new.self c.args.v c.args.differs.now c.args.from _ c.loop-b.b c.make_room-up_to.result copied
+    (c.loop-b.invariant.area copied) (omega arith) (omega arith) (flag_is c.args.differs.now c.loop-b.b _ true (omega arith) c.if-differs-b.true) c.make_room-up_to.ensures.room in
+    let none = there.0 in
+    absurd (omega arith)
+
+pub returns-in_default-clause-area : goal.returns-in_default-clause-area
+returns-in_default-clause-area g c = λ copied.
+    let test = c.loop-b-test.true in
+    let end = c.blocks-b-end.ensures in
+    let marks = c.requires.marks in
+    (area_room g.D.Device.told c.args.group.now c.loop-b.group c.make_room-up_to.new.self c.args.v c.args.differs.now c.args.from _ c.loop-b.b c.make_room-up_to.result copied
+    (c.loop-b.invariant.area copied) (omega arith) (omega arith) (flag_is c.args.differs.now c.loop-b.b _ true (omega arith) c.if-differs-b.true) c.make_room-up_to.ensures.room).1
+
+pub returns-in_err-put-clause-area : goal.returns-in_err-put-clause-area
+returns-in_err-put-clause-area g c =
+    let p = err_from_is_err_and c.from_residual.result c.from_residual.ensures.1 in
+    let test = c.loop-b-test.true in
+    let end = c.blocks-b-end.ensures in
+    let marks = c.requires.marks in
+    rw p.1 (λ copied. area_put g.D.Device.told c.args.group.now c.loop-b.group c.make_room-up_to.new.self c.put.new.self c.args.v c.args.differs.now c.args.from _ c.loop-b.b c.make_room-up_to.result
+    c.put.result copied
+    (c.loop-b.invariant.area copied) (omega arith) (omega arith) (flag_is c.args.differs.now c.loop-b.b _ true (omega arith) c.if-differs-b.true) c.make_room-up_to.ensures.room
+    c.put.ensures.area c.put.ensures.images (put_volumes g.D.Device c.make_room-up_to.new.self c.put.new.self c.args.v _ c.put.result c.put.ensures.put))
+
+pub returns-clause-area : goal.returns-clause-area
+returns-clause-area g c = λ copied. c.loop-b.invariant.area copied
+
 pub loop-b-preserved : goal.loop-b-preserved
 loop-b-preserved g c =
     let inv = c.loop-b.invariant in
@@ -78,6 +113,10 @@ loop-b-preserved g c =
             w.read_device.ensures.told w.read_device.ensures.size
             (λ wanted is. read_there (g.I.Device.told c.loop-b.input) wanted c.loop-b.b w.read_device.new.self (payload_bytes w.payload.result.now) w.in-Ok.ensures.block is w.payload.ensures)
             w.in_ok-put.ensures.put;
+        area = λ copied. area_put g.D.Device.told c.args.group.now c.loop-b.group w.make_room-up_to.new.self w.put.new.self c.args.v c.args.differs.now c.args.from _ c.loop-b.b w.make_room-up_to.result
+            w.put.result copied
+            (inv.area copied) (omega arith) (omega arith) (flag_is c.args.differs.now c.loop-b.b _ true within w.if-differs-b.true) w.make_room-up_to.ensures.room
+            w.put.ensures.area w.put.ensures.images (put_volumes g.D.Device w.make_room-up_to.new.self w.put.new.self c.args.v _ w.put.result w.put.ensures.put);
         room = w.make_room-up_to.ensures.space ∙ inv.room;
         unfailed = record {
           group = unfailed_then g.D.Device.count c.args.group.now w.make_room-up_to.new.self w.put.new.self (unfailed_then g.D.Device.count c.args.group.now c.loop-b.group w.make_room-up_to.new.self
@@ -88,7 +127,8 @@ loop-b-preserved g c =
       })
       | else-differs-b w ↦ rw (w.group-is, w.input-is, w.gone-is) (record {
         written = written_past g.D.Device.told g.I.Device c.args.group.now c.loop-b.group c.args.input.now c.loop-b.input c.args.v c.args.differs.now c.args.from c.loop-b.b
-            (flag_is c.args.differs.now c.loop-b.b _ within w.if-differs-b.false) inv.written;
+            (flag_is c.args.differs.now c.loop-b.b _ false within w.if-differs-b.false) inv.written;
+        area = inv.area;
         room = inv.room;
         unfailed = inv.unfailed;
       })

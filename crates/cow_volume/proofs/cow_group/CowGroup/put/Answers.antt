@@ -1,9 +1,9 @@
-use Rattle.std.proofs.Common.{◌≡◌, ◌∙◌, sym, true, false, refl, inl, slice_set}
-use Rattle.cow_volume.specs.CopiedOnce.{IsCopiedOnce}
+use Rattle.std.proofs.Common.{◌≡◌, ◌∙◌, sym, true, false, refl, slice_set}
 use Rattle.block_data.specs.PayloadBytes.{payload_bytes}
 use Rattle.cow_volume.specs.Calls.{sets_at}
 use Rattle.cow_volume.specs.Room.{lacks_copy, is_full}
 use Rattle.cow_volume.specs.Parts.{group_of}
+use Rattle.cow_volume.proofs.CopiedOnce.{not_copied_area}
 use Rattle.cow_volume.proofs.GroupSteps.{device_at, device_within, fits_set}
 use Rattle.cow_volume.proofs.GroupWrites.{put_again, and_rest, put_size}
 use Rattle.cow_volume.proofs.cow_group.CowGroup.put.Goals as goal
@@ -26,8 +26,8 @@ write_first-requires-clause-room g c =
 pub returns-then-lacks_copy-clause-put : goal.returns-then-lacks_copy-clause-put
 returns-then-lacks_copy-clause-put g c = c.write_first.ensures.put
 
-pub returns-then-lacks_copy-clause-once : goal.returns-then-lacks_copy-clause-once
-returns-then-lacks_copy-clause-once g c = c.write_first.ensures.once
+pub returns-then-lacks_copy-clause-area : goal.returns-then-lacks_copy-clause-area
+returns-then-lacks_copy-clause-area g c = c.write_first.ensures.area
 
 pub put_block-requires : goal.put_block-requires
 put_block-requires g c =
@@ -63,8 +63,11 @@ returns-clause-put g c =
     (record { block = c.args.block; bytes = payload_bytes c.args.payload.now }) low at c.put_block.new.device c.put_block.result has c.put_block.ensures in
     rw (← c.self.view_is) is
 
-pub returns-clause-once : goal.returns-clause-once
-returns-clause-once g c =
-    let same : IsCopiedOnce g.D.Device.told (group_of c.self.inside.devices.items c.self.inside.copies)
-    (group_of (slice_set c.self.inside.devices.items c.args.v c.put_block.new.device) c.self.inside.copies) c.args.v c.args.block = inl refl in
-    rw (← c.self.view_is) same
+pub returns-clause-area : goal.returns-clause-area
+returns-clause-area g c =
+    let devices = c.self.inside.devices.items in
+    let copies = c.self.inside.copies in
+    let has : lacks_copy copies.area.records c.args.v (sets_at (group_of devices copies) c.args.v) c.args.block ≡ false = sym c.lacks_copy.ensures ∙ c.if-lacks_copy.false in
+    let put = not_copied_area g.D.Device.told (group_of devices copies)
+    (group_of (slice_set devices c.args.v c.put_block.new.device) copies) c.args.v c.args.block c.put_block.result has refl refl in
+    rw (← c.self.view_is) put

@@ -9,3 +9,6 @@ invariant_of-self g c =
 
 pub returns-clause-sync : goal.returns-clause-sync
 returns-clause-sync g c = (let synced = c.sync_all.ensures.sync c.self.inside.devices.items in rw (← c.self.view_is) synced)
+
+pub returns-clause-table : goal.returns-clause-table
+returns-clause-table g c = (let written = c.sync_all.ensures.table c.self.inside.devices.items in rw (← c.self.view_is) written)

@@ -1,7 +1,7 @@
 use Rattle.std.proofs.Common.{ℕ, ◌<◌, ap, sym, subst, length, arith, refl, inl}
 use Rattle.block_data.specs.PayloadBytes.{payload_bytes}
 use Rattle.cow_volume.specs.Calls.{blocks_at}
-use Rattle.cow_volume.proofs.CopiedOnce.{once_with_room}
+use Rattle.cow_volume.proofs.CopiedOnce.{once_of, once_with_room}
 use Rattle.cow_volume.proofs.GroupSteps.{within_blocks, past_blocks}
 use Rattle.cow_volume.proofs.GroupWrites.{is_written, is_unwritten, no_block}
 use Rattle.cow_volume.proofs.cow_group.CowGroup.write.Goals as goal
@@ -52,8 +52,10 @@ returns-then-block-blocks-clause-once g c = inl refl
 
 pub returns-in-Ok-clause-once : goal.returns-in-Ok-clause-once
 returns-in-Ok-clause-once g c = once_with_room g.D.Device.told c.args.self.now c.drop_for-evicted_up_to.new.self c.put.new.self c.args.v c.args.block c.drop_for-evicted_up_to.result
-    c.drop_for-evicted_up_to.ensures.left c.drop_for-evicted_up_to.ensures.lacked c.put.ensures.once
+    c.drop_for-evicted_up_to.ensures.left c.drop_for-evicted_up_to.ensures.lacked
+    (once_of g.D.Device.told c.drop_for-evicted_up_to.new.self c.put.new.self c.args.v c.args.block c.put.result c.put.ensures.area)
 
 pub returns-in-Err-clause-once : goal.returns-in-Err-clause-once
 returns-in-Err-clause-once g c = once_with_room g.D.Device.told c.args.self.now c.drop_for-evicted_up_to.new.self c.put.new.self c.args.v c.args.block c.drop_for-evicted_up_to.result
-    c.drop_for-evicted_up_to.ensures.left c.drop_for-evicted_up_to.ensures.lacked c.put.ensures.once
+    c.drop_for-evicted_up_to.ensures.left c.drop_for-evicted_up_to.ensures.lacked
+    (once_of g.D.Device.told c.drop_for-evicted_up_to.new.self c.put.new.self c.args.v c.args.block c.put.result c.put.ensures.area)

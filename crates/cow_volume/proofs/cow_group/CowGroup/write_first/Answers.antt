@@ -1,5 +1,5 @@
-use Rattle.std.proofs.Common.{ℕ, ◌<◌, ◌∙◌, List, ap, sym, subst, refl, map, arith, inl, inr, slice_set}
-use Rattle.std.specs.Prelude.{slice_index}
+use Rattle.std.proofs.Common.{ℕ, ◌<◌, ◌∙◌, List, ap, sym, subst, refl, map, arith, inl, inr, slice_set, ◌≡◌}
+use Rattle.std.specs.Prelude.{slice_index, Ok}
 use Rattle.std.proofs.lemmas.Bool.{false≢true}
 use Rattle.std.proofs.lemmas.Result.{err_from_is_err_and}
 use Rattle.std.proofs.lemmas.Option.{slice_get_within}
@@ -7,11 +7,11 @@ use Rattle.block_data.specs.PayloadBytes.{payload_bytes}
 use Rattle.slot_pool.specs.Slots.{IsLowestFree}
 use Rattle.diff_area.specs.Records.{free, is_free}
 use Rattle.diff_area.specs.declared.table_record.Record.{Record}
-use Rattle.cow_volume.specs.CopiedOnce.{IsCopiedOnce}
+use Rattle.cow_volume.specs.CopiedOnce.{IsAreaPut, IsCopyBroken}
 use Rattle.cow_volume.specs.Parts.{group_of}
 use Rattle.cow_volume.proofs.Ties.{free_slot_is}
 use Rattle.cow_volume.proofs.GroupSteps.{device_at, device_within, fits_set}
-use Rattle.cow_volume.proofs.GroupWrites.{not_copied, not_overwritten, put_first, lacks_still, blocks_index}
+use Rattle.cow_volume.proofs.GroupWrites.{not_copied, not_overwritten, put_first, lacks_still, noted_copies, blocks_index}
 use Rattle.cow_volume.proofs.cow_group.CowGroup.write_first.Goals as goal
 
 pub unreachable-requires : goal.unreachable-requires
@@ -139,30 +139,61 @@ returns-clause-put g c =
     c.copy_block.new.device c.put_block.new.device c.copy_block.new.copies c.in_ok-copy_block.ensures c.note.new.self lacks c.in_ok-put_block.ensures.0 c.in_ok-put_block.ensures.1 c.note.ensures in
     rw (← c.self.view_is) is
 
-pub returns-in_err-copy_block-clause-once : goal.returns-in_err-copy_block-clause-once
-returns-in_err-copy_block-clause-once g c =
-    let same : IsCopiedOnce g.D.Device.told (group_of c.self.inside.devices.items c.self.inside.copies)
-    (group_of (slice_set c.self.inside.devices.items c.args.v c.copy_block.new.device) c.copy_block.new.copies) c.args.v c.args.block = inl c.in_err-copy_block.ensures.area_on.device.tells in
-    rw (← c.self.view_is) same
+pub returns-in_err-copy_block-clause-area : goal.returns-in_err-copy_block-clause-area
+returns-in_err-copy_block-clause-area g c =
+    let p = err_from_is_err_and c.from_residual.result c.from_residual.ensures.1 in
+    let broken : IsCopyBroken g.D.Device.told (group_of c.self.inside.devices.items c.self.inside.copies)
+    (group_of (slice_set c.self.inside.devices.items c.args.v c.copy_block.new.device) c.copy_block.new.copies) c.args.v c.args.block =
+    record { slots = inl c.in_err-copy_block.ensures.area_on.device.tells; records = c.in_err-copy_block.ensures.area_on.records } in
+    rw (p.1, ← c.self.view_is) broken
 
-pub returns-in_err-put_block-clause-once : goal.returns-in_err-put_block-clause-once
-returns-in_err-put_block-clause-once g c =
+pub returns-in_err-put_block-clause-area : goal.returns-in_err-put_block-clause-area
+returns-in_err-put_block-clause-area g c =
     let lacks = rw (← c.self.view_is) at c.requires.lacks in
-    let one : IsCopiedOnce g.D.Device.told (group_of c.self.inside.devices.items c.self.inside.copies)
+    let p = err_from_is_err_and c.from_residual-in_err-put_block.result c.from_residual-in_err-put_block.ensures.1 in
+    let copied = c.in_ok-copy_block.ensures in
+    let broken : IsCopyBroken g.D.Device.told (group_of c.self.inside.devices.items c.self.inside.copies)
     (group_of (slice_set c.self.inside.devices.items c.args.v c.put_block.new.device) c.copy_block.new.copies) c.args.v c.args.block =
-    inr (record { lacks = lacks; slot = c.in-Some.slot; copy = c.in_ok-copy_block.ensures.copy; copied = c.in_ok-copy_block.ensures.area_on.device.tells }) in
-    rw (← c.self.view_is) one
+    record {
+      slots = inr (
+        c.in-Some.slot,
+        record {
+          lacks = lacks;
+          was_free = free_slot_is c.self.inside.copies.area.records c.in-Some.slot c.in-Some.ensures.lowest;
+          copy = copied.copy;
+          copied = copied.area_on.device.tells;
+        },
+      );
+      records = copied.area_on.records;
+    } in
+    rw (p.1, ← c.self.view_is) broken
 
-pub returns-clause-once : goal.returns-clause-once
-returns-clause-once g c =
+pub returns-clause-area : goal.returns-clause-area
+returns-clause-area g c =
     let lacks = rw (← c.self.view_is) at c.requires.lacks in
-    let one : IsCopiedOnce g.D.Device.told (group_of c.self.inside.devices.items c.self.inside.copies)
-    (group_of (slice_set c.self.inside.devices.items c.args.v c.put_block.new.device) c.note.new.self) c.args.v c.args.block =
+    let copies = c.self.inside.copies in
+    let copied = c.in_ok-copy_block.ensures in
+    let one : IsAreaPut g.D.Device.told (group_of c.self.inside.devices.items copies)
+    (group_of (slice_set c.self.inside.devices.items c.args.v c.put_block.new.device) c.note.new.self) c.args.v c.args.block (Ok tt) =
     inr (record {
-      lacks = lacks;
       slot = c.in-Some.slot;
-      copy = c.in_ok-copy_block.ensures.copy;
-      copied = ap (λ x. g.D.Device.told x.area.device) c.note.ensures
-          ∙ c.in_ok-copy_block.ensures.area_on.device.tells;
+      copy = record {
+        lacks = lacks;
+        was_free = free_slot_is copies.area.records c.in-Some.slot c.in-Some.ensures.lowest;
+        copy = copied.copy;
+        copied = ap (λ x. g.D.Device.told x.area.device) c.note.ensures ∙ copied.area_on.device.tells;
+      };
+      records = noted_copies copies c.copy_block.new.copies c.note.new.self c.args.v c.args.block c.in-Some.slot copied.area_on.records copied.area_on.images c.note.ensures;
     }) in
     rw (← c.self.view_is) one
+
+pub returns-in_err-copy_block-clause-images : goal.returns-in_err-copy_block-clause-images
+returns-in_err-copy_block-clause-images g c = rw (← c.self.view_is) c.in_err-copy_block.ensures.area_on.images
+
+pub returns-in_err-put_block-clause-images : goal.returns-in_err-put_block-clause-images
+returns-in_err-put_block-clause-images g c = rw (← c.self.view_is) c.in_ok-copy_block.ensures.area_on.images
+
+pub returns-clause-images : goal.returns-clause-images
+returns-clause-images g c =
+    let is : c.note.new.self.images ≡ c.self.inside.copies.images = ap (λ x. x.images) c.note.ensures ∙ c.in_ok-copy_block.ensures.area_on.images in
+    rw (← c.self.view_is) is

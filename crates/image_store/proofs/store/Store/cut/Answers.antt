@@ -9,5 +9,5 @@ pub returns-clause-cut : goal.returns-clause-cut
 returns-clause-cut g c =
     let is = cut_step g.D.Device.told (store_of c.self.inside.group c.self.inside.names.items c.self.inside.last)
     (store_of c.cut_all.new.group c.self.inside.names.items (c.greatest_set-greatest.result + 1)) (c.greatest_set-greatest.result + 1) c.args.volumes.now
-    (let last = c.greatest_set-greatest.ensures.last in omega arith) refl c.cut_all.ensures.cut in
+    (let last = c.greatest_set-greatest.ensures.least in omega arith) refl c.cut_all.ensures.cut in
     rw (← c.self.view_is) is
