@@ -5,7 +5,6 @@
 . "$(dirname "${BASH_SOURCE[0]}")/prelude.sh" || exit 70
 needs "$check" rt python3 || exit 127
 page=docs/ARCHITECTURE.md
-reader=vss_explain
 variants=0 files=0
 
 python3 - "$page" <(lines_of_crates vss) > "$room/told" << 'END' || failed=1
@@ -61,14 +60,16 @@ print(looked)
 sys.exit(wrong > 0)
 END
 
-mkdir "$room/crates" && cp HANDLES "$room/" && lines_of_crates "$reader" > "$room/crates.txt" || exit 70
+mkdir -p "$room/crates/reader/src" && cp HANDLES "$room/" && lines_of_crates scenario > "$room/crates.txt" || exit 70
 while IFS=': ' read -r name _; do
   mkdir "$room/crates/$name" && cp -r "crates/$name"/{src,specs,proofs} "$room/crates/$name/" 2> /dev/null
 done < "$room/crates.txt"
+echo "reader: scenario" >> "$room/crates.txt"
+printf 'use scenario::parse;\nfn main(rt: HostRuntime) {\n    let _read = parse(rt.alloc(), b"");\n}\n' > "$room/crates/reader/src/main.rt"
 
 # builds the copy, says which files of it are refused
 refused() {
-  (cd "$room/crates/$reader" && rt try < /dev/null > "$room/said" 2>&1)
+  (cd "$room/crates/reader" && rt try < /dev/null > "$room/said" 2>&1)
   grep -oE '(crates/[a-z_]+/)?src/[a-z_]+\.rt' "$room/said" | sort -u
 }
 

@@ -18,7 +18,7 @@ FOREIGN = set("""rt ci rattle-kit-13f rattle-kit-13b malloc realloc std serde_js
     atomic_table crossbeam_utils libc Send Sync Drop Copy Model sha256sum taskset rsync open ftruncate pread pwrite fdatasync close
     pthread_create fsync mount requires ensures crates.txt must-fail""".split())
 HEADINGS = ["Proved", "Tested only", "Trusted", "Limits", "Costs"]
-MOST_README, LEAST_LINES, MOST_LINES = 8192, 20, 60
+MOST_README, MOST_DOCS, MOST_WORDS, LEAST_LINES, MOST_LINES = 8192, 144384, 20, 20, 80
 
 wrong = []
 
@@ -141,13 +141,13 @@ def counts():
     rows = [line for line in text_of("crates.txt").splitlines() if ":" in line and not line.startswith("#")]
     scenarios, in_gate = glob.glob("examples/*.scenario"), len(glob.glob("crates/*/must-fail/*.edit"))
     wrong.extend(f"{path}: does not begin with its story" for path in scenarios if not text_of(path).startswith("# "))
-    by_hand = len(glob.glob("crates/*/wrong/*.edit"))
+    by_hand = sum(len(re.findall("^name: ", text_of(it), re.M)) for it in glob.glob("crates/*/wrong.table"))
     promised = re.findall(r"^pub fn (\w+)", text_of("crates/promises/src/laws.rt"), re.M)
     kept = {
         r"(\d+) crates of crates\.txt": len(rows),
         r"(\d+) scenarios of examples/": len(scenarios),
         r"(\d+) of `must-fail/`": in_gate,
-        r"(\d+) of `wrong/`": by_hand,
+        r"(\d+) of `wrong\.table`": by_hand,
         r"(\d+) of \d+ wrong bodies": in_gate,
         r"\d+ of (\d+) wrong bodies": in_gate + by_hand,
         r"(\d+) laws of `promises`": len(promised),
@@ -155,18 +155,33 @@ def counts():
         r"and the devices it is (\d+)": files_below("crates/vss_main/specs/TopCall.antt", "IsDone"),
     }
     for form, count in kept.items():
-        said = [(page, int(number)) for page in PAGES for number in re.findall(form, text_of(page))]
+        said = [(page, int(number)) for page in PAGES for number in re.findall(form, " ".join(text_of(page).split()))]
         if not said:
             wrong.append(f"no page says how many: {form}")
         wrong.extend(f"{page}: says {number} where there are {count}: {form}" for page, number in said if number != count)
 
 
 def laws():
-    """Each law of `promises` is on the page that has it."""
-    for file, page in ("laws.rt", "docs/PROMISES.md"), ("facts.rt", "docs/MODEL.md"):
-        for law in re.findall(r"^pub fn (\w+)", text_of(f"crates/promises/src/{file}"), re.M):
-            if not re.search(rf"\b{law}\b", text_of(page)):
-                wrong.append(f"{page}: the law `{law}` of {file} is not there")
+    """Each law of `promises` is on its page, or of `facts` has its sentence in the code."""
+    for law in re.findall(r"^pub fn (\w+)", text_of("crates/promises/src/laws.rt"), re.M):
+        if not re.search(rf"\b{law}\b", text_of("docs/PROMISES.md")):
+            wrong.append(f"docs/PROMISES.md: the law `{law}` is not there")
+    for above, law in re.findall(r"^(.*)\n(?:#.*\n)*pub fn (\w+)", text_of("crates/promises/src/facts.rt"), re.M):
+        if not above.startswith("///"):
+            wrong.append(f"crates/promises/src/facts.rt: the law `{law}` has no sentence")
+
+
+def sizes():
+    """The README and the pages of docs/ are short, and so is each cell of their tables."""
+    if len(text_of("README.md").encode()) > MOST_README:
+        wrong.append(f"README.md has more than {MOST_README} bytes")
+    if sum(os.path.getsize(page) for page in glob.glob("docs/*.md")) > MOST_DOCS:
+        wrong.append(f"the pages of docs/ have more than {MOST_DOCS} bytes together")
+    for page in (page for page in PAGES if not page.startswith("crates/")):
+        for line in re.findall(r"^\|(.*)\|$", text_of(page), re.M):
+            for cell in re.split(r"(?<!\\)\|", line):
+                if len(re.sub(r"\]\([^)]*\)", "]", cell).split()) > MOST_WORDS:
+                    wrong.append(f"{page}: a cell has more than {MOST_WORDS} words: {cell.strip()[:60]}")
 
 
 def crate_pages():
@@ -179,7 +194,7 @@ def crate_pages():
         text = text_of(page)
         if not text.startswith(f"# {name}\n\n"):
             wrong.append(f"{page}: does not begin with its title")
-        if re.findall(r"^## (.*)$", text, re.M) != HEADINGS:
+        if [it for it in re.findall(r"^## (.*)$", text, re.M) if it != "Format"] != HEADINGS:
             wrong.append(f"{page}: its headings are not {', '.join(HEADINGS)}")
         if not LEAST_LINES <= text.count("\n") <= MOST_LINES:
             wrong.append(f"{page}: has {text.count(chr(10))} lines, and not {LEAST_LINES} to {MOST_LINES}")
@@ -202,8 +217,7 @@ def main():
     counts()
     laws()
     crate_pages()
-    if len(text_of("README.md").encode()) > MOST_README:
-        wrong.append(f"README.md has more than {MOST_README} bytes")
+    sizes()
     for line in wrong:
         print(line, file=sys.stderr)
     print(f"{len(PAGES)} pages")

@@ -1,7 +1,7 @@
 #!/usr/bin/env bash
 # Each example's report is what the program writes of it, as LLVM and, where that is there, as Rattle's own compiler builds it. Where nothing says which
-# of two lanes comes first, an example has a second report, NAME.or.report, and the program may write either. And README.md's example of `./images` runs
-# as it stands there, beside a process that has the database open.
+# of two lanes comes first, an example has a second report, NAME.or.report, and the program may write either. And README.md's lines of a backup run as they
+# stand there, in a folder whose database a process writes all the time.
 . "$(dirname "${BASH_SOURCE[0]}")/prelude.sh" || exit 70
 builds="$(programs vss)" || exit 1
 mapfile -t builds <<< "$builds"
@@ -18,23 +18,27 @@ done
 
 images="$(program images)" || exit 1
 ln -s "$images" "$room/images"
-python3 -c 'import sqlite3' 2> /dev/null || { echo "examples: this python3 has no sqlite3, so README.md's example of ./images was left out" >&2; ends "the scenarios alone"; }
-python3 - README.md "$room" > "$room/said" 2>&1 << 'PYTHON' || wrong "README.md, ./images: $(cat "$room/said")"
-import re, sqlite3, subprocess, sys
-
-with open(sys.argv[1], encoding="utf-8") as page:
-    lines = re.search(r"^```text\n(\$ mkdir then.*?)^```", page.read(), re.M | re.S).group(1)
-kept = sqlite3.connect(f"{sys.argv[2]}/app.db", isolation_level=None)
-for call in ("pragma journal_mode = wal", "create table t (n)", "insert into t values (1)"):
+python3 -c 'import sqlite3' 2> /dev/null && [ -n "$(type -P sqlite3)" ] ||
+  { echo "examples: there is no sqlite3 here, so README.md's backup of a database was left out" >&2; ends "the scenarios alone"; }
+# a writer that commits every few milliseconds until it is ended, and prints how often it did
+python3 -c '
+import sqlite3, sys, time
+kept = sqlite3.connect(sys.argv[1], isolation_level=None, timeout=60)
+for call in ("pragma journal_mode = wal", "create table t (n)"):
     kept.execute(call).fetchall()
-for call, wanted in re.findall(r"^\$ (.*)\n((?:[^$].*\n)*)", lines, re.M):
-    written = re.fullmatch(r'sqlite3 app\.db "(.*)"', call)
-    if written:
-        with sqlite3.connect(f"{sys.argv[2]}/app.db", isolation_level=None) as other:
-            other.execute(written.group(1))
-        continue
-    got = subprocess.run(["bash", "-o", "pipefail", "-c", call], cwd=sys.argv[2], stdout=subprocess.PIPE, stderr=subprocess.STDOUT, text=True, check=False)
-    if got.returncode or got.stdout != wanted:
-        sys.exit(f"{call}: status {got.returncode}, {got.stdout}")
-PYTHON
-ends "$(ls examples/*.scenario | wc -l), as written, from ${#builds[@]} builds, and that of ./images"
+count = 0
+while True:
+    time.sleep(0.003)
+    kept.execute("insert into t values (1)")
+    count += 1
+    print(count, flush=True)
+' "$room/app.db" > "$room/commits" &
+writer=$!
+while [ ! -s "$room/commits" ]; do sleep 0.1; done
+(cd "$room" && PATH="$PATH:$room" && . <(sed -n '/^lock() /,/^```/p' "$top/README.md" | grep -v '^```')) > "$room/said" 2>&1
+before="$(tail -n 1 "$room/commits")"
+sleep 0.5
+[ "$(tail -n 1 "$room/commits")" -gt "$before" ] || wrong "README.md: the writer of app.db stopped after $before commits"
+kill "$writer"
+[ "$(tail -n 2 "$room/said")" = "ok"$'\n'1 ] || wrong "README.md, the backup of a database: $(cat "$room/said")"
+ends "$(ls examples/*.scenario | wc -l), as written, from ${#builds[@]} builds, and the backup of a database that is being written"

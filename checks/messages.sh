@@ -1,9 +1,9 @@
 #!/usr/bin/env bash
 # What a person is told of a text or of words that `vss` refuses: the place, the reason, and what helps to go on. The program refuses each text here,
-# and `vss_explain` says of the same text what is wrong, as ./vss has it; some go through ./vss itself, by a file, a pipe or a closed stream.
+# and `vss_tools explain` says of the same text what is wrong, as ./vss has it; some go through ./vss itself, by a file, a pipe or a closed stream.
 . "$(dirname "${BASH_SOURCE[0]}")/prelude.sh" || exit 70
 vss="$(program vss)" || exit 1
-explainer="$(program vss_explain)" || exit 1
+explainer="$(tools explain | head -n 1)" && [ -n "$explainer" ] || exit 1
 trials=0
 
 # what was said, and what has to stand in it
@@ -297,7 +297,7 @@ for word in help --help -h; do
   [ ! -s "$room/err" ] || wrong "./vss $word says on the standard error: $(cat "$room/err")"
 done
 ran 0 --version < /dev/null
-has "./vss --version" "$(cat "$room/out")" "vss, of the sources "
+has "./vss --version" "$(cat "$room/out")" "vss $(cat VERSION), of the sources "
 
 # areas that were cut, or have a byte too many, or are something else
 mkdir "$room/disks"
@@ -317,7 +317,12 @@ said "it has $((size + 1)) bytes" "an area has $size"
 ran 9 inspect < "$top/examples/first.scenario"
 said "it is a scenario: ./vss run < FILE"
 ran 9 inspect < /dev/null
-said "vss: area header Magic 0" "the input is no diff area"
+said "vss: area header Magic 0" "the input is empty"
+: > "$room/empty"
+ran 9 inspect < "$room/empty"
+said "vss: area header Magic 0" "the input is empty"
+ran 9 inspect < <(cat "$room/empty")
+said "vss: area header Magic 0" "the input is empty"
 
 # areas of which a few bytes are others: where they begin, the bytes, the program's line, and what is said below it
 while IFS='|' read -r at bytes line hint; do
@@ -383,6 +388,20 @@ if [ -w /dev/full ]; then
   "$top/vss" run "$room/whole" < "$top/examples/first.scenario" > /dev/full 2> "$room/err"
   [ "$?" = 5 ] && [ "$(ls "$room/whole" | wc -l)" = 2 ] || wrong "where the report finds no room, the files are gone"
 fi
+
+# help and the version of the other commands
+for tool in orders timeline tests prove; do
+  for word in help --help -h; do
+    "./$tool" "$word" > "$room/out" 2> "$room/err" < /dev/null || wrong "./$tool $word ends with $?"
+    has "./$tool $word" "$(cat "$room/out")" "    ./$tool"
+    [ ! -s "$room/err" ] || wrong "./$tool $word says on the standard error: $(cat "$room/err")"
+  done
+done
+for tool in orders timeline; do
+  has "./$tool --version" "$(./$tool --version)" "$tool $(cat VERSION), of the sources "
+done
+./tests frist > "$room/out" 2> "$room/err"
+said "named frist; there are" " messages" " vss_tools"
 
 # on a terminal: where the scenario comes from, how far a long run is, and Ctrl-C
 trials=$((trials + 4))

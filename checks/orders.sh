@@ -1,11 +1,11 @@
 #!/usr/bin/env bash
-# `vss_orders` plays each example of examples/orders in its order, byte for byte, over devices of which calls fail if NAME.with says so, makes the
+# `./orders` plays each example of examples/orders in its order, byte for byte, over devices of which calls fail if NAME.with says so, makes the
 # report of each example again from that report as its order, also over devices that lend no block, and replays it, where its fault marks alone say
 # what failed. A number draws the same bytes at each run, and several numbers draw several orders; the outcomes of many are counted. What is no order
 # and no report, and words that ask for nothing, are reported by the file, the line and what was expected, with nothing on standard output. It runs
 # the program as LLVM and, where that is there, as Rattle's own compiler builds it.
 . "$(dirname "${BASH_SOURCE[0]}")/prelude.sh" || exit 70
-builds="$(programs vss_orders)" || exit 1
+builds="$(tools orders)" || exit 1
 mapfile -t builds <<< "$builds"
 
 # the words before the task for an example
@@ -39,7 +39,7 @@ refuses() {
   said="$("$program" "$@" 2>&1 > "$room/out")"
   status=$?
   if [ "$status" != "$wanted" ] || [ "$said" != "orders: $line" ] || [ -s "$room/out" ]; then
-    wrong "\`vss_orders $*\`: status $status, $said"
+    wrong "\`orders $*\`: status $status, $said"
   fi
 }
 
@@ -140,6 +140,9 @@ for program in "${builds[@]}"; do
   for device in D.vol C.shared C vol ""; do
     refuses 3 "$first.scenario: expected a device of it, as \`NAME.vol\`, \`NAME.area\` or \`NAME.shared\`, and not \`$device\`" with "$device" flush 1 seed 1 $first.scenario
   done
+  printf 'scenario 1\narea D 2\nvolume D 2 in D\nlane a\nbegin 25\n' > "$room/both"
+  "$program" with D.shared flush 9 seed 1 "$room/both" > "$room/said" 2>&1 || wrong "an area D and a volume D: D.shared is refused: $(cat "$room/said")"
+  refuses 3 "$room/both: expected a device of it, as \`NAME.vol\`, \`NAME.area\` or \`NAME.shared\`, and not \`D.area\`" with D.area flush 1 seed 1 "$room/both"
   refuses 4 "$room/none: cannot be read" order "$room/none" $first.report
   refuses 4 "$room/none: cannot be read" order $first.scenario "$room/none"
   refuses 4 "$room/none: cannot be read" again $first.scenario "$room/none"

@@ -34,19 +34,13 @@ programs() {
   if has_by_rattle "$1"; then echo "$path.by-rattle"; fi
 }
 
-# Gives the calls of a file of rows, `CALL => REPLY` each, to a program with its words, and compares the replies. A call without an arrow replies
-# nothing; what follows an arrow without a call is a further line of the reply above. Adds the rows with a reply to `replies`.
-replies=0
-replied() {
-  local rows="$1" row
-  shift
-  sed -e '/^#/d' -e '/^ => /d' -e 's/ => .*//' "$rows" > "$room/calls"
-  grep -v '^#' "$rows" | grep ' => ' > "$room/rows"
-  sed 's/^.* => //' "$room/rows" > "$room/wanted"
-  replies=$((replies + $(wc -l < "$room/wanted")))
-  [ -s "$room/wanted" ] || wrong "${rows##*/}: no replies"
-  "$@" < "$room/calls" > "$room/said" 2> "$room/err" || wrong "${rows##*/}: status $?, $(tail -n 1 "$room/err")"
-  cmp -s "$room/wanted" "$room/said" && return
-  row="$(awk 'NR == FNR { wanted[NR] = $0; next } $0 != wanted[FNR] { exit } { same = FNR } END { print same + 1 }' "$room/wanted" "$room/said")"
-  wrong "${rows##*/}: of the row \"$(sed -n "${row}p" "$room/rows" | cut -c 1-150)\" it is said \"$(sed -n "${row}p" "$room/said" | cut -c 1-150)\""
+# Prints the paths of scripts that run a tool of `vss_tools` by these programs: `builds="$(tools orders)" || exit 1`.
+tools() {
+  local tool="$1" builds build
+  builds="$(programs vss_tools)" || return
+  for build in $builds; do
+    printf '#!/bin/sh\nexec "%s" %s "$@"\n' "$build" "$tool" > "$room/$tool-${build##*/}"
+    chmod +x "$room/$tool-${build##*/}"
+    echo "$room/$tool-${build##*/}"
+  done
 }

@@ -4,8 +4,8 @@
 . "$(dirname "${BASH_SOURCE[0]}")/prelude.sh" || exit 70
 small="$room/a small one"
 mkdir -p "$small/tools" "$small/crates/low/src" "$small/crates/vss/src" "$small/crates/vss/out"
-cp "$top/vss" "$top/timeline" "$small/"
-cp "$top/tools/program.sh" "$small/tools/"
+cp "$top/vss" "$top/timeline" "$top/VERSION" "$small/"
+cp "$top"/tools/*.sh "$small/tools/"
 printf 'low: # below\nother: low\nvss may_wait=1: low\n' > "$small/crates.txt"
 echo one > "$small/crates/low/src/lib.rt"
 echo two > "$small/crates/vss/src/main.rt"
@@ -132,6 +132,17 @@ make_builder "[ \"\$1\" = --slow ] || exit 3; cp '$room/aborts' \"\$3\""
 make_builder "echo five > '$small/crates/vss/src/main.rt'; cp '$room/cat' \"\$2\""
 "$small/vss" run < /dev/null > "$room/out" 2> "$room/err"
 [ "$?" = 70 ] && grep -q "changed while it was built" "$room/err" || wrong "sources that change meanwhile: $(cat "$room/err")"
+
+# a released program is run before all others, of whatever sources; one without a proof says so
+mkdir "$small/programs"
+printf '#!/bin/sh\necho released\n' > "$small/programs/vss" && chmod +x "$small/programs/vss"
+for how in released "released without a proof"; do
+  printf '%064d %064d\n%s' 0 0 "${how#released}" | sed 's/^ without a proof/unproved/' > "$small/programs/vss.sources"
+  [ "$("$small/vss" --version)" = "vss $(< VERSION), of the sources 0000000000000000, $how" ] || wrong "$how: $("$small/vss" --version 2>&1)"
+  [ "$("$small/vss" run < /dev/null 2> "$room/err")" = released ] || wrong "a released program is not run"
+  [ "$how" = released ] && [ ! -s "$room/err" ] || grep -q "an unproved build" "$room/err" || wrong "$how: $(cat "$room/err")"
+done
+rm -r "$small/programs"
 
 # how far a build is, on a terminal
 mkdir "$room/terminal"

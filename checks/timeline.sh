@@ -1,10 +1,10 @@
 #!/usr/bin/env bash
-# `vss_timeline` draws each example: as a drawing with one element for each line of the report but the first, in bands of at most 40, whose words
+# `./timeline` draws each example: as a drawing with one element for each line of the report but the first, in bands of at most 40, whose words
 # do not lie on one another, and as lines of at most 100 bytes. Those in docs/pictures are drawn again byte for byte. A long report is drawn in
 # 5 seconds of a processor and 500 MB of addresses. What is no report, what is another scenario's, and words that ask for nothing, have their
 # status, and a line that names file and line. It is drawn by the program as LLVM and, where that is there, as Rattle's own compiler builds it.
 . "$(dirname "${BASH_SOURCE[0]}")/prelude.sh" || exit 70
-builds="$(programs vss_timeline)" || exit 1
+builds="$(tools timeline)" || exit 1
 mapfile -t builds <<< "$builds"
 scenarios=(examples/*.scenario examples/orders/*.scenario)
 usage="vss_timeline: usage: vss_timeline [--text] [--from N] [--to N] [SCENARIO REPORT]"
@@ -50,7 +50,7 @@ answers() {
   said="$("$program" "$@" 2>&1 > "$room/out" < "$room/in")"
   status=$?
   if [ "$status" != "$wanted" ] || [ "$said" != "$line" ] || [ -s "$room/out" ]; then
-    wrong "\`vss_timeline $*\`: status $status, $said"
+    wrong "\`timeline $*\`: status $status, $said"
   fi
 }
 

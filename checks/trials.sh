@@ -3,8 +3,8 @@
 # the sink and the devices that fails, alone or with all that follow, leads to a status that it may have; and each first part of a text is read
 # or refused at its last line.
 . "$(dirname "${BASH_SOURCE[0]}")/prelude.sh" || exit 70
-trial="$(program service_trial)" || exit 1
-orders="$(program vss_orders)" || exit 1
+trial="$(program trials_in_threads)" || exit 1
+tools="$(program vss_tools)" || exit 1
 
 # ## a given order of moves
 
@@ -37,7 +37,7 @@ plays() {
   for ((at = 0; at < ${#1}; at++)); do
     case "${1:at:1}" in a) echo "lane r" ;; [bB]) echo "lane w" ;; p) echo provider ;; esac
   done > "$room/order"
-  "$orders" order checks/trials/one_cut.scenario "$room/order" 2>&1
+  "$tools" orders order checks/trials/one_cut.scenario "$room/order" 2>&1
 }
 
 # what the images of both volumes have by the number of writes before the cut: blocks 0 and 1 of each

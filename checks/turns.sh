@@ -2,7 +2,7 @@
 # 64 lanes, 64 writers and the provider, each with a thread and a seat at one turn: the gate is told once before and once after each step, in each
 # of ten runs, whatever the threads do, and each lane line is made once.
 . "$(dirname "${BASH_SOURCE[0]}")/prelude.sh" || exit 70
-trial="$(program service_trial)" || exit 1
+trial="$(program trials_in_threads)" || exit 1
 {
   echo "scenario 1"
   echo "volume C 1 1"

@@ -7,6 +7,7 @@ import os
 import re
 import resource
 import socket
+import stat
 import struct
 import subprocess
 import sys
@@ -75,6 +76,10 @@ def is_full(report):
     """Standard output takes no byte, or so many and no more, as a file of a limited size does: a write that comes short is gone on with."""
     with open("/dev/full", "wb") as full:
         holds(ended(run(LONG, stdout=full), 5, b"vss: write fault\n"), "a full device is not told")
+        generated = subprocess.run([PROGRAM, "gen", "7"], stdout=full, stderr=subprocess.PIPE, check=False)
+        holds(ended(generated, 5, b"vss: write fault\n"), "a full device is not told of a generated run")
+    holds(ended(run(LONG, preexec_fn=lambda: os.close(1)), 5, b"vss: write fault\n"), "a closed output is not told")
+    holds(ended(run(LONG, preexec_fn=lambda: os.close(0)), 4, b"vss: read fault\n"), "a closed input is not told")
     for most in (1, 4096, len(report) - 1):
         path = os.path.join(FOLDER, f"at_most_{most}")
         with open(path, "wb") as out:
@@ -149,12 +154,14 @@ def is_in_files():
 
 def is_refused_where_there_is():
     """What has the name of a device already is no device, whatever it is, and is left as it is."""
-    for name in "C.vol", "E.vol", "G.shared":
-        for kind in "file", "folder", "link", "dead_link":
+    for name in "C.vol", "C.area", "E.vol", "G.shared":
+        for kind in "file", "folder", "link", "dead_link", "pipe":
             disks = folder(f"{kind}_{name}")
             path, other = os.path.join(disks, name), os.path.join(FOLDER, f"other_{kind}_{name}")
             if kind == "folder":
                 os.mkdir(path)
+            elif kind == "pipe":
+                os.mkfifo(path)
             elif kind == "dead_link":
                 os.symlink(other, path)
             else:
@@ -167,13 +174,21 @@ def is_refused_where_there_is():
             holds(os.listdir(disks) == [name], f"where a {kind} {name} is there other files are left")
             if kind == "folder":
                 holds(os.listdir(path) == [], f"a folder {name} that is there is changed")
+            elif kind == "pipe":
+                holds(stat.S_ISFIFO(os.lstat(path).st_mode), f"a {kind} {name} that is there is changed")
             elif kind == "dead_link":
                 holds(os.path.islink(path) and not os.path.exists(other), f"a {kind} {name} that is there is followed")
             else:
                 with open(path, "rb") as file:
                     holds(file.read() == b"mine", f"a {kind} {name} that is there is changed")
-    none = os.path.join(FOLDER, "none")
-    holds(failed(run(SET, none), f"{none}/C.vol", rb"created: No such file or directory \(os error 2\)"), "a folder that is not there is not told")
+    mine = os.path.join(FOLDER, "mine")
+    with open(mine, "wb") as file:
+        file.write(b"mine")
+    for place, reason in ((os.path.join(FOLDER, "none"), rb"No such file or directory \(os error 2\)"), ("n" * 300, rb"File name too long \(os error 36\)"),
+                          (mine, rb"Not a directory \(os error 20\)")):
+        holds(failed(run(SET, place), f"{place}/C.vol", b"created: " + reason), f"a folder that is not there is not told: {reason}")
+    with open(mine, "rb") as file:
+        holds(file.read() == b"mine", "a file in a folder's place is changed")
 
 
 # ## what is made to last

@@ -1,5 +1,0 @@
-use Rattle.turn_cell.specs.Callers.{Calls}
-use Rattle.worked_tests.proofs.turns.call_often.Given as goal
-
-abbrev pub invariant-loop : goal.invariant-loop
-invariant-loop g l = Calls l.caller l.turn
