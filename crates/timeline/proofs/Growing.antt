@@ -1,27 +1,23 @@
 -- A text that grows.
-use Rattle.std.proofs.Common.{◌≡◌, ℕ, ◌≤◌, List, [], ◌∷◌, ◌++◌, length, map, refl, ap, sym, ◌∙◌, ◌+◌, ◌-◌, append-nil, append_assoc, arith, drop, rules, subst, take}
+use Rattle.std.proofs.Common.{◌≡◌, ℕ, ◌≤◌, List, [], ◌∷◌, ◌++◌, length, refl, ap, sym, ◌∙◌, ◌+◌, ◌-◌, append-nil, append_assoc, arith, drop, rules, subst, take}
 use Rattle.std.specs.Prelude.{All}
 use Rattle.std.specs.List.{flat_map}
 use Rattle.std.proofs.lemmas.Grind.{flat_map-append}
-use Rattle.std.proofs.lemmas.List.{drop-take, length-take, map-append, take-append-drop, take-take}
+use Rattle.std.proofs.lemmas.List.{drop-take, length-take, take-append-drop, take-take}
 use Rattle.std.proofs.lemmas.List.Elements.{All-append}
-use Rattle.timeline.specs.Grown.{Grown}
+use Rattle.timeline.specs.Drawn.{IsDrawn, part_text, parts_text}
 use Rattle.timeline.specs.Narrow.{AddsLines, IsInLines, IsLines, printable, printable_byte, with_newline}
-use Rattle.timeline.specs.declared.mark.Mark.{Mark}
+use Rattle.timeline.specs.declared.part.Part.{Part}
 
-pub grown_none : {X : Type 0} (text_of : X → List ℕ) (mark_of : X → Mark) (old new : List ℕ) → new ≡ old → Grown text_of mark_of old new []
-grown_none text_of mark_of old new e = record { pieces = []; all = refl; text = e ∙ sym (append-nil old) }
+-- ## in parts
 
-pub grown_one : {X : Type 0} (text_of : X → List ℕ) (mark_of : X → Mark) (x : X) (old new : List ℕ) → new ≡ old ++ text_of x → Grown text_of mark_of old new (mark_of x ∷ [])
-grown_one text_of mark_of x old new e = record { pieces = x ∷ []; all = refl; text = e ∙ ap (λ t. old ++ t) (sym (append-nil (text_of x))) }
+pub drawn_none : IsDrawn []
+drawn_none = record { parts = []; whole = refl }
 
-pub grown_more : {X : Type 0} (text_of : X → List ℕ) (mark_of : X → Mark) (old mid new : List ℕ) (ms ns : List Mark)
-    → Grown text_of mark_of old mid ms → Grown text_of mark_of mid new ns → Grown text_of mark_of old new (ms ++ ns)
-grown_more text_of mark_of old mid new ms ns g h = record {
-  pieces = g.pieces ++ h.pieces;
-  all = map-append mark_of g.pieces h.pieces ∙ ap (λ xs. xs ++ map mark_of h.pieces) g.all ∙ ap (λ xs. ms ++ xs) h.all;
-  text = h.text ∙ ap (λ t. t ++ flat_map text_of h.pieces) g.text ∙ append_assoc old (flat_map text_of g.pieces) (flat_map text_of h.pieces)
-      ∙ ap (λ t. old ++ t) (sym (flat_map-append text_of g.pieces h.pieces));
+pub drawn_more : (old new : List ℕ) (parts : List Part) → new ≡ old ++ parts_text parts → IsDrawn old → IsDrawn new
+drawn_more old new parts e h = record {
+  parts = h.parts ++ parts;
+  whole = e ∙ ap (λ t. t ++ parts_text parts) h.whole ∙ sym (flat_map-append part_text h.parts parts);
 }
 
 -- ## in lines

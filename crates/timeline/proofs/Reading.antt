@@ -1,14 +1,12 @@
 -- The lines of a report, one line on.
 use denote.Ref.{Bor}
-use Rattle.std.proofs.Common.{◌≡◌, ℕ, ◌+◌, ◌<◌, ◌≤◌, List, [], ◌∷◌, ◌++◌, length, map, drop, get_or, ap, sym, ◌∙◌, append-nil, append_assoc, refl}
+use Rattle.std.proofs.Common.{◌≡◌, ℕ, ◌+◌, ◌<◌, ◌≤◌, List, [], ◌∷◌, length, map, drop, get_or, ap, sym, ◌∙◌, refl}
 use Rattle.std.proofs.lemmas.List.{at_drop_all, at_drop_more}
 use Rattle.std.specs.Prelude.{Bool, Option, None, Some, ◌||◌}
 use Rattle.std.specs.List.{list_any}
 use Rattle.timeline.specs.Refused.{fault_of, refusal_from, refused_at}
-use Rattle.timeline.specs.Told.{Told, moves_after, told_from, told_here}
 use Rattle.timeline.specs.declared.fault.Fault.{Fault}
 use Rattle.timeline.specs.declared.refusal.Refusal.{Refusal}
-use Rattle.timeline.specs.declared.span.Span.{Span}
 
 -- what is read past the end
 abbrev pub no_line : Bor (List ℕ)
@@ -28,22 +26,6 @@ texts_all f all at l = at_drop_all (λ xs. f (texts xs)) all at l
 pub any_text : (p : List ℕ → Bool) (lines : List (Bor (List ℕ))) → list_any (λ (line : Bor (List ℕ)). p line.now) lines ≡ list_any p (texts lines)
 any_text p [] = refl
 any_text p (line ∷ rest) = ap (λ t. p line.now || t) (any_text p rest)
-
--- ## what is told
-
-pub told_on : (script : List (List ℕ)) (span : Span) (all : List (Bor (List ℕ))) (at moves more : ℕ) (done next whole : List Told) → at < length all
-    → more ≡ moves_after moves (get_or all at no_line).now → next ≡ done ++ told_here script span more (get_or all at no_line).now
-    → done ++ told_from script span moves (texts (drop at all)) ≡ whole → next ++ told_from script span more (texts (drop (at + 1) all)) ≡ whole
-told_on script span all at moves more done next whole l m e h =
-    let line = (get_or all at no_line).now in
-    let rest = texts (drop (at + 1) all) in
-    ap (λ t. t ++ told_from script span more rest) e ∙ append_assoc done (told_here script span more line) (told_from script span more rest)
-    ∙ ap (λ k. done ++ (told_here script span k line ++ told_from script span k rest)) m
-    ∙ sym (ap (λ t. done ++ t) (texts_more (told_from script span moves) all at l)) ∙ h
-
-pub told_end : (script : List (List ℕ)) (span : Span) (all : List (Bor (List ℕ))) (at moves : ℕ) (done whole : List Told) → length all ≤ at
-    → done ++ told_from script span moves (texts (drop at all)) ≡ whole → done ≡ whole
-told_end script span all at moves done whole l h = sym (append-nil done) ∙ sym (ap (λ t. done ++ t) (texts_all (told_from script span moves) all at l)) ∙ h
 
 -- ## what is refused
 

@@ -1,27 +1,22 @@
--- What the drawing of a report promises, by how it ended: where it is written, no line of the report is refused, and the sink took a
--- drawing, or lines, of all that is told of it, in order; where the report is refused, its first refusal is told, and nothing is
--- written. (This project's own.)
-use Rattle.std.specs.Prelude.{ℕ, ◌≡◌, List, map, Option, Some, None}
+-- What the drawing of a report promises, by how it ended: if it is written, no line of the report is refused, and the sink took a
+-- drawing, or lines; if the report is refused, its first refusal is the answer, and nothing is written. (This project's own.)
+use Rattle.std.specs.Prelude.{ℕ, ◌≡◌, List, Option, Some, None}
 use Rattle.vss_names.specs.Faults.{Rose}
 use Rattle.io_edge.specs.Streams.{Took, TookPart}
 use Rattle.timeline.specs.Drawn.{IsDrawn}
-use Rattle.timeline.specs.Narrow.{IsNarrow}
+use Rattle.timeline.specs.Narrow.{IsLines}
 use Rattle.timeline.specs.Refused.{refusal}
-use Rattle.timeline.specs.Told.{told, told_of}
 use Rattle.timeline.specs.declared.ended.Ended.{Ended}
 use Rattle.timeline.specs.declared.ended.Ended.TheVariants.{Written, Refused, WriteFault, OutOfMemory}
 use Rattle.timeline.specs.declared.form.Form.{Form}
 use Rattle.timeline.specs.declared.form.Form.TheVariants.{Drawing, Lines}
-use Rattle.timeline.specs.declared.mark.Mark.{Mark}
 use Rattle.timeline.specs.declared.picture_error.PictureError.{PictureError}
 use Rattle.timeline.specs.declared.picture_error.PictureError.TheVariants as error
 use Rattle.timeline.specs.declared.refusal.Refusal.{Refusal}
-use Rattle.timeline.specs.declared.span.Span.{Span}
 
 -- what is asked for, and the sink before the call and after it
 pub record Edges : Type 0 where
   pub form : Form
-  pub span : Span
   pub scenario : List ℕ
   pub report : List ℕ
   pub taken_first : Option (List ℕ)
@@ -29,22 +24,17 @@ pub record Edges : Type 0 where
   pub writes_first : ℕ
   pub writes_last : ℕ
 
--- a text of these marks in a form
-abbrev pub IsPage : List Mark → List ℕ → Form → Type 0
-IsPage marks text Drawing = IsDrawn text marks
-IsPage marks text Lines = IsNarrow text marks
+-- a text in a form
+abbrev pub IsPage : List ℕ → Form → Type 0
+IsPage text Drawing = IsDrawn text
+IsPage text Lines = IsLines text
 
--- these marks tell all of a report that is not refused
-pub record AreMarks (marks : List Mark) (scenario report : List ℕ) (span : Span) : Type 0 where
-  pub told : map told marks ≡ told_of scenario report span
-  pub good : refusal scenario report ≡ None
-
+-- a text in the form, and no line of the report is refused
 pub record IsPicture (e : Edges) (text : List ℕ) : Type 0 where
-  pub marks : List Mark
-  pub all : AreMarks marks e.scenario e.report e.span
-  pub page : IsPage marks text e.form
+  pub page : IsPage text e.form
+  pub good : refusal e.scenario e.report ≡ None
 
--- why a report has no picture; want of memory says nothing of it
+-- why a report has no picture; out of memory may come in place of it
 abbrev pub IsRefusal : Option Refusal → PictureError → Type 0
 IsRefusal first (error.Refused why) = first ≡ Some why
 IsRefusal first error.OutOfMemory = Unit {0}

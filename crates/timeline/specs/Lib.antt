@@ -1,11 +1,9 @@
 pub mod Drawn
 pub mod Ended
 pub mod Escaped
-pub mod Grown
 pub mod Lines
 pub mod Named
 pub mod Narrow
 pub mod Refused
 pub mod Script
-pub mod Told
 pub mod Words

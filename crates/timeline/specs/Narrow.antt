@@ -1,10 +1,7 @@
--- Lines for a terminal: each is at most 100 bytes long, and ends with a newline. What is longer goes on in the next line. Each mark has
--- its own, in order, which end with its label. A byte that is no printable ASCII is a question mark there. (This project's own.)
+-- Lines for a terminal: each is at most 100 bytes long, and ends with a newline. What is longer goes on in the next line. A byte that is no
+-- printable ASCII is a question mark there. (This project's own.)
 use Rattle.std.specs.Prelude.{ℕ, ◌≡◌, ◌≤◌, ◌&&◌, nat_le, List, [], ◌∷◌, ◌++◌, codes, length, All, if◌then◌else◌}
 use Rattle.std.specs.List.{flat_map}
-use Rattle.timeline.specs.declared.mark.Mark.{Mark}
-use Rattle.timeline.specs.Grown.{Grown}
-use Rattle.timeline.specs.Told.{written}
 
 abbrev pub with_newline : List ℕ → List ℕ
 with_newline line = line ++ 10 ∷ []
@@ -31,18 +28,3 @@ pub record AddsLines (old new text : List ℕ) : Type 0 where
 pub record IsLines (bytes : List ℕ) : Type 0 where
   pub text : List ℕ
   pub lines : IsInLines bytes (printable text)
-
--- the lines of a mark: how it stands, and its label
-pub record Shown : Type 0 where
-  pub mark : Mark
-  pub front : List ℕ
-  pub bytes : List ℕ
-  pub lines : IsInLines bytes (printable (front ++ written mark.label))
-
-abbrev pub ShowsOn : List ℕ → List ℕ → List Mark → Type 0
-ShowsOn old new marks = Grown (λ (s : Shown). s.bytes) (λ (s : Shown). s.mark) old new marks
-
-pub record IsNarrow (bytes : List ℕ) (marks : List Mark) : Type 0 where
-  pub before : List ℕ
-  pub heading : IsLines before
-  pub shown : ShowsOn before bytes marks

@@ -14,7 +14,7 @@ use vss_names::{OutOfMemory, Text};
 
 /// The text of a picture in a form.
 fn page(alloc: Global, form: Form, name: &str, picture: &Picture<'_>) -> Result<Text, OutOfMemory>
-    ensures { IfOk result (λ text. IsPage picture.now.marks.items text.bytes form) }
+    ensures { IfOk result (λ text. IsPage text.bytes form) }
 {
     match form {
         Form::Drawing => to_svg(alloc, name, picture),
@@ -26,7 +26,6 @@ fn page(alloc: Global, form: Form, name: &str, picture: &Picture<'_>) -> Result<
 pub fn draw<K: Sink>(alloc: Global, form: Form, run: Run<'_>, sink: &mut K) -> Ended
     ensures { IsEnded (record {
       form = form;
-      span = run.entry.span;
       scenario = run.entry.scenario.now;
       report = run.entry.report.now;
       taken_first = K.taken sink.old;

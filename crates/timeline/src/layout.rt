@@ -1,6 +1,3 @@
-ghost use Rattle.std.specs.Prelude.{◌≡◌};
-ghost use Rattle.timeline.specs.Drawn.{height_of};
-
 use crate::band::Band;
 use crate::band_row::BandRow;
 use crate::picture::Picture;
@@ -147,9 +144,7 @@ impl Layout {
     }
 
     /// How high the marks of a row lie.
-    pub fn mark(&self, row: usize) -> u64
-        ensures { result ≡ height_of self.now.heights.items row }
-    {
+    pub fn mark(&self, row: usize) -> u64 {
         self.heights.get(row).copied().unwrap_or(0)
     }
 }

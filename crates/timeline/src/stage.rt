@@ -1,6 +1,3 @@
-ghost use Rattle.std.specs.Prelude.{◌≡◌, IfOk};
-ghost use Rattle.timeline.specs.Told.{told, told_by};
-
 use crate::band::Band;
 use crate::bar_kind::BarKind;
 use crate::bars::Bars;
@@ -90,9 +87,7 @@ impl<'a> Stage<'a> {
         script: &Script<'a>,
         line: &'a str,
         moves: u64,
-    ) -> Result<Mark<'a>, OutOfMemory>
-        ensures { IfOk result (λ mark. told mark ≡ told_by script.now line.now) }
-    {
+    ) -> Result<Mark<'a>, OutOfMemory> {
         let label = Label::of(script, line);
         let shape = Shape::of(line);
         let place = match shape {

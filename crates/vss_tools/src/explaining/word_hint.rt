@@ -1,0 +1,78 @@
+//! Why the words of a command are no command.
+
+use super::near::say_nearest;
+use super::notes::Notes;
+use super::piece::Piece::Shown;
+use scenario::Reason;
+use scenario::numbers::number_in;
+use vss_names::OutOfMemory;
+
+const COMMANDS: [&[u8]; 4] = [b"run", b"gen", b"inspect", b"help"];
+
+/// Says of a word where `gen` has its number why it is none that it takes.
+fn say_number(notes: &mut Notes, word: Option<&str>) -> Result<bool, OutOfMemory> {
+    let Some(word) = word else {
+        notes.add("behind `gen` a number is missing: 0 to 4294967295")?;
+        return Ok(true);
+    };
+    let form = match number_in(word.as_bytes(), 0, 4_294_967_295) {
+        Ok(_) => return Ok(false),
+        Err(Reason::OutOfRange) => "`{}` is too large: the number is 0 to 4294967295",
+        Err(_) => "`{}` is no number: 0 to 4294967295, in decimal digits without zeros before them",
+    };
+    notes.say(form, &[Shown(word.as_bytes())])?;
+    Ok(true)
+}
+
+/// Says of the word where a folder may stand, and of those behind it, what is wrong.
+fn say_folder(notes: &mut Notes, words: &[String]) -> Result<(), OutOfMemory> {
+    match (words.first(), words.get(1)) {
+        (_, Some(more)) => notes.say(
+            "`{}` is one word too many; a folder whose name has spaces stands in quotes",
+            &[Shown(more.as_bytes())],
+        ),
+        (Some(folder), None) if folder.is_empty() => notes.add("the folder's name is empty"),
+        _ => Ok(()),
+    }
+}
+
+/// Says which word begins with `-`.
+fn say_dashed(notes: &mut Notes, words: &[String]) -> Result<bool, OutOfMemory> {
+    for word in words {
+        if word.as_bytes().first() == Some(&b'-') {
+            notes.say(
+                "`{}` begins with `-`, and there are no options; a folder of that name is `./{}`",
+                &[Shown(word.as_bytes()), Shown(word.as_bytes())],
+            )?;
+            return Ok(true);
+        }
+    }
+    Ok(false)
+}
+
+/// Says which of the words is wrong, and why.
+pub fn say_words(notes: &mut Notes, words: &[String]) -> Result<(), OutOfMemory> {
+    let Some(first) = words.first() else {
+        return notes.add("a command is missing");
+    };
+    if say_dashed(notes, words)? {
+        return Ok(());
+    }
+    let rest = words.get(1..).unwrap_or(&[]);
+    match first.as_str() {
+        "run" => say_folder(notes, rest),
+        "gen" => {
+            if say_number(notes, rest.first().map(|word| word.as_str()))? {
+                return Ok(());
+            }
+            say_folder(notes, rest.get(1..).unwrap_or(&[]))
+        }
+        "inspect" => notes.add(
+            "behind `inspect` stands no word: the area is read from the standard input",
+        ),
+        _ => {
+            say_nearest(notes, "`{}` is no command{}", first.as_bytes(), &COMMANDS)?;
+            Ok(())
+        }
+    }
+}
