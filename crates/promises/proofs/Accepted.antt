@@ -1,13 +1,13 @@
 -- An ordered call is accepted just where it may come.
-use Rattle.promises.proofs.Words.{bytes_eq, both_ways, Context, Backup, AppRollback, NasRollback, AsyncPending, BadState, SnapshotSetInProgress, ObjectAlreadyExists, MaximumNumberOfVolumesReached}
-use Rattle.promises.proofs.Words.{MaximumNumberOfSnapshotsReached, Mark, Part, Meta, full_name, is_among, Pair, Naming, IsNotFound, IsNotSelectable, IsNamedAlready, Names, has_pair, found_from}
-use Rattle.promises.proofs.Words.{naming_if, naming_found, naming_of, Mode, Components, All, SessionCall, Stage, Opened, Gathered, Started, Prepared, Verdict, Go, Session, has_writers, makes_set}
-use Rattle.promises.proofs.Words.{mode_of, context_of, without_all, check, check_begin, begin_verdict, check_other, check_owner, owner_only, verdict_of, allows, stage_code, is_stage}
-use Rattle.promises.proofs.Words.{goes_beside_agenda, is_start, is_await, Op, Plan, token, Event, Line, Reply, Fine, Coded, StatusOf, State, SetRow, in_progress, history_of, runs, Replied, begin_in}
-use Rattle.promises.proofs.Words.{known_metas, named_as, component_in, most_volumes, most_images, add_to, add, has_no_volume, judged, line_in, session_line, Act, happens, reply, state, IsOfSession}
+use Rattle.promises.proofs.Words.{bytes_eq, Context, Backup, AppRollback, NasRollback, AsyncPending, BadState, SnapshotSetInProgress, ObjectAlreadyExists, MaximumNumberOfVolumesReached}
+use Rattle.promises.proofs.Words.{MaximumNumberOfSnapshotsReached, Mark, Part, Meta, full_name, Pair, has_pair, found_from}
+use Rattle.promises.proofs.Words.{naming_if, naming_found, naming_of, Mode, SessionCall, Stage, Opened, Gathered, Started, Prepared, Verdict, Session, has_writers, makes_set}
+use Rattle.promises.proofs.Words.{mode_of, context_of, without_all, check, check_other, check_owner, owner_only, verdict_of, allows, stage_code, is_stage}
+use Rattle.promises.proofs.Words.{goes_beside_agenda, is_start, is_await, Op, Plan, token, Event, Line, Reply, Fine, Coded, StatusOf, State, SetRow, in_progress, history_of, runs, Replied}
+use Rattle.promises.proofs.Words.{known_metas, named_as, component_in, add_to, add, has_no_volume, judged, line_in, session_line, Act, happens, reply, state, IsOfSession}
 use Rattle.promises.proofs.Words.{owns, is_fine, orderly, is_ordered, is_accepted, can_name_in, can_name, has_place, has_volume, has_its_wants, IsAccepting, is_context, AcceptsInOrder, Step, ByBegin}
-use Rattle.promises.proofs.Words.{ByGather, ByStart, ByPrepare, BySnapshot, ByComplete, ByFailure, Progress, progress, step_code, is_step, asks_writers, comes_now}
-use Rattle.std.proofs.Common.{◌≡◌, ◌∙◌, ℕ, ◌+◌, ◌==◌, suc, List, [], ◌∷◌, Option, Some, None, refl, Bool, true, false, ap, sym, subst, length, arith}
+use Rattle.promises.proofs.Words.{ByGather, ByStart, ByPrepare, BySnapshot, Progress, progress, step_code, is_step, asks_writers, comes_now}
+use Rattle.std.proofs.Common.{◌≡◌, ◌∙◌, ℕ, ◌+◌, ◌==◌, List, [], ◌∷◌, Option, Some, None, refl, Bool, true, false, ap, sym, subst, length, arith}
 use Rattle.std.specs.Prelude.{◌&&◌, ◌||◌, not, nat_le, nat_lt, nat_eq, is_some, is_none, option_and_then, slice_get, if◌then◌else◌}
 use Rattle.vss_names.specs.Context.{number_of, context_of_number}
 use Rattle.requestor.specs.declared.session_call.SessionCall.TheVariants as call
@@ -22,25 +22,16 @@ module _ (s : Plan) (st : State) (lane : ℕ) where
   -- a test that no refusal passes
   module _ (test : Reply → Bool) (bad : test (Coded BadState) ≡ false) (busy : test (Coded SnapshotSetInProgress) ≡ false) (o : Op) where
     judged_passes : (a b c d : Bool) → test (judged (verdict_of a b c d) s lane o st).0 ≡ (not a && (not b && (c && (not d && test (line_in s lane o st.session st).0))))
-    judged_passes true b c d = busy
-    judged_passes false true c d = bad
-    judged_passes false false false d = bad
-    judged_passes false false true true = bad
-    judged_passes false false true false = refl
+    judged_passes a b c d = grind arith
 
     owned_passes : (b : Bool) (v : Verdict) → test (judged (owner_only b v) s lane o st).0 ≡ (b && test (judged v s lane o st).0)
-    owned_passes true v = refl
-    owned_passes false v = bad
+    owned_passes b v = grind arith
 
     passes : (c : SessionCall) (q : Session) → st.session ≡ Some q → check st.session (runs st) lane c ≡ check_other st.session (runs st) lane c
         → test (called c s lane o st).0
         ≡ ((q.owner == lane) && (not (is_start c && makes_set q.stage) && (not (runs st && not (goes_beside_agenda c)) && (allows q.stage (has_writers q.context) c && (not (is_await c && runs st) && test (session_line s lane o q st).0)))))
     unfolding called
-    passes c q e f =
-        ap (λ v. test (judged v s lane o st).0) (f ∙ ap (λ x. check_other x (runs st) lane c) e)
-        ∙ owned_passes (q.owner == lane) (check_owner q (runs st) c)
-        ∙ ap (λ b. (q.owner == lane) && b) (judged_passes (is_start c && makes_set q.stage) (runs st && not (goes_beside_agenda c)) (allows q.stage (has_writers q.context) c) (is_await c && runs st))
-        ∙ ap (λ x. (q.owner == lane) && (not (is_start c && makes_set q.stage) && (not (runs st && not (goes_beside_agenda c)) && (allows q.stage (has_writers q.context) c && (not (is_await c && runs st) && test (line_in s lane o x st).0))))) e
+    passes c q e f = grind (arith, owned_passes, judged_passes)
 
     no_session : (c : SessionCall) → st.session ≡ None → check st.session (runs st) lane c ≡ check_other st.session (runs st) lane c → test (called c s lane o st).0 ≡ false
     unfolding called
@@ -48,16 +39,11 @@ module _ (s : Plan) (st : State) (lane : ℕ) where
 
   -- an accepted reply is that of the call itself
   judged_tells : (o : Op) (a b c d : Bool) → is_accepted (judged (verdict_of a b c d) s lane o st).0 ≡ true → (judged (verdict_of a b c d) s lane o st).0 ≡ (line_in s lane o st.session st).0
-  judged_tells o true b c d e = absurd cc
-  judged_tells o false true c d e = absurd cc
-  judged_tells o false false false d e = absurd cc
-  judged_tells o false false true true e = absurd cc
-  judged_tells o false false true false e = refl
+  judged_tells o a b c d e = grind arith
 
   owned_tells : (o : Op) (b : Bool) (v : Verdict) → (is_accepted (judged v s lane o st).0 ≡ true → (judged v s lane o st).0 ≡ (line_in s lane o st.session st).0) → is_accepted (judged (owner_only b v) s lane o st).0 ≡ true
       → (judged (owner_only b v) s lane o st).0 ≡ (line_in s lane o st.session st).0
-  owned_tells o true v h e = h e
-  owned_tells o false v h e = absurd cc
+  owned_tells o b v h e = grind arith
 
   pub tells : (c : SessionCall) (o : Op) (q : Session) → st.session ≡ Some q → check st.session (runs st) lane c ≡ check_other st.session (runs st) lane c → is_accepted (called c s lane o st).0 ≡ true → (called c s lane o st).0 ≡ (session_line s lane o q st).0
   unfolding called
@@ -70,35 +56,19 @@ module _ (s : Plan) (st : State) (lane : ℕ) where
 -- ## the order
 
 code_of : (a : Step) → stage_code (stage_of a) ≡ step_code a
-code_of ByBegin = refl
-code_of _ = refl
+code_of a = grind arith
 
 pub same_stage : (a b : Step) → is_stage (stage_of a) (stage_of b) ≡ is_step a b
 same_stage a b = ap (λ n. n == stage_code (stage_of b)) (code_of a) ∙ ap (λ n. step_code a == n) (code_of b)
 
 pub start_stage : (a : Step) (w : Bool) → (not (makes_set (stage_of a)) && (if w then is_stage (stage_of a) Gathered else is_stage (stage_of a) Opened)) ≡ (if w then is_step a ByGather else is_step a ByBegin)
-start_stage ByBegin true = refl
-start_stage ByBegin false = refl
-start_stage ByGather true = refl
-start_stage ByGather false = refl
-start_stage ByStart true = refl
-start_stage ByStart false = refl
-start_stage ByPrepare true = refl
-start_stage ByPrepare false = refl
-start_stage BySnapshot true = refl
-start_stage BySnapshot false = refl
-start_stage ByComplete true = refl
-start_stage ByComplete false = refl
-start_stage ByFailure true = refl
-start_stage ByFailure false = refl
+start_stage a w = grind arith
 
 pub either_stage : (a : Step) (w : Bool) → (if w then is_stage (stage_of a) Prepared else is_stage (stage_of a) Started) ≡ (if w then is_step a ByPrepare else is_step a ByStart)
-either_stage a true = same_stage a ByPrepare
-either_stage a false = same_stage a ByStart
+either_stage a w = grind arith
 
 pub writers_asked : (c : Context) (n : ℕ) → number_of c ≡ n → has_writers c ≡ ((n == 0) || (n == 9))
-writers_asked Backup n e = ap (λ k. (k == 0) || (k == 9)) e
-writers_asked _ n e = ap (λ k. (k == 0) || (k == 9)) e
+writers_asked c n e = grind arith
 
 -- the table of stages, for a call of an order
 abbrev pub allowed_in : Bool → Stage → SessionCall → Bool
@@ -108,9 +78,7 @@ allowed_in w stage c = not (is_start c && makes_set stage) && allows stage w c
 
 module _ (s : Plan) (st : State) where
   name_if : (named : List Pair) (q : Pair) (a b : Bool) → is_accepted (named_as (naming_if a b q named) st).0 ≡ (a && not b)
-  name_if named q false b = refl
-  name_if named q true true = refl
-  name_if named q true false = refl
+  name_if named q a b = grind arith
 
   name_in : (w : ℕ) (named : List Pair) (name : List ℕ) (i : ℕ) (ps : List Part) → is_accepted (named_as (naming_found w (found_from name i ps) named) st).0 ≡ can_name_in w named name i ps
   name_in w named name i [] = refl
@@ -126,70 +94,34 @@ module _ (s : Plan) (st : State) where
   name_of w name named _ = refl
 
   component_wants : (w : ℕ) (name : List ℕ) (mode : Mode) (all : Bool) → mode ≡ mode_of all → is_accepted (component_in mode s w name st).0 ≡ (not all && can_name w st.explicit name (slice_get (known_metas s st) w))
-  component_wants w name mode true e = ap (λ m. is_accepted (component_in m s w name st).0) e
-  component_wants w name mode false e = ap (λ m. is_accepted (component_in m s w name st).0) e ∙ name_of w name st.explicit (slice_get (known_metas s st) w)
+  component_wants w name mode all e = grind (arith, name_of)
 
   component_fine : (w : ℕ) (name : List ℕ) (mode : Mode) → is_accepted (component_in mode s w name st).0 ≡ true → (component_in mode s w name st).0 ≡ Fine
-  component_fine w name All e = absurd cc
-  component_fine w name Components e = by_name (naming_of w name (slice_get (known_metas s st) w) st.explicit) e
-    where
-      by_name : (n : Naming) → is_accepted (named_as n st).0 ≡ true → (named_as n st).0 ≡ Fine
-      by_name IsNotFound e = absurd cc
-      by_name IsNotSelectable e = absurd cc
-      by_name IsNamedAlready e = absurd cc
-      by_name (Names ps) e = refl
+  component_fine w name mode e = grind arith
 
   not_full : (m n : ℕ) → nat_le m n ≡ not (nat_lt n m)
   not_full m n = grind arith
 
   add_tests : (v : ℕ) (r : SetRow) (a b c : Bool) → is_accepted (add_to v r (if a then Some ObjectAlreadyExists else if b then Some MaximumNumberOfVolumesReached else if c then Some MaximumNumberOfSnapshotsReached else None) st).0 ≡ (not a && not b && not c)
-  add_tests v r true b c = refl
-  add_tests v r false true c = refl
-  add_tests v r false false true = refl
-  add_tests v r false false false = refl
+  add_tests v r a b c = grind arith
 
   twice_not : (b : Bool) → not (not b) ≡ b
-  twice_not true = refl
-  twice_not false = refl
+  twice_not b = grind arith
 
   add_wants : (v : ℕ) (o : Option SetRow) → is_accepted (add v o st).0 ≡ has_place v (length (history_of st v).images) o
-  add_wants v None = refl
-  add_wants v (Some r) =
-      add_tests v r (is_among v r.volumes) (nat_le most_volumes (length r.volumes)) (nat_le most_images (length (history_of st v).images))
-      ∙ ap (λ b. not (is_among v r.volumes) && not b && not (nat_le most_images (length (history_of st v).images))) (not_full most_volumes (length r.volumes))
-      ∙ ap (λ b. not (is_among v r.volumes) && b && not (nat_le most_images (length (history_of st v).images))) (twice_not (nat_lt (length r.volumes) most_volumes))
-      ∙ ap (λ b. not (is_among v r.volumes) && nat_lt (length r.volumes) most_volumes && not b) (not_full most_images (length (history_of st v).images))
-      ∙ ap (λ b. not (is_among v r.volumes) && nat_lt (length r.volumes) most_volumes && b) (twice_not (nat_lt (length (history_of st v).images) most_images))
+  add_wants v o = grind (arith, add_tests, not_full, twice_not)
 
   add_fine : (v : ℕ) (o : Option SetRow) → is_accepted (add v o st).0 ≡ true → (add v o st).0 ≡ Fine
-  add_fine v None e = absurd cc
-  add_fine v (Some r) e = by_tests (is_among v r.volumes) (nat_le most_volumes (length r.volumes)) (nat_le most_images (length (history_of st v).images)) e
-    where
-      by_tests : (a b c : Bool) → is_accepted (add_to v r (if a then Some ObjectAlreadyExists else if b then Some MaximumNumberOfVolumesReached else if c then Some MaximumNumberOfSnapshotsReached else None) st).0 ≡ true
-          → (add_to v r (if a then Some ObjectAlreadyExists else if b then Some MaximumNumberOfVolumesReached else if c then Some MaximumNumberOfSnapshotsReached else None) st).0 ≡ Fine
-      by_tests true b c e = absurd cc
-      by_tests false true c e = absurd cc
-      by_tests false false true e = absurd cc
-      by_tests false false false e = refl
+  add_fine v o e = grind arith
 
   volume_wants : (o : Option SetRow) → not (has_no_volume o) ≡ has_volume o
-  volume_wants None = refl
-  volume_wants (Some r) = by_volumes r.volumes
-    where
-      some_there : (n : ℕ) → not (suc n == 0) ≡ nat_lt 0 (suc n)
-      some_there n = grind arith
-
-      by_volumes : (vs : List ℕ) → not (length vs == 0) ≡ nat_lt 0 (length vs)
-      by_volumes [] = refl
-      by_volumes (v ∷ vs) = some_there (length vs)
+  volume_wants o = grind arith
 
   pending_if : (b : Bool) (x y : Replied) → is_accepted x.0 ≡ false → is_accepted y.0 ≡ true → is_accepted (if b then x else y).0 ≡ not b
-  pending_if true x y e f = e
-  pending_if false x y e f = f
+  pending_if b x y e f = grind arith
 
   pending_told : (b : Bool) (x y : Replied) → is_accepted x.0 ≡ false → y.0 ≡ Coded AsyncPending → is_accepted (if b then x else y).0 ≡ true → (if b then x else y).0 ≡ Coded AsyncPending
-  pending_told true x y e f g = absurd (both_ways (is_accepted x.0) e g)
-  pending_told false x y e f g = f
+  pending_told b x y e f g = grind arith
 
 -- ## ordered calls
 
@@ -205,11 +137,7 @@ module _ (s : Plan) (so_far : List Act) (lane : ℕ) where
 
   parts : (own start busy may acc comes wants : Bool) → (busy ≡ false → (not start && may) ≡ comes) → acc ≡ wants
       → (own && (not start && (not (busy && true) && (may && (true && acc))))) ≡ (own && (not busy && (comes && wants)))
-  parts false start busy may acc comes wants f g = refl
-  parts true true true may acc comes wants f g = refl
-  parts true false true may acc comes wants f g = refl
-  parts true true false may acc comes wants f g = ap (λ b. b && wants) (f refl)
-  parts true false false may acc comes wants f g = ap (λ b. may && b) g ∙ ap (λ b. b && wants) (f refl)
+  parts own start busy may acc comes wants f g = grind arith
 
   ordered_call : (c : SessionCall) (o : Op) → check st.session (runs st) lane c ≡ check_other st.session (runs st) lane c → goes_beside_agenda c ≡ false → is_await c ≡ false
       → (allowed_in (asks_writers p) (stage_of p.step) c ≡ comes_now p o) → ((q : Session) → q.mode ≡ mode_of p.all → is_accepted (session_line s lane o q st).0 ≡ has_its_wants s st p o) → is_accepted (called c s lane o st).0 ≡ May st.session o
@@ -260,16 +188,7 @@ module _ (s : Plan) (so_far : List Act) (lane : ℕ) where
           subst (IsAccepting st o) (sym is) (k q (ap is_accepted (sym is) ∙ e))
 
   told_line : (o : Op) (mark : Mark) → is_ordered o ≡ true → is_accepted (happens s (Line lane o) mark st).0 ≡ true → IsAccepting st o (happens s (Line lane o) mark st).0
-  told_line (op.Disable x) mark e = told_call call.Disable (op.Disable x) refl (λ q f. refl)
-  told_line op.Gather mark e = told_call call.Gather op.Gather refl (λ q f. refl)
-  told_line (op.Component x full) mark e = told_call call.Component (op.Component x full) refl (λ q f. component_fine s st x (token s full) q.mode f)
-  told_line op.Document mark e = told_call call.Document op.Document refl (λ q f. (_, refl))
-  told_line op.Start mark e = told_call call.Start op.Start refl (λ q f. refl)
-  told_line (op.Add v) mark e = told_call call.Add (op.Add v) refl (λ q f. add_fine s st v (in_progress st) f)
-  told_line op.Prepare mark e = told_call call.Prepare op.Prepare refl (λ q f. pending_told s st (has_no_volume (in_progress st)) _ _ refl refl f)
-  told_line op.Snapshot mark e = told_call call.Snapshot op.Snapshot refl (λ q f. pending_told s st (has_no_volume (in_progress st)) _ _ refl refl f)
-  told_line op.Complete mark e = told_call call.Complete op.Complete refl (λ q f. refl)
-  told_line o mark e = absurd cc
+  told_line o mark e = grind (arith, told_call, component_fine, add_fine, pending_told)
 
   -- ## the other calls
 
@@ -294,19 +213,7 @@ module _ (s : Plan) (so_far : List Act) (lane : ℕ) where
 
   begin_line : (n : ℕ) (all : Bool) → is_fine (called (call.Begin n all) s lane (op.Begin n all) st).0 ≡ (is_none st.session && is_context n all)
   unfolding called
-  begin_line n all = by_session st.session refl
-    where
-      opens : (o : Option Context) → is_fine (begin_in lane all o st).0 ≡ is_some o
-      opens None = refl
-      opens (Some c) = refl
-
-      by_owner : (b : Bool) → is_fine (judged (begin_verdict b) s lane (op.Begin n all) st).0 ≡ false
-      by_owner true = refl
-      by_owner false = refl
-
-      by_session : (x : Option Session) → st.session ≡ x → is_fine (judged (check_begin st.session lane) s lane (op.Begin n all) st).0 ≡ (is_none st.session && is_context n all)
-      by_session None e = ap (λ x. is_fine (judged (check_begin x lane) s lane (op.Begin n all) st).0) e ∙ ap (λ x. is_fine (line_in s lane (op.Begin n all) x st).0) e ∙ opens (context_of n all) ∙ context_there n all ∙ ap (λ x. is_none x && is_context n all) (sym e)
-      by_session (Some q) e = ap (λ x. is_fine (judged (check_begin x lane) s lane (op.Begin n all) st).0) e ∙ by_owner (q.owner == lane) ∙ ap (λ x. is_none x && is_context n all) (sym e)
+  begin_line n all = grind (arith, context_there)
 
   -- the set in progress is the session's
   pub makes_its_set : (q : Session) → st.session ≡ Some q → makes_set q.stage ≡ is_some (in_progress st)
@@ -317,11 +224,7 @@ module _ (s : Plan) (so_far : List Act) (lane : ℕ) where
       by_set (Some r) h = h.0
 
   beside : (own may busy : Bool) → (own && (true && (not (busy && false) && (may && (true && true))))) ≡ (own && may)
-  beside false may busy = refl
-  beside true true true = refl
-  beside true true false = refl
-  beside true false true = refl
-  beside true false false = refl
+  beside own may busy = grind arith
 
   beside_call : (c : SessionCall) (o : Op) (may : Bool) → check st.session (runs st) lane c ≡ check_other st.session (runs st) lane c → is_start c ≡ false → goes_beside_agenda c ≡ true → is_await c ≡ false
       → ((q : Session) → st.session ≡ Some q → allows q.stage (has_writers q.context) c ≡ may) → ((q : Session) → is_fine (session_line s lane o q st).0 ≡ true) → is_fine (called c s lane o st).0 ≡ (owns st.session lane && may)
@@ -341,18 +244,7 @@ module _ (s : Plan) (so_far : List Act) (lane : ℕ) where
 
   rows_told : owns st.session lane ≡ true → (called call.Status s lane op.Status st).0 ≡ StatusOf st.course.rows
   unfolding called
-  rows_told e = by_session st.session refl
-    where
-      by_verdict : (own busy : Bool) (x : Option Session) (q : Session) → own ≡ true → x ≡ Some q → (judged (owner_only own (verdict_of false (busy && false) true false)) s lane op.Status st).0 ≡ (judged Go s lane op.Status st).0
-      by_verdict true true x q e f = refl
-      by_verdict true false x q e f = refl
-      by_verdict false busy x q e f = absurd cc
-
-      by_session : (x : Option Session) → st.session ≡ x → (called call.Status s lane op.Status st).0 ≡ StatusOf st.course.rows
-      by_session None f = absurd (not_both (owns st.session lane) e (ap (λ x. owns x lane) f))
-      by_session (Some q) f =
-          ap (λ x. (judged (check_other x (runs st) lane call.Status) s lane op.Status st).0) f ∙ by_verdict (q.owner == lane) (runs st) st.session q (ap (λ x. owns x lane) (sym f) ∙ e) f
-          ∙ ap (λ x. (line_in s lane op.Status x st).0) f
+  rows_told e = grind arith
 
 -- the reply of a line
 pub line_reply : (s : Plan) (st : State) (act : Act) (event : Event) → act.event ≡ event → reply s st act ≡ (happens s event act.mark st).0

@@ -1,6 +1,6 @@
 -- All answers to an order are lost, and the agenda goes on: no limit is outrun in the group that opens then.
-use Rattle.promises.proofs.Words.{PrepareBackup, PrepareSnapshot, Freeze, Lost, answer_limit, Group, Orders}
-use Rattle.promises.proofs.Words.{Kind, Gather, Place, others, others_if, asks_unfailed, unasked, unasked_if, advance, Agenda, Entry, Open, places, is_orders, same_place, waited_for}
+use Rattle.promises.proofs.Words.{Lost, answer_limit, Group}
+use Rattle.promises.proofs.Words.{Kind, Place, others, others_if, asks_unfailed, unasked, unasked_if, advance, Agenda, Entry, Open, places, is_orders, same_place, waited_for}
 use Rattle.promises.proofs.Words.{with_group, left_from, groups_left, open_place, waits_now, is_among, at_place, last_time, opened_at, freeze_opened_at, first_hold, hold_runs, freeze_runs}
 use Rattle.promises.proofs.Words.{answer_runs, runs_if, hold_running, running_at, spent_of, groups_left-all_say}
 use Rattle.std.proofs.Common.{◌≡◌, ◌∙◌, ℕ, List, [], ◌∷◌, ◌++◌, None, refl, Bool, true, false, ap, sym, subst, inr, map, filter, arith}
@@ -23,16 +23,14 @@ all_apart [] = true
 all_apart (p ∷ ps) = none_same p ps && all_apart ps
 
 kind_apart : (k : Kind) → all_apart (places k) ≡ true
-kind_apart Gather = refl
-kind_apart _ = refl
+kind_apart k = grind arith
 
 abbrev Apart : Place → List Open → Type 0
 Apart p [] = Unit {0}
 Apart p (o ∷ os) = (same_place p o.place ≡ false) × Apart p os
 
 apart_group : (p q : Place) (ws : List ℕ) (later : List Open) → same_place p q ≡ false → Apart p later → Apart p (with_group q ws later)
-apart_group p q [] later e h = h
-apart_group p q (w ∷ ws) later e h = (e, h)
+apart_group p q ws later e h = grind arith
 
 apart_left : (a : Agenda) (p : Place) (qs : List Place) → none_same p qs ≡ true → Apart p (left_from a qs)
 apart_left a p [] e = tt
@@ -41,11 +39,7 @@ apart_left a p (q ∷ qs) e =
     apart_group p q (waited_for a q) (left_from a qs) (not_true (same_place p q) parts.0) (apart_left a p qs parts.1)
 
 first_apart : (p : Place) (ws : List ℕ) (later : List Open) (o : Open) (os : List Open) → Apart p later → (later ≡ o ∷ os → Apart o.place os) → with_group p ws later ≡ o ∷ os → Apart o.place os
-first_apart p [] later o os h ih e = ih e
-first_apart p (w ∷ ws) later o os h ih e =
-    let first : record { place = p; waits = w ∷ ws } ≡ o = cc in
-    let rest : later ≡ os = cc in
-    subst (λ (x : Open). Apart x.place os) first (subst (Apart p) rest h)
+first_apart p ws later o os h ih e = grind arith
 
 rest_apart : (a : Agenda) (ps : List Place) (o : Open) (os : List Open) → all_apart ps ≡ true → left_from a ps ≡ o ∷ os → Apart o.place os
 rest_apart a [] o os e f = absurd cc
@@ -58,8 +52,7 @@ apart_unasked p ws [] h = tt
 apart_unasked p ws (o ∷ os) h = apart_group p o.place (others_if (asks_unfailed o.place.group) ws o.waits) (unasked ws os) h.0 (apart_unasked p ws os h.1)
 
 apart_unasked_if : (b : Bool) (p : Place) (ws : List ℕ) (os : List Open) → Apart p os → Apart p (unasked_if b ws os)
-apart_unasked_if true p ws os h = apart_unasked p ws os h
-apart_unasked_if false p ws os h = h
+apart_unasked_if b p ws os h = grind (arith, apart_unasked)
 
 -- ## all are done
 
@@ -82,11 +75,7 @@ left_after : (failed : Bool) (o : Open) (os : List Open) → advance o.waits fai
 left_after failed o os = ap (λ ws. with_group o.place ws (unasked_if (is_orders o.place.group && failed) o.waits os)) (others_none o.waits)
 
 mild_alone : (g : Group) → is_mild g ≡ true → (hold_runs g ≡ false) × (freeze_runs g ≡ false)
-mild_alone (Orders PrepareBackup) e = absurd cc
-mild_alone (Orders PrepareSnapshot) e = absurd cc
-mild_alone (Orders Freeze) e = absurd cc
-mild_alone (Orders _) e = (refl, refl)
-mild_alone _ e = absurd cc
+mild_alone g e = grind arith
 
 module _ (now : ℕ) (a : Agenda) (asks : is_orders (open_place (groups_left a)).group ≡ true) (order : Ordered a) (mild : is_mild (open_place (groups_left a)).group ≡ true) where
   abbrev ws : List ℕ

@@ -1,7 +1,7 @@
 -- The rule of snapshots: a fact of a running snapshot agenda that holds where it begins, and is kept by what is said, holds in every
 -- state, and beside it the deeds since the `snapshot` line are those of the log; and a set completes only where such an agenda,
 -- with what the last act tells, has no group left.
-use Rattle.promises.proofs.Words.{Order, SetOutcome, VssResult, BadState, InsufficientStorage, AsyncPending, AsyncCancelled, Said, is_ok, Mark, Clean, Write, dropped, said_of, Group, Kind, Gather}
+use Rattle.promises.proofs.Words.{Order, SetOutcome, VssResult, BadState, InsufficientStorage, AsyncPending, AsyncCancelled, Said, is_ok, Mark, Write, dropped, said_of, Group, Kind, Gather}
 use Rattle.promises.proofs.Words.{Prepare, Snapshot, Complete, Member, Agenda, Open, order_of, groups_left, left, open_group, next_volume, open_place, open_order, order_now, is_done, is_working}
 use Rattle.promises.proofs.Words.{all_say, spent_of, takers, Session, opened, Op, begins_agenda, Target, target_of, Plan, Event, Reply, Fine, Coded, Deleted, Idled, Stepped, State, SetRow, Kept}
 use Rattle.promises.proofs.Words.{start, is_complete, in_progress, row_of, row_changed, left_now, Act, enabled, order_of_writer, answer_reply, step_reply, idle_now, happens, reply, after, state}
@@ -10,9 +10,10 @@ use Rattle.promises.proofs.Words.{complete_found, Deed, Spoke, Made, deeds_lost,
 use Rattle.promises.proofs.Words.{not_complete}
 use Rattle.std.proofs.Common.{◌≡◌, ◌∙◌, ℕ, ◌+◌, ◌==◌, List, [], ◌∷◌, ◌++◌, ◌⊎◌, Option, Some, None, refl, Bool, true, false, ap, sym, subst, inl, inr, map, fold}
 use Rattle.std.specs.Prelude.{is_some, ◌&&◌, not, if◌then◌else◌, length}
+use Rattle.std.proofs.Common.{arith}
 use Rattle.vss_names.specs.declared.set_outcome.SetOutcome.TheVariants.{Running as RunningSet}
 use Rattle.writer_calls.specs.declared.answer.Answer.{Answer}
-use Rattle.set_agenda.specs.Course.{Course, posted, failed as course_failed, settled_if, settled_in, settled, begun, gathered, prepared, snapshot_begun, completing, change_at, stepped as course_stepped, limits_now, lost_writers, fails_set, released}
+use Rattle.set_agenda.specs.Course.{Course, posted, failed as course_failed, settled, begun, gathered, prepared, snapshot_begun, completing, change_at, stepped as course_stepped, limits_now, fails_set, released}
 use Rattle.scenario.specs.declared.op.Op.TheVariants as op
 use Rattle.vss_model.specs.declared.event.Event.TheVariants.{Line, Answer as AnswerEvent, Provider, Idle}
 use Rattle.vss_model.specs.Ending.{ending, followed, runs, failed_in, failed}
@@ -23,7 +24,7 @@ use Rattle.vss_model.specs.Effects.{line_ticks, lost, lost_after, lost_order, lo
 use Rattle.vss_model.proofs.LogRule.{Running, unspoken}
 use Rattle.vss_model.proofs.OneCut.{changed_number, changed_result}
 use Rattle.promises.proofs.Clock.{clock-answered, clock-stepped_as, clock-ticked, write_ticks}
-use Rattle.promises.proofs.Incomplete.{begun_incomplete, completes_snapshot, done_followed, incomplete_closed, incomplete_failed, incomplete_made, incomplete_revert, incomplete_write}
+use Rattle.promises.proofs.Incomplete.{begun_incomplete, done_followed, incomplete_closed, incomplete_failed, incomplete_made, incomplete_revert, incomplete_write}
 use Rattle.promises.proofs.Speaks.{deed_in, said_at, Speaks, Grows, made_now, lost_told, grows_answered, grows_stepped, grows_timed}
 use Rattle.promises.proofs.Stages.{deeds_append}
 
@@ -57,31 +58,20 @@ module _ (G : Agenda → Type 0) (k : IsKeptAlong G) where
 
   tells_on : (so_far news : List Deed) (said : Said) (now : ℕ) (ws : List ℕ) (a : Agenda) → Speaks a ws → (fails_set (order_of (open_place (groups_left a)).group) && not (is_ok said)) ≡ false
       → news ≡ map deed_in (said_at (groups_left a) said now ws) → Tells so_far a → Tells (so_far ++ news) (all_say said now ws a)
-  tells_on so_far news said now ws a who mild told h e = (
-    deeds_append a.log (said_at (groups_left a) said now ws) ∙ ap (λ ds. ds ++ map deed_in (said_at (groups_left a) said now ws)) (h e).0 ∙ ap (λ ds. so_far ++ ds) (sym told),
-    k.says said now ws a e who mild (h e).1,
-  )
+  tells_on so_far news said now ws a who mild told h e = grind (arith, deeds_append)
 
   tells_rests : (so_far news : List Deed) (a : Agenda) → news ≡ [] → Tells so_far a → Tells (so_far ++ news) a
   tells_rests so_far news a e h f = ((h f).0 ∙ append_nothing so_far ∙ ap (λ ds. so_far ++ ds) (sym e), (h f).1)
 
   settled_tells : (done : Bool) (so_far : List Deed) (a : Agenda) (o : SetOutcome) (b : Option Agenda) (p : SetOutcome) → Settles done a o b p → Tells so_far a → Running (Tells so_far) b
-  settled_tells true so_far a o b p e h = subst (Running (Tells so_far)) (sym e.0) tt
-  settled_tells false so_far a o b p e h = subst (Running (Tells so_far)) (sym e.0) h
+  settled_tells done so_far a o b p e h = grind arith
 
   grow : (so_far news : List Deed) (a : Option Agenda) (o : SetOutcome) (b : Option Agenda) (p : SetOutcome) → Grows a o b p news → Running (Tells so_far) a → Running (Tells (so_far ++ news)) b
-  grow so_far news None o b p c h = subst (Running (Tells (so_far ++ news))) (sym c.0) tt
-  grow so_far news (Some a) o b p (inl c) h = subst (Running (Tells (so_far ++ news))) (sym c.agenda) tt
-  grow so_far news (Some a) o b p (inr (inl c)) h = settled_tells c.done (so_far ++ news) a o b p c.settles (tells_rests so_far news a c.told h)
-  grow so_far news (Some a) o b p (inr (inr c)) h =
-      settled_tells (is_done (groups_left (all_say c.said c.now c.ws a))) (so_far ++ news) (all_say c.said c.now c.ws a) o b p c.settles (tells_on so_far news c.said c.now c.ws a c.who c.mild c.told h)
+  grow so_far news a o b p c h = grind (arith, settled_tells, tells_rests, tells_on)
 
   settled_last : (done : Bool) (so_far : List Deed) (before a : Agenda) (running : Option Agenda) (o : SetOutcome) (b : Option Agenda) (p : SetOutcome) → running ≡ Some before → a.kind ≡ before.kind → a.members ≡ before.members → a.volumes ≡ before.volumes
       → (done ≡ true → is_done (groups_left a) ≡ true) → o ≡ RunningSet → is_complete p ≡ true → Settles done a o b p → Tells so_far a → IsLast G so_far running
-  settled_last false so_far before a running o b p r i m v d e f s h = absurd (true_not_false (is_complete p) f (ap is_complete (s.1 ∙ e)))
-  settled_last true so_far before a running o b p r i m v d e f s h =
-      let snapshot = completes_snapshot a.kind o p e s.1 f in
-      record { before = before; is = r; kind = sym i ∙ snapshot; last = a; last_kind = snapshot; members = m; volumes = v; done = d refl; deeds_are = (h snapshot).0; good = (h snapshot).1 }
+  settled_last done so_far before a running o b p r i m v d e f s h = grind arith
 
   completes : (so_far news : List Deed) (a : Option Agenda) (o : SetOutcome) (b : Option Agenda) (p : SetOutcome) → o ≡ RunningSet → is_complete p ≡ true → Grows a o b p news → Running (Tells so_far) a → IsLast G (so_far ++ news) a
   completes so_far news None o b p e f c h = absurd (true_not_false (is_complete p) f (ap is_complete (c.1 ∙ e)))
@@ -94,19 +84,9 @@ module _ (G : Agenda → Type 0) (k : IsKeptAlong G) where
 
   -- ## an agenda begins
 
-  begun_if : (done : Bool) (j : Kind) (so_far : List Deed) (c : Course) → Running (Tells so_far) c.agenda → Running (Tells so_far) (settled_if done j c).agenda
-  begun_if true j so_far c h = tt
-  begun_if false j so_far c h = h
-
-  begun_in : (a : Option Agenda) (so_far : List Deed) (c : Course) → Running (Tells so_far) c.agenda → Running (Tells so_far) (settled_in a c).agenda
-  begun_in None so_far c h = h
-  begun_in (Some a) so_far c h = begun_if (is_done (groups_left a)) a.kind so_far c h
-
   on_begun : (j : Kind) (ms : List Member) (vs : List ℕ) (now : ℕ) (so_far : List Deed) (c : Course) → (j ≡ Snapshot → so_far ≡ []) → Running (Tells so_far) (begun j ms vs now c).agenda
   unfolding begun posted settled
-  on_begun j ms vs now so_far c e =
-      begun_in (Some (unspoken j ms vs now)) so_far (record c { agenda = Some (unspoken j ms vs now) })
-      (λ f. (sym (e f), subst (λ x. G (unspoken x ms vs now)) (sym f) (k.begins ms vs now)))
+  on_begun j ms vs now so_far c e = grind arith
 
   -- ## the state
 
@@ -122,24 +102,21 @@ module _ (G : Agenda → Type 0) (k : IsKeptAlong G) where
 
   on_failed_in : (so_far : List Deed) (o : Option SetRow) (why : VssResult) (st : State) → Stands so_far st → Stands so_far (failed_in o why st)
   unfolding course_failed
-  on_failed_in so_far None why st h = h
-  on_failed_in so_far (Some r) why st h = tt
+  on_failed_in so_far o why st h = grind arith
 
   on_room : (so_far : List Deed) (b : Bool) (x : State) → Stands so_far x → Stands so_far (with_room_if b x)
   on_room so_far true x h = on_failed_in so_far (in_progress x) InsufficientStorage x h
   on_room so_far false x h = h
 
   on_put : (so_far : List Deed) (v : ℕ) (w : Write) (mark : Mark) (x : State) → Stands so_far x → Stands so_far (put v w mark x)
-  on_put so_far v w Clean x h = h
-  on_put so_far v w _ x h = h
+  on_put so_far v w mark x h = grind arith
 
   on_write : (so_far : List Deed) (s : Plan) (v : ℕ) (w : Write) (mark : Mark) (st : State) → Stands so_far st → Stands so_far (write s v w mark st).1
   unfolding write
   on_write so_far s v w mark st h = on_put so_far v w mark _ (on_room so_far (set_loses_image (in_progress st) st.volumes (cleared s v w.block st).volumes) (cleared s v w.block st) h)
 
   on_reverts : (so_far : List Deed) (s : Plan) (v : ℕ) (x : Kept) (mark : Mark) (st : State) → Stands so_far st → Stands so_far (reverted_as s v x mark st).1
-  on_reverts so_far s v x Clean st h = h
-  on_reverts so_far s v x _ st h = h
+  on_reverts so_far s v x mark st h = grind arith
 
   on_closes : (so_far : List Deed) (q : Session) (st : State) → Stands so_far (closed q st)
   unfolding closed released
@@ -152,32 +129,25 @@ module _ (G : Agenda → Type 0) (k : IsKeptAlong G) where
   next_way st so_far event x = if is_snapshot_line event && is_pending x.0 then [] else so_far ++ deeds_of st event x.1.clock x.0
 
   snapshot_begins : (lane : ℕ) (o : Op) → is_snapshot_line (Line lane o) ≡ true → begins_agenda o ≡ true
-  snapshot_begins lane op.Snapshot e = refl
-  snapshot_begins lane o e = absurd cc
+  snapshot_begins lane o e = grind arith
 
   write_no_snapshot : (lane : ℕ) (o : Op) (t : Target) → target_of o ≡ Some t → is_snapshot_line (Line lane o) ≡ false
-  write_no_snapshot lane (op.WriteFill v b x) t e = refl
-  write_no_snapshot lane (op.WriteStamp v b x) t e = refl
-  write_no_snapshot lane o t e = absurd cc
+  write_no_snapshot lane o t e = grind arith
 
   not_pending : (b p : Bool) → (b ≡ true → p ≡ false) → (b && p) ≡ false
-  not_pending true p f = f refl
-  not_pending false p f = refl
+  not_pending b p f = grind arith
 
   first_off : (b p : Bool) → b ≡ false → (b && p) ≡ false
-  first_off true p f = absurd cc
-  first_off false p f = refl
+  first_off b p f = grind arith
 
   no_lost : (st : State) (lane now : ℕ) (o : Op) → line_ticks o ≡ None → deeds_lost now (lost_order st (Line lane o)) (lost st (Line lane o)) ≡ []
   no_lost st lane now o e = ap (λ x. deeds_lost now (lost_order_if (lost_after x st) (order_now (left_now st))) (lost_after x st)) e
 
   line_way : (so_far xs : List Deed) (b : Bool) → b ≡ false → xs ≡ [] → so_far ≡ (if b then [] else so_far ++ xs)
-  line_way so_far xs true e f = absurd cc
-  line_way so_far xs false e f = append_nothing so_far ∙ ap (λ ds. so_far ++ ds) (sym f)
+  line_way so_far xs b e f = grind (arith, append_nothing)
 
   quiet : (st : State) (so_far : List Deed) (lane : ℕ) (o : Op) (x : Replied) → line_ticks o ≡ None → (is_snapshot_line (Line lane o) && is_pending x.0) ≡ false → Stands so_far x.1 → Stands (next_way st so_far (Line lane o) x) x.1
-  quiet st so_far lane o x e f h =
-      subst (λ ds. Stands ds x.1) (line_way so_far (deeds_lost x.1.clock (lost_order st (Line lane o)) (lost st (Line lane o))) (is_snapshot_line (Line lane o) && is_pending x.0) f (no_lost st lane x.1.clock o e)) h
+  quiet st so_far lane o x e f h = grind (arith, line_way, no_lost)
 
   -- ## every act
 
@@ -222,16 +192,10 @@ module _ (G : Agenda → Type 0) (k : IsKeptAlong G) where
     done_ticks k run inc = done_followed n _ (runs st) _ (later k st) inc (λ d. completes so_far _ st.course.agenda st.course.outcome _ _ run d (grows_timed (st.clock + k) st.course) h)
 
     ticks_line : (lane k : ℕ) (mark : Mark) → Next (Line lane (op.Tick k)) mark (Fine, ticked k st)
-    ticks_line lane k mark = (subst (λ ds. Stands ds (ticked k st)) (lost_way k) (on_ticks k), subst (λ ds. Completes ds (ticked k st)) (lost_way k) (done_ticks k))
-      where
-        lost_way : (k : ℕ) → so_far ++ lost_told (st.clock + k) (spent_of (st.clock + k) (limits_now st.course)) (left st.course.agenda) ≡ next_way st so_far (Line lane (op.Tick k)) (Fine, ticked k st)
-        lost_way k = ap (λ now. so_far ++ deeds_lost now (lost_order_if (lost_writers (st.clock + k) st.course) (order_now (left st.course.agenda))) (lost_writers (st.clock + k) st.course)) (sym (clock-ticked k st))
+    ticks_line lane k mark = grind (arith, on_ticks, done_ticks, clock-ticked)
 
     idles : (mark : Mark) (told : Reply) → Next Idle mark (told, ticked (idle_now st) st)
-    idles mark told = (subst (λ ds. Stands ds (ticked (idle_now st) st)) lost_way (on_ticks (idle_now st)), subst (λ ds. Completes ds (ticked (idle_now st) st)) lost_way (done_ticks (idle_now st)))
-      where
-        lost_way : so_far ++ lost_told (st.clock + idle_now st) (spent_of (st.clock + idle_now st) (limits_now st.course)) (left st.course.agenda) ≡ next_way st so_far Idle (told, ticked (idle_now st) st)
-        lost_way = ap (λ now. so_far ++ deeds_lost now (lost_order_if (lost_writers (st.clock + idle_now st) st.course) (order_now (left st.course.agenda))) (lost_writers (st.clock + idle_now st) st.course)) (sym (clock-ticked (idle_now st) st))
+    idles mark told = grind (arith, on_ticks, done_ticks, clock-ticked)
 
     -- answers
     on_answers : (w : ℕ) (said : Said) (order : Order) → open_order (left st.course.agenda) w ≡ Some order → Stands (so_far ++ Spoke order w said st.clock ∷ []) (answered w said st)
@@ -243,10 +207,7 @@ module _ (G : Agenda → Type 0) (k : IsKeptAlong G) where
     done_answers w said order e run inc = done_followed n _ (runs st) _ st inc (λ d. completes so_far _ st.course.agenda st.course.outcome _ _ run d (grows_answered w order said st.clock st.course e) h)
 
     answers_at : (o : Option Order) (w : ℕ) (answer : Answer) (mark : Mark) → order_of_writer st w ≡ o → is_some o ≡ true → Next (AnswerEvent w answer) mark (answer_reply o answer, answered w (said_of answer) st)
-    answers_at None w answer mark e f = absurd cc
-    answers_at (Some order) w answer mark e f =
-        let now = ap (λ t. so_far ++ Spoke order w (said_of answer) t ∷ []) (sym (clock-answered w (said_of answer) st)) in
-        (subst (λ ds. Stands ds (answered w (said_of answer) st)) now (on_answers w (said_of answer) order e), subst (λ ds. Completes ds (answered w (said_of answer) st)) now (done_answers w (said_of answer) order e))
+    answers_at o w answer mark e f = grind (arith, clock-answered, on_answers, done_answers)
 
     -- steps
     step_fails : (now : ℕ) (c : Course) → ((course_stepped false now c).agenda ≡ None) × (is_complete (course_stepped false now c).outcome ≡ false)
@@ -270,8 +231,7 @@ module _ (G : Agenda → Type 0) (k : IsKeptAlong G) where
         )
 
     works_not : (os : List Open) → open_group os ≡ None → is_working os ≡ true → ⊥
-    works_not [] e f = absurd cc
-    works_not (x ∷ os) e f = absurd cc
+    works_not os e f = grind arith
 
     step_at : (o : Option Group) (mark : Mark) → open_group (left_now st) ≡ o → is_working (left_now st) ≡ true → Next Provider mark (step_reply o (next_volume (left_now st)) mark, stepped_as (is_failed_step (is_flush o) mark) o st)
     step_at None mark e w = absurd (works_not (left_now st) e w)
@@ -311,9 +271,7 @@ module _ (G : Agenda → Type 0) (k : IsKeptAlong G) where
     way_if b act = if b && is_snapshot_line act.event && is_pending (reply s st act) then [] else so_far ++ deeds_if b s st act
 
     next_is : (act : Act) → enabled s st act.event ≡ true → way_after s st so_far act ≡ next_way st so_far act.event (happens s act.event act.mark st)
-    next_is act e =
-        ap (λ b. way_if b act) e
-        ∙ ap (λ (x : State). if is_snapshot_line act.event && is_pending (reply s st act) then [] else so_far ++ deeds_of st act.event x.clock (reply s st act)) (after_enabled s st act e)
+    next_is act e = grind (arith, after_enabled)
 
     next_not : (act : Act) → enabled s st act.event ≡ false → way_after s st so_far act ≡ so_far
     next_not act e = ap (λ b. way_if b act) e ∙ sym (append_nothing so_far)

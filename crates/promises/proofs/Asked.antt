@@ -1,14 +1,14 @@
 -- Whoever has an order to answer is one whom it is for.
-use Rattle.promises.proofs.Words.{list_any, Order, Identify, PostSnapshot, VssResult, AsyncCancelled, InsufficientStorage, Said, row_gathered, Mark, Clean, Write, said_of, Group, Orders, PreCommit}
-use Rattle.promises.proofs.Words.{Flush, Hold, Cut, Commit, Release, PostCommit, Kind, Member, Place, Session, Plan, class_of, Event, State, SetRow, Kept, start, in_progress, left_now, followed, runs}
+use Rattle.promises.proofs.Words.{list_any, Order, Identify, VssResult, AsyncCancelled, Said, row_gathered, Mark, Write, said_of, Group, Orders}
+use Rattle.promises.proofs.Words.{Kind, Member, Place, Session, Plan, class_of, Event, State, SetRow, Kept, start, in_progress, left_now, followed, runs}
 use Rattle.promises.proofs.Words.{failed_in, failed, IsAgendaOf, Act, enabled, idle_now, after, state, orderly, IsFor, AsksItsOwn, choosing, Covers, covered, after_enabled, after_not_enabled, by_if}
 use Rattle.promises.proofs.Words.{filter_member, member_passes}
-use Rattle.std.proofs.Common.{◌≡◌, ◌∙◌, ℕ, ◌+◌, ◌==◌, List, [], ◌∷◌, Option, Some, None, refl, Bool, true, false, ap, sym, subst, map, filter, fold}
+use Rattle.std.proofs.Common.{◌≡◌, ◌∙◌, ℕ, ◌+◌, ◌==◌, List, [], ◌∷◌, Option, Some, None, refl, Bool, true, false, ap, sym, subst, map, filter, fold, arith}
 use Rattle.std.specs.Prelude.{◌&&◌, ◌||◌, not, is_some, if◌then◌else◌}
 use Rattle.set_agenda.specs.declared.kind.Kind.TheVariants as kind
-use Rattle.set_agenda.specs.Agenda.{Agenda, Open, places, has_failed, has_said, is_at, writers_at, members_of, waited_for, with_group, left_from, groups_left, left, is_among, is_orders, order_of, order_if, open_order, open_group, is_done}
-use Rattle.set_agenda.specs.Course.{Course, is_member, has_row_failed, posted, failed as course_failed, settled_if, settled, begun, released}
-use Rattle.vss_model.specs.Images.{Replied, cleared, set_loses_image, with_room_if, put, write, reverted_as}
+use Rattle.set_agenda.specs.Agenda.{Agenda, Open, places, is_at, writers_at, members_of, waited_for, with_group, left_from, groups_left, left, is_among, is_orders, order_of, order_if, open_order, open_group}
+use Rattle.set_agenda.specs.Course.{Course, is_member, has_row_failed, posted, failed as course_failed, settled, begun, released}
+use Rattle.vss_model.specs.Images.{Replied, with_room_if, put, write, reverted_as}
 use Rattle.vss_model.specs.Sessions.{is_disabled, has_no_volume, closed}
 use Rattle.vss_model.specs.Steps.{answered, step_made, is_flush, is_failed_step, stepped_as, stepped, ticked, later}
 use Rattle.vss_model.proofs.HeldOfSet.{Follows, goes_answered, goes_stepped, goes_timed}
@@ -42,8 +42,7 @@ at_level_are ms l w e = filter_member (λ (m : Member). is_at l m.level) ms w (s
 
 -- those of a group of orders are members
 group_members : (a : Agenda) (o : Order) (l : Option _) (w : ℕ) → is_among w (members_of a (Orders o) l) ≡ true → is_member a.members w ≡ true
-group_members a PostSnapshot l w e = at_level_are a.members l w (among_filter (λ x. not (has_failed a.log x)) (writers_at a.members l) w e)
-group_members a _ l w e = at_level_are a.members l w e
+group_members a o l w e = grind (arith, at_level_are, among_filter)
 
 -- ## the fact
 
@@ -56,22 +55,14 @@ abbrev Asks : Plan → Option Agenda → Course → Type 0
 Asks s None c = Unit {0}
 Asks s (Some a) c = (w : ℕ) → is_member a.members w ≡ true → IsOfKind s a.kind c w
 
-of_kind : (s : Plan) (k : Kind) (c d : Course) (w : ℕ) → d.disabled ≡ c.disabled → d.members ≡ c.members → IsOfKind s k c w → IsOfKind s k d w
-of_kind s kind.Gather c d w e f h = ap (λ ds. list_any (λ x. class_of s x == class_of s w) ds) e ∙ h
-of_kind s _ c d w e f h = ap (λ ms. is_member ms w) f ∙ h
-
 asks_on : (s : Plan) (c d : Course) (a b : Option Agenda) → Follows a c.members c.outcome b d.members d.outcome → SameCourse c d → Asks s a c → Asks s b d
-asks_on s c d a None m same h = tt
-asks_on s c d None (Some b) m same h = absurd m
-asks_on s c d (Some a) (Some b) m same h = λ w e.
-    of_kind s b.kind c d w same.disabled same.members (subst (λ k. IsOfKind s k c w) (sym m.kind) (h w (subst (λ ms. is_member ms w ≡ true) m.members e)))
+asks_on s c d a b m same h = grind arith
 
 abbrev AsksIn : Plan → State → Type 0
 AsksIn s x = Asks s x.course.agenda x.course
 
 asks_none : (s : Plan) (a : Option Agenda) (c : Course) → is_some a ≡ false → Asks s a c
-asks_none s None c e = tt
-asks_none s (Some a) c e = absurd cc
+asks_none s a c e = grind arith
 
 module _ (s : Plan) where
   asks_followed : (ran : Bool) (c : Course) (x : State) → Asks s c.agenda c → AsksIn s (followed ran c x)
@@ -79,28 +70,21 @@ module _ (s : Plan) where
 
   asks_begun : (k : Kind) (ms : List Member) (vs : List ℕ) (now : ℕ) (c : Course) → ((w : ℕ) → is_member ms w ≡ true → IsOfKind s k c w) → Asks s (begun k ms vs now c).agenda (begun k ms vs now c)
   unfolding begun posted settled
-  asks_begun k ms vs now c h = by_done (is_done (groups_left (record { kind = k; members = ms; volumes = vs; begun = now; log = [] })))
-    where
-      by_done : (b : Bool) → Asks s (posted c (settled_if b k (record c { agenda = Some (record { kind = k; members = ms; volumes = vs; begun = now; log = [] }) }))).agenda (posted c (settled_if b k (record c { agenda = Some (record { kind = k; members = ms; volumes = vs; begun = now; log = [] }) })))
-      by_done true = tt
-      by_done false = λ w e. of_kind s k c _ w refl refl (h w e)
+  asks_begun k ms vs now c h = grind arith
 
   asks_failed : (o : Option SetRow) (why : VssResult) (x : State) → AsksIn s x → AsksIn s (failed_in o why x)
   unfolding course_failed
-  asks_failed None why x h = h
-  asks_failed (Some r) why x h = tt
+  asks_failed o why x h = grind arith
 
   asks_closed : (q : Session) (x : State) → AsksIn s (closed q x)
   unfolding closed released
   asks_closed q x = tt
 
   asks_room : (b : Bool) (x : State) → AsksIn s x → AsksIn s (with_room_if b x)
-  asks_room true x h = asks_failed (in_progress x) InsufficientStorage x h
-  asks_room false x h = h
+  asks_room b x h = grind (arith, asks_failed)
 
   asks_put : (v : ℕ) (w : Write) (mark : Mark) (x : State) → AsksIn s x → AsksIn s (put v w mark x)
-  asks_put v w Clean x h = h
-  asks_put v w _ x h = h
+  asks_put v w mark x h = grind arith
 
   module _ (st : State) (h : AsksIn s st) where
     abbrev Next : Event → Mark → Replied → Type 0
@@ -108,11 +92,10 @@ module _ (s : Plan) where
 
     on_write : (v : ℕ) (w : Write) (mark : Mark) → AsksIn s (write s v w mark st).1
     unfolding write
-    on_write v w mark = asks_put v w mark _ (asks_room (set_loses_image (in_progress st) st.volumes (cleared s v w.block st).volumes) (cleared s v w.block st) h)
+    on_write v w mark = grind (arith, asks_put, asks_room)
 
     on_revert : (v : ℕ) (k : Kept) (mark : Mark) → AsksIn s (reverted_as s v k mark st).1
-    on_revert v k Clean = h
-    on_revert v k _ = h
+    on_revert v k mark = grind arith
 
     on_answer : (w : ℕ) (said : Said) → AsksIn s (answered w said st)
     unfolding answered
@@ -185,30 +168,16 @@ module _ (s : Plan) (so_far : List Act) (w : ℕ) (order : Order) where
 
   -- of a group, if w waits in it
   asked_in : (a : Agenda) (g : Group) (l : Option _) → is_among w (waited_for a (record { group = g; level = l })) ≡ true → order_of g ≡ Some order → is_member a.members w ≡ true
-  asked_in a (Orders o) l e f = group_members a o l w (among_filter (λ who. not (has_said a.log (record { group = Orders o; level = l }) who)) (members_of a (Orders o) l) w e)
-  asked_in a PreCommit l e f = absurd cc
-  asked_in a Flush l e f = absurd cc
-  asked_in a Hold l e f = absurd cc
-  asked_in a Cut l e f = absurd cc
-  asked_in a Commit l e f = absurd cc
-  asked_in a Release l e f = absurd cc
-  asked_in a PostCommit l e f = absurd cc
+  asked_in a g l e f = grind (arith, group_members, among_filter)
 
   now_open : (b : Bool) (x : Option Order) → order_if b x ≡ Some order → (b ≡ true) × (x ≡ Some order)
-  now_open true x e = (refl, e)
-  now_open false x e = absurd cc
-
-  same_order : (o p : Order) → Some o ≡ Some p → o ≡ p
-  same_order o p e = cc
+  now_open b x e = grind arith
 
   identifies : (g : Group) → is_identify g ≡ true → order_of g ≡ Some order → order ≡ Identify
-  identifies (Orders Identify) e f = sym (same_order Identify order f)
-  identifies g e f = absurd cc
+  identifies g e f = grind arith
 
   no_identify : (g : Group) → is_identify g ≡ false → order_of g ≡ Some Identify → ⊥
-  no_identify (Orders Identify) e f = absurd cc
-  no_identify (Orders o) e f = cc
-  no_identify g e f = cc
+  no_identify g e f = grind arith
 
   -- nothing of a disabled class
   not_disabled : (q : Option Session) → st.session ≡ q → is_some q ≡ true → is_disabled s st w ≡ false → (choosing s w so_far).disabled ≡ false
@@ -218,12 +187,10 @@ module _ (s : Plan) (so_far : List Act) (w : ℕ) (order : Order) where
       sym stands.disabled ∙ g
 
   in_session : (a : Agenda) (q : Option Session) → IsAgendaOf (Some a) q → is_some q ≡ true
-  in_session a None h = absurd h
-  in_session a (Some q) h = refl
+  in_session a q h = grind arith
 
   for_other : (o : Order) → (o ≡ Identify → ⊥) → is_member st.course.members w ≡ true → IsFor s so_far w o
-  for_other Identify e f = absurd (e refl)
-  for_other _ e f = f
+  for_other o e f = grind arith
 
   module _ (a : Agenda) (o : Open) (os : List Open) (runs_is : st.course.agenda ≡ Some a) (open_is : groups_left a ≡ o ∷ os) (order_is : order_of o.place.group ≡ Some order) where
     others : (k : Kind) → a.kind ≡ k → every (λ q. not (is_identify q.group)) (places k) ≡ true → is_member st.course.members w ≡ true → IsFor s so_far w order
@@ -245,8 +212,7 @@ module _ (s : Plan) (so_far : List Act) (w : ℕ) (order : Order) where
       by_kind a o os e f open_now.1 a.kind refl (h w (asked_in a o.place.group o.place.level waits open_now.1))
 
   asked_by : (x : Option Agenda) → st.course.agenda ≡ x → Asks s x st.course → open_order (left x) w ≡ Some order → IsFor s so_far w order
-  asked_by None e h g = absurd cc
-  asked_by (Some a) e h g = asked_now a (groups_left a) e refl h g
+  asked_by x e h g = grind (arith, asked_now)
 
 pub asks_its_own : (s : Plan) (so_far : List Act) → AsksItsOwn s so_far
 asks_its_own s so_far w order e = asked_by s so_far w order (state s so_far).course.agenda refl (asks_fold s (start s) so_far tt) e

@@ -1,8 +1,7 @@
 -- A call of the course fails it only while an agenda runs that makes a set.
-use Rattle.promises.proofs.Words.{Order, Said, is_ok, Kind, Member, left, is_asked, is_working, open_order, order_now, has_failed, none_settled as calm_settled, now_if}
-use Rattle.std.proofs.Common.{◌≡◌, ◌∙◌, ℕ, List, [], ◌∷◌, ◌⊎◌, Option, Some, None, refl, Bool, true, false, ap, inl, inr}
-use Rattle.std.specs.Prelude.{◌&&◌, not}
-use Rattle.set_agenda.specs.Course.{Course, posted, begun, is_decisive, told, decided, answered_to, answered as course_answered, stepped as course_stepped, timed as course_timed}
+use Rattle.promises.proofs.Words.{Order, Said, Kind, Member, left, is_working, open_order, has_failed, none_settled as calm_settled, now_if}
+use Rattle.std.proofs.Common.{◌≡◌, ℕ, List, [], ◌⊎◌, Option, Some, refl, Bool, true, false, inl, inr, arith}
+use Rattle.set_agenda.specs.Course.{Course, posted, begun, told, answered_to, answered as course_answered, stepped as course_stepped, timed as course_timed}
 use Rattle.promises.proofs.Truth.{both_parts}
 use Rattle.promises.proofs.CourseRows.{PassesOrFails, over_timed}
 use Rattle.promises.proofs.BusyAgendas.{IsBusy, busy_order, busy_step}
@@ -19,15 +18,10 @@ unfolding told
 told_outcome o said now ws c = refl
 
 calm_answered_to : (x : Option Order) (w : ℕ) (said : Said) (now : ℕ) (c : Course) → open_order (left c.agenda) w ≡ x → CalmOrBusy c (answered_to x w said now c)
-calm_answered_to None w said now c e = inl (λ f. f)
-calm_answered_to (Some o) w said now c e = by_decision (is_decisive o && not (is_ok said)) refl
-  where
-    by_decision : (b : Bool) → (is_decisive o && not (is_ok said)) ≡ b → CalmOrBusy c (decided b said (told o said now (w ∷ []) c))
-    by_decision true f = inr (busy_order c.agenda o (now_if (is_asked w (left c.agenda)) (order_now (left c.agenda)) o e) (both_parts (is_decisive o) (not (is_ok said)) f).0)
-    by_decision false f = inl (λ g. calm_settled (told o said now (w ∷ []) c) (ap has_failed (told_outcome o said now (w ∷ []) c) ∙ g))
+calm_answered_to x w said now c e = grind (arith, busy_order, now_if, both_parts, calm_settled, told_outcome)
 
 pub calm_answered : (w : ℕ) (said : Said) (now : ℕ) (c : Course) → CalmOrBusy c (course_answered w said now c)
-calm_answered w said now c = calm_posted c c (answered_to (open_order (left c.agenda) w) w said now c) (calm_answered_to (open_order (left c.agenda) w) w said now c refl)
+calm_answered w said now c = grind (arith, calm_posted, calm_answered_to)
 
 pub calm_stepped : (ok : Bool) (now : ℕ) (c : Course) → is_working (left c.agenda) ≡ true → CalmOrBusy c (course_stepped ok now c)
 calm_stepped ok now c e = inr (busy_step c.agenda e)

@@ -1,10 +1,10 @@
 -- Where the set of a session has failed, the session says so: in every other stage the course's set has not failed.
-use Rattle.promises.proofs.Words.{Context, SetOutcome, VssResult, AsyncCancelled, Said, row_gathered, Mark, Clean, Write, Group, Gather, Prepare, Snapshot, Complete, Agenda, open_group, is_working}
-use Rattle.promises.proofs.Words.{Session, stage_after, agenda_ended, set_failed, Plan, State, SetRow, Kept, start, in_progress, left_now, put, reverted_as, has_failed, IsOfStage, IsOfSession}
+use Rattle.promises.proofs.Words.{Context, SetOutcome, VssResult, AsyncCancelled, Said, row_gathered, Mark, Write, Group, Gather, Prepare, Snapshot, Complete, Agenda, open_group, is_working}
+use Rattle.promises.proofs.Words.{Session, agenda_ended, set_failed, Plan, State, SetRow, Kept, start, in_progress, left_now, put, reverted_as, has_failed}
 use Rattle.promises.proofs.Words.{IsOrderly, Act, after, state, IsKeptByChanges, IsKeptByWrites, kept_by_changes as orderly_kept, kept_by_writes as orderly_writes, orderly, on_after, course-step_made}
-use Rattle.promises.proofs.Words.{some_same, by_if}
-use Rattle.std.proofs.Common.{◌≡◌, ◌∙◌, ℕ, ◌+◌, List, [], ◌∷◌, ◌⊎◌, Option, Some, None, refl, Bool, true, false, ap, sym, subst, inl, inr, map, fold}
-use Rattle.std.specs.Prelude.{is_some, option_map}
+use Rattle.promises.proofs.Words.{by_if}
+use Rattle.std.proofs.Common.{◌≡◌, ◌∙◌, ℕ, ◌+◌, List, [], ◌∷◌, ◌⊎◌, Option, Some, None, refl, Bool, true, false, ap, sym, subst, inl, inr, map, fold, arith}
+use Rattle.std.specs.Prelude.{option_map}
 use Rattle.vss_names.specs.declared.set_outcome.SetOutcome.TheVariants.{Running as RunningSet, Complete as CompleteSet, Failed as FailedSet}
 use Rattle.set_agenda.specs.Course.{Course, answered as course_answered, stepped as course_stepped, timed as course_timed}
 use Rattle.requestor.specs.declared.stage.Stage.TheVariants.{Started, Failed}
@@ -12,7 +12,7 @@ use Rattle.vss_model.specs.Ending.{ending, concluded, followed, failed_in, faile
 use Rattle.vss_model.specs.Sessions.{begin_in, closed, has_no_volume, start_set}
 use Rattle.vss_model.specs.Steps.{answered, step_made, is_flush, is_failed_step, stepped_as, stepped, ticked, later}
 use Rattle.promises.proofs.Truth.{not_both}
-use Rattle.promises.proofs.BusyAgendas.{IsBusy, busy_set}
+use Rattle.promises.proofs.BusyAgendas.{IsBusy}
 use Rattle.promises.proofs.CalmCourses.{CalmOrBusy, calm_begun, calm_answered, calm_stepped, calm_timed}
 use Rattle.promises.proofs.SetFailures.{session_made}
 
@@ -23,25 +23,18 @@ abbrev pub IsCalmOrderly : State → Type 0
 IsCalmOrderly x = IsOrderly x × IsCalm x
 
 calm_failed : (why : VssResult) (o : Option Session) (n : SetOutcome) (q : Session) → option_map (set_failed why) o ≡ Some q → (q.stage ≡ Failed → ⊥) → has_failed n ≡ false
-calm_failed why None n q e f = absurd cc
-calm_failed why (Some p) n q e f = absurd (f (sym (ap (λ (y : Session). y.stage) (some_same (set_failed why p) q e))))
+calm_failed why o n q e f = grind arith
 
 -- ## the course goes on
 
 module _ (st : State) (h : IsCalmOrderly st) where
   -- an agenda that makes a set has one that runs
   busy_runs : IsBusy st.course.agenda → (o : SetOutcome) → st.course.outcome ≡ o → o ≡ RunningSet
-  busy_runs busy o e = by_set (in_progress st) st.session (busy_set st.course.agenda st.session st.course.outcome (in_progress st) busy h.0.agenda h.0.session) h.0.session
-    where
-      by_set : (r : Option SetRow) (q : Option Session) → is_some r ≡ true → IsOfSession q st.course.outcome r → o ≡ RunningSet
-      by_set None q f i = absurd cc
-      by_set (Some r) None f i = absurd i
-      by_set (Some r) (Some q) f i = sym e ∙ i.2
+  busy_runs busy o e = grind arith
 
   -- the session of a failed set before an agenda ended
   was_failed : (o : Option Session) (q : Session) → st.session ≡ o → option_map agenda_ended o ≡ Some q → (q.stage ≡ Failed → ⊥) → has_failed st.course.outcome ≡ false
-  was_failed None q e f g = absurd cc
-  was_failed (Some p) q e f g = h.1 p e (λ k. g (sym (ap (λ (y : Session). y.stage) (some_same (agenda_ended p) q f)) ∙ ap (stage_after p.context) k))
+  was_failed o q e f g = grind arith
 
   calm_followed : (ran : Bool) (c : Course) (y : State) → y.session ≡ st.session → y.course.outcome ≡ st.course.outcome → CalmOrBusy st.course c → IsCalm (followed ran c y)
   unfolding followed
@@ -112,19 +105,13 @@ module _ (st : State) (h : IsCalmOrderly st) where
   on_steps mark e = on_step (is_failed_step (is_flush (open_group (left_now st))) mark) (open_group (left_now st)) e
 
   on_failed : (o : Option SetRow) (why : VssResult) → IsCalm (failed_in o why st)
-  on_failed None why = h.1
-  on_failed (Some r) why = λ q e f. calm_failed why st.session _ q e f
+  on_failed o why = grind arith
 
   on_begun : (c : Course) → (has_failed st.course.outcome ≡ false → has_failed c.outcome ≡ false) → IsCalm (followed true c st)
   on_begun c calm = calm_followed true c st refl refl (inl calm)
 
   on_begins : (lane : ℕ) (all : Bool) (c : Option Context) → st.session ≡ None → IsCalm (begin_in lane all c st).1
-  on_begins lane all None e = h.1
-  on_begins lane all (Some c) e = λ q f g. ap has_failed (none_runs (in_progress st) (subst (λ o. IsOfSession o st.course.outcome (in_progress st)) e h.0.session))
-    where
-      none_runs : (r : Option SetRow) → IsOfSession None st.course.outcome r → st.course.outcome ≡ RunningSet
-      none_runs None i = i
-      none_runs (Some r) i = absurd i
+  on_begins lane all c e = grind arith
 
   on_closed : (q : Session) (x : State) → IsCalm (closed q x)
   unfolding closed
@@ -132,15 +119,7 @@ module _ (st : State) (h : IsCalmOrderly st) where
 
 -- of a session whose set has just started
 on_started : (x : State) (q : Session) → IsOrderly x → x.session ≡ Some q → q.stage ≡ Started → IsCalm x
-on_started x q h e f = λ p g k. ap has_failed
-    (by_set (in_progress x) (subst (λ t. IsOfStage t q.set x.course.outcome (in_progress x)) f (subst (λ o. IsOfSession o x.course.outcome (in_progress x)) e h.session)))
-  where
-    by_set : (r : Option SetRow) → IsOfStage Started q.set x.course.outcome r → x.course.outcome ≡ RunningSet
-    by_set None i = absurd (differ i.0)
-      where
-        differ : true ≡ false → ⊥
-        differ e = cc
-    by_set (Some r) i = i.2
+on_started x q h e f = grind arith
 
 pub calm_kept : IsKeptByChanges IsCalmOrderly
 calm_kept = record {
@@ -164,12 +143,10 @@ calm_kept = record {
 }
 
 calm_put : (v : ℕ) (w : Write) (mark : Mark) (x : State) → IsCalm x → IsCalm (put v w mark x)
-calm_put v w Clean x h = h
-calm_put v w _ x h = h
+calm_put v w mark x h = grind arith
 
 calm_revert : (s : Plan) (v : ℕ) (k : Kept) (mark : Mark) (st : State) → IsCalm st → IsCalm (reverted_as s v k mark st).1
-calm_revert s v k Clean st h = h
-calm_revert s v k _ st h = h
+calm_revert s v k mark st h = grind arith
 
 calm_writes : (st : State) → IsKeptByWrites IsCalmOrderly st
 calm_writes st =

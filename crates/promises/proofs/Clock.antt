@@ -1,64 +1,40 @@
 -- What moves the clock.
-use Rattle.promises.proofs.Words.{VssResult, InsufficientStorage, AsyncCancelled, Said, Mark, Clean, Write, said_of, Group, Orders, PreCommit, Flush, Hold, Cut, Commit, Release, PostCommit}
-use Rattle.promises.proofs.Words.{open_group, Course, Session, Op, WriteFill, WriteStamp, Target, target_of, Plan, Event, State, SetRow, Kept, in_progress, left_now, line_ticks, ticks_of, Act}
+use Rattle.promises.proofs.Words.{VssResult, AsyncCancelled, Said, Mark, Write, said_of, Group}
+use Rattle.promises.proofs.Words.{open_group, Course, Session, Op, Target, target_of, Plan, Event, State, SetRow, Kept, in_progress, left_now, line_ticks, ticks_of, Act}
 use Rattle.promises.proofs.Words.{enabled, idle_now, after, state, ticks_if, ClockMoves, Covers, covered, after_enabled, after_not_enabled, by_if}
 use Rattle.std.proofs.Common.{◌≡◌, ◌∙◌, ℕ, ◌+◌, List, Option, Some, None, refl, Bool, true, false, sym, ap, arith}
 use Rattle.std.specs.Prelude.{unwrap_or}
-use Rattle.vss_model.specs.Ending.{Ending, NothingEnds, ending, concluded, followed, runs, failed_in, failed}
-use Rattle.vss_model.specs.Images.{Replied, cleared, set_loses_image, with_room_if, put, write, reverted_as}
+use Rattle.vss_model.specs.Ending.{Ending, ending, concluded, followed, runs, failed_in, failed}
+use Rattle.vss_model.specs.Images.{Replied, write, reverted_as}
 use Rattle.vss_model.specs.Sessions.{has_no_volume, closed}
-use Rattle.vss_model.specs.Steps.{answered, cut_set, step_made, is_flush, is_failed_step, stepped_as, stepped, ticked, later}
+use Rattle.vss_model.specs.Steps.{answered, step_made, is_flush, is_failed_step, stepped_as, stepped, ticked, later}
 
 clock-concluded : (e : Ending) (st : State) → (concluded e st).clock ≡ st.clock
-clock-concluded NothingEnds st = refl
-clock-concluded _ st = refl
+clock-concluded e st = grind arith
 
 pub clock-followed : (ran : Bool) (c : Course) (st : State) → (followed ran c st).clock ≡ st.clock
 unfolding followed
 clock-followed ran c st = clock-concluded (ending st.course.outcome c.outcome ran c.agenda) (record st { course = c })
 
 clock-failed_in : (o : Option SetRow) (why : VssResult) (st : State) → (failed_in o why st).clock ≡ st.clock
-clock-failed_in None why st = refl
-clock-failed_in (Some r) why st = refl
-
-clock-room : (b : Bool) (x : State) → (with_room_if b x).clock ≡ x.clock
-clock-room true x = clock-failed_in (in_progress x) InsufficientStorage x
-clock-room false x = refl
-
-clock-put : (v : ℕ) (w : Write) (mark : Mark) (x : State) → (put v w mark x).clock ≡ x.clock
-clock-put v w Clean x = refl
-clock-put v w _ x = refl
+clock-failed_in o why st = grind arith
 
 clock-write : (s : Plan) (v : ℕ) (w : Write) (mark : Mark) (st : State) → (write s v w mark st).1.clock ≡ st.clock
 unfolding write
-clock-write s v w mark st = clock-put v w mark _ ∙ clock-room (set_loses_image (in_progress st) st.volumes (cleared s v w.block st).volumes) (cleared s v w.block st)
+clock-write s v w mark st = grind arith
 
 clock-reverted : (s : Plan) (v : ℕ) (k : Kept) (mark : Mark) (st : State) → (reverted_as s v k mark st).1.clock ≡ st.clock
-clock-reverted s v k Clean st = refl
-clock-reverted s v k _ st = refl
-
-clock-cut : (o : Option SetRow) (st : State) → (cut_set o st).clock ≡ st.clock
-clock-cut None st = refl
-clock-cut (Some r) st = refl
+clock-reverted s v k mark st = grind arith
 
 pub clock-made : (g : Option Group) (st : State) → (step_made g st).clock ≡ st.clock
-clock-made None st = refl
-clock-made (Some (Orders o)) st = refl
-clock-made (Some PreCommit) st = refl
-clock-made (Some Flush) st = refl
-clock-made (Some Hold) st = refl
-clock-made (Some Cut) st = clock-cut (in_progress st) st
-clock-made (Some Commit) st = refl
-clock-made (Some Release) st = refl
-clock-made (Some PostCommit) st = refl
+clock-made g st = grind arith
 
 pub clock-answered : (w : ℕ) (said : Said) (st : State) → (answered w said st).clock ≡ st.clock
 unfolding answered
 clock-answered w said st = clock-followed (runs st) _ st
 
 pub clock-stepped_as : (fails : Bool) (g : Option Group) (st : State) → (stepped_as fails g st).clock ≡ st.clock
-clock-stepped_as true g st = clock-followed (runs st) _ st
-clock-stepped_as false g st = clock-followed (runs st) _ (step_made g st) ∙ clock-made g st
+clock-stepped_as fails g st = grind (arith, clock-followed, clock-made)
 
 pub clock-stepped : (mark : Mark) (st : State) → (stepped mark st).clock ≡ st.clock
 unfolding stepped
@@ -74,9 +50,7 @@ clock-closed q st = refl
 
 -- a line that writes a block is no `tick` line
 pub write_ticks : (op : Op) (t : Target) → target_of op ≡ Some t → line_ticks op ≡ None
-write_ticks (WriteFill v b x) t e = refl
-write_ticks (WriteStamp v b n) t e = refl
-write_ticks op t e = absurd cc
+write_ticks op t e = grind arith
 
 abbrev Moves : State → Event → Mark → Replied → Type 0
 Moves st event mark x = x.1.clock ≡ st.clock + unwrap_or (ticks_of st event) 0

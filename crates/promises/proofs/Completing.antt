@@ -1,6 +1,6 @@
 -- BackupComplete goes to no writer that has failed.
-use Rattle.promises.proofs.Words.{Order, BackupComplete, VssResult, InsufficientStorage, AsyncCancelled, WriterState, Unknown, Stable, WaitingForFreeze, WaitingForThaw, WaitingForPostSnapshot}
-use Rattle.promises.proofs.Words.{WaitingForBackupComplete, Said, Ok, WriterRow, is_failed, row_after, Mark, Clean, Write, said_of, Group, Kind, Gather, Prepare, Snapshot, Complete, Member, Agenda}
+use Rattle.promises.proofs.Words.{Order, BackupComplete, VssResult, AsyncCancelled, WriterState}
+use Rattle.promises.proofs.Words.{Said, Ok, WriterRow, is_failed, row_after, Mark, Write, said_of, Group, Kind, Gather, Prepare, Snapshot, Complete, Member, Agenda}
 use Rattle.promises.proofs.Words.{open_group, places, has_said, waited_for, with_group, groups_left, left, is_asked, is_among, order_now, open_order, next_member, all_say, writers_at, IsKeptInCourse}
 use Rattle.promises.proofs.Words.{course_answered as kept_answered, course_stepped as kept_stepped, course_timed as kept_timed, course_begun as kept_begun, Session, Plan, Event, State, SetRow, Kept}
 use Rattle.promises.proofs.Words.{start, in_progress, left_now, Act, enabled, idle_now, after, asked_if, unspoken, StandsWell, CompletesUnfailed, Covers, covered, after_enabled, after_not_enabled}
@@ -8,7 +8,7 @@ use Rattle.promises.proofs.Words.{by_if}
 use Rattle.std.proofs.Common.{◌≡◌, ◌∙◌, ℕ, ◌+◌, ◌==◌, zero, suc, List, [], ◌∷◌, Option, Some, None, refl, Bool, true, false, ap, sym, subst, filter, fold, arith}
 use Rattle.std.specs.Prelude.{◌||◌, not, option_map, if◌then◌else◌, slice_get}
 use Rattle.set_agenda.specs.Course.{Course, posted, failed as course_failed, rows_where, row_if, has_row_failed, row_failed, begun, told, answered as course_answered, worked, stepped as course_stepped, timed as course_timed, released}
-use Rattle.vss_model.specs.Ending.{Ending, NothingEnds, ending, concluded, followed, runs, failed_in, failed}
+use Rattle.vss_model.specs.Ending.{Ending, ending, concluded, followed, runs, failed_in, failed}
 use Rattle.vss_model.specs.Images.{Replied, cleared, set_loses_image, with_room_if, put, write, reverted_as}
 use Rattle.vss_model.specs.Sessions.{has_no_volume, closed}
 use Rattle.vss_model.specs.Steps.{answered, step_made, is_flush, is_failed_step, stepped_as, stepped, ticked, later}
@@ -92,8 +92,7 @@ unfailed_member rows w (m ∷ ms) e = by_test (has_row_failed rows m.writer) ref
     by_test false f e ih = by_head (m.writer == w) refl f e ih
 
 waiting_there : (waits : List ℕ) (w : ℕ) → is_asked w (with_group last_place waits []) ≡ true → is_among w waits ≡ true
-waiting_there [] w e = absurd cc
-waiting_there (x ∷ xs) w e = e
+waiting_there waits w e = grind arith
 
 well_completing : (ms : List Member) (now : ℕ) (c : Course) → Well (begun Complete (filter (λ (m : Member). not (has_row_failed c.rows m.writer)) ms) [] now c)
 well_completing ms now c =
@@ -111,24 +110,20 @@ abbrev WellNow : State → Type 0
 WellNow st = Well st.course
 
 well_ended : (e : Ending) (x : State) → WellNow x → WellNow (concluded e x)
-well_ended NothingEnds x h = h
-well_ended _ x h = h
+well_ended e x h = grind arith
 
 well_followed : (ran : Bool) (c : Course) (x : State) → Well c → WellNow (followed ran c x)
 unfolding followed
 well_followed ran c x h = well_ended (ending x.course.outcome c.outcome ran c.agenda) (record x { course = c }) h
 
 well_failed_in : (o : Option SetRow) (why : VssResult) (x : State) → WellNow x → WellNow (failed_in o why x)
-well_failed_in None why x h = h
-well_failed_in (Some r) why x h = well_failed why x.course
+well_failed_in o why x h = grind (arith, well_failed)
 
 well_room : (b : Bool) (x : State) → WellNow x → WellNow (with_room_if b x)
-well_room true x h = well_failed_in (in_progress x) InsufficientStorage x h
-well_room false x h = h
+well_room b x h = grind (arith, well_failed_in)
 
 well_put : (v : ℕ) (w : Write) (mark : Mark) (x : State) → WellNow x → WellNow (put v w mark x)
-well_put v w Clean x h = h
-well_put v w _ x h = h
+well_put v w mark x h = grind arith
 
 module _ (s : Plan) (st : State) (h : WellNow st) where
   on_write : (v : ℕ) (w : Write) (mark : Mark) → WellNow (write s v w mark st).1
@@ -136,8 +131,7 @@ module _ (s : Plan) (st : State) (h : WellNow st) where
   on_write v w mark = well_put v w mark _ (well_room (set_loses_image (in_progress st) st.volumes (cleared s v w.block st).volumes) (cleared s v w.block st) h)
 
   on_revert : (v : ℕ) (k : Kept) (mark : Mark) → WellNow (reverted_as s v k mark st).1
-  on_revert v k Clean = h
-  on_revert v k _ = h
+  on_revert v k mark = grind arith
 
   on_close : (q : Session) (x : State) → WellNow (closed q x)
   unfolding closed released
@@ -195,13 +189,7 @@ well_from s st [] h = h
 well_from s st (act ∷ acts) h = well_from s (after s st act) acts (well_if s st h (enabled s st act.event) act refl)
 
 stands_well : (state : WriterState) → is_failed state ≡ false → StandsWell state
-stands_well Unknown e = tt
-stands_well Stable e = tt
-stands_well WaitingForFreeze e = tt
-stands_well WaitingForThaw e = tt
-stands_well WaitingForPostSnapshot e = tt
-stands_well WaitingForBackupComplete e = tt
-stands_well _ e = absurd cc
+stands_well state e = grind arith
 
 pub completes_unfailed : (s : Plan) (so_far : List Act) → CompletesUnfailed s so_far
 completes_unfailed s so_far w row e f = stands_well row.state (ap row_failed (sym f) ∙ well_from s (start s) so_far (nobody (start s).course.rows) w e)

@@ -1,16 +1,16 @@
 -- What changes the contents of a volume.
-use Rattle.promises.proofs.Words.{payload_bytes, zeros, Context, Backup, AppRollback, NasRollback, VssResult, InsufficientStorage, AsyncCancelled, Said, Mark, Clean, Fault, FaultAfter, Write, History}
-use Rattle.promises.proofs.Words.{after_set, last_bytes, content, dropped, written, to_restore, reverted, reverted_in_part, Placed, gone_up_to, said_of, Group, Orders, PreCommit, Flush, Hold, Cut}
-use Rattle.promises.proofs.Words.{Commit, Release, PostCommit, is_among, open_group, Session, Op, Writes, Target, line_of, target_in, target_of, does, Plan, blocks_of, group_of, Event, Line, State}
+use Rattle.promises.proofs.Words.{payload_bytes, zeros, Context, VssResult, AsyncCancelled, Said, Mark, Clean, Fault, FaultAfter, Write, History}
+use Rattle.promises.proofs.Words.{after_set, last_bytes, content, dropped, written, to_restore, reverted, Placed, gone_up_to, said_of, Group}
+use Rattle.promises.proofs.Words.{is_among, open_group, Session, Op, Target, line_of, target_in, target_of, does, Plan, blocks_of, group_of, Event, Line, State}
 use Rattle.promises.proofs.Words.{SetRow, Kept, in_progress, left_now, history_of, kept_image, Act, enabled, happens, idle_now, after, state, as_many_volumes, at, change_other, as_many_map}
 use Rattle.promises.proofs.Words.{as_many_gone, block_now, is_clean, may_change, ContentsChange, changes_by, Covers, covered, after_enabled, after_not_enabled, all_taken}
 use Rattle.std.proofs.Common.{◌≡◌, ◌∙◌, ℕ, ◌+◌, ◌==◌, zero, suc, List, [], ◌∷◌, ◌++◌, Option, Some, None, refl, Bool, true, false, ◌<◌, ap, sym, subst, map, length, take, arith}
 use Rattle.std.specs.Prelude.{◌&&◌, if◌then◌else◌}
-use Rattle.set_agenda.specs.Course.{Course, answered as course_answered, stepped as course_stepped, timed as course_timed, change_at}
+use Rattle.set_agenda.specs.Course.{Course, answered as course_answered, timed as course_timed, change_at}
 use Rattle.scenario.specs.declared.op.Op.TheVariants as op
 use Rattle.scenario.specs.declared.line.Line.{Line as Does}
-use Rattle.vss_model.specs.Ending.{Ending, SetFails, ending, images_dropped, concluded, followed, runs, failed_in, failed}
-use Rattle.vss_model.specs.Images.{Replied, cleared, going_up_to, set_loses_image, with_room_if, put, write, revert_refusal, reverted_as, revert_to, revert}
+use Rattle.vss_model.specs.Ending.{Ending, ending, images_dropped, concluded, followed, runs, failed_in, failed}
+use Rattle.vss_model.specs.Images.{Replied, cleared, going_up_to, set_loses_image, with_room_if, put, write, revert_refusal, reverted_as, revert}
 use Rattle.vss_model.specs.Sessions.{has_no_volume, images_released, closed}
 use Rattle.vss_model.specs.Steps.{answered, cut_if, cut_each, cut_set, step_made, is_flush, is_failed_step, stepped_as, stepped, ticked, later}
 use Rattle.promises.proofs.Truth.{same_number}
@@ -54,14 +54,10 @@ same_cut n vs u (h ∷ hs) zero = by_set (is_among u vs)
 same_cut n vs u (h ∷ hs) (suc v) = same_cut n vs (u + 1) hs v
 
 same_dropped : (o : Option SetRow) (hs : List History) → SameWrites hs (images_dropped o hs)
-same_dropped None hs v = refl
-same_dropped (Some r) hs v = same_map (dropped r.number) (λ h. refl) hs v
+same_dropped o hs v = grind (arith, same_map)
 
 same_released : (c : Context) (set : Option ℕ) (hs : List History) → SameWrites hs (images_released c set hs)
-same_released Backup None hs v = refl
-same_released Backup (Some n) hs v = same_map (dropped n) (λ h. refl) hs v
-same_released AppRollback set hs v = refl
-same_released NasRollback set hs v = refl
+same_released c set hs v = grind (arith, same_map)
 
 -- another volume is left alone
 change_elsewhere : (f : History → History) (u : ℕ) (hs : List History) (v : ℕ) → (u == v) ≡ false → at (change_at u f hs) v ≡ at hs v
@@ -92,24 +88,21 @@ module _ (s : Plan) (st : State) (v b : ℕ) where
   by_writes hs ks e = ap (λ ws. content ws (length ws) b) (e v)
 
   stay_ended : (e : Ending) (x : State) → Stays x.volumes → Stays (concluded e x).volumes
-  stay_ended (SetFails why) x h = by_writes x.volumes _ (same_dropped (in_progress x) x.volumes) ∙ h
-  stay_ended _ x h = h
+  stay_ended e x h = grind (arith, by_writes, same_dropped)
 
   stay_followed : (ran : Bool) (c : Course) (x : State) → Stays x.volumes → Stays (followed ran c x).volumes
   unfolding followed
   stay_followed ran c x h = stay_ended (ending x.course.outcome c.outcome ran c.agenda) (record x { course = c }) h
 
   stay_failed : (o : Option SetRow) (why : VssResult) (x : State) → Stays x.volumes → Stays (failed_in o why x).volumes
-  stay_failed None why x h = h
-  stay_failed (Some r) why x h = by_writes x.volumes _ (same_dropped (in_progress x) x.volumes) ∙ h
+  stay_failed o why x h = grind (arith, by_writes, same_dropped)
 
   stay_closed : (q : Session) (x : State) → Stays x.volumes → Stays (closed q x).volumes
   unfolding closed
   stay_closed q x h = by_writes x.volumes _ (same_released q.context q.set x.volumes) ∙ h
 
   stay_room : (c : Bool) (x : State) → Stays x.volumes → Stays (with_room_if c x).volumes
-  stay_room true x h = stay_failed (in_progress x) InsufficientStorage x h
-  stay_room false x h = h
+  stay_room c x h = grind (arith, stay_failed)
 
   stay_put : (u : ℕ) (w : Write) (mark : Mark) (x : State) → (is_clean mark && (u == v) && (w.block == b)) ≡ false → Stays x.volumes → Stays (put u w mark x).volumes
   stay_put u w Clean x e h = by_volume (u == v) refl e ∙ h
@@ -133,19 +126,10 @@ module _ (s : Plan) (st : State) (v b : ℕ) where
       stay_put u w mark _ e (stay_room (set_loses_image (in_progress st) st.volumes (cleared s u w.block st).volumes) (cleared s u w.block st) (by_writes st.volumes _ (same_gone (going_up_to s u w.block st) (group_of s u) st.volumes)))
 
   stay_cut : (o : Option SetRow) → Stays (cut_set o st).volumes
-  stay_cut None = refl
-  stay_cut (Some r) = by_writes st.volumes _ (same_cut r.number r.volumes 0 st.volumes)
+  stay_cut o = grind (arith, by_writes, same_cut)
 
   stay_made : (g : Option Group) → Stays (step_made g st).volumes
-  stay_made None = refl
-  stay_made (Some (Orders o)) = refl
-  stay_made (Some PreCommit) = refl
-  stay_made (Some Flush) = refl
-  stay_made (Some Hold) = refl
-  stay_made (Some Cut) = stay_cut (in_progress st)
-  stay_made (Some Commit) = refl
-  stay_made (Some Release) = refl
-  stay_made (Some PostCommit) = refl
+  stay_made g = grind (arith, stay_cut)
 
   stay_answers : (w : ℕ) (said : Said) → Stays (answered w said st).volumes
   unfolding answered
@@ -156,17 +140,14 @@ module _ (s : Plan) (st : State) (v b : ℕ) where
   stay_ticks n = stay_followed (runs st) (course_timed (st.clock + n) st.course) (later n st) refl
 
   stay_step_as : (f : Bool) (g : Option Group) → Stays (stepped_as f g st).volumes
-  stay_step_as true g = stay_followed (runs st) (course_stepped false st.clock st.course) st refl
-  stay_step_as false g = stay_followed (runs st) (course_stepped true st.clock st.course) (step_made g st) (stay_made g)
+  stay_step_as f g = grind (arith, stay_followed, stay_made)
 
   stay_steps : (mark : Mark) → Stays (stepped mark st).volumes
   unfolding stepped
   stay_steps mark = stay_step_as (is_failed_step (is_flush (open_group (left_now st))) mark) (open_group (left_now st))
 
   stay_reverts : (u : ℕ) (k : Kept) (mark : Mark) → (u == v) ≡ false → Stays (reverted_as s u k mark st).1.volumes
-  stay_reverts u k Clean e = ap (λ (y : History). content y.writes (length y.writes) b) (change_elsewhere (reverted k.row.number k.point) u st.volumes v e)
-  stay_reverts u k Fault e = refl
-  stay_reverts u k (FaultAfter n) e = ap (λ (y : History). content y.writes (length y.writes) b) (change_elsewhere (reverted_in_part (blocks_of s u) k.row.number k.point n) u st.volumes v e)
+  stay_reverts u k mark e = grind (arith, change_elsewhere)
 
   abbrev Keeps : Event → Mark → Replied → Type 0
   Keeps event mark x = may_change v b event mark ≡ false → Stays x.1.volumes
@@ -175,16 +156,13 @@ module _ (s : Plan) (st : State) (v b : ℕ) where
   some_target x y e = cc
 
   writes_by : (l : Does) (u : ℕ) (w : Write) (mark : Mark) → target_in l ≡ Some (record { volume = u; block = w.block }) → changes_by v b l mark ≡ false → Stays (write s u w mark st).1.volumes
-  writes_by (Writes x y payload) u w mark e g =
-      stay_write u w mark (ap (λ (z : Target). is_clean mark && (z.volume == v) && (z.block == b)) (sym (some_target _ _ e)) ∙ g)
-  writes_by _ u w mark e g = absurd cc
+  writes_by l u w mark e g = grind (arith, stay_write, some_target)
 
   on_write : (lane : ℕ) (o : Op) (u : ℕ) (w : Write) (mark : Mark) → target_of o ≡ Some (record { volume = u; block = w.block }) → Keeps (Line lane o) mark (write s u w mark st)
   on_write lane o u w mark e g = writes_by (line_of o) u w mark e g
 
   either : (event : Event) (mark : Mark) (c : Bool) (x y : Replied) → Keeps event mark x → Keeps event mark y → Keeps event mark (if c then x else y)
-  either event mark true x y e f = e
-  either event mark false x y e f = f
+  either event mark c x y e f = grind arith
 
   keeps : Covers Keeps s st
   keeps = record {
@@ -211,8 +189,7 @@ module _ (s : Plan) (st : State) (v b : ℕ) where
   }
 
   keeps_if : (c : Bool) (act : Act) → enabled s st act.event ≡ c → may_change v b act.event act.mark ≡ false → Stays (after s st act).volumes
-  keeps_if true act e g = ap (λ (x : State). block_in x.volumes) (after_enabled s st act e) ∙ covered Keeps s st keeps act.event act.mark e g
-  keeps_if false act e g = ap (λ (x : State). block_in x.volumes) (after_not_enabled s st act e)
+  keeps_if c act e g = grind (arith, after_enabled, covered, keeps, after_not_enabled)
 
   pub contents_kept : (act : Act) → may_change v b act.event act.mark ≡ false → Stays (after s st act).volumes
   contents_kept act g = keeps_if (enabled s st act.event) act refl g
@@ -238,48 +215,23 @@ own_block : (ws : List Write) (w : Write) → content (ws ++ w ∷ []) (length (
 own_block ws w = now_is (ws ++ w ∷ []) w.block ∙ last_own w.block zeros ws w (same_number w.block)
 
 as_many_room : (b : Bool) (x : State) → length (with_room_if b x).volumes ≡ length x.volumes
-as_many_room true x = by_set (in_progress x)
-  where
-    dropped_all : (o : Option SetRow) (hs : List History) → length (images_dropped o hs) ≡ length hs
-    dropped_all None hs = refl
-    dropped_all (Some r) hs = as_many_map (dropped r.number) hs
-
-    by_set : (o : Option SetRow) → length (failed_in o InsufficientStorage x).volumes ≡ length x.volumes
-    by_set None = refl
-    by_set (Some r) = dropped_all (in_progress x) x.volumes
-as_many_room false x = refl
+as_many_room b x = grind (arith, as_many_map)
 
 module _ (s : Plan) (st : State) where
   write_brings : (v : ℕ) (w : Write) (mark : Mark) → mark ≡ Clean → v < length st.volumes → block_now (write s v w mark st).1 v w.block ≡ w.bytes
   unfolding write
-  write_brings v w Clean e l =
-      let x = with_room_if (set_loses_image (in_progress st) st.volumes (cleared s v w.block st).volumes) (cleared s v w.block st) in
-      let many : length x.volumes ≡ length st.volumes = as_many_room (set_loses_image (in_progress st) st.volumes (cleared s v w.block st).volumes) (cleared s v w.block st) ∙ as_many_gone (going_up_to s v w.block st) (group_of s v) st.volumes in
-      ap (λ (y : History). content y.writes (length y.writes) w.block) (changed_here (written w) v x.volumes (subst (λ n. v < n) (sym many) l)) ∙ own_block (at x.volumes v).writes w
-  write_brings v w Fault e l = absurd cc
-  write_brings v w (FaultAfter k) e l = absurd cc
+  write_brings v w mark e l = grind (arith, as_many_room, as_many_gone, changed_here, own_block)
 
   revert_brings : (v b : ℕ) (k : Kept) (mark : Mark) → mark ≡ Clean → v < length st.volumes → block_now (reverted_as s v k mark st).1 v b ≡ content (history_of st v).writes k.point b
-  revert_brings v b k Clean e l =
-      ap (λ (y : History). content y.writes (length y.writes) b) (changed_here (reverted k.row.number k.point) v st.volumes l) ∙ now_is (take k.point (at st.volumes v).writes) b
-  revert_brings v b k Fault e l = absurd cc
-  revert_brings v b k (FaultAfter n) e l = absurd cc
+  revert_brings v b k mark e l = grind (arith, changed_here, now_is)
 
   stop_brings : (v b j : ℕ) (k : Kept) (mark : Mark) → mark ≡ FaultAfter j → v < length st.volumes
       → block_now (reverted_as s v k mark st).1 v b ≡ (if is_among b (take j (to_restore (blocks_of s v) (history_of st v).writes k.point)) then content (history_of st v).writes k.point b else block_now st v b)
-  stop_brings v b j k Clean e l = absurd cc
-  stop_brings v b j k Fault e l = absurd cc
-  stop_brings v b j k (FaultAfter n) e l =
-      ap (λ (y : History). content y.writes (length y.writes) b) (changed_here (reverted_in_part (blocks_of s v) k.row.number k.point n) v st.volumes l)
-      ∙ ap (λ i. content (reverted_in_part (blocks_of s v) k.row.number k.point i (at st.volumes v)).writes (length (reverted_in_part (blocks_of s v) k.row.number k.point i (at st.volumes v)).writes) b) (same_count n j e) ∙ some_restored (at st.volumes v).writes k.point b (take j (to_restore (blocks_of s v) (at st.volumes v).writes k.point))
-    where
-      same_count : (i m : ℕ) → FaultAfter i ≡ FaultAfter m → i ≡ m
-      same_count i m e = cc
+  stop_brings v b j k mark e l = grind (arith, changed_here, some_restored)
 
   revert_is : (n v : ℕ) (k : Kept) (mark : Mark) → kept_image st n v ≡ Some k → revert_refusal v (Some k) st ≡ None → revert s n v mark st ≡ reverted_as s v k mark st
   unfolding revert
-  revert_is n v k mark e f =
-      ap (λ o. revert_to s v (revert_refusal v o st) o mark st) e ∙ ap (λ (w : Option VssResult). revert_to s v w (Some k) mark st) f
+  revert_is n v k mark e f = grind arith
 
   after_line : (act : Act) (event : Event) → act.event ≡ event → enabled s st act.event ≡ true → after s st act ≡ (happens s event act.mark st).1
   after_line act event e on = after_enabled s st act on ∙ ap (λ x. (happens s x act.mark st).1) e

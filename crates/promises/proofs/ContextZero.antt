@@ -1,15 +1,15 @@
 -- An image of context 0 stands only while its session does.
-use Rattle.promises.proofs.Words.{Context, Backup, VssResult, AsyncCancelled, Said, Mark, Clean, Write, dropped, said_of, open_group, Group, Orders, PreCommit, Flush, Hold, Cut, Commit, Release}
-use Rattle.promises.proofs.Words.{PostCommit, Stage, Session, has_writers, opened, started, is_stage, Plan, Event, Line, State, SetRow, Kept, start, in_progress, row_changed, left_now, has_image}
+use Rattle.promises.proofs.Words.{Context, Backup, VssResult, AsyncCancelled, Said, Mark, Clean, Write, dropped, said_of, open_group, Group}
+use Rattle.promises.proofs.Words.{Stage, Session, has_writers, opened, started, is_stage, Plan, Event, Line, State, SetRow, Kept, start, in_progress, row_changed, left_now, has_image}
 use Rattle.promises.proofs.Words.{followed, runs, failed, NumberedFrom, IsOfSession as IsSessionOfSet, is_early, LetsGo, is_provider, is_cut_group, Act, enabled, idle_now, after, state, state-append}
 use Rattle.promises.proofs.Words.{after_cut, fewer_after, fewer_followed, true_not_false, orderly, at, stands, BackupsEnd, Covers, covered, after_enabled, after_not_enabled, some_same, by_if}
-use Rattle.std.proofs.Common.{◌≡◌, ◌∙◌, ℕ, ◌+◌, ◌==◌, List, [], ◌∷◌, ◌++◌, Option, Some, None, refl, Bool, true, false, ap, sym, subst, fold}
+use Rattle.std.proofs.Common.{◌≡◌, ◌∙◌, ℕ, ◌+◌, ◌==◌, List, [], ◌∷◌, ◌++◌, Option, Some, None, refl, Bool, true, false, ap, sym, subst, fold, arith}
 use Rattle.std.specs.Prelude.{◌&&◌, option_map, if◌then◌else◌}
 use Rattle.set_agenda.specs.Course.{answered as course_answered, stepped as course_stepped, timed as course_timed}
 use Rattle.requestor.specs.declared.session_call.SessionCall.TheVariants as call
-use Rattle.requestor.specs.declared.stage.Stage.TheVariants.{Opened, Gathered, Started, Prepared, Done, Finished, Failed}
+use Rattle.requestor.specs.declared.stage.Stage.TheVariants.{Opened, Gathered}
 use Rattle.scenario.specs.declared.op.Op.TheVariants as op
-use Rattle.vss_model.specs.Images.{Replied, is_backup, cleared, set_loses_image, write, reverted_as}
+use Rattle.vss_model.specs.Images.{Replied, is_backup, write, reverted_as}
 use Rattle.vss_model.specs.Sessions.{new_set, new_number, with_volume, start_set, has_no_volume, images_released, closed}
 use Rattle.vss_model.specs.Steps.{answered, cut_set, step_made, is_flush, is_failed_step, stepped_as, stepped, ticked, later}
 use Rattle.promises.proofs.Truth.{both_parts, equal}
@@ -19,18 +19,7 @@ use Rattle.promises.proofs.Contexts.{context_in, context_map, changed_number, ch
 -- ## a new set
 
 starts_early : (stage : Stage) (writers : Bool) → (if writers then is_stage stage Gathered else is_stage stage Opened) ≡ true → is_early stage ≡ true
-starts_early Opened w e = refl
-starts_early Gathered w e = refl
-starts_early Started true e = absurd cc
-starts_early Started false e = absurd cc
-starts_early Prepared true e = absurd cc
-starts_early Prepared false e = absurd cc
-starts_early Done true e = absurd cc
-starts_early Done false e = absurd cc
-starts_early Finished true e = absurd cc
-starts_early Finished false e = absurd cc
-starts_early Failed true e = absurd cc
-starts_early Failed false e = absurd cc
+starts_early stage w e = grind arith
 
 owned_start : (q : Session) (st : State) → LetsGo call.Start q st → NumberedFrom 1 st.sets → Owned st → Owned (start_set q st).1
 owned_start q st g num h = record {
@@ -68,7 +57,7 @@ module _ (s : Plan) (st : State) (num : NumberedFrom 1 st.sets) (h : Owned st) w
 
   related_write : (v : ℕ) (w : Write) (mark : Mark) → Relates st.sets st.session (write s v w mark st).1
   unfolding write
-  related_write v w mark = relates_put v w mark st.sets st.session _ (relates_room (set_loses_image (in_progress st) st.volumes (cleared s v w.block st).volumes) (cleared s v w.block st))
+  related_write v w mark = grind (arith, relates_put, relates_room)
 
   related_revert : (v : ℕ) (k : Kept) (mark : Mark) → Relates st.sets st.session (reverted_as s v k mark st).1
   related_revert v k Clean = relates_same st.sets _ (λ n. refl)
@@ -83,30 +72,10 @@ module _ (s : Plan) (st : State) (num : NumberedFrom 1 st.sets) (h : Owned st) w
   related_tick n = relates_followed (runs st) (course_timed (st.clock + n) st.course) (later n st)
 
   made_contexts : (g : Option Group) (n : ℕ) → context_in (step_made g st).sets n ≡ context_in st.sets n
-  made_contexts None n = refl
-  made_contexts (Some (Orders o)) n = refl
-  made_contexts (Some PreCommit) n = refl
-  made_contexts (Some Flush) n = refl
-  made_contexts (Some Hold) n = refl
-  made_contexts (Some Cut) n = cut_contexts (in_progress st) st n
-  made_contexts (Some Commit) n = refl
-  made_contexts (Some Release) n = refl
-  made_contexts (Some PostCommit) n = refl
-
-  cut_session : (o : Option SetRow) → (cut_set o st).session ≡ st.session
-  cut_session None = refl
-  cut_session (Some r) = refl
+  made_contexts g n = grind (arith, cut_contexts)
 
   made_session : (g : Option Group) → (step_made g st).session ≡ st.session
-  made_session None = refl
-  made_session (Some (Orders o)) = refl
-  made_session (Some PreCommit) = refl
-  made_session (Some Flush) = refl
-  made_session (Some Hold) = refl
-  made_session (Some Cut) = cut_session (in_progress st)
-  made_session (Some Commit) = refl
-  made_session (Some Release) = refl
-  made_session (Some PostCommit) = refl
+  made_session g = grind arith
 
   related_step_as : (b : Bool) (g : Option Group) → Relates st.sets st.session (stepped_as b g st)
   related_step_as true g = relates_followed (runs st) (course_stepped false st.clock st.course) st
@@ -153,17 +122,7 @@ module _ (s : Plan) (st : State) (num : NumberedFrom 1 st.sets) (h : Owned st) w
           none_left q (failed why st) n v (some_context Backup q.context (sym con ∙ h.same q n e set)) set g
 
   on_begin : (q : Session) (x : State) → st.session ≡ None → q.set ≡ None → x.sets ≡ st.sets → x.session ≡ Some q → NoMore st x → Owned x
-  on_begin q x e f sets ses img = record {
-    own = λ n v c g. let made = h.own n v (ap (λ rows. context_in rows n) (sym sets) ∙ c) (img n v g) in none_some st.session made.session e made.is;
-    same = λ p n i j. none_set p n (sym (ap (λ (y : Session). y.set) (some_same q p (sym ses ∙ i))) ∙ f) j;
-    early = λ p i j. sym (ap (λ (y : Session). y.set) (some_same q p (sym ses ∙ i))) ∙ f;
-  }
-    where
-      none_some : {X : Type 0} (o : Option Session) (p : Session) → o ≡ None → o ≡ Some p → X
-      none_some o p e f = absurd cc
-
-      none_set : {X : Type 0} (p : Session) (n : ℕ) → p.set ≡ None → p.set ≡ Some n → X
-      none_set p n e f = absurd cc
+  on_begin q x e f sets ses img = grind arith
 
   owned_next : Covers Next s st
   owned_next = record {
@@ -190,10 +149,7 @@ module _ (s : Plan) (st : State) (num : NumberedFrom 1 st.sets) (h : Owned st) w
   }
 
   owned_if : (b : Bool) (act : Act) → enabled s st act.event ≡ b → NoMore st (after s st act) → Owned (after s st act)
-  owned_if true act e img =
-      let next = after_enabled s st act e in
-      subst Owned (sym next) (covered Next s st owned_next act.event act.mark e (subst (NoMore st) next img))
-  owned_if false act e img = subst Owned (sym (after_not_enabled s st act e)) h
+  owned_if b act e img = grind (arith, after_enabled, covered, owned_next, after_not_enabled)
 
   owned_after : (b : Bool) (act : Act) → (is_provider act.event && is_cut_group (open_group (left_now st))) ≡ b → IsSessionOfSet st.session st.course.outcome (in_progress st) → Owned (after s st act)
   owned_after false act e k = owned_if (enabled s st act.event) act refl (λ n v g. ((fewer_after s st act e).each v).sets n g)

@@ -1,11 +1,10 @@
 -- What keeps the context of a set, and whose session it is.
-use Rattle.promises.proofs.Words.{Context, Backup, AppRollback, NasRollback, SetOutcome, VssResult, InsufficientStorage, Mark, Clean, Write, Image, History, point_in, is_among, Course, Stage, Session}
-use Rattle.promises.proofs.Words.{stage_after, agenda_ended, set_failed, State, SetRow, in_progress, row_changed, has_image, with_room_if, put, cut_if, cut_each, with_cut, row_cut, cut_set}
-use Rattle.promises.proofs.Words.{NumberedFrom, IsOfSession as IsSessionOfSet, is_early, at, stands, some_same}
+use Rattle.promises.proofs.Words.{Context, Backup, SetOutcome, VssResult, Mark, Write, Image, History, point_in, is_among, Course, Stage, Session}
+use Rattle.promises.proofs.Words.{stage_after, agenda_ended, set_failed, State, SetRow, in_progress, row_changed, has_image, with_room_if, put, cut_if, cut_each, cut_set}
+use Rattle.promises.proofs.Words.{NumberedFrom, IsOfSession as IsSessionOfSet, is_early, at, stands}
 use Rattle.std.proofs.Common.{◌≡◌, ◌∙◌, ℕ, ◌+◌, ◌==◌, zero, suc, List, [], ◌∷◌, ◌++◌, Option, Some, None, refl, Bool, true, false, ap, sym, subst, map, find, length, arith}
 use Rattle.std.specs.Prelude.{is_some, option_map, if◌then◌else◌}
-use Rattle.requestor.specs.declared.stage.Stage.TheVariants.{Opened, Gathered, Started, Prepared, Done, Finished, Failed}
-use Rattle.vss_model.specs.Ending.{Ending, NothingEnds, AgendaEnds, SetFails, ending, row_settled, concluded, followed, failed_in}
+use Rattle.vss_model.specs.Ending.{Ending, ending, row_settled, concluded, followed, failed_in}
 use Rattle.promises.proofs.Truth.{equal, same_number}
 
 -- ## the context of a set
@@ -25,32 +24,16 @@ context_map f num con (r ∷ rows) n = by_head (r.number == n) ((f r).number == 
     by_head false false e ih = ih
 
 pub settled_number : (o : SetOutcome) (r : SetRow) → (row_settled o r).number ≡ r.number
-settled_number o r = by_running _
-  where
-    by_running : (b : Bool) → (if b then record r { result = o } else r).number ≡ r.number
-    by_running true = refl
-    by_running false = refl
+settled_number o r = grind arith
 
 pub settled_context : (o : SetOutcome) (r : SetRow) → (row_settled o r).context ≡ r.context
-settled_context o r = by_running _
-  where
-    by_running : (b : Bool) → (if b then record r { result = o } else r).context ≡ r.context
-    by_running true = refl
-    by_running false = refl
+settled_context o r = grind arith
 
 pub changed_number : (n : ℕ) (f : SetRow → SetRow) (r : SetRow) → (f r).number ≡ r.number → (row_changed n f r).number ≡ r.number
-changed_number n f r e = by_number (r.number == n)
-  where
-    by_number : (b : Bool) → (if b then f r else r).number ≡ r.number
-    by_number true = e
-    by_number false = refl
+changed_number n f r e = grind arith
 
 pub changed_context : (n : ℕ) (f : SetRow → SetRow) (r : SetRow) → (f r).context ≡ r.context → (row_changed n f r).context ≡ r.context
-changed_context n f r e = by_number (r.number == n)
-  where
-    by_number : (b : Bool) → (if b then f r else r).context ≡ r.context
-    by_number true = e
-    by_number false = refl
+changed_context n f r e = grind arith
 
 pub context_other : (rows : List SetRow) (r : SetRow) (n : ℕ) → (r.number == n) ≡ false → context_in (rows ++ r ∷ []) n ≡ context_in rows n
 context_other [] r n e = ap (λ b. option_map (λ (x : SetRow). x.context) (if b then Some r else None)) e
@@ -97,8 +80,7 @@ pub record Keeps (f : Session → Session) : Type 0 where
   pub early : (q : Session) → is_early (f q).stage ≡ true → is_early q.stage ≡ true
 
 pub session_was : (f : Session → Session) (o : Option Session) (q : Session) (X : Type 0) → option_map f o ≡ Some q → ((p : Session) → o ≡ Some p → f p ≡ q → X) → X
-session_was f None q X e g = absurd cc
-session_was f (Some p) q X e g = g p refl (some_same (f p) q e)
+session_was f o q x3 e g = grind arith
 
 pub owned_still : (f : Session → Session) → Keeps f → (x next : State) → ((n : ℕ) → context_in next.sets n ≡ context_in x.sets n) → next.session ≡ option_map f x.session → NoMore x next → Owned x → Owned next
 owned_still f k x next con ses img h = record {
@@ -114,19 +96,10 @@ pub as_it_is : Keeps (λ q. q)
 as_it_is = record { set = λ q. refl; context = λ q. refl; early = λ q e. e }
 
 pub unchanged : (o : Option Session) → o ≡ option_map (λ q. q) o
-unchanged None = refl
-unchanged (Some q) = refl
+unchanged o = grind arith
 
 pub late_after : (c : Context) (stage : Stage) → is_early (stage_after c stage) ≡ true → is_early stage ≡ true
-late_after c Opened e = refl
-late_after c Gathered e = refl
-late_after Backup Started e = absurd cc
-late_after AppRollback Started e = absurd cc
-late_after NasRollback Started e = absurd cc
-late_after c Prepared e = absurd cc
-late_after c Done e = absurd cc
-late_after c Finished e = absurd cc
-late_after c Failed e = absurd cc
+late_after c stage e = grind arith
 
 pub at_end : Keeps agenda_ended
 at_end = record { set = λ q. refl; context = λ q. refl; early = λ q e. late_after q.context q.stage e }
@@ -151,25 +124,20 @@ pub settled_contexts : (o : SetOutcome) (rows : List SetRow) (n : ℕ) → conte
 settled_contexts o rows n = context_map (row_settled o) (settled_number o) (settled_context o) rows n
 
 pub relates_ended : (e : Ending) (x : State) → Relates x.sets x.session (concluded e x)
-relates_ended NothingEnds x = relates_same x.sets x (λ n. refl)
-relates_ended AgendaEnds x = record { change = agenda_ended; keeps = at_end; contexts = settled_contexts x.course.outcome x.sets; is = refl }
-relates_ended (SetFails why) x = record { change = set_failed why; keeps = at_failure why; contexts = settled_contexts x.course.outcome x.sets; is = refl }
+relates_ended e x = grind (arith, relates_same, at_end, settled_contexts, at_failure)
 
 pub relates_followed : (ran : Bool) (c : Course) (x : State) → Relates x.sets x.session (followed ran c x)
 unfolding followed
 relates_followed ran c x = relates_ended (ending x.course.outcome c.outcome ran c.agenda) (record x { course = c })
 
 pub relates_failed : (o : Option SetRow) (why : VssResult) (x : State) → Relates x.sets x.session (failed_in o why x)
-relates_failed None why x = relates_same x.sets x (λ n. refl)
-relates_failed (Some r) why x = record { change = set_failed why; keeps = at_failure why; contexts = settled_contexts _ x.sets; is = refl }
+relates_failed o why x = grind (arith, relates_same, at_failure, settled_contexts)
 
 pub relates_room : (b : Bool) (x : State) → Relates x.sets x.session (with_room_if b x)
-relates_room true x = relates_failed (in_progress x) InsufficientStorage x
-relates_room false x = relates_same x.sets x (λ n. refl)
+relates_room b x = grind (arith, relates_failed, relates_same)
 
 pub relates_put : (v : ℕ) (w : Write) (mark : Mark) (rows : List SetRow) (session : Option Session) (x : State) → Relates rows session x → Relates rows session (put v w mark x)
-relates_put v w Clean rows session x h = record { change = h.change; keeps = h.keeps; contexts = h.contexts; is = h.is }
-relates_put v w _ rows session x h = h
+relates_put v w mark rows session x h = grind arith
 
 pub owned_by : (x next : State) → Relates x.sets x.session next → NoMore x next → Owned x → Owned next
 owned_by x next r img h = owned_still r.change r.keeps x next r.contexts r.is img h
@@ -195,12 +163,10 @@ cut_images m n vs u (x ∷ hs) zero e h = by_set (is_among u vs) h
 cut_images m n vs u (x ∷ hs) (suc v) e h = cut_images m n vs (u + 1) hs v e h
 
 pub cut_contexts : (o : Option SetRow) (st : State) (n : ℕ) → context_in (cut_set o st).sets n ≡ context_in st.sets n
-cut_contexts None st n = refl
-cut_contexts (Some r) st n = context_map (row_cut r.number st.clock) (λ q. changed_number r.number (with_cut st.clock) q refl) (λ q. changed_context r.number (with_cut st.clock) q refl) st.sets n
+cut_contexts o st n = grind (arith, context_map, changed_number, changed_context)
 
 pub made_by : (p : Option Session) (o : SetOutcome) (r : SetRow) → IsSessionOfSet p o (Some r) → HasMade p r.number
-made_by None o r h = absurd h
-made_by (Some q) o r h = record { session = q; is = refl; set = h.1 }
+made_by p o r h = grind arith
 
 pub owned_cut : (o : Option SetRow) (st : State) → in_progress st ≡ o → IsSessionOfSet st.session st.course.outcome (in_progress st) → Owned st → Owned (cut_set o st)
 owned_cut None st e k h = h

@@ -1,8 +1,8 @@
 -- Each copy holds its block as it was at the cut of its set.
-use Rattle.promises.proofs.Words.{All-nil, All-cons, All-append, Write, Image, History, content, point_in, AreLater, AreInTime, Placed, Copy, copy_of, named, copies_of, copies_from, copies, Plan}
-use Rattle.promises.proofs.Words.{group_of, history_of, Act, state, cut, IsShownAt, image_shown, image_reads, images_in_time, at, place_from, HoldsTheCut, CopiesHold, within}
-use Rattle.std.proofs.Common.{◌≡◌, ◌∙◌, ℕ, ◌+◌, ◌==◌, ◌<◌, suc, List, [], ◌∷◌, ◌++◌, Option, Some, None, refl, Bool, true, false, ap, sym, subst, map, length, arith}
-use Rattle.std.specs.Prelude.{if◌then◌else◌, is_some, slice_get, All}
+use Rattle.promises.proofs.Words.{All-nil, All-cons, All-append, Write, Image, History, content, point_in, AreLater, AreInTime, Placed, Copy, copy_of, named, copies_of, copies_from, Plan}
+use Rattle.promises.proofs.Words.{Act, state, cut, IsShownAt, image_shown, image_reads, images_in_time, at, place_from, HoldsTheCut, CopiesHold, within}
+use Rattle.std.proofs.Common.{◌≡◌, ◌∙◌, ℕ, ◌+◌, ◌==◌, ◌<◌, suc, List, [], ◌∷◌, ◌++◌, Option, Some, refl, Bool, true, false, sym, subst, map, length, arith}
+use Rattle.std.specs.Prelude.{if◌then◌else◌, slice_get, All}
 use Rattle.promises.proofs.Truth.{same_number}
 
 -- ## the copies of a volume
@@ -15,12 +15,10 @@ record IsOfImage (u : ℕ) (ws : List Write) (images : List Image) (c : Copy) : 
   holds : c.bytes ≡ content ws point c.block
 
 first_point : (b : Bool) (p : ℕ) (o : Option ℕ) → b ≡ true → (if b then Some p else o) ≡ Some p
-first_point true p o e = refl
-first_point false p o e = absurd cc
+first_point b p o e = grind arith
 
 later_point : (b : Bool) (p : ℕ) (o : Option ℕ) → b ≡ false → (if b then Some p else o) ≡ o
-later_point true p o e = absurd cc
-later_point false p o e = refl
+later_point b p o e = grind arith
 
 -- a later image is of a later set
 pub later_set : (i : Image) (m p : ℕ) (images : List Image) → AreLater i images → point_in m images ≡ Some p → (i.set == m) ≡ false
@@ -86,24 +84,10 @@ record HasCut (s : Plan) (n : ℕ) (so_far : List Act) : Type 0 where
   is : cut s n so_far ≡ Some before
 
 was_cut : (s : Plan) (so_far : List Act) (n v p : ℕ) (ws : List Write) (o : Option (List Act)) → cut s n so_far ≡ o → IsShownAt s v p ws o → HasCut s n so_far
-was_cut s so_far n v p ws None e h = absurd h
-was_cut s so_far n v p ws (Some before) e h = record { before = before; is = e }
+was_cut s so_far n v p ws o e h = grind arith
 
 shows_cut : (s : Plan) (so_far : List Act) (ps : List Placed) (c : Copy) → IsInGroup 0 ps (state s so_far).volumes c → HoldsTheCut s so_far ps c
-shows_cut s so_far ps c i =
-    let ws = (history_of (state s so_far) i.volume).writes in
-    let has = was_cut s so_far c.set i.volume i.image.point ws (cut s c.set so_far) refl (image_shown s so_far c.set i.volume i.image.point i.image.is) in
-    record {
-      volume = i.volume;
-      of_group = i.of_group;
-      place = i.place;
-      stands_there = ap is_some i.image.is;
-      before = has.before;
-      is_cut = has.is;
-      holds = i.image.holds ∙ image_reads s so_far has.before c.set i.volume i.image.point c.block i.image.is has.is;
-    }
+shows_cut s so_far ps c i = grind (arith, was_cut, image_shown, image_reads)
 
 pub copies_hold : (s : Plan) (so_far : List Act) → CopiesHold s so_far
-copies_hold s so_far v =
-    all_along (IsInGroup 0 (group_of s v) (state s so_far).volumes) (HoldsTheCut s so_far (group_of s v)) (copies (group_of s v) (state s so_far).volumes) (shows_cut s so_far (group_of s v))
-    (in_group 0 (group_of s v) (state s so_far).volumes (images_in_time s so_far))
+copies_hold s so_far v = grind (arith, all_along, shows_cut, in_group, images_in_time)

@@ -1,11 +1,11 @@
 -- What each call of the course does to the rows of the writers.
-use Rattle.promises.proofs.Words.{Order, VssResult, Said, Lost, WriterRow, is_ok, row_after, row_aborted, Group, Orders, Kind, Limit, Member, Agenda, Open, order_of, order_now, open_order, is_among}
-use Rattle.promises.proofs.Words.{is_done, groups_left, left, waits_now, Running as RunningLimit, first_hold, hold_runs, running_at, running_limits, spent_of, none_and_some, IsSpentHere, spent_here}
+use Rattle.promises.proofs.Words.{Order, VssResult, Said, Lost, WriterRow, is_ok, row_after, row_aborted, Group, Kind, Limit, Member, Agenda, Open, order_of, order_now, open_order, is_among}
+use Rattle.promises.proofs.Words.{groups_left, left, waits_now, Running as RunningLimit, first_hold, hold_runs, running_at, running_limits, spent_of, none_and_some, IsSpentHere, spent_here}
 use Rattle.promises.proofs.Words.{has_failed, none_settled as calm_settled, some_same}
 use Rattle.std.proofs.Common.{◌≡◌, ◌∙◌, ℕ, ◌+◌, zero, suc, List, [], ◌∷◌, ◌⊎◌, Option, Some, None, refl, Bool, true, false, ap, sym, subst, inl, inr, map, arith}
 use Rattle.std.specs.Prelude.{◌&&◌, not, slice_get}
 use Rattle.set_agenda.specs.declared.limit.Limit.TheVariants.{Hold as HoldLimit, Freeze as FreezeLimit, Answer as AnswerLimit}
-use Rattle.set_agenda.specs.Course.{Course, posted, failed as course_failed, rows_where, row_if, is_member, settled_if, settled_in, settled, begun, told, is_decisive, decided, answered_to, answered as course_answered, worked, stepped as course_stepped, freeze_limit, limits_now, lost_to, lost, fails_set, lost_decided, treated_as, treated, timed as course_timed}
+use Rattle.set_agenda.specs.Course.{Course, posted, failed as course_failed, rows_where, row_if, is_member, settled_in, settled, begun, told, is_decisive, decided, answered_to, answered as course_answered, worked, stepped as course_stepped, freeze_limit, limits_now, lost_to, lost, fails_set, lost_decided, treated_as, treated, timed as course_timed}
 use Rattle.promises.proofs.BusyAgendas.{IsBusy, busy_order, busy_limit}
 use Rattle.promises.proofs.Limits.{spent_holds}
 use Rattle.promises.proofs.Members.{one_on}
@@ -66,16 +66,10 @@ module _ (say : ℕ → WriterRow → WriterRow) where
 
   comes_posted : (b : Bool) (prior c d : Course) → Comes say b c d → Comes say b c (posted prior d)
   unfolding posted
-  comes_posted true prior c d h = h
-  comes_posted false prior c d h = h
-
-  stay_settled_if : (b : Bool) (k : Kind) (c d : Course) → Becomes say c.rows d.rows → Becomes say c.rows (settled_if b k d).rows
-  stay_settled_if true k c d h = h
-  stay_settled_if false k c d h = h
+  comes_posted b prior c d h = grind arith
 
   stay_settled_in : (x : Option Agenda) (c d : Course) → Becomes say c.rows d.rows → Becomes say c.rows (settled_in x d).rows
-  stay_settled_in None c d h = h
-  stay_settled_in (Some a) c d h = stay_settled_if (is_done (groups_left a)) a.kind c d h
+  stay_settled_in x c d h = grind arith
 
   stay_settled : (c d : Course) → Becomes say c.rows d.rows → Becomes say c.rows (settled d).rows
   unfolding settled
@@ -83,11 +77,10 @@ module _ (say : ℕ → WriterRow → WriterRow) where
 
   pub stay_begun : (k : Kind) (ms : List Member) (vs : List ℕ) (now : ℕ) (c d : Course) → Becomes say c.rows d.rows → Becomes say c.rows (begun k ms vs now d).rows
   unfolding begun
-  stay_begun k ms vs now c d h = stay_posted d c _ (stay_settled c (record d { agenda = Some (record { kind = k; members = ms; volumes = vs; begun = now; log = [] }) }) h)
+  stay_begun k ms vs now c d h = grind (arith, stay_posted, stay_settled)
 
   comes_decided : (b : Bool) (said : Said) (c d : Course) → Becomes say c.rows d.rows → d.members ≡ c.members → Comes say b c (decided b said d)
-  comes_decided true said c d h e = rise_failed _ c d h e
-  comes_decided false said c d h e = stay_settled c d h
+  comes_decided b said c d h e = grind (arith, rise_failed, stay_settled)
 
 -- these writers say this to this order
 abbrev pub say_to : Option Order → Said → List ℕ → ℕ → WriterRow → WriterRow
@@ -111,7 +104,7 @@ comes_answered_to None w said now c = same_rows c.rows
 comes_answered_to (Some o) w said now c = comes_decided (say_to (Some o) said (w ∷ [])) (is_decisive o && not (is_ok said)) said c (told o said now (w ∷ []) c) (stay_told o said now (w ∷ []) c) (members_told o said now (w ∷ []) c)
 
 pub comes_answered : (w : ℕ) (said : Said) (now : ℕ) (c : Course) → Comes (say_to (open_order (left c.agenda) w) said (w ∷ [])) (refuses (open_order (left c.agenda) w) said) c (course_answered w said now c)
-comes_answered w said now c = comes_posted (say_to (open_order (left c.agenda) w) said (w ∷ [])) (refuses (open_order (left c.agenda) w) said) c c _ (comes_answered_to (open_order (left c.agenda) w) w said now c)
+comes_answered w said now c = grind (arith, comes_posted, comes_answered_to)
 
 stay_worked : (now : ℕ) (c : Course) → Becomes as_it_is c.rows (worked now c).rows
 unfolding worked
@@ -139,8 +132,7 @@ PassesOrFails say c d = Passes say c d ⊎ Fails say c d
 
 over_posted : (say : ℕ → WriterRow → WriterRow) (prior c d : Course) → PassesOrFails say c d → PassesOrFails say c (posted prior d)
 unfolding posted
-over_posted say prior c d (inl h) = inl (record { stay = h.stay; calm = h.calm })
-over_posted say prior c d (inr h) = inr (record { rise = h.rise; failed = h.failed; busy = h.busy })
+over_posted say prior c d x4 = grind arith
 
 outcome_failed : (why : VssResult) (x : Course) → has_failed (course_failed why x).outcome ≡ true
 unfolding course_failed
@@ -154,8 +146,7 @@ holds_work : (now f : ℕ) (a : Agenda) (o : Open) (os : List Open) (l : Running
 holds_work now f a o os l e k = spent_holds now o.place.group (first_hold a.log) l (subst (λ x. IsSpentHere now f a o l x) k (spent_here now f a o os l e))
 
 steps_ask_nobody : (g : Group) (o : Order) → hold_runs g ≡ true → order_of g ≡ Some o → ⊥
-steps_ask_nobody (Orders p) o e f = cc
-steps_ask_nobody _ o e f = cc
+steps_ask_nobody g o e f = grind arith
 
 no_hold_asks : (now f : ℕ) (x : Option Agenda) (l : RunningLimit) (o : Order) → spent_of now (running_limits f x) ≡ Some l → l.limit ≡ HoldLimit → order_now (left x) ≡ Some o → ⊥
 no_hold_asks now f None l o e k i = none_and_some None l refl e
@@ -166,20 +157,17 @@ no_hold_asks now f (Some a) l o e k i = at_list (groups_left a) e i
     at_list (x ∷ os) e i = steps_ask_nobody x.place.group o (holds_work now f a x os l e k) i
 
 stay_lost_to : (x : Option Order) (now : ℕ) (c : Course) → Becomes (say_to x Lost (waits_now (left c.agenda))) c.rows (lost_to x now c).rows
-stay_lost_to None now c = same_rows c.rows
-stay_lost_to (Some o) now c = stay_told o Lost now (waits_now (left c.agenda)) c
+stay_lost_to x now c = grind (arith, same_rows, stay_told)
 
 members_lost_to : (x : Option Order) (now : ℕ) (c : Course) → (lost_to x now c).members ≡ c.members
-members_lost_to None now c = refl
-members_lost_to (Some o) now c = members_told o Lost now (waits_now (left c.agenda)) c
+members_lost_to x now c = grind (arith, members_told)
 
 outcome_told : (o : Order) (said : Said) (now : ℕ) (ws : List ℕ) (c : Course) → (told o said now ws c).outcome ≡ c.outcome
 unfolding told
 outcome_told o said now ws c = refl
 
 outcome_lost_to : (x : Option Order) (now : ℕ) (c : Course) → (lost_to x now c).outcome ≡ c.outcome
-outcome_lost_to None now c = refl
-outcome_lost_to (Some o) now c = outcome_told o Lost now (waits_now (left c.agenda)) c
+outcome_lost_to x now c = grind (arith, outcome_told)
 
 abbrev now_lost : ℕ → Course → Course
 now_lost now c = lost_to (order_now (left c.agenda)) now c

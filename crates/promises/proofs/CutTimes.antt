@@ -1,13 +1,13 @@
 -- The row of a set that was cut has the clock at its cut: only the Cut step writes it, and it comes once.
-use Rattle.promises.proofs.Words.{SetOutcome, VssResult, InsufficientStorage, AsyncCancelled, Mark, Clean, Write, Said, said_of, Group, Orders, PreCommit, Flush, Hold, Cut, Commit, Release}
-use Rattle.promises.proofs.Words.{PostCommit, open_group, Session, Plan, Event, Line, State, SetRow, Kept, in_progress, row_changed, left_now, Act, enabled, idle_now, after, state, state-append, cuts}
+use Rattle.promises.proofs.Words.{SetOutcome, VssResult, AsyncCancelled, Mark, Write, Said, said_of, Group}
+use Rattle.promises.proofs.Words.{open_group, Session, Plan, Event, Line, State, SetRow, Kept, in_progress, row_changed, left_now, Act, enabled, idle_now, after, state, state-append, cuts}
 use Rattle.promises.proofs.Words.{or_cut, cut-append, append_nothing, both, after_cut, not_cut_yet, orderly, row_running, Covers, covered, after_enabled, after_not_enabled, by_if}
 use Rattle.std.proofs.Common.{◌≡◌, ◌∙◌, ℕ, ◌+◌, ◌==◌, List, [], ◌∷◌, ◌++◌, Option, Some, None, refl, Bool, true, false, ap, sym, subst, map, find, arith}
 use Rattle.std.specs.Prelude.{◌&&◌, option_map, if◌then◌else◌}
 use Rattle.set_agenda.specs.Course.{Course, answered as course_answered, stepped as course_stepped, timed as course_timed}
 use Rattle.scenario.specs.declared.op.Op.TheVariants as op
-use Rattle.vss_model.specs.Ending.{Ending, NothingEnds, ending, row_settled, concluded, followed, runs, failed_in, failed}
-use Rattle.vss_model.specs.Images.{Replied, cleared, set_loses_image, with_room_if, put, write, reverted_as}
+use Rattle.vss_model.specs.Ending.{Ending, ending, row_settled, concluded, followed, runs, failed_in, failed}
+use Rattle.vss_model.specs.Images.{Replied, with_room_if, put, write, reverted_as}
 use Rattle.vss_model.specs.Sessions.{has_no_volume, new_set, new_number, with_volume, closed}
 use Rattle.vss_model.specs.Steps.{answered, with_cut, row_cut, cut_set, step_made, is_flush, is_failed_step, stepped_as, stepped, ticked, later}
 use Rattle.vss_model.specs.Cut.{is_provider, is_cut_group, is_set, is_cut_of, cut_if, cut}
@@ -39,18 +39,10 @@ time_map f num n times (r ∷ rows) = by_head (r.number == n) ((f r).number == n
     by_head false false e g ih = ih
 
 settled_time : (o : SetOutcome) (r : SetRow) → (row_settled o r).cut_at ≡ r.cut_at
-settled_time o r = by_running _
-  where
-    by_running : (b : Bool) → (if b then record r { result = o } else r).cut_at ≡ r.cut_at
-    by_running true = refl
-    by_running false = refl
+settled_time o r = grind arith
 
 added_time : (m v : ℕ) (r : SetRow) → (row_changed m (with_volume v) r).cut_at ≡ r.cut_at
-added_time m v r = by_number (r.number == m)
-  where
-    by_number : (b : Bool) → (if b then with_volume v r else r).cut_at ≡ r.cut_at
-    by_number true = refl
-    by_number false = refl
+added_time m v r = grind arith
 
 -- a set that is there stays, where another is started
 time_more : (rows : List SetRow) (r : SetRow) (n : ℕ) (t : Option ℕ) → time_in rows n ≡ Some t → time_in (rows ++ r ∷ []) n ≡ Some t
@@ -64,14 +56,7 @@ time_more (q ∷ rows) r n t e = by_head (q.number == n) e (time_more rows r n t
 
 -- the cut of another set
 time_cut_other : (m now n : ℕ) (rows : List SetRow) → (m == n) ≡ false → time_in (map (row_cut m now) rows) n ≡ time_in rows n
-time_cut_other m now n rows e = time_map (row_cut m now) (λ r. changed_number m (with_cut now) r refl) n (λ r f. by_number r (r.number == m) refl f) rows
-  where
-    equal : (a b c : ℕ) → (a == b) ≡ true → (a == c) ≡ true → (b == c) ≡ true
-    equal a b c e f = grind arith
-
-    by_number : (r : SetRow) (b : Bool) → (r.number == m) ≡ b → (r.number == n) ≡ true → (if b then with_cut now r else r).cut_at ≡ r.cut_at
-    by_number r true f g = absurd (not_both (m == n) (equal r.number m n f g) e)
-    by_number r false f g = refl
+time_cut_other m now n rows e = grind (arith, time_map, changed_number, equal, not_both)
 
 -- its own
 time_cut_own : (n now : ℕ) (rows : List SetRow) (q : SetRow) → find (λ (r : SetRow). r.number == n) rows ≡ Some q → time_in (map (row_cut n now) rows) n ≡ Some (Some now)
@@ -92,24 +77,20 @@ times_settled : (o : SetOutcome) (rows : List SetRow) (n : ℕ) → time_in (map
 times_settled o rows n = time_map (row_settled o) (settled_number o) n (λ r e. settled_time o r) rows
 
 times_ended : (e : Ending) (x : State) → SameTimes x (concluded e x)
-times_ended NothingEnds x n = refl
-times_ended _ x n = times_settled x.course.outcome x.sets n
+times_ended e x n = grind (arith, times_settled)
 
 times_followed : (ran : Bool) (c : Course) (x : State) → SameTimes x (followed ran c x)
 unfolding followed
 times_followed ran c x n = times_ended (ending x.course.outcome c.outcome ran c.agenda) (record x { course = c }) n
 
 times_failed : (o : Option SetRow) (why : VssResult) (x : State) → SameTimes x (failed_in o why x)
-times_failed None why x n = refl
-times_failed (Some r) why x n = times_settled _ x.sets n
+times_failed o why x n = grind (arith, times_settled)
 
 times_room : (b : Bool) (x : State) → SameTimes x (with_room_if b x)
-times_room true x n = times_failed (in_progress x) InsufficientStorage x n
-times_room false x n = refl
+times_room b x n = grind (arith, times_failed)
 
 times_put : (v : ℕ) (w : Write) (mark : Mark) (x : State) → SameTimes x (put v w mark x)
-times_put v w Clean x n = refl
-times_put v w _ x n = refl
+times_put v w mark x n = grind arith
 
 times_closed : (q : Session) (x : State) → SameTimes x (closed q x)
 unfolding closed
@@ -122,11 +103,10 @@ module _ (s : Plan) (st : State) (n : ℕ) (t : Option ℕ) where
 
   on_write : (v : ℕ) (w : Write) (mark : Mark) → time_in (write s v w mark st).1.sets n ≡ time_in st.sets n
   unfolding write
-  on_write v w mark = times_put v w mark _ n ∙ times_room (set_loses_image (in_progress st) st.volumes (cleared s v w.block st).volumes) (cleared s v w.block st) n
+  on_write v w mark = grind (arith, times_put, times_room)
 
   on_revert : (v : ℕ) (k : Kept) (mark : Mark) → time_in (reverted_as s v k mark st).1.sets n ≡ time_in st.sets n
-  on_revert v k Clean = refl
-  on_revert v k _ = refl
+  on_revert v k mark = grind arith
 
   on_answer : (w : ℕ) (said : Said) → time_in (answered w said st).sets n ≡ time_in st.sets n
   unfolding answered
@@ -137,23 +117,13 @@ module _ (s : Plan) (st : State) (n : ℕ) (t : Option ℕ) where
   on_tick k = times_followed (runs st) (course_timed (st.clock + k) st.course) (later k st) n
 
   on_cut : (o : Option SetRow) → is_set n o ≡ false → time_in (cut_set o st).sets n ≡ time_in st.sets n
-  on_cut None e = refl
-  on_cut (Some r) e = time_cut_other r.number st.clock n st.sets e
+  on_cut o e = grind (arith, time_cut_other)
 
   on_made : (g : Option Group) → (is_cut_group g && is_set n (in_progress st)) ≡ false → time_in (step_made g st).sets n ≡ time_in st.sets n
-  on_made None e = refl
-  on_made (Some (Orders o)) e = refl
-  on_made (Some PreCommit) e = refl
-  on_made (Some Flush) e = refl
-  on_made (Some Hold) e = refl
-  on_made (Some Cut) e = on_cut (in_progress st) e
-  on_made (Some Commit) e = refl
-  on_made (Some Release) e = refl
-  on_made (Some PostCommit) e = refl
+  on_made g e = grind (arith, on_cut)
 
   on_step_as : (b : Bool) (g : Option Group) → (is_cut_group g && is_set n (in_progress st)) ≡ false → time_in (stepped_as b g st).sets n ≡ time_in st.sets n
-  on_step_as true g e = times_followed (runs st) (course_stepped false st.clock st.course) st n
-  on_step_as false g e = times_followed (runs st) (course_stepped true st.clock st.course) (step_made g st) n ∙ on_made g e
+  on_step_as b g e = grind (arith, times_followed, on_made)
 
   on_step : (mark : Mark) → (is_cut_group (open_group (left_now st)) && is_set n (in_progress st)) ≡ false → time_in (stepped mark st).sets n ≡ time_in st.sets n
   unfolding stepped
@@ -200,9 +170,7 @@ module _ (s : Plan) (so_far : List Act) (act : Act) (n : ℕ) where
   some_acts a b e = cc
 
   parts : is_cut_of n st act ≡ true → (is_provider act.event ≡ true) × ((is_cut_group (open_group (left_now st)) ≡ true) × (is_set n (in_progress st) ≡ true))
-  parts c =
-      let one = both (is_provider act.event && is_cut_group (open_group (left_now st))) (is_set n (in_progress st)) c in
-      let two = both (is_provider act.event) (is_cut_group (open_group (left_now st))) one.0 in (two.0, (two.1, one.1))
+  parts c = grind (arith, both)
 
   -- the Cut step of set n
   cut_now : (o : Option SetRow) → in_progress st ≡ o → is_set n o ≡ true → is_cut_group (open_group (left_now st)) ≡ true → is_provider act.event ≡ true → time_in (after s st act).sets n ≡ Some (Some st.clock)
@@ -215,29 +183,18 @@ module _ (s : Plan) (so_far : List Act) (act : Act) (n : ℕ) where
       (time_cut_own n st.clock st.sets r (subst (λ m. find (λ (x : SetRow). x.number == m) st.sets ≡ Some r) (equal r.number n f) (row_running 1 st.sets r (orderly s so_far).numbered e)))
 
   -- it comes once
-  cut_before : (o : Option SetRow) (before : List Act) → in_progress st ≡ o → is_set n o ≡ true → is_cut_group (open_group (left_now st)) ≡ true → cut s n so_far ≡ Some before → ⊥
-  cut_before None before e f g h = absurd cc
-  cut_before (Some r) before e f g h = none_some (cut s n so_far) before (ap (λ m. cut s m so_far) (sym (equal r.number n f)) ∙ not_cut_yet s so_far r (cuts s so_far g) e) h
-    where
-      none_some : (o : Option (List Act)) (b : List Act) → o ≡ None → o ≡ Some b → ⊥
-      none_some o b e f = cc
+  pub cut_before : (o : Option SetRow) (before : List Act) → in_progress st ≡ o → is_set n o ≡ true → is_cut_group (open_group (left_now st)) ≡ true → cut s n so_far ≡ Some before → ⊥
+  cut_before o before e f g h = grind (arith, equal, not_cut_yet, cuts)
 
   time_next : (o : Option (List Act)) (b : Bool) (before : List Act) → cut s n so_far ≡ o → is_cut_of n st act ≡ b → or_cut o (cut_if b so_far None) ≡ Some before
       → ((past : List Act) → cut s n so_far ≡ Some past → time_in st.sets n ≡ Some (Some (state s past).clock)) → time_in (after s st act).sets n ≡ Some (Some (state s before).clock)
-  time_next (Some past) true before e c f h = let p = parts c in absurd (cut_before (in_progress st) past refl p.1.1 p.1.0 e)
-  time_next (Some past) false before e c f h =
-      subst (λ b. time_in (after s st act).sets n ≡ Some (Some (state s b).clock)) (some_acts past before f) (time_if s st n (Some (state s past).clock) (enabled s st act.event) act refl c (h past e))
-  time_next None true before e c f h =
-      let p = parts c in subst (λ b. time_in (after s st act).sets n ≡ Some (Some (state s b).clock)) (some_acts so_far before f) (cut_now (in_progress st) refl p.1.1 p.1.0 p.0)
-  time_next None false before e c f h = absurd cc
+  time_next o b before e c f h = grind (arith, parts, cut_before, some_acts, time_if, cut_now)
 
 abbrev Timed : Plan → List Act → Type 0
 Timed s so_far = (n : ℕ) (before : List Act) → cut s n so_far ≡ Some before → time_in (state s so_far).sets n ≡ Some (Some (state s before).clock)
 
 timed_next : (s : Plan) (so_far : List Act) (act : Act) → Timed s so_far → Timed s (so_far ++ act ∷ [])
-timed_next s so_far act h n before e =
-    ap (λ (x : State). time_in x.sets n) (state-append s so_far act)
-    ∙ time_next s so_far act n (cut s n so_far) (is_cut_of n (state s so_far) act) before refl refl (sym (cut-append s n so_far act) ∙ e) (h n)
+timed_next s so_far act h n before e = grind (arith, state-append, time_next, cut-append)
 
 timed_from : (s : Plan) (so_far acts : List Act) → Timed s so_far → Timed s (so_far ++ acts)
 timed_from s so_far [] h = subst (Timed s) (sym (append_nothing so_far)) h

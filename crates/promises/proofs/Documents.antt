@@ -1,7 +1,7 @@
 -- The component document lists what the session has named, and what comes with it.
 use Rattle.promises.proofs.Words.{list_any, bytes_eq, length-map, compact_text, AsyncCancelled, BadState, Mark, said_of, Part, Meta, full_name, is_ancestor, row_gathered, is_among, Course, begun}
 use Rattle.promises.proofs.Words.{members_from, prepared as course_prepared, Pair, Named, AllOf, is_pair, has_pair, with_pair, found_from, found_in, Names, naming_if, naming_found, naming_of}
-use Rattle.promises.proofs.Words.{is_taker, takers, has_named_ancestor, choice_if, choices_from, choices_of, chosen_from, known_from as numbers_known, is_named, Mode, Components, All, Session}
+use Rattle.promises.proofs.Words.{is_taker, takers, has_named_ancestor, choice_if, choices_from, choices_of, chosen_from, is_named, Mode, Components, All, Session}
 use Rattle.promises.proofs.Words.{mode_of, Op, Target, target_of, Plan, WriterPlan, token, Event, Line, Reply, DocumentOf, State, start, in_progress, Replied, refused, write, followed, failed, Act}
 use Rattle.promises.proofs.Words.{enabled, idle_now, after, state, named_known_components, is_accepted, is_first, is_part, line_names, event_names, names_if, names_from, has_named, is_below}
 use Rattle.promises.proofs.Words.{parts_listed, writer_listed, writers_listed, TellsDocument, progress, is_chosen, is_unfit, choosing, is_writer, ChangesNothing, Covers, covered, after_enabled}
@@ -12,7 +12,7 @@ use Rattle.set_agenda.specs.declared.kind.Kind.TheVariants as kind
 use Rattle.component_doc.specs.Document.{choices_data, document_of, document_text}
 use Rattle.requestor.specs.declared.session_call.SessionCall.TheVariants as call
 use Rattle.scenario.specs.declared.op.Op.TheVariants as op
-use Rattle.vss_model.specs.Sessions.{is_known, meta_if, known_from, known_metas, selected_in, selected, start_set, has_no_volume, volumes_of, closed}
+use Rattle.vss_model.specs.Sessions.{is_known, meta_if, known_from, known_metas, selected, start_set, has_no_volume, volumes_of, closed}
 use Rattle.promises.proofs.Truth.{false_of, not_both}
 use Rattle.promises.proofs.Accepted.{tells, line_reply}
 use Rattle.promises.proofs.Members.{is_selected, taker_is}
@@ -79,36 +79,24 @@ abbrev NamesSo : ℕ → ℕ → State → Bool → Type 0
 NamesSo w i st c = (q : Session) → st.session ≡ Some q → has_pair st.explicit w i ≡ c
 
 names_nothing : (s : Plan) (w i : ℕ) (c : Bool) (o : Op) (said : Reply) → ChangesNothing o said → line_names s w i o said c ≡ c
-names_nothing s w i c (op.Begin n all) said g = ap (λ b. if b then false else c) (g.session refl)
-names_nothing s w i c (op.Component u full) said g = ap (λ b. if b then c || ((u == w) && is_part (slice_get s.writers u) (token s full) i) else c) (g.session refl)
-names_nothing s w i c o said g = refl
+names_nothing s w i c o said g = grind arith
 
 write_names : (s : Plan) (w i : ℕ) (c : Bool) (o : Op) (t : Target) (said : Reply) → target_of o ≡ Some t → line_names s w i o said c ≡ c
-write_names s w i c (op.WriteFill v b x) t said e = refl
-write_names s w i c (op.WriteStamp v b x) t said e = refl
-write_names s w i c o t said e = absurd cc
+write_names s w i c o t said e = grind arith
 
 module _ (s : Plan) (w i : ℕ) (st : State) (c : Bool) (h : NamesSo w i st c) where
   abbrev Next : Event → Mark → Replied → Type 0
   Next event mark x = NamesSo w i x.1 (event_names s w i event x.0 c)
 
   beside : (x : State) → x.explicit ≡ st.explicit → mode_in x.session ≡ mode_in st.session → NamesSo w i x c
-  beside x e m q f = by_session st.session refl m
-    where
-      none : Some q.mode ≡ None → ⊥
-      none e = cc
-
-      by_session : (o : Option Session) → st.session ≡ o → mode_in x.session ≡ mode_in o → has_pair x.explicit w i ≡ c
-      by_session None g m = absurd (none (ap mode_in (sym f) ∙ m))
-      by_session (Some r) g m = ap (λ ps. has_pair ps w i) e ∙ h r g
+  beside x e m q f = grind arith
 
   same : (x : State) → SameChoice st x → NamesSo w i x c
   same x e = beside x e.explicit e.mode
 
   begun_if : (b : Bool) (lane : ℕ) (o : Op) (mark : Mark) (x : Replied) → line_names s w i o (refused BadState st).0 c ≡ c → line_names s w i o x.0 c ≡ c → NamesSo w i x.1 c
       → Next (Line lane o) mark (if b then refused BadState st else x)
-  begun_if true lane o mark x e f g = subst (NamesSo w i st) (sym e) h
-  begun_if false lane o mark x e f g = subst (NamesSo w i x.1) (sym f) g
+  begun_if b lane o mark x e f g = grind arith
 
   on_prepare : (q : Session) → NamesSo w i (followed true (course_prepared (takers (length s.writers) (selected s q st)) st.clock st.course) st) c
   on_prepare q =
@@ -149,8 +137,7 @@ module _ (s : Plan) (w i : ℕ) (st : State) (c : Bool) (h : NamesSo w i st c) w
   }
 
   names_after : (b : Bool) (act : Act) → enabled s st act.event ≡ b → NamesSo w i (after s st act) (names_if b s w i st c act)
-  names_after true act e = subst (λ (x : State). NamesSo w i x (names_if true s w i st c act)) (sym (after_enabled s st act e)) (covered Next s st follows act.event act.mark e)
-  names_after false act e = subst (λ (x : State). NamesSo w i x c) (sym (after_not_enabled s st act e)) h
+  names_after b act e = grind (arith, after_enabled, covered, follows, after_not_enabled)
 
 names_along : (s : Plan) (w i : ℕ) (st : State) (c : Bool) (acts : List Act) → NamesSo w i st c → NamesSo w i (fold (after s) st acts) (names_from s w i st c acts)
 names_along s w i st c [] h = h
@@ -162,8 +149,7 @@ names_all s w i acts = names_along s w i (start s) false acts (λ q e. absurd cc
 -- ## the components of a writer
 
 all_listed : (ws : List ℕ) (named : ℕ → Bool) (parts : List Part) (w i : ℕ) (cs : List Part) → choices_from (AllOf ws) parts w i cs ≡ parts_listed true named parts w i cs
-all_listed ws named parts w i [] = refl
-all_listed ws named parts w i (c ∷ cs) = ap (λ xs. choice_if true w i false ++ xs) (all_listed ws named parts w (i + 1) cs)
+all_listed ws named parts w i cs = grind arith
 
 module _ (ps : List Pair) (named : ℕ → Bool) (w : ℕ) (same_pair : (i : ℕ) → has_pair ps w i ≡ named i) where
   above : (c : Part) (j : ℕ) (parts : List Part) → has_named_ancestor ps w c j parts ≡ is_below named c j parts
@@ -191,21 +177,13 @@ module _ (s : Plan) (so_far : List Act) (q : Session) (e : (state s so_far).sess
   mode_is = (stands_all s so_far q e).mode
 
   parts_are : (w : ℕ) (parts : List Part) → choices_from (selected s q st) parts w 0 parts ≡ parts_listed all (λ i. has_named s w i so_far) parts w 0 parts
-  parts_are w parts = ap (λ m. choices_from (selected_in m s st) parts w 0 parts) mode_is ∙ by_all all
-    where
-      by_all : (b : Bool) → choices_from (selected_in (mode_of b) s st) parts w 0 parts ≡ parts_listed b (λ i. has_named s w i so_far) parts w 0 parts
-      by_all true = all_listed (numbers_known 0 (known_metas s st)) (λ i. has_named s w i so_far) parts w 0 parts
-      by_all false = named_listed st.explicit (λ i. has_named s w i so_far) w (λ i. names_all s w i so_far q e) parts 0 parts
+  parts_are w parts = grind (arith, mode_is, all_listed, named_listed, names_all)
 
   abbrev picks : ℕ → Bool
   picks w = is_chosen (is_unfit st w) (choosing s w so_far)
 
   selected_is : (w : ℕ) → is_selected s st q.mode w ≡ picks w
-  selected_is w =
-      let c = choosing s w so_far in
-      let f = follows_all s w so_far in
-      let k = standing s w st c f q e in
-      chosen_by s w st c f q.mode c.all k.mode k.named k.disabled
+  selected_is w = grind (arith, follows_all, standing, chosen_by)
 
   taker_picked : (w : ℕ) → is_writer s w ≡ true → is_taker (selected s q st) w ≡ picks w
   taker_picked w f = with_writer (is_writer s w) (is_taker (selected s q st) w) (picks w) f (taker_is s st q.mode w ∙ ap (λ b. is_writer s w && b) (selected_is w))
@@ -222,13 +200,7 @@ module _ (s : Plan) (so_far : List Act) (q : Session) (e : (state s so_far).sess
       by_mode Components = false_of (list_any (λ (p : Pair). p.writer == w) st.explicit) (λ g. not_both (is_known s st w) (named_is_known s st w (named_known_components s so_far) g) f)
 
   writer_are : (w : ℕ) (p : WriterPlan) → is_writer s w ≡ true → choices_of (selected s q st) w (meta_if (is_known s st w) p.meta) ≡ writer_listed s so_far w p
-  writer_are w p f = by_known (is_known s st w) refl
-    where
-      by_known : (b : Bool) → is_known s st w ≡ b → choices_of (selected s q st) w (meta_if b p.meta) ≡ writer_listed s so_far w p
-      by_known true g =
-          ap (λ b. if b then choices_from (selected s q st) p.meta.parts w 0 p.meta.parts else []) (taker_picked w f)
-          ∙ ap (λ xs. if picks w then xs else []) (parts_are w p.meta.parts)
-      by_known false g = sym (ap (λ b. if b then parts_listed all (λ i. has_named s w i so_far) p.meta.parts w 0 p.meta.parts else []) (not_picked w g))
+  writer_are w p f = grind (arith, taker_picked, parts_are, not_picked)
 
   writers_are : (w : ℕ) (ps : List WriterPlan) → w + length ps ≡ length s.writers → chosen_from (selected s q st) w (known_from s st w ps) ≡ writers_listed s so_far w ps
   writers_are w [] f = refl
@@ -243,20 +215,11 @@ module _ (s : Plan) (so_far : List Act) (q : Session) (e : (state s so_far).sess
       next w n m e = omega arith
 
   named_mode : is_named (selected s q st) ≡ not all
-  named_mode = ap (λ m. is_named (selected_in m s st)) mode_is ∙ by_all all
-    where
-      by_all : (b : Bool) → is_named (selected_in (mode_of b) s st) ≡ not b
-      by_all true = refl
-      by_all false = refl
+  named_mode = grind (arith, mode_is)
 
   text_is : document_text (known_metas s st) (selected s q st) q.context ≡ compact_text (document_of (choices_data (known_metas s st) (writers_listed s so_far 0 s.writers)) q.context (not all))
   unfolding document_text
-  text_is =
-      ap (λ xs. compact_text (document_of (choices_data (known_metas s st) xs) q.context (is_named (selected s q st)))) (writers_are 0 s.writers (zero_plus (length s.writers)))
-      ∙ ap (λ b. compact_text (document_of (choices_data (known_metas s st) (writers_listed s so_far 0 s.writers)) q.context b)) named_mode
-    where
-      zero_plus : (n : ℕ) → 0 + n ≡ n
-      zero_plus n = omega arith
+  text_is = grind (arith, writers_are, named_mode)
 
 pub tells_document : (s : Plan) (so_far : List Act) (act : Act) → TellsDocument s so_far act
 tells_document s so_far act lane q e f g =

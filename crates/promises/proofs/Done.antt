@@ -1,18 +1,17 @@
 -- What was asked for is done.
-use Rattle.promises.proofs.Words.{lt-ltb, VssResult, Mark, Clean, Fault, FaultAfter, Image, History, point_in, dropped, up_to_set, reverted, reverted_in_part, change_at, DeleteSet, DeleteImage}
+use Rattle.promises.proofs.Words.{lt-ltb, Mark, Clean, Fault, FaultAfter, Image, History, point_in, dropped, up_to_set, reverted, reverted_in_part, change_at, DeleteSet, DeleteImage}
 use Rattle.promises.proofs.Words.{Revert, Plan, blocks_of, Event, Line, State, Kept, has_image, is_kept_set, row_of, history_of, kept_image, Act, enabled, happens, after, state, row_number}
 use Rattle.promises.proofs.Words.{kept_point, at, reverts, IsDone, stands, after_enabled, some_same}
 use Rattle.std.proofs.Common.{◌≡◌, ◌∙◌, ℕ, ◌+◌, ◌==◌, ◌<◌, zero, suc, List, [], ◌∷◌, Option, Some, None, refl, Bool, true, false, ap, sym, subst, map, arith}
 use Rattle.std.specs.Prelude.{◌&&◌, not, nat_lt, is_some, if◌then◌else◌}
-use Rattle.vss_model.specs.Images.{Replied, count_images, delete_set, delete_kept, delete_image, revert_refusal, reverted_as, revert_to, revert}
+use Rattle.vss_model.specs.Images.{Replied, count_images, delete_set, delete_kept, delete_image, revert_refusal, reverted_as, revert}
 use Rattle.promises.proofs.Truth.{false_of, not_itself, same_number}
 use Rattle.promises.proofs.GoneImages.{kept_by}
 
 -- ## on which volume
 
 no_image : (n v : ℕ) → has_image n (at [] v) ≡ true → ⊥
-no_image n zero e = cc
-no_image n (suc v) e = cc
+no_image n v e = grind arith
 
 pub kept_map : (f : History → History) (n : ℕ) (hs : List History) (v : ℕ) → has_image n (at (map f hs) v) ≡ true → has_image n (f (at hs v)) ≡ true
 kept_map f n [] v e = absurd (no_image n v e)
@@ -51,12 +50,10 @@ none_counted n (h ∷ hs) (suc v) e f = none_counted n hs v (fewer (has_image n 
 
 module _ (s : Plan) (st : State) where
   deletes_by : (b : Bool) (n v : ℕ) (x y : Replied) → (b ≡ true → stands x.1 n v ≡ true → ⊥) → (b ≡ false → stands y.1 n v ≡ true → ⊥) → stands (if b then x else y).1 n v ≡ true → ⊥
-  deletes_by true n v x y f g e = f refl e
-  deletes_by false n v x y f g e = g refl e
+  deletes_by b n v x y f g e = grind arith
 
   second_false : (a b : Bool) → a ≡ true → (a && b) ≡ false → b ≡ false
-  second_false true b e f = f
-  second_false false b e f = absurd cc
+  second_false a b e f = grind arith
 
   set_gone : (n v : ℕ) → is_kept_set st n ≡ true → stands (delete_set n st).1 n v ≡ true → ⊥
   unfolding delete_set
@@ -86,8 +83,7 @@ module _ (s : Plan) (st : State) where
 
   revert_is : (n v : ℕ) (k : Kept) (mark : Mark) → kept_image st n v ≡ Some k → revert_refusal v (Some k) st ≡ None → revert s n v mark st ≡ reverted_as s v k mark st
   unfolding revert
-  revert_is n v k mark e f =
-      ap (λ o. revert_to s v (revert_refusal v o st) o mark st) e ∙ ap (λ (w : Option VssResult). revert_to s v w (Some k) mark st) f
+  revert_is n v k mark e f = grind arith
 
   after_line : (act : Act) (event : Event) → act.event ≡ event → enabled s st event ≡ true → after s st act ≡ (happens s event act.mark st).1
   after_line act event e on = after_enabled s st act (ap (enabled s st) e ∙ on) ∙ ap (λ x. (happens s x act.mark st).1) e

@@ -1,10 +1,10 @@
 -- Exactly the kept images that a write takes are told as evicted.
 use Rattle.promises.proofs.Words.{list_any, list_all, flat_map, list_any-append, lt-ltb, Fill, Stamp, payload_bytes, Evicted, Mark, Write, History, evicted_of, is_among, Op, Target, target_of, Plan}
-use Rattle.promises.proofs.Words.{Event, Line, State, SetRow, is_complete, in_progress, has_image, is_kept_set, NumberedFrom, Act, enabled, happens, after, state, volumes_losing, evicted_for}
+use Rattle.promises.proofs.Words.{Event, Line, State, SetRow, is_complete, in_progress, has_image, is_kept_set, NumberedFrom, Act, enabled, happens, after, volumes_losing, evicted_for}
 use Rattle.promises.proofs.Words.{evicted_at, evicted, true_not_false, orderly, running_incomplete, at, FewerIn, fewer_in_over, as_many_gone, stands, Fails, is_write, is_told, goes_before}
 use Rattle.promises.proofs.Words.{are_in_order, TellsEvicted, after_enabled, and-false}
 use Rattle.std.proofs.Common.{◌≡◌, ◌∙◌, ℕ, ◌+◌, ◌==◌, ◌<◌, zero, suc, List, [], ◌∷◌, ◌++◌, ◌⊎◌, Option, Some, None, refl, Bool, true, false, ap, sym, inl, inr, filter, length, arith}
-use Rattle.std.specs.Prelude.{is_some, ◌&&◌, ◌||◌, not, nat_lt, if◌then◌else◌}
+use Rattle.std.specs.Prelude.{◌&&◌, ◌||◌, not, nat_lt, if◌then◌else◌}
 use Rattle.scenario.specs.declared.op.Op.TheVariants as op
 use Rattle.vss_model.specs.Images.{cleared, set_loses_image, with_room, put, write}
 use Rattle.promises.proofs.Truth.{both_are, both_ways, equal, left_part, neither}
@@ -184,8 +184,7 @@ module _ (hs ks : List History) where
 -- ## a write
 
 true_if : (b : Bool) → (b ≡ false → ⊥) → b ≡ true
-true_if true f = refl
-true_if false f = absurd (f refl)
+true_if b f = grind arith
 
 module _ (s : Plan) (st : State) (num : NumberedFrom 1 st.sets) (n v u : ℕ) (w : Write) (mark : Mark) where
   abbrev written_to : State
@@ -230,8 +229,7 @@ module _ (s : Plan) (st : State) (num : NumberedFrom 1 st.sets) (n v u : ℕ) (w
 told_if : (s : Plan) (st : State) (act : Act) (n v u : ℕ) (w : Write) (event : Event) → NumberedFrom 1 st.sets → act.event ≡ event → evicted s st event ≡ evicted_for s st u w.block → after s st act ≡ (write s u w act.mark st).1
     → is_told n v (evicted s st act.event) ≡ (is_kept_set st n && (stands st n v && not (stands (after s st act) n v)))
 unfolding write
-told_if s st act n v u w event num e f g =
-    ap (λ x. is_told n v (evicted s st x)) e ∙ ap (is_told n v) f ∙ told_for s st num n v u w act.mark ∙ ap (λ (x : State). is_kept_set st n && (stands st n v && not (stands x n v))) (sym g)
+told_if s st act n v u w event num e f g = grind (arith, told_for)
 
 happened : (s : Plan) (st : State) (act : Act) (event : Event) → act.event ≡ event → enabled s st act.event ≡ true → after s st act ≡ (happens s event act.mark st).1
 happened s st act event e on = after_enabled s st act on ∙ ap (λ x. (happens s x act.mark st).1) e
@@ -247,23 +245,10 @@ ordered_at s st None num = refl
 ordered_at s st (Some t) num = rows_in_order st.volumes (cleared s t.volume t.block st).volumes 1 st.sets num
 
 ordered : (s : Plan) (st : State) (event : Event) → NumberedFrom 1 st.sets → are_in_order (evicted s st event) ≡ true
-ordered s st (Line lane o) num = ordered_at s st (target_of o) num
-ordered s st _ num = refl
-
-none_at : (s : Plan) (st : State) (t : Option Target) → is_some t ≡ false → evicted_at s st t ≡ []
-none_at s st None e = refl
-none_at s st (Some t) e = absurd cc
+ordered s st event num = grind (arith, ordered_at)
 
 none_other : (s : Plan) (st : State) (event : Event) → is_write event ≡ false → evicted s st event ≡ []
-none_other s st (Line lane o) e = none_at s st (target_of o) e
-none_other s st _ e = refl
+none_other s st event e = grind arith
 
 pub tells_evicted : (s : Plan) (so_far : List Act) (act : Act) → TellsEvicted s so_far act
-tells_evicted s so_far act =
-    let st = state s so_far in
-    let num = (orderly s so_far).numbered in
-    record {
-      exactly = λ lane n v o t e f on. told_by s st act lane n v o t num e f on;
-      in_order = ordered s st act.event num;
-      no_other = λ e. none_other s st act.event e;
-    }
+tells_evicted s so_far act = grind (arith, orderly, told_by, ordered, none_other)

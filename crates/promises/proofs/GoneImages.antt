@@ -1,13 +1,13 @@
 -- Which images are gone after a change of the volumes, of the sets or of the course.
 use Rattle.promises.proofs.Words.{range_with_len, ltb-false, ltb-true, SetOutcome, VssResult, Image, History, point_in, dropped, after_set, up_to_set, Placed, lacks_slot, gone_up_to, evicted_up_to}
-use Rattle.promises.proofs.Words.{Group, Orders, PreCommit, Flush, Hold, Cut, Commit, Release, PostCommit, Kind, Agenda, groups_left, is_among, is_done, State, SetRow, is_running, in_progress}
-use Rattle.promises.proofs.Words.{has_image, cut_if, cut_each, cut_set, step_made, NumberedFrom, has_failed, IsFailed, course-step_made, true_not_false, running_found, row_running, row_settles}
-use Rattle.promises.proofs.Words.{result-settled, at, stands, Fails, within, none_outcome}
+use Rattle.promises.proofs.Words.{Group, Agenda, is_among, State, SetRow, is_running, in_progress}
+use Rattle.promises.proofs.Words.{has_image, cut_if, cut_each, step_made, NumberedFrom, has_failed, IsFailed, course-step_made, true_not_false, running_found, row_running, row_settles}
+use Rattle.promises.proofs.Words.{result-settled, at, stands, Fails, within}
 use Rattle.std.proofs.Common.{◌≡◌, ◌∙◌, ℕ, ◌+◌, ◌==◌, ◌≤◌, ◌<◌, zero, suc, List, [], ◌∷◌, ◌++◌, Option, Some, None, refl, Bool, true, false, ap, sym, subst, map, filter, find, length, arith}
 use Rattle.std.specs.Prelude.{not, nat_lt, is_some, unwrap_or, option_map, if◌then◌else◌, slice_get}
-use Rattle.vss_names.specs.declared.set_outcome.SetOutcome.TheVariants.{Running as RunningSet, Complete as CompleteSet, Failed as FailedSet}
-use Rattle.set_agenda.specs.Course.{Course, posted, failed as course_failed, settled_if, settled_in, settled, worked, stepped as course_stepped, change_at}
-use Rattle.vss_model.specs.Ending.{Ending, NothingEnds, AgendaEnds, SetFails, ending, row_settled, images_dropped, concluded, followed, failed_in}
+use Rattle.vss_names.specs.declared.set_outcome.SetOutcome.TheVariants.{Running as RunningSet, Failed as FailedSet}
+use Rattle.set_agenda.specs.Course.{Course, posted, failed as course_failed, settled_in, settled, worked, stepped as course_stepped, change_at}
+use Rattle.vss_model.specs.Ending.{Ending, SetFails, ending, row_settled, images_dropped, concluded, followed, failed_in}
 use Rattle.promises.proofs.Truth.{equal, not_false}
 use Rattle.promises.proofs.Members.{next_up}
 
@@ -158,26 +158,13 @@ gone_of_set (Some r) n hs v X e g f = f r refl (gone_dropped r.number n (at hs v
 
 -- what ends where a set fails
 ends_failing : (o p : SetOutcome) (ran : Bool) (a : Option Agenda) (why : VssResult) → ending o p ran a ≡ SetFails why → (o ≡ RunningSet) × (has_failed p ≡ true)
-ends_failing RunningSet (FailedSet x) ran a why e = (refl, refl)
-ends_failing RunningSet RunningSet true None why e = absurd cc
-ends_failing RunningSet RunningSet true (Some a) why e = absurd cc
-ends_failing RunningSet RunningSet false a why e = absurd cc
-ends_failing RunningSet CompleteSet true None why e = absurd cc
-ends_failing RunningSet CompleteSet true (Some a) why e = absurd cc
-ends_failing RunningSet CompleteSet false a why e = absurd cc
-ends_failing CompleteSet p true None why e = absurd cc
-ends_failing CompleteSet p true (Some a) why e = absurd cc
-ends_failing CompleteSet p false a why e = absurd cc
-ends_failing (FailedSet x) p true None why e = absurd cc
-ends_failing (FailedSet x) p true (Some a) why e = absurd cc
-ends_failing (FailedSet x) p false a why e = absurd cc
+ends_failing o p ran a why e = grind arith
 
 module _ (n v : ℕ) where
   gone_ended : (e : Ending) (why_failed : (why : VssResult) → e ≡ SetFails why → Type 0) (x : State) (X : Type 0) → stands x n v ≡ true → stands (concluded e x) n v ≡ false
       → ((why : VssResult) (r : SetRow) → e ≡ SetFails why → in_progress x ≡ Some r → r.number ≡ n → (concluded e x).sets ≡ map (row_settled x.course.outcome) x.sets → X) → X
-  gone_ended NothingEnds w x X h g f = absurd (true_not_false (stands x n v) h g)
-  gone_ended AgendaEnds w x X h g f = absurd (true_not_false (stands x n v) h g)
   gone_ended (SetFails why) w x X h g f = gone_of_set (in_progress x) n x.volumes v X h g (λ r e s. f why r refl e s refl)
+  gone_ended _ w x X h g f = absurd (true_not_false (stands x n v) h g)
 
   pub gone_followed : (ran : Bool) (c : Course) (x : State) (X : Type 0) → stands x n v ≡ true → stands (followed ran c x) n v ≡ false
       → ((r : SetRow) → x.course.outcome ≡ RunningSet → has_failed c.outcome ≡ true → in_progress x ≡ Some r → r.number ≡ n → (followed ran c x).sets ≡ map (row_settled c.outcome) x.sets → X) → X
@@ -194,13 +181,8 @@ module _ (n v : ℕ) where
 
 -- ## a step that is made fails nothing
 
-none_settled_if : (b : Bool) (k : Kind) (c : Course) → has_failed c.outcome ≡ false → has_failed (settled_if b k c).outcome ≡ false
-none_settled_if true k c h = none_outcome k c.outcome h
-none_settled_if false k c h = h
-
 none_settled_in : (o : Option Agenda) (c : Course) → has_failed c.outcome ≡ false → has_failed (settled_in o c).outcome ≡ false
-none_settled_in None c h = h
-none_settled_in (Some a) c h = none_settled_if (is_done (groups_left a)) a.kind c h
+none_settled_in o c h = grind arith
 
 pub none_stepped : (now : ℕ) (c : Course) → has_failed c.outcome ≡ false → has_failed (course_stepped true now c).outcome ≡ false
 unfolding posted settled worked
@@ -210,16 +192,4 @@ pub course-made : (g : Option Group) (st : State) → (step_made g st).course �
 course-made g st = course-step_made g st
 
 pub made_keeps : (n v : ℕ) (g : Option Group) (st : State) → stands st n v ≡ true → stands (step_made g st) n v ≡ true
-made_keeps n v None st h = h
-made_keeps n v (Some (Orders o)) st h = h
-made_keeps n v (Some PreCommit) st h = h
-made_keeps n v (Some Flush) st h = h
-made_keeps n v (Some Hold) st h = h
-made_keeps n v (Some Cut) st h = cut_keeps_set (in_progress st) h
-  where
-    cut_keeps_set : (o : Option SetRow) → stands st n v ≡ true → stands (cut_set o st) n v ≡ true
-    cut_keeps_set None h = h
-    cut_keeps_set (Some r) h = cut_keeps n r.number r.volumes 0 st.volumes v h
-made_keeps n v (Some Commit) st h = h
-made_keeps n v (Some Release) st h = h
-made_keeps n v (Some PostCommit) st h = h
+made_keeps n v g st h = grind (arith, cut_keeps)

@@ -1,8 +1,8 @@
 -- How many slots the images of a group use, and where a write finds its slot.
-use Rattle.promises.proofs.Words.{range_with_len, and_left, Image, History, after_set, Placed, group_used, used, needs_slot, needs_slot_in, gone_up_to, lacks_slot, evicted_up_to, change_at}
-use Rattle.promises.proofs.Words.{history_in, UpTo, at, within, some_same}
-use Rattle.std.proofs.Common.{◌≡◌, ◌∙◌, ℕ, ◌+◌, ◌==◌, ◌≤◌, ◌<◌, zero, suc, List, [], ◌∷◌, Option, Some, None, refl, Bool, true, false, ap, subst, find, length, arith}
-use Rattle.std.specs.Prelude.{◌&&◌, not, nat_lt, if◌then◌else◌, unwrap_or, slice_get}
+use Rattle.promises.proofs.Words.{and_left, Image, History, after_set, Placed, group_used, used, needs_slot, needs_slot_in, gone_up_to, lacks_slot, evicted_up_to, change_at}
+use Rattle.promises.proofs.Words.{UpTo, at, within, some_same}
+use Rattle.std.proofs.Common.{◌≡◌, ℕ, ◌+◌, ◌≤◌, ◌<◌, zero, suc, List, [], ◌∷◌, Some, refl, Bool, true, false, ap, subst, find, length, arith}
+use Rattle.std.specs.Prelude.{nat_lt, if◌then◌else◌, slice_get}
 use Rattle.promises.proofs.Truth.{no_less, not_true}
 use Rattle.promises.proofs.Shrinks.{used_in}
 
@@ -62,10 +62,6 @@ changed_uses f (suc u) (h ∷ hs) g (suc v) n = changed_uses f u hs g v n
 
 -- ## a slot for a write
 
-pub needs_at : (o : Option History) (b : ℕ) → needs_slot_in o b ≡ needs_slot (history_in o).writes (history_in o).images b
-needs_at None b = refl
-needs_at (Some h) b = refl
-
 find_passes : (test : ℕ → Bool) (xs : List ℕ) (m : ℕ) → find test xs ≡ Some m → test m ≡ true
 find_passes test [] m e = absurd cc
 find_passes test (x ∷ xs) m e = by_test (test x) refl e (find_passes test xs m)
@@ -98,19 +94,8 @@ needs_none m (suc v) b (p ∷ ps) (h ∷ hs) e up = needs_none m v b ps hs e up
 
 -- with the images of so many sets gone a write does not lack its slot
 pub enough_goes : (sets slots : ℕ) (ps : List Placed) (v b : ℕ) (hs : List History) → within (slice_get ps v) ≡ true → UpTo sets (at hs v).images → lacks_slot slots ps v b (gone_up_to (evicted_up_to sets slots ps v b hs) ps hs) ≡ false
-enough_goes sets slots ps v b hs e up = by_found (find (λ m. not (lacks_slot slots ps v b (gone_up_to m ps hs))) (range_with_len 0 sets)) refl
-  where
-    by_found : (o : Option ℕ) → find (λ m. not (lacks_slot slots ps v b (gone_up_to m ps hs))) (range_with_len 0 sets) ≡ o → lacks_slot slots ps v b (gone_up_to (unwrap_or o sets) ps hs) ≡ false
-    by_found (Some m) f = not_true (lacks_slot slots ps v b (gone_up_to m ps hs)) (find_passes (λ m. not (lacks_slot slots ps v b (gone_up_to m ps hs))) (range_with_len 0 sets) m f)
-    by_found None f = and_left (needs_slot_in (slice_get (gone_up_to sets ps hs) v) b) (group_used ps (gone_up_to sets ps hs) == slots) (needs_none sets v b ps hs e up)
+enough_goes sets slots ps v b hs e up = grind (arith, not_true, find_passes, and_left, needs_none)
 
 -- where a write needs a slot and does not lack it, one is left
 pub one_left : (slots : ℕ) (ps : List Placed) (v b : ℕ) (hs : List History) → lacks_slot slots ps v b hs ≡ false → group_used ps hs ≤ slots → needs_slot (at hs v).writes (at hs v).images b ≡ true → group_used ps hs < slots
-one_left slots ps v b hs e l n = by_needs (needs_slot_in (slice_get hs v) b) (needs_at (slice_get hs v) b ∙ n) e
-  where
-    less : (u s : ℕ) → (u == s) ≡ false → u ≤ s → u < s
-    less u s f l = grind arith
-
-    by_needs : (t : Bool) → t ≡ true → (t && (group_used ps hs == slots)) ≡ false → group_used ps hs < slots
-    by_needs true f g = less (group_used ps hs) slots g l
-    by_needs false f g = absurd cc
+one_left slots ps v b hs e l n = grind arith

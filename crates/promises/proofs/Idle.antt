@@ -1,7 +1,7 @@
 -- An idle stretch is the shortest that spends a limit that runs.
-use Rattle.promises.proofs.Words.{is_spent, ticks_until, Running, spent_of, running_until, ticks_to_spend, limits_now, Plan, Act, state, idle_spends, IdlesShortest}
+use Rattle.promises.proofs.Words.{is_spent, ticks_until, Running, spent_of, running_until, ticks_to_spend, Plan, Act, idle_spends, IdlesShortest}
 use Rattle.std.proofs.Common.{◌≡◌, ℕ, ◌+◌, ◌<◌, List, [], ◌∷◌, Some, refl, Bool, true, false, fold, min, arith}
-use Rattle.std.specs.Prelude.{◌-◌, nat_lt, is_some, if◌then◌else◌}
+use Rattle.std.specs.Prelude.{is_some, if◌then◌else◌}
 
 abbrev Least : ℕ → ℕ → List Running → ℕ
 Least now t ls = fold (λ t (m : Running). min t (running_until now m)) t ls
@@ -26,10 +26,7 @@ least_all now n t (l ∷ ls) h = (below (running_until now l) t n (least_first n
     below a t n h = omega arith
 
 not_spent : (now n since limit : ℕ) → n < ticks_until now since limit → is_spent (now + n) since limit ≡ false
-not_spent now n since limit h = within now n since limit h
-  where
-    within : (now n since limit : ℕ) → n < (since + limit + 1) - now → nat_lt limit ((now + n) - since) ≡ false
-    within now n since limit h = grind arith
+not_spent now n since limit h = grind arith
 
 none_spent : (now n : ℕ) (ls : List Running) → AllMore now n ls → is_some (spent_of (now + n) ls) ≡ false
 none_spent now n [] h = refl
@@ -44,4 +41,4 @@ shorter_spends_none now n [] h = refl
 shorter_spends_none now n (l ∷ ls) h = none_spent now n (l ∷ ls) (least_first now n (running_until now l) ls h, least_all now n (running_until now l) ls h)
 
 pub idles_shortest : (s : Plan) (so_far : List Act) → IdlesShortest s so_far
-idles_shortest s so_far = record { spends = idle_spends s so_far; shorter = λ n h. shorter_spends_none (state s so_far).clock n (limits_now (state s so_far).course) h }
+idles_shortest s so_far = grind (arith, idle_spends, shorter_spends_none)

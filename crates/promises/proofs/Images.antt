@@ -1,6 +1,6 @@
 -- Why an image goes: each act takes an image only for a cause.
-use Rattle.promises.proofs.Words.{Context, Backup, AppRollback, NasRollback, Failed as FailedSet, VssResult, InsufficientStorage, AsyncCancelled, Said, Mark, Clean, Fault, FaultAfter, Write, History}
-use Rattle.promises.proofs.Words.{point_in, dropped, written, reverted, reverted_in_part, said_of, Group, open_group, Session, Op, Writes, Target, line_of, target_in, target_of, Plan, blocks_of}
+use Rattle.promises.proofs.Words.{Context, Backup, AppRollback, NasRollback, Failed as FailedSet, VssResult, InsufficientStorage, AsyncCancelled, Said, Mark, Clean, Write, History}
+use Rattle.promises.proofs.Words.{point_in, dropped, written, said_of, Group, open_group, Session, Op, line_of, target_in, target_of, Plan}
 use Rattle.promises.proofs.Words.{slots_of, group_of, Event, State, SetRow, Kept, is_running, in_progress, row_of, left_now, history_of, has_image, kept_image, row_settled, followed, runs, failed_in}
 use Rattle.promises.proofs.Words.{failed, NumberedFrom, has_failed, Act, enabled, idle_now, after, state, row_number, kept_point, true_not_false, orderly, at, FewerIn, fewer_written, fewer_in_same}
 use Rattle.promises.proofs.Words.{fewer_in_change, fewer_in_over, fewer_images_dropped, Covers, covered, after_enabled, after_not_enabled, by_if}
@@ -25,9 +25,6 @@ module _ (s : Plan) (st : State) (num : NumberedFrom 1 st.sets) (n v : ℕ) wher
   abbrev Goes : Event → Mark → Replied → Type 0
   Goes event mark x = stands st n v ≡ true → stands x.1 n v ≡ false → Cause event x.1
 
-  same : (event : Event) (x : State) → x.volumes ≡ st.volumes → stands st n v ≡ true → stands x n v ≡ false → Cause event x
-  same event x e h g = absurd (true_not_false (stands x n v) (ap (λ hs. has_image n (at hs v)) e ∙ h) g)
-
   by_course : (event : Event) (ran : Bool) (c : Course) (x : State) → x.volumes ≡ st.volumes → x.sets ≡ st.sets → stands st n v ≡ true → stands (followed ran c x) n v ≡ false → Cause event (followed ran c x)
   by_course event ran c x e f h g =
       gone_followed n v ran c x (Cause event (followed ran c x)) (ap (λ hs. has_image n (at hs v)) e ∙ h) g
@@ -45,8 +42,7 @@ module _ (s : Plan) (st : State) (num : NumberedFrom 1 st.sets) (n v : ℕ) wher
 
   -- a write takes no image beside those that go for want of a slot
   pub put_keeps : (u : ℕ) (w : Write) (mark : Mark) (x : State) → stands x n v ≡ true → stands (put u w mark x) n v ≡ false → ⊥
-  put_keeps u w Clean x h g = true_not_false (has_image n (at x.volumes v)) h (gone_change (written w) n u x.volumes v h g).1
-  put_keeps u w _ x h g = true_not_false (stands x n v) h g
+  put_keeps u w mark x h g = grind (arith, true_not_false, gone_change)
 
   pub volumes_room : (b : Bool) (x : State) → FewerIn x.volumes (with_room_if b x).volumes
   volumes_room true x = by_set (in_progress x)
@@ -57,8 +53,7 @@ module _ (s : Plan) (st : State) (num : NumberedFrom 1 st.sets) (n v : ℕ) wher
   volumes_room false x = fewer_in_same x.volumes
 
   sets_put : (u : ℕ) (w : Write) (mark : Mark) (x : State) → (put u w mark x).sets ≡ x.sets
-  sets_put u w Clean x = refl
-  sets_put u w _ x = refl
+  sets_put u w mark x = grind arith
 
   module _ (u : ℕ) (w : Write) (mark : Mark) where
     abbrev pub roomy : State
@@ -96,29 +91,17 @@ module _ (s : Plan) (st : State) (num : NumberedFrom 1 st.sets) (n v : ℕ) wher
             (λ r i s sets. fails_as st (put u w mark (failed InsufficientStorage roomy)) r (FailedSet InsufficientStorage) n i num (sets_put u w mark (failed InsufficientStorage roomy) ∙ sets) refl s)
 
     write_goes : stands st n v ≡ true → stands written_to n v ≡ false → Fails st written_to n ⊎ IsWanted s st written_to u w.block n v
-    write_goes h g = by_cases (wants_or_fails (set_loses_image (in_progress st) st.volumes roomy.volumes) (stands roomy n v) refl h g)
-      where
-        by_cases : Fails st written_to n ⊎ (stands roomy n v ≡ false) → Fails st written_to n ⊎ IsWanted s st written_to u w.block n v
-        by_cases (inl f) = inl f
-        by_cases (inr f) = inr (wanted h f)
-
-  some_target : (a b : Target) → Some a ≡ Some b → a ≡ b
-  some_target a b e = cc
+    write_goes h g = grind (arith, wants_or_fails, wanted)
 
   takes_by : (l : Does) (u : ℕ) (w : Write) (x : State) → target_in l ≡ Some (record { volume = u; block = w.block }) → IsWanted s st x u w.block n v → TakesBy s st x n v l
-  takes_by (Writes a b payload) u w x e i = subst (λ (y : Target). IsWanted s st x y.volume y.block n v) (sym (some_target _ _ e)) i
-  takes_by _ u w x e i = absurd cc
+  takes_by l u w x e i = grind arith
 
   takes_write : (lane : ℕ) (o : Op) (u : ℕ) (w : Write) (x : State) → target_of o ≡ Some (record { volume = u; block = w.block }) → IsWanted s st x u w.block n v → Takes s st x n v (Line lane o)
   takes_write lane o u w x e i = takes_by (line_of o) u w x e i
 
   on_write : (lane : ℕ) (o : Op) (u : ℕ) (w : Write) (mark : Mark) → target_of o ≡ Some (record { volume = u; block = w.block }) → Goes (Line lane o) mark (write s u w mark st)
   unfolding write
-  on_write lane o u w mark e h g = by_cases (write_goes u w mark h g)
-    where
-      by_cases : Fails st (put u w mark (with_room s u w.block st)) n ⊎ IsWanted s st (put u w mark (with_room s u w.block st)) u w.block n v → Cause (Line lane o) (put u w mark (with_room s u w.block st))
-      by_cases (inl f) = inl f
-      by_cases (inr i) = inr (takes_write lane o u w _ e i)
+  on_write lane o u w mark e h g = grind (arith, write_goes, takes_write)
 
   -- ## lines
 
@@ -126,21 +109,13 @@ module _ (s : Plan) (st : State) (num : NumberedFrom 1 st.sets) (n v : ℕ) wher
   row_is m u k e = (kept_point m (row_of st m) (point_in m (history_of st u).images) k (λ r f. row_number m st.sets r f) e).0
 
   on_revert : (lane m u : ℕ) (k : Kept) (mark : Mark) → kept_image st m u ≡ Some k → Goes (Line lane (op.Revert m u)) mark (reverted_as s u k mark st)
-  on_revert lane m u k Clean e h g =
-      let gone = gone_change (reverted k.row.number k.point) n u st.volumes v h g in
-      inr (gone.0, subst (λ x. x < n) (row_is m u k e) (gone_reverted k.row.number n (at st.volumes v).images h gone.1))
-  on_revert lane m u k Fault e h g = absurd (true_not_false (stands st n v) h g)
-  on_revert lane m u k (FaultAfter j) e h g =
-      let gone = gone_change (reverted_in_part (blocks_of s u) k.row.number k.point j) n u st.volumes v h g in
-      inr (gone.0, subst (λ x. x < n) (row_is m u k e) (gone_reverted k.row.number n (at st.volumes v).images h gone.1))
+  on_revert lane m u k mark e h g = grind (arith, gone_change, row_is, gone_reverted, true_not_false)
 
   on_delete_set : (lane m : ℕ) (x : State) → x.volumes ≡ map (dropped m) st.volumes → stands st n v ≡ true → stands x n v ≡ false → Cause (Line lane (op.DeleteSet m)) x
   on_delete_set lane m x e h g = inr (gone_dropped m n (at st.volumes v) h (gone_map (dropped m) n st.volumes v h (ap (λ hs. has_image n (at hs v)) (sym e) ∙ g)))
 
   on_delete_image : (lane m u : ℕ) (k : Kept) (x : State) → kept_image st m u ≡ Some k → x.volumes ≡ change_at u (dropped k.row.number) st.volumes → stands st n v ≡ true → stands x n v ≡ false → Cause (Line lane (op.DeleteImage m u)) x
-  on_delete_image lane m u k x e f h g =
-      let gone = gone_change (dropped k.row.number) n u st.volumes v h (ap (λ hs. has_image n (at hs v)) (sym f) ∙ g) in
-      inr (sym (row_is m u k e) ∙ gone_dropped k.row.number n (at st.volumes v) h gone.1, gone.0)
+  on_delete_image lane m u k x e f h g = grind (arith, gone_change, row_is, gone_dropped)
 
   -- ## the session ends
 

@@ -1,8 +1,8 @@
 -- An area keeps exactly the copies of what was overwritten, and none twice.
 use Rattle.promises.proofs.Words.{list_any, range_with_len, list_any-append, Write, Image, History, point_in, AreLater, AreInTime, names, blocks_named, Placed, Copy, copy_of, named, writes_since}
-use Rattle.promises.proofs.Words.{copies_of, copies_from, VolumeRow, Plan, blocks_in, blocks_of, placed, placed_in, group_of, is_among, Act, state, images_in_time, at, place_from, is_cut_by}
+use Rattle.promises.proofs.Words.{copies_of, copies_from, VolumeRow, Plan, blocks_in, blocks_of, placed, placed_in, is_among, Act, images_in_time, at, place_from, is_cut_by}
 use Rattle.promises.proofs.Words.{is_overwritten, is_copy, are_once, KeepsCopies, within, and-false, some_same}
-use Rattle.std.proofs.Common.{◌≡◌, ◌∙◌, ℕ, ◌+◌, ◌-◌, ◌==◌, ◌<◌, ◌≤◌, zero, suc, List, [], ◌∷◌, ◌++◌, Option, Some, None, refl, Bool, true, false, ap, sym, subst, map, filter, take, drop, length, arith}
+use Rattle.std.proofs.Common.{◌≡◌, ◌∙◌, ℕ, ◌+◌, ◌-◌, ◌==◌, ◌<◌, ◌≤◌, zero, suc, List, [], ◌∷◌, ◌++◌, Option, Some, None, refl, Bool, true, false, ap, sym, map, filter, take, drop, length, arith}
 use Rattle.std.specs.Prelude.{◌&&◌, ◌||◌, not, nat_lt, nat_le, if◌then◌else◌, slice_get}
 use Rattle.promises.proofs.Truth.{both_are, both_parts, not_both, or_false, same_number}
 use Rattle.promises.proofs.Copies.{later_set, InTimeAll}
@@ -79,12 +79,9 @@ overwritten_up_to n b q images i (w ∷ ws) f = by_time (nat_le q i) refl (overw
         ∙ ap (λ c. ((w.block == b) && not c) || is_overwritten n b images (i + 1) ws) (sym (f i ∙ e))
 
 -- the same of the images behind one that is no later
-overwritten_along : (n b : ℕ) (x : Image) (images : List Image) (i : ℕ) (ws : List Write) → nat_lt n x.set ≡ false
+pub overwritten_along : (n b : ℕ) (x : Image) (images : List Image) (i : ℕ) (ws : List Write) → nat_lt n x.set ≡ false
     → is_overwritten n b images i ws ≡ is_overwritten n b (x ∷ images) i ws
-overwritten_along n b x images i [] e = refl
-overwritten_along n b x images i (w ∷ ws) e =
-    ap (λ c. ((w.block == b) && not ((c && nat_le x.point i) || is_cut_by n i images)) || is_overwritten n b images (i + 1) ws) (sym e)
-    ∙ ap (λ c. ((w.block == b) && not (is_cut_by n i (x ∷ images))) || c) (overwritten_along n b x images (i + 1) ws e)
+overwritten_along n b x images i ws e = grind arith
 
 -- later images come at no fewer writes
 later_cuts : (n j : ℕ) (x : Image) (images : List Image) → AreLater x images → is_cut_by n j images ≡ true → nat_le x.point j ≡ true
@@ -100,15 +97,7 @@ later_cuts n j x (y ∷ images) h e = by_head (nat_lt n y.set) (nat_le y.point j
     by_head false c f e ih = ih e
 
 next_cut : (n j : ℕ) (x : Image) (images : List Image) → AreLater x images → nat_lt n x.set ≡ true → is_cut_by n j (x ∷ images) ≡ nat_le x.point j
-next_cut n j x images h e = ap (λ c. (c && nat_le x.point j) || is_cut_by n j images) e ∙ by_rest (nat_le x.point j) (is_cut_by n j images) refl (later_cuts n j x images h)
-  where
-    by_rest : (a c : Bool) → nat_le x.point j ≡ a → (c ≡ true → nat_le x.point j ≡ true) → (a || c) ≡ a
-    by_rest true c f g = refl
-    by_rest false true f g = absurd (differ (sym f ∙ g refl))
-      where
-        differ : false ≡ true → ⊥
-        differ e = cc
-    by_rest false false f g = refl
+next_cut n j x images h e = grind (arith, later_cuts)
 
 -- ## the copies of a volume
 
@@ -133,20 +122,13 @@ other_volume k u n b m ws (i ∷ newer) e =
 
 -- no later image is of the same set
 none_of_set : (i : Image) (images : List Image) (n : ℕ) → AreLater i images → (i.set == n) ≡ true → point_in n images ≡ None
-none_of_set i images n h e = by_point (point_in n images) refl
-  where
-    by_point : (o : Option ℕ) → point_in n images ≡ o → point_in n images ≡ None
-    by_point None f = f
-    by_point (Some p) f = absurd (not_both (i.set == n) e (later_set i n p images h f))
+none_of_set i images n h e = grind (arith, not_both, later_set)
 
 not_later : (n : ℕ) (i : Image) → (i.set == n) ≡ true → nat_lt n i.set ≡ false
-not_later n i e = over n i.set e
-  where
-    over : (n m : ℕ) → (m == n) ≡ true → nat_lt n m ≡ false
-    over n m e = grind arith
+not_later n i e = grind arith
 
 -- of an image that comes before the one of set n
-earlier : (n p : ℕ) (i : Image) (images : List Image) → AreLater i images → point_in n images ≡ Some p → nat_lt n i.set ≡ false
+pub earlier : (n p : ℕ) (i : Image) (images : List Image) → AreLater i images → point_in n images ≡ Some p → nat_lt n i.set ≡ false
 earlier n p i [] h e = absurd cc
 earlier n p i (j ∷ images) h e = by_head (j.set == n) refl e (earlier n p i images h.2)
   where
@@ -158,21 +140,12 @@ earlier n p i (j ∷ images) h e = by_head (j.set == n) refl e (earlier n p i im
     by_head true f e ih = below i.set j.set n h.0 f
     by_head false f e ih = ih e
 
-since_cut : (n b : ℕ) (ws : List Write) (i : Image) (newer : List Image) → AreLater i newer → AreInTime (length ws) newer → (i.set == n) ≡ true
+pub since_cut : (n b : ℕ) (ws : List Write) (i : Image) (newer : List Image) → AreLater i newer → AreInTime (length ws) newer → (i.set == n) ≡ true
     → names (writes_since ws i.point newer) b ≡ is_overwritten n b (i ∷ newer) i.point (drop i.point ws)
-since_cut n b ws i [] h t e = overwritten_by n b (i ∷ []) i.point (drop i.point ws) (λ j. ap (λ c. (c && nat_le i.point j) || false) (not_later n i e))
-since_cut n b ws i (x ∷ newer) h t e =
-    overwritten_up_to n b x.point (i ∷ x ∷ newer) i.point (drop i.point ws)
-    (λ j. ap (λ c. (c && nat_le i.point j) || is_cut_by n j (x ∷ newer)) (not_later n i e) ∙ next_cut n j x newer t.1 (above i.set x.set n h.0 e))
-  where
-    above : (a c n : ℕ) → a < c → (a == n) ≡ true → nat_lt n c ≡ true
-    above a c n l e = grind arith
+since_cut n b ws i newer h t e = grind (arith, overwritten_by, not_later, overwritten_up_to, next_cut)
 
 among_named : (m b : ℕ) (ws : List Write) → b < m → is_among b (blocks_named m ws) ≡ names ws b
-among_named m b ws l = range_passes (names ws) 0 m b (omega arith) ∙ ap (λ c. c && names ws b) (inside b m l)
-  where
-    inside : (b m : ℕ) → b < m → nat_lt b (0 + m) ≡ true
-    inside b m l = grind arith
+among_named m b ws l = grind (arith, range_passes)
 
 exactly_of : (k n b m p : ℕ) (ws : List Write) (images : List Image) → AreInTime (length ws) images → point_in n images ≡ Some p → b < m
     → list_any (is_copy k n b) (copies_of k m ws images) ≡ is_overwritten n b images p (drop p ws)
@@ -329,11 +302,7 @@ blocks_placed g (r ∷ rows) zero = refl
 blocks_placed g (r ∷ rows) (suc u) = blocks_placed g rows u
 
 blocks_same : (s : Plan) (u : ℕ) (o : Option VolumeRow) → within (slice_get (placed_in s.volumes o) u) ≡ true → blocks_at (slice_get (placed_in s.volumes o) u) ≡ blocks_of s u
-blocks_same s u None e = absurd cc
-blocks_same s u (Some r) e = blocks_placed r.group s.volumes u
+blocks_same s u o e = grind (arith, blocks_placed)
 
 pub keeps_copies : (s : Plan) (so_far : List Act) → KeepsCopies s so_far
-keeps_copies s so_far = record {
-  exactly = λ v u n b p e l f. exactly_in 0 (group_of s v) (state s so_far).volumes u n b p (images_in_time s so_far) e (subst (λ m. b < m) (sym (blocks_same s u (slice_get s.volumes v) e)) l) f;
-  once = λ v. once_in 0 (group_of s v) (state s so_far).volumes (images_in_time s so_far);
-}
+keeps_copies s so_far = grind (arith, exactly_in, images_in_time, blocks_same, once_in)

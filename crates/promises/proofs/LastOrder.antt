@@ -1,7 +1,7 @@
 -- Who has the order BackupComplete open: in its agenda there is no other group, and in no other agenda is that order.
 use Rattle.promises.proofs.Words.{Order, BackupComplete, Said, is_ok, Group, Orders, Kind, Gather, Prepare, Snapshot, Complete, Place, others, advance, Agenda, Open, places, plain, is_orders}
 use Rattle.promises.proofs.Words.{waited_for, with_group, left_from, groups_left, is_asked, is_among, order_now, order_if, open_order, all_say, unasked_if-nil, groups_left-all_say, asked_if}
-use Rattle.std.proofs.Common.{◌≡◌, ◌∙◌, ℕ, ◌==◌, List, [], ◌∷◌, Option, Some, refl, Bool, true, false, ap, sym, subst, filter}
+use Rattle.std.proofs.Common.{◌≡◌, ◌∙◌, ℕ, ◌==◌, List, [], ◌∷◌, Option, Some, refl, Bool, true, false, ap, sym, subst, filter, arith}
 use Rattle.std.specs.Prelude.{◌&&◌, ◌||◌, not, if◌then◌else◌}
 use Rattle.promises.proofs.Truth.{both_are, both_parts, left_part, not_both, not_true, right_part}
 use Rattle.promises.proofs.Heard.{passes}
@@ -41,8 +41,7 @@ abbrev pub last_place : Place
 last_place = plain (Orders BackupComplete)
 
 pub asked_it : (waits : List ℕ) (w : ℕ) → is_asked w (with_group last_place waits []) ≡ true → open_order (with_group last_place waits []) w ≡ Some BackupComplete
-asked_it [] w e = absurd cc
-asked_it (x ∷ xs) w e = ap (λ b. order_if b (Some BackupComplete)) e
+asked_it waits w e = grind arith
 
 -- no other agenda has the order
 pub not_in_kind : (k : Kind) (a : Agenda) (w : ℕ) → a.kind ≡ k → every (λ q. not (is_last_order q.group)) (places k) ≡ true → open_order (groups_left a) w ≡ Some BackupComplete → ⊥

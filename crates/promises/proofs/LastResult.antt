@@ -1,47 +1,32 @@
 -- The last result of a session is what the acts have made of it.
 use Rattle.promises.proofs.Words.{and_left, Context, VssResult, AsyncFinished, AsyncPending, AsyncCancelled, BadState, Mark, Clean, Write, said_of, open_group, next_volume, Course, prepared}
-use Rattle.promises.proofs.Words.{snapshot_begun, takers, Session, makes_set, opened, started as session_started, agenda_ended, set_failed, Op, is_begin, begins_agenda, Target, target_of, Plan, Event}
+use Rattle.promises.proofs.Words.{snapshot_begun, takers, Session, makes_set, opened, agenda_ended, set_failed, Op, is_begin, begins_agenda, Target, target_of, Plan, Event}
 use Rattle.promises.proofs.Words.{Reply, Fine, Coded, Deleted, Idled, State, start, in_progress, left_now, runs, failed, Replied, refused, write, reverted_as, has_failed, Act, order_of_writer}
-use Rattle.promises.proofs.Words.{enabled, answer_reply, step_reply, reply, idle_now, after, state, is_fine, is_pending, state-append, set_failure, begins_session, begins, result_by, result_after}
-use Rattle.promises.proofs.Words.{result_if, result_from, last_result, Covers, ChangesNothing, changes_session, covered, after_enabled, after_not_enabled, some_same, append_nothing, and-false}
-use Rattle.std.proofs.Common.{◌≡◌, ◌∙◌, ℕ, List, [], ◌∷◌, ◌++◌, Option, Some, None, refl, Bool, true, false, ap, sym, subst, inl, inr, fold}
+use Rattle.promises.proofs.Words.{enabled, answer_reply, step_reply, idle_now, after, state, state-append, set_failure, begins_session, begins, result_by, result_after}
+use Rattle.promises.proofs.Words.{result_if, result_from, last_result, Covers, ChangesNothing, covered, after_enabled, after_not_enabled, some_same, append_nothing, and-false}
+use Rattle.std.proofs.Common.{◌≡◌, ◌∙◌, ℕ, List, [], ◌∷◌, ◌++◌, Option, Some, None, refl, Bool, true, false, ap, sym, subst, inl, inr, fold, arith}
 use Rattle.std.specs.Prelude.{◌&&◌, ◌||◌, not, option_map, if◌then◌else◌, length}
 use Rattle.set_agenda.specs.declared.kind.Kind.TheVariants as kind
 use Rattle.scenario.specs.declared.op.Op.TheVariants as op
 use Rattle.vss_model.specs.declared.event.Event.TheVariants.{Line, Answer as AnswerEvent, Provider, Idle}
-use Rattle.vss_model.specs.Sessions.{selected, start_set, has_no_volume, volumes_of, pending, new_number, closed}
+use Rattle.vss_model.specs.Sessions.{selected, start_set, has_no_volume, volumes_of, pending, closed}
 use Rattle.promises.proofs.Turns.{Turn, quiet_turn, write_turn, revert_turn, begun_turn, answer_turn, tick_turn, step_turn, abort_turn, add_turn, none_started}
 use Rattle.promises.proofs.CalmCourses.{calm_begun}
 use Rattle.promises.proofs.SetFailures.{failure_at}
 
 -- ## lines that end nothing
 
-begin_changes : (o : Op) → is_begin o ≡ true → changes_session o ≡ true
-begin_changes (op.Begin n all) e = refl
-begin_changes o e = absurd cc
-
 no_begin : (o : Op) (told : Reply) → ChangesNothing o told → begins_session (Line 0 o) told ≡ false
-no_begin o told g = by_test (is_begin o) refl
-  where
-    by_test : (b : Bool) → is_begin o ≡ b → (b && is_fine told) ≡ false
-    by_test true e = g.session (begin_changes o e)
-    by_test false e = refl
+no_begin o told g = grind arith
 
 no_agenda : (o : Op) (told : Reply) → ChangesNothing o told → begins (Line 0 o) told ≡ false
-no_agenda o told g = by_test (begins_agenda o) refl
-  where
-    by_test : (b : Bool) → begins_agenda o ≡ b → (b && is_pending told) ≡ false
-    by_test true e = g.agenda e
-    by_test false e = refl
+no_agenda o told g = grind arith
 
 write_begins : (o : Op) (t : Target) → target_of o ≡ Some t → (is_begin o ≡ false) × (begins_agenda o ≡ false)
-write_begins (op.WriteFill v b x) t e = (refl, refl)
-write_begins (op.WriteStamp v b n) t e = (refl, refl)
-write_begins o t e = absurd cc
+write_begins o t e = grind arith
 
 same_running : (b : Bool) → (b && not b) ≡ false
-same_running true = refl
-same_running false = refl
+same_running b = grind arith
 
 -- ## every act
 
@@ -54,19 +39,15 @@ module _ (s : Plan) (so_far : List Act) (last : Option VssResult) where
   IsLast x result = (q : Session) → x.session ≡ Some q → q.last ≡ result
 
   failed_last : (why : VssResult) (o : Option Session) (q : Session) → option_map (set_failed why) o ≡ Some q → q.last ≡ Some why
-  failed_last why None q e = absurd cc
-  failed_last why (Some p) q e = sym (ap (λ (x : Session). x.last) (some_same (set_failed why p) q e))
+  failed_last why o q e = grind arith
 
   ended_last : (o : Option Session) (q : Session) → option_map agenda_ended o ≡ Some q → q.last ≡ Some AsyncFinished
-  ended_last None q e = absurd cc
-  ended_last (Some p) q e = sym (ap (λ (x : Session). x.last) (some_same (agenda_ended p) q e))
+  ended_last o q e = grind arith
 
   -- what an act comes to, by its parts
   comes_to : (event : Event) (told : Reply) (x : State) (ran : Bool) (why : Option VssResult) (ended : Bool) → begins_session event told ≡ false → (runs st || begins event told) ≡ ran → set_failure (in_progress st) x ≡ why → (ran && not (runs x)) ≡ ended
       → result_after st event told x last ≡ result_by why ended last
-  comes_to event told x ran why ended e f g i =
-      ap (λ b. if b then None else result_by (set_failure (in_progress st) x) ((runs st || begins event told) && not (runs x)) last) e
-      ∙ ap (λ o. result_by o ((runs st || begins event told) && not (runs x)) last) g ∙ ap (λ b. result_by why (b && not (runs x)) last) f ∙ ap (λ b. result_by why b last) i
+  comes_to event told x ran why ended e f g i = grind arith
 
   module _ (h : IsLast st last) where
     abbrev Next : Event → Mark → Replied → Type 0
@@ -81,13 +62,10 @@ module _ (s : Plan) (so_far : List Act) (last : Option VssResult) where
         h q (sym t.session ∙ i) ∙ sym (comes_to event told x ran None false e f t.failure (ap (λ b. ran && not b) t.runs_is ∙ same_running ran))
 
     or_true : (b : Bool) → (b || true) ≡ true
-    or_true true = refl
-    or_true false = refl
+    or_true b = grind arith
 
     or_false : (b c : Bool) → c ≡ false → (b || c) ≡ b
-    or_false b true e = absurd cc
-    or_false true false e = refl
-    or_false false false e = refl
+    or_false b c e = grind arith
 
     -- no agenda begins
     goes : (event : Event) (told : Reply) (x : State) → begins_session event told ≡ false → begins event told ≡ false → Turn st x (runs st) → IsLast x (result_after st event told x last)
@@ -109,9 +87,7 @@ module _ (s : Plan) (so_far : List Act) (last : Option VssResult) where
     begun_if false lane o mark c e f calm = by_turn (Line lane o) (Coded AsyncPending) _ true (and_left (is_begin o) _ e) (ap (λ b. runs st || (b && true)) f ∙ or_true (runs st)) (begun_turn s so_far c calm)
 
     on_start : (lane : ℕ) (q : Session) → st.session ≡ Some q → makes_set q.stage ≡ false → IsLast (start_set q st).1 (result_after st (Line lane op.Start) (start_set q st).0 (start_set q st).1 last)
-    on_start lane q e f p g =
-        sym (ap (λ (x : Session). x.last) (some_same (session_started (new_number st) q) p g)) ∙ h q e
-        ∙ sym (comes_to (Line lane op.Start) (start_set q st).0 (start_set q st).1 (runs st) None false refl (or_false (runs st) false refl) (none_started s so_far q (start_set q st).1 e f) (same_running (runs st)))
+    on_start lane q e f p g = grind (arith, some_same, comes_to, or_false, none_started, same_running)
 
     on_opened : (lane n : ℕ) (all : Bool) (x : Context) → Next (Line lane (op.Begin n all)) Clean (Fine, record st { session = Some (opened lane x all); explicit = [] })
     on_opened lane n all x q e = sym (ap (λ (y : Session). y.last) (some_same (opened lane x all) q e))
@@ -141,8 +117,7 @@ module _ (s : Plan) (so_far : List Act) (last : Option VssResult) where
     }
 
     last_if : (b : Bool) (act : Act) → enabled s st act.event ≡ b → IsLast (after s st act) (result_if b s st last act)
-    last_if true act e = let same = after_enabled s st act e in subst (λ (x : State). IsLast x (result_after st act.event (reply s st act) x last)) (sym same) (covered Next s st lasts act.event act.mark e)
-    last_if false act e = subst (λ (x : State). IsLast x last) (sym (after_not_enabled s st act e)) h
+    last_if b act e = grind (arith, after_enabled, covered, lasts, after_not_enabled)
 
 -- ## every list of acts
 

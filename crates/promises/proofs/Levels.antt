@@ -1,13 +1,13 @@
 -- The levels and the freeze time-outs of the writers' rows, and the levels of the participants, are those that the scenario gives the writers.
-use Rattle.promises.proofs.Words.{Context, Level, Order, VssResult, AsyncCancelled, Said, WriterRow, is_failed, stable_again, one_more, row_after, row_aborted, row_gathered, row_ended, Mark, Clean}
-use Rattle.promises.proofs.Words.{Write, Group, Kind, Gather, Prepare, Snapshot, Complete, Member, open_group, is_among, IsKeptInCourse, course_answered as kept_answered}
-use Rattle.promises.proofs.Words.{course_stepped as kept_stepped, course_timed as kept_timed, course_begun as kept_begun, Session, Plan, WriterPlan, State, SetRow, Kept, start, row_of_writer}
-use Rattle.promises.proofs.Words.{in_progress, left_now, put, reverted_as, Act, after, state, IsKeptByChanges, IsKeptByWrites, on_after, timeout_in, timeout_of, HasItsNumbers, level_in, level_of}
+use Rattle.promises.proofs.Words.{Context, Level, Order, VssResult, AsyncCancelled, Said, WriterRow, one_more, row_aborted, row_gathered, row_ended, Mark}
+use Rattle.promises.proofs.Words.{Group, Kind, Gather, Prepare, Snapshot, Complete, Member, open_group, IsKeptInCourse, course_answered as kept_answered}
+use Rattle.promises.proofs.Words.{course_stepped as kept_stepped, course_timed as kept_timed, course_begun as kept_begun, Session, Plan, WriterPlan, State, SetRow, start, row_of_writer}
+use Rattle.promises.proofs.Words.{in_progress, left_now, Act, after, state, IsKeptByChanges, IsKeptByWrites, on_after, timeout_in, timeout_of, HasItsNumbers, level_in, level_of}
 use Rattle.promises.proofs.Words.{by_if}
 use Rattle.std.proofs.Common.{◌≡◌, ◌∙◌, ℕ, ◌+◌, ◌≤◌, zero, suc, sym, List, [], ◌∷◌, ◌++◌, Option, Some, None, refl, Bool, true, false, ap, map, fold, arith}
-use Rattle.std.specs.Prelude.{if◌then◌else◌, slice_get}
+use Rattle.std.specs.Prelude.{slice_get}
 use Rattle.set_agenda.specs.Course.{Course, posted, rows_where, row_if, member_if, members_from, is_member, failed as course_failed, begun, told, worked, released}
-use Rattle.vss_model.specs.Ending.{Ending, NothingEnds, ending, concluded, followed, runs, failed_in, failed}
+use Rattle.vss_model.specs.Ending.{Ending, ending, concluded, followed, runs, failed_in, failed}
 use Rattle.vss_model.specs.Sessions.{begin_in, has_no_volume, closed}
 use Rattle.vss_model.specs.Steps.{answered, step_made, is_flush, is_failed_step, stepped_as, stepped, ticked, later}
 use Rattle.promises.proofs.Truth.{no_less}
@@ -68,11 +68,7 @@ module _ (l : ℕ → Level) (limit : ℕ → ℕ) where
       by_test false ms = ms
 
   aborted_same : (r : WriterRow) → Same r (row_aborted r)
-  aborted_same r = by_state (is_failed r.state)
-    where
-      by_state : (b : Bool) → Same r (if b then r else record r { state = stable_again r.state; aborts = one_more r.aborts })
-      by_state true = (refl, refl)
-      by_state false = (refl, refl)
+  aborted_same r = grind arith
 
   -- ## the course
 
@@ -91,7 +87,7 @@ module _ (l : ℕ → Level) (limit : ℕ → ℕ) where
 
   lev_told : (o : Order) (said : Said) (now : ℕ) (ws : List ℕ) (c : Course) → Leveled c → Leveled (told o said now ws c)
   unfolding told
-  lev_told o said now ws c h = record { rows = rows_some (row_after o said) (λ r. (refl, refl)) (λ w. is_among w ws) 0 0 c.rows h.rows; members = h.members; distinct = h.distinct }
+  lev_told o said now ws c h = grind (arith, rows_some)
 
   lev_worked : (now : ℕ) (c : Course) → Leveled c → Leveled (worked now c)
   unfolding worked
@@ -119,8 +115,7 @@ module _ (l : ℕ → Level) (limit : ℕ → ℕ) where
   Holds st = Leveled st.course
 
   on_concluded : (e : Ending) (st : State) → Holds st → Holds (concluded e st)
-  on_concluded NothingEnds st h = h
-  on_concluded _ st h = h
+  on_concluded e st h = grind arith
 
   on_followed : (ran : Bool) (c : Course) (st : State) → Leveled c → Holds (followed ran c st)
   unfolding followed
@@ -147,8 +142,7 @@ module _ (l : ℕ → Level) (limit : ℕ → ℕ) where
   on_failed_in (Some r) why st h = lev_failed why st.course h
 
   on_begin : (lane : ℕ) (all : Bool) (c : Option Context) (st : State) → Holds st → Holds (begin_in lane all c st).1
-  on_begin lane all None st h = h
-  on_begin lane all (Some c) st h = h
+  on_begin lane all c st h = grind arith
 
   on_closes : (q : Session) (st : State) → Holds st → Holds (closed q st)
   unfolding closed
@@ -175,19 +169,8 @@ module _ (l : ℕ → Level) (limit : ℕ → ℕ) where
     ends = λ q st e h. on_closes q (failed AsyncCancelled st) (on_failed_in (in_progress st) AsyncCancelled st h);
   }
 
-  on_puts : (v : ℕ) (w : Write) (mark : Mark) (x : State) → Holds x → Holds (put v w mark x)
-  on_puts v w Clean x h = h
-  on_puts v w _ x h = h
-
-  on_reverts : (s : Plan) (v : ℕ) (x : Kept) (mark : Mark) (st : State) → Holds st → Holds (reverted_as s v x mark st).1
-  on_reverts s v x Clean st h = h
-  on_reverts s v x _ st h = h
-
   kept_by_writes : (st : State) → IsKeptByWrites Holds st
-  kept_by_writes st = record {
-    puts = λ v e w mark x h. on_puts v w mark x h;
-    reverts = λ s n v x mark e f h. on_reverts s v x mark st h;
-  }
+  kept_by_writes st = grind arith
 
   pub on_fold : (s : Plan) (st : State) (acts : List Act) → Holds st → Holds (fold (after s) st acts)
   on_fold s st [] h = h

@@ -73,3 +73,6 @@ pub mod Documents
 pub mod Owing
 pub mod Promises
 pub mod Headline
+pub mod CutStep
+pub mod Ended
+pub mod Marks

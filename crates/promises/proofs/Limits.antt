@@ -1,13 +1,13 @@
 -- Where more than a limit has gone by that fails the set, time fails it. The limit of held writes is said of the first Hold step.
-use Rattle.promises.proofs.Words.{list_any, Order, PrepareBackup, PrepareSnapshot, WriterRow, answer_limit, hold_limit, default_freeze, is_spent, Group, Orders, Limit, Member, Agenda, Entry, Open}
+use Rattle.promises.proofs.Words.{list_any, Order, WriterRow, answer_limit, hold_limit, default_freeze, is_spent, Group, Limit, Member, Agenda, Entry, Open}
 use Rattle.promises.proofs.Words.{left, groups_left, order_of, order_now, Running, opened_at, freeze_opened_at, is_hold, first_time, first_hold, hold_runs, freeze_runs, answer_runs, runs_if}
 use Rattle.promises.proofs.Words.{hold_running, running_at, running_limits, spent_of, same_running, first_found, later_found, none_and_some, limit_found, hold_found, held_here, frozen_here}
 use Rattle.promises.proofs.Words.{asked_here, has_failed, has_passed, last_of, holds_volumes, is_hold_step, freezes_writers, prepares_snapshot, prepares_writers, frozen_too_long, unanswered_too_long}
 use Rattle.promises.proofs.Words.{Decides, same_hold, same_hold_step, same_freeze, freeze_since, answer_since}
 use Rattle.std.proofs.Common.{◌≡◌, ◌∙◌, ℕ, ◌+◌, List, [], ◌∷◌, ◌++◌, Option, Some, None, refl, Bool, true, false, sym, subst, filter, find, fold, min, arith}
-use Rattle.std.specs.Prelude.{◌&&◌, ◌||◌, nat_lt, ◌-◌, option_map, if◌then◌else◌, slice_get}
+use Rattle.std.specs.Prelude.{◌&&◌, ◌||◌, nat_lt, option_map, if◌then◌else◌, slice_get}
 use Rattle.set_agenda.specs.declared.limit.Limit.TheVariants.{Hold as HoldLimit, Freeze as FreezeLimit, Answer as AnswerLimit}
-use Rattle.set_agenda.specs.Course.{Course, posted, failed as course_failed, limit_of, freeze_limit, limits_now, fails_set as decides, lost, lost_decided, treated_as, treated, timed as course_timed}
+use Rattle.set_agenda.specs.Course.{Course, posted, failed as course_failed, limit_of, freeze_limit, limits_now, fails_set as decides, treated_as, treated, timed as course_timed}
 use Rattle.promises.proofs.Truth.{both_parts}
 
 -- ## a limit has gone by
@@ -36,31 +36,16 @@ posted_fails before c e = e
 
 treated_fails : (x : Limit) (now : ℕ) (c : Course) → Decides x (order_now (left c.agenda)) → has_failed (treated_as x now c).outcome ≡ true
 unfolding course_failed
-treated_fails AnswerLimit now c d = by_order (decides (order_now (left c.agenda))) d
-  where
-    by_order : (b : Bool) → b ≡ true → has_failed (lost_decided b (lost now c)).outcome ≡ true
-    by_order true e = refl
-    by_order false e = absurd cc
-treated_fails _ now c d = refl
+treated_fails x now c d = grind arith
 
 consent_runs : (g : Group) → prepares_writers g ≡ true → answer_runs g ≡ true
-consent_runs (Orders PrepareBackup) e = refl
-consent_runs (Orders PrepareSnapshot) e = refl
-consent_runs (Orders _) e = absurd cc
-consent_runs _ e = absurd cc
+consent_runs g e = grind arith
 
 consent_decides : (g : Group) → prepares_writers g ≡ true → decides (order_of g) ≡ true
-consent_decides (Orders PrepareBackup) e = refl
-consent_decides (Orders PrepareSnapshot) e = refl
-consent_decides (Orders _) e = absurd cc
-consent_decides _ e = absurd cc
+consent_decides g e = grind arith
 
 pub passed_spent : (now since limit : ℕ) → has_passed limit since now ≡ true → is_spent now since limit ≡ true
-passed_spent now since limit e = over (nat_lt (since + limit) now) limit now since refl e
-  where
-    over : (b : Bool) (l n t : ℕ) → nat_lt (t + l) n ≡ b → b ≡ true → nat_lt l (n - t) ≡ true
-    over true l n t e f = grind arith
-    over false l n t e f = absurd cc
+passed_spent now since limit e = grind arith
 
 -- ## which limit is spent
 
@@ -75,12 +60,10 @@ finds_one now false x since ticks e f = absurd cc
 finds_one now true x since ticks e f = record { one = record { limit = x; since = since; ticks = ticks }; is = rw f refl; limit = refl }
 
 pub spent_runs : (now : ℕ) (b : Bool) (x : Limit) (since ticks : ℕ) (l : Running) → spent_of now (runs_if b x since ticks) ≡ Some l → b ≡ true
-spent_runs now true x since ticks l e = refl
-spent_runs now false x since ticks l e = absurd cc
+spent_runs now b x since ticks l e = grind arith
 
 pub spent_holds : (now : ℕ) (g : Group) (t : Option ℕ) (l : Running) → spent_of now (hold_running g t) ≡ Some l → hold_runs g ≡ true
-spent_holds now g None l e = absurd cc
-spent_holds now g (Some t) l e = spent_runs now (hold_runs g) HoldLimit t hold_limit l e
+spent_holds now g t l e = grind arith
 
 -- ## held
 
@@ -96,11 +79,7 @@ first_is (x ∷ log) = by_test (is_hold x.place.group) (is_hold_step x.place.gro
     by_test false false e ih = ih
 
 pub held_finds : (now : ℕ) (g : Group) (a : Agenda) → holds_volumes g ≡ true → held_since_first now a ≡ true → Finds now (hold_running g (first_hold a.log)) HoldLimit
-held_finds now g a e f = subst (λ o. Finds now (hold_running g o) HoldLimit) (sym (first_is a.log)) (by_first (find (λ (x : Entry). is_hold_step x.place.group) a.log) f)
-  where
-    by_first : (o : Option Entry) → passed_since now o ≡ true → Finds now (hold_running g (option_map (λ (x : Entry). x.time) o)) HoldLimit
-    by_first None h = absurd cc
-    by_first (Some x) h = finds_one now (hold_runs g) HoldLimit x.time hold_limit (same_hold g ∙ e) (passed_spent now x.time hold_limit h)
+held_finds now g a e f = grind (arith, first_is, finds_one, same_hold, passed_spent)
 
 -- ## frozen
 
@@ -134,10 +113,7 @@ frozen_finds now g c a e =
 -- ## unanswered
 
 answer_finds : (now : ℕ) (a : Agenda) (o : Open) → unanswered_too_long now o.place a ≡ true → Finds now (runs_if (answer_runs o.place.group) AnswerLimit (opened_at a o) answer_limit) AnswerLimit
-answer_finds now a o e =
-    let parts = both_parts (prepares_writers o.place.group) _ e in
-    finds_one now (answer_runs o.place.group) AnswerLimit (opened_at a o) answer_limit (consent_runs o.place.group parts.0)
-    (passed_spent now (opened_at a o) answer_limit (subst (λ t. has_passed answer_limit t now ≡ true) (sym (answer_since a o)) parts.1))
+answer_finds now a o e = grind (arith, both_parts, finds_one, consent_runs, passed_spent, answer_since)
 
 -- ## the spent limit fails the set
 
@@ -187,8 +163,7 @@ due_in now c None e = absurd cc
 due_in now c (Some a) e = due_left now c a (groups_left a) e
 
 treats : (o : Option Running) (l : Running) (now : ℕ) (c : Course) → o ≡ Some l → Decides l.limit (order_now (left c.agenda)) → has_failed (treated o now c).outcome ≡ true
-treats None l now c e d = absurd cc
-treats (Some x) l now c e d = treated_fails x.limit now c (subst (λ (y : Running). Decides y.limit (order_now (left c.agenda))) (sym (same_running x l e)) d)
+treats o l now c e d = grind (arith, treated_fails, same_running)
 
 pub timed_fails : (now : ℕ) (c : Course) → is_due_in now c c.agenda ≡ true → has_failed (course_timed now c).outcome ≡ true
 timed_fails now c e =

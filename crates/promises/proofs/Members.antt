@@ -1,10 +1,9 @@
 -- Whom a choice makes take part: of the writers that pass a test exactly those are members, and exactly those takers, that have a row.
-use Rattle.promises.proofs.Words.{list_any, range_with_len, list_any-append, and_left, WriterRow, Member, is_among, is_member, member_if, members_from, is_taker, known_from as numbers_known, takers}
+use Rattle.promises.proofs.Words.{list_any, range_with_len, and_left, WriterRow, is_among, is_member, members_from, is_taker, known_from as numbers_known, takers}
 use Rattle.promises.proofs.Words.{Mode, Components, All, Plan, WriterPlan, Pair, State, is_writer}
-use Rattle.std.proofs.Common.{◌≡◌, ◌∙◌, ℕ, ◌+◌, ◌==◌, ◌<◌, ◌≤◌, zero, suc, List, [], ◌∷◌, refl, Bool, true, false, ap, sym, filter, length, arith}
-use Rattle.std.specs.Prelude.{◌&&◌, ◌||◌, if◌then◌else◌, nat_lt}
-use Rattle.vss_model.specs.Sessions.{is_known, meta_if, known_from, selected_in}
-use Rattle.promises.proofs.Truth.{equal, or_false}
+use Rattle.std.proofs.Common.{◌≡◌, ◌∙◌, ℕ, ◌+◌, ◌==◌, ◌<◌, ◌≤◌, zero, suc, List, [], ◌∷◌, refl, Bool, true, false, sym, filter, length, arith}
+use Rattle.std.specs.Prelude.{◌&&◌, ◌||◌, nat_lt}
+use Rattle.vss_model.specs.Sessions.{is_known, known_from, selected_in}
 
 -- ## numbers in order
 
@@ -23,48 +22,24 @@ still_less a w l = omega arith
 none_from : (a w : ℕ) → a ≤ w → nat_lt w (a + 0) ≡ false
 none_from a w l = grind arith
 
-own_within : (a n w : ℕ) → (a == w) ≡ true → nat_lt w (a + suc n) ≡ true
-own_within a n w e = grind arith
-
 pub one_on : (a n : ℕ) → a + 1 + n ≡ a + suc n
 one_on a n = omega arith
 
 -- ## a list of numbers that pass: the first, and those behind it
 
--- the number is the first
-own_is : (b c rest : Bool) → c ≡ true → rest ≡ false → ((b && c) || rest) ≡ b
-own_is true true false e f = refl
-own_is false true false e f = refl
-own_is b true true e f = absurd cc
-own_is b false d e f = absurd cc
-
 -- it is not
 skips : (b c rest : Bool) → c ≡ false → ((b && c) || rest) ≡ rest
-skips true true rest e = absurd cc
-skips true false rest e = refl
-skips false c rest e = refl
-
-within_is : (b c : Bool) → b ≡ true → (b && c) ≡ c
-within_is true c e = refl
-within_is false c e = absurd cc
+skips b c rest e = grind arith
 
 -- what passes of the numbers from a on, where the first passes or not
 one_more : (test : ℕ → Bool) (a n w : ℕ) (rest : Bool) → a ≤ w → ((a == w) ≡ true → rest ≡ false) → ((a == w) ≡ false → rest ≡ (nat_lt w (a + 1 + n) && test w))
     → ((test a && (a == w)) || rest) ≡ (nat_lt w (a + suc n) && test w)
-one_more test a n w rest l own later = by_number (a == w) refl
-  where
-    by_number : (c : Bool) → (a == w) ≡ c → ((test a && (a == w)) || rest) ≡ (nat_lt w (a + suc n) && test w)
-    by_number true e = own_is (test a) (a == w) rest e (own e) ∙ ap test (equal a w e) ∙ sym (within_is (nat_lt w (a + suc n)) (test w) (own_within a n w e))
-    by_number false e = skips (test a) (a == w) rest e ∙ later e ∙ ap (λ k. nat_lt w k && test w) (one_on a n)
+one_more test a n w rest l own later = grind arith
 
 -- ## members
 
 head_member : (test : ℕ → Bool) (k : ℕ) (r : WriterRow) (rows : List WriterRow) (w : ℕ) → is_member (members_from test k (r ∷ rows)) w ≡ ((test k && (k == w)) || is_member (members_from test (k + 1) rows) w)
-head_member test k r rows w = list_any-append (λ (m : Member). m.writer == w) (member_if (test k) k r) (members_from test (k + 1) rows) ∙ ap (λ b. b || is_member (members_from test (k + 1) rows) w) (by_test (test k))
-  where
-    by_test : (b : Bool) → is_member (member_if b k r) w ≡ (b && (k == w))
-    by_test true = or_false (k == w)
-    by_test false = refl
+head_member test k r rows w = grind arith
 
 no_member_before : (test : ℕ → Bool) (k : ℕ) (rows : List WriterRow) (w : ℕ) → w < k → is_member (members_from test k rows) w ≡ false
 no_member_before test k [] w l = refl
@@ -79,11 +54,7 @@ members_from_are test k (r ∷ rows) w l =
 -- ## takers
 
 head_passes : (test : ℕ → Bool) (a w : ℕ) (xs : List ℕ) → is_among w (filter test (a ∷ xs)) ≡ ((test a && (a == w)) || is_among w (filter test xs))
-head_passes test a w xs = by_test (test a)
-  where
-    by_test : (b : Bool) → is_among w (if b then a ∷ filter test xs else filter test xs) ≡ ((b && (a == w)) || is_among w (filter test xs))
-    by_test true = refl
-    by_test false = refl
+head_passes test a w xs = grind arith
 
 pub none_passes : (test : ℕ → Bool) (a n w : ℕ) → w < a → is_among w (filter test (range_with_len a n)) ≡ false
 none_passes test a zero w l = refl
@@ -102,11 +73,7 @@ module _ (s : Plan) (st : State) where
   knows w k ps = list_any (λ x. x == w) (numbers_known k (known_from s st k ps))
 
   head_known : (k w : ℕ) (p : WriterPlan) (ps : List WriterPlan) → knows w k (p ∷ ps) ≡ ((is_known s st k && (k == w)) || knows w (k + 1) ps)
-  head_known k w p ps = by_known (is_known s st k)
-    where
-      by_known : (b : Bool) → list_any (λ x. x == w) (numbers_known k (meta_if b p.meta ∷ known_from s st (k + 1) ps)) ≡ ((b && (k == w)) || knows w (k + 1) ps)
-      by_known true = refl
-      by_known false = refl
+  head_known k w p ps = grind arith
 
   none_known : (k w : ℕ) (ps : List WriterPlan) → w < k → knows w k ps ≡ false
   none_known k w [] l = refl
@@ -125,27 +92,15 @@ module _ (s : Plan) (st : State) where
   is_selected All w = is_known s st w
 
   twice : (b c : Bool) → (b && (b && c)) ≡ (b && c)
-  twice true c = refl
-  twice false c = refl
+  twice b c = grind arith
 
   from_zero : (n w : ℕ) → nat_lt w (0 + n) ≡ nat_lt w n
-  from_zero n w = ap (nat_lt w) (zero_plus n)
-    where
-      zero_plus : (a : ℕ) → 0 + a ≡ a
-      zero_plus a = omega arith
+  from_zero n w = grind arith
 
   pub taker_is : (mode : Mode) (w : ℕ) → (is_writer s w && is_taker (selected_in mode s st) w) ≡ (is_writer s w && is_selected mode w)
-  taker_is Components w = refl
-  taker_is All w = ap (λ b. is_writer s w && b) (known_are 0 w s.writers (omega arith) ∙ ap (λ b. b && is_known s st w) (from_zero (length s.writers) w)) ∙ twice (is_writer s w) (is_known s st w)
+  taker_is mode w = grind (arith, known_are, from_zero, twice)
 
   -- who is made to take part, where each writer has a row
   pub selected_are : (mode : Mode) (w : ℕ) → length st.course.rows ≡ length s.writers
       → is_member (members_from (λ x. is_among x (takers (length s.writers) (selected_in mode s st))) 0 st.course.rows) w ≡ (is_writer s w && is_selected mode w)
-  selected_are mode w rows =
-      let among = is_among w (takers (length s.writers) (selected_in mode s st)) in
-      let taker = is_taker (selected_in mode s st) in
-      members_from_are (λ x. is_among x (takers (length s.writers) (selected_in mode s st))) 0 st.course.rows w (omega arith)
-      ∙ ap (λ b. b && among) (from_zero (length st.course.rows) w ∙ ap (nat_lt w) rows)
-      ∙ ap (λ b. is_writer s w && b) (range_passes taker 0 (length s.writers) w (omega arith) ∙ ap (λ b. b && taker w) (from_zero (length s.writers) w))
-      ∙ twice (is_writer s w) (taker w)
-      ∙ taker_is mode w
+  selected_are mode w rows = grind (arith, members_from_are, from_zero, range_passes, twice, taker_is)

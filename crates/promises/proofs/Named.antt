@@ -59,7 +59,7 @@ named_no_more n xs ys h = fewer_pass (names xs) (names ys) h (range_with_len 0 n
 
 -- two parts name together no more than each by itself
 pub named_in_parts : (n : ℕ) (xs ys : List Write) → length (blocks_named n (xs ++ ys)) ≤ length (blocks_named n xs) + length (blocks_named n ys)
-named_in_parts n xs ys = passed_by_either (names (xs ++ ys)) (names xs) (names ys) (λ b. list_any-append (λ (w : Write). w.block == b) xs ys) (range_with_len 0 n)
+named_in_parts n xs ys = grind (arith, passed_by_either, list_any-append)
 
 pub named_by_none : (n : ℕ) → length (blocks_named n []) ≡ 0
 named_by_none n = over (range_with_len 0 n)
@@ -106,16 +106,11 @@ named_by_one n w = over 0 n
 -- ## parts of writes
 
 pub either : (a b : Bool) → (a || b) ≡ true → (a ≡ true) ⊎ (b ≡ true)
-either true b e = inl refl
-either false b e = inr e
+either a b e = grind arith
 
 -- with one more write before both
 with_head : (w : Write) (xs ys : List Write) → NameNoMore xs ys → NameNoMore (w ∷ xs) (w ∷ ys)
-with_head w xs ys h b e = by_test (w.block == b) e
-  where
-    by_test : (t : Bool) → (t || names xs b) ≡ true → (t || names ys b) ≡ true
-    by_test true f = refl
-    by_test false f = h b f
+with_head w xs ys h b e = grind arith
 
 no_names : (b : ℕ) (X : Type 0) → names [] b ≡ true → X
 no_names b X e = absurd cc
@@ -155,12 +150,7 @@ since_later (suc a) (suc p) (w ∷ ws) l b e = since_later a p ws (omega arith) 
 
 -- further writes are not of a part before them
 pub inner_append : (a b : ℕ) (ws more : List Write) → a ≤ b → b ≤ length ws → slice_range (ws ++ more) a b ≡ slice_range ws a b
-inner_append a b ws more l h =
-    ap (take (b - a)) (drop-append-le a ws more (chain a b (length ws) l h))
-    ∙ take-append-le (b - a) (drop a ws) more (subst (λ n. b - a ≤ n) (sym (length-drop a ws)) (less_both a b (length ws) l h))
-  where
-    less_both : (a b c : ℕ) → a ≤ b → b ≤ c → b - a ≤ c - a
-    less_both a b c l h = omega arith
+inner_append a b ws more l h = grind (arith, drop-append-le, chain, take-append-le, length-drop)
 
 -- ## blocks that are restored
 

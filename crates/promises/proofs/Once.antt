@@ -1,10 +1,10 @@
 -- No step is made twice, and nobody is heard twice to an order.
-use Rattle.promises.proofs.Words.{list_any, list_any-append, or_parts, Level, Order, Identify, Freeze, Thaw, PostSnapshot, Said, Group, Orders, Snapshot, Member, Place, true_not_false, among_filter}
+use Rattle.promises.proofs.Words.{list_any, list_any-append, or_parts, Level, Order, Said, Orders, Snapshot, Member, Place, true_not_false, among_filter}
 use Rattle.promises.proofs.Words.{Deed, is_heard, is_again, AreOnce, heard, Spoke}
-use Rattle.std.proofs.Common.{◌≡◌, ◌∙◌, ℕ, ◌==◌, ◌≤◌, ◌<◌, List, [], ◌∷◌, ◌++◌, Option, Some, None, refl, Bool, true, false, ap, sym, subst, map, filter, arith, ◌+◌}
-use Rattle.std.specs.Prelude.{◌&&◌, ◌||◌, not, is_some, if◌then◌else◌}
-use Rattle.set_agenda.specs.Agenda.{Agenda, Open, places, same_order, has_failed, has_said, is_at, writers_at, members_of, waited_for, with_group, left_from, open_place, is_among, waits_now}
-use Rattle.promises.proofs.Truth.{equal, false_of, left_part, right_part, same_number}
+use Rattle.std.proofs.Common.{◌≡◌, ◌∙◌, ℕ, ◌==◌, ◌≤◌, ◌<◌, List, [], ◌∷◌, ◌++◌, Option, Some, None, refl, Bool, true, false, sym, subst, map, filter, arith, ◌+◌}
+use Rattle.std.specs.Prelude.{◌||◌, not, is_some, if◌then◌else◌}
+use Rattle.set_agenda.specs.Agenda.{Agenda, Open, places, has_said, is_at, writers_at, members_of, waited_for, with_group, left_from, open_place, is_among, waits_now}
+use Rattle.promises.proofs.Truth.{false_of, left_part, right_part, same_number}
 use Rattle.promises.proofs.Levels.{Ascends}
 use Rattle.promises.proofs.Stages.{level_or, leveled}
 use Rattle.promises.proofs.Heard.{order_place}
@@ -23,8 +23,7 @@ once_one (x ∷ ds) d h e =
     none false false e f = refl
 
 pub both_false : (a b : Bool) → a ≡ false → b ≡ false → (a || b) ≡ false
-both_false true b e f = absurd cc
-both_false false b e f = f
+both_false a b e f = grind arith
 
 -- each number once
 abbrev pub Apart : List ℕ → Type 0
@@ -38,12 +37,7 @@ unheard o said now (u ∷ us) d h =
     both_false (is_heard o u d) _ (h u (left_part (u == u) (is_among u us) (same_number u))) (unheard o said now us d (λ x e. h x (right_part (u == x) (is_among x us) e)))
 
 pub other_writer : (o : Order) (w : ℕ) (said : Said) (now : ℕ) (us : List ℕ) → is_among w us ≡ false → (u : ℕ) → is_among u us ≡ true → is_heard o u (Spoke o w said now) ≡ false
-other_writer o w said now us e u f = by_same (w == u) refl (same_order o o)
-  where
-    by_same : (b : Bool) → (w == u) ≡ b → (c : Bool) → (c && (w == u)) ≡ false
-    by_same true g c = absurd (true_not_false (is_among u us) f (subst (λ x. is_among x us ≡ false) (equal w u g) e))
-    by_same false g true = g
-    by_same false g false = refl
+other_writer o w said now us e u f = grind arith
 
 pub once_spoken : (ds : List Deed) (o : Order) (said : Said) (now : ℕ) (ws : List ℕ) → AreOnce ds → Apart ws → ((u : ℕ) → is_among u ws ≡ true → heard o u ds ≡ false) → AreOnce (ds ++ map (λ u. Spoke o u said now) ws)
 once_spoken [] o said now [] h p f = tt
@@ -93,8 +87,7 @@ apart_writers w (m ∷ ms) l h = by_head (is_at l m.level) (apart_writers (m.wri
     by_head false ih = ih
 
 pub apart_members : (o : Order) (a : Agenda) (l : Option Level) → Ascends 0 a.members → Apart (members_of a (Orders o) l)
-apart_members PostSnapshot a l h = apart_filter (λ x. not (has_failed a.log x)) (writers_at a.members l) (apart_writers 0 a.members l h)
-apart_members _ a l h = apart_writers 0 a.members l h
+apart_members o a l h = grind (arith, apart_filter, apart_writers)
 
 pub waits_apart : (a : Agenda) (ps : List Place) (o : Order) → Ascends 0 a.members → (open_place (left_from a ps)).group ≡ Orders o → Apart (waits_now (left_from a ps))
 waits_apart a [] o h e = tt
@@ -112,7 +105,7 @@ NoneGiven [] = Unit {0}
 NoneGiven (p ∷ ps) = (leveled p.group ≡ false → p.level ≡ None) × NoneGiven ps
 
 pub none_given : NoneGiven (places Snapshot)
-none_given = (λ e. refl, (λ e. absurd cc, (λ e. absurd cc, (λ e. absurd cc, (λ e. refl, (λ e. refl, (λ e. refl, (λ e. refl, (λ e. refl, (λ e. refl, (λ e. refl, (λ e. absurd cc, (λ e. absurd cc, (λ e. absurd cc, (λ e. refl, tt)))))))))))))))
+none_given = grind arith
 
 pub open_unleveled : (a : Agenda) (ps : List Place) → NoneGiven ps → leveled (open_place (left_from a ps)).group ≡ false → (open_place (left_from a ps)).level ≡ None
 open_unleveled a [] h e = refl
@@ -123,20 +116,7 @@ open_unleveled a (p ∷ ps) h e = at_group (waited_for a p) (left_from a ps) (op
     at_group (w ∷ ws) later ih e = h.0 e
 
 pub level_some : (l : Option Level) (x : Level) → is_some l ≡ true → x ≡ level_or l → l ≡ Some x
-level_some None x e f = absurd cc
-level_some (Some y) x e f = ap Some (sym f)
+level_some l x e f = grind arith
 
 pub is_order_place : (o : Order) (x : Level) (q : Place) → q.group ≡ Orders o → (leveled q.group ≡ true → q.level ≡ Some x) → (leveled q.group ≡ false → q.level ≡ None) → q ≡ order_place o x
-is_order_place o x q e f g = both_same q (order_place o x).group (order_place o x).level (e ∙ sym (group_is o)) (level_is o e f g)
-  where
-    both_same : (q : Place) (h : Group) (l : Option Level) → q.group ≡ h → q.level ≡ l → q ≡ record { group = h; level = l }
-    both_same q h l e f = ap (λ y. record { group = y; level = q.level }) e ∙ ap (λ y. record { group = h; level = y }) f
-
-    group_is : (o : Order) → (order_place o x).group ≡ Orders o
-    group_is Identify = refl
-    group_is _ = refl
-
-    level_is : (o : Order) → q.group ≡ Orders o → (leveled q.group ≡ true → q.level ≡ Some x) → (leveled q.group ≡ false → q.level ≡ None) → q.level ≡ (order_place o x).level
-    level_is Freeze e f g = f (ap leveled e)
-    level_is Thaw e f g = f (ap leveled e)
-    level_is _ e f g = g (ap leveled e)
+is_order_place o x q e f g = grind arith

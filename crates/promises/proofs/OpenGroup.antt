@@ -1,7 +1,7 @@
 -- The open group, and what it adds to the log.
 use Rattle.promises.proofs.Words.{list_any, Said, Kind, Place, Agenda, Entry, Open, places, is_orders, waited_for, with_group, left_from, groups_left, open_place, waits_now, is_among, head_or_0}
 use Rattle.promises.proofs.Words.{at_place, last_time, is_hold, first_time, first_hold, after, WaitsWell, waits-left_from}
-use Rattle.std.proofs.Common.{◌≡◌, ◌∙◌, ℕ, List, [], ◌∷◌, ◌++◌, Some, None, refl, Bool, true, false, ap, sym, subst, inl, inr, map, filter}
+use Rattle.std.proofs.Common.{◌≡◌, ℕ, List, [], ◌∷◌, ◌++◌, Some, None, refl, Bool, true, false, ap, sym, subst, inl, inr, map, filter, arith}
 use Rattle.std.specs.Prelude.{◌&&◌, ◌||◌, if◌then◌else◌}
 use Rattle.promises.proofs.Truth.{both_parts}
 use Rattle.promises.proofs.Speaks.{Speaks}
@@ -73,8 +73,7 @@ last_all now test p said (w ∷ ws) e = by_test (test p) e (last_all now test p 
     by_test false e ih = absurd cc
 
 pub last_if : (t now : ℕ) (b : Bool) (x : Entry) (es : List Entry) → last_time x.time es ≡ now → last_time t es ≡ now → last_time t (if b then x ∷ es else es) ≡ now
-last_if t now true x es f g = f
-last_if t now false x es f g = g
+last_if t now b x es f g = grind arith
 
 pub last_new : (t now : ℕ) (test : Place → Bool) (p : Place) (said : Said) (log : List Entry) (w : ℕ) (ws : List ℕ) → test p ≡ true → last_time t (filter (λ (e : Entry). test e.place) (log ++ map (at_place p said now) (w ∷ ws))) ≡ now
 last_new t now test p said [] w ws e = by_test (test p) e
@@ -96,8 +95,7 @@ none_new now test p said (w ∷ ws) [] e = by_test (test p) e (none_new now test
 none_new now test p said ws (x ∷ log) e = ap (λ ys. if test x.place then x ∷ ys else ys) (none_new now test p said ws log e)
 
 pub filter_along : (f g : Entry → Bool) → ((e : Entry) → f e ≡ g e) → (log : List Entry) → filter f log ≡ filter g log
-filter_along f g same [] = refl
-filter_along f g same (x ∷ log) = ap (λ b. if b then x ∷ filter f log else filter f log) (same x) ∙ ap (λ ys. if g x then x ∷ ys else ys) (filter_along f g same log)
+filter_along f g same log = grind arith
 
 abbrev pub has_hold : List Entry → Bool
 has_hold log = list_any (λ (e : Entry). is_hold e.place.group) log

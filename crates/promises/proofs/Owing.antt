@@ -1,28 +1,28 @@
 -- Nobody owes an answer once the agenda that asked for it is over: while it runs, whoever owes one is waited for; and it ends only where
 -- nobody is.
-use Rattle.promises.proofs.Words.{list_any, list_any-append, Context, Backup, AppRollback, NasRollback, Order, SetOutcome, VssResult, AsyncCancelled, AsyncPending, BadState, InsufficientStorage, Said}
-use Rattle.promises.proofs.Words.{Lost, is_ok, row_gathered, WriterRow, Mark, Clean, Fault, Write, takers, said_of, Group, Orders, Kind, Gather, Prepare, Snapshot, Complete, Member, Place, Agenda}
-use Rattle.promises.proofs.Words.{Entry, Open, plain, places, order_of, has_said, same_place, writers_at, waited_for, with_group, left_from, groups_left, left, open_group, open_place, is_among}
-use Rattle.promises.proofs.Words.{is_working, is_done, at_place, all_say, order_now, same_order, waits_now, order_code, spent_of, Stage, Session, opened, started as session_started, has_writers}
+use Rattle.promises.proofs.Words.{list_any, list_any-append, Context, Order, SetOutcome, VssResult, AsyncCancelled, AsyncPending, BadState, Said}
+use Rattle.promises.proofs.Words.{Lost, is_ok, row_gathered, WriterRow, Mark, Write, takers, said_of, Group, Orders, Kind, Gather, Prepare, Snapshot, Complete, Member, Place, Agenda}
+use Rattle.promises.proofs.Words.{Entry, Open, plain, order_of, has_said, same_place, writers_at, groups_left, left, open_group, open_place, is_among}
+use Rattle.promises.proofs.Words.{is_working, is_done, at_place, all_say, order_now, waits_now, spent_of, Stage, Session, opened, started as session_started, has_writers}
 use Rattle.promises.proofs.Words.{stage_after, agenda_ended, set_failed, is_stage, Op, begins_agenda, Target, target_of, Plan, runs, followed, failed_in, failed, SetRow, State, Kept, in_progress}
-use Rattle.promises.proofs.Words.{left_now, Event, Reply, Fine, Coded, Deleted, has_failed, WaitsFor, IsAgendaOf, line_ticks, lost_after, lost_order_if, Act, enabled, order_of_writer, idle_now}
-use Rattle.promises.proofs.Words.{answer_reply, reply, after, state, LetsGo, is_pending, Settles, among_filter, state-append, append_nothing, orderly, Deed, Spoke, deeds_lost, Asking, ToIdentify}
-use Rattle.promises.proofs.Words.{ForConsent, AtCompletion, order_for, asks, step_for, is_asked_of, counts, is_reply, owes_after, owes_if, owes_from, owes, NobodyOwes, Step, ByGather, ByPrepare}
+use Rattle.promises.proofs.Words.{left_now, Event, Reply, Fine, Coded, Deleted, has_failed, IsAgendaOf, line_ticks, lost_order_if, Act, enabled, order_of_writer, idle_now}
+use Rattle.promises.proofs.Words.{answer_reply, after, state, LetsGo, is_pending, Settles, among_filter, state-append, append_nothing, orderly, Deed, Spoke, deeds_lost, Asking, ToIdentify}
+use Rattle.promises.proofs.Words.{ForConsent, AtCompletion, order_for, asks, step_for, is_asked_of, is_reply, owes_after, owes_if, owes_from, owes, NobodyOwes, Step, ByGather, ByPrepare}
 use Rattle.promises.proofs.Words.{ByComplete, progress, is_step, is_writer, choosing, Covers, covered, after_enabled, after_not_enabled, some_same, by_if, none_runs}
 use Rattle.std.proofs.Common.{◌≡◌, ◌∙◌, ℕ, ◌+◌, ◌==◌, List, [], ◌∷◌, ◌++◌, Option, Some, None, refl, Bool, true, false, ap, sym, subst, inl, inr, map, filter, length, arith}
 use Rattle.std.specs.Prelude.{◌&&◌, ◌||◌, not, is_some, option_map, if◌then◌else◌, nat_lt}
 use Rattle.writer_calls.specs.declared.answer.Answer.{Answer}
 use Rattle.set_agenda.specs.Course.{Course, is_member, fails_set, begun, answered as course_answered, stepped as course_stepped, timed as course_timed, settled, settled_if, posted}
 use Rattle.set_agenda.specs.Course.{failed as course_failed, released, limits_now, lost_at, members_from, has_row_failed, prepared as course_prepared}
-use Rattle.requestor.specs.declared.stage.Stage.TheVariants.{Opened, Gathered, Started, Prepared, Done, Finished, Failed}
+use Rattle.requestor.specs.declared.stage.Stage.TheVariants.{Opened, Gathered, Started, Prepared, Done, Finished}
 use Rattle.requestor.specs.declared.session_call.SessionCall.TheVariants as call
 use Rattle.scenario.specs.declared.op.Op.TheVariants as op
 use Rattle.vss_model.specs.declared.event.Event.TheVariants.{Line, Answer as AnswerEvent, Provider}
-use Rattle.vss_model.specs.Images.{Replied, refused, cleared, set_loses_image, with_room_if, put, write, reverted_as}
+use Rattle.vss_model.specs.Images.{Replied, refused, with_room_if, put, write, reverted_as}
 use Rattle.vss_model.specs.Sessions.{disable, new_number, start_set, has_no_volume, closed, is_disabled, selected, pending, gather, complete}
-use Rattle.vss_model.specs.Steps.{answered, step_made, is_flush, is_failed_step, stepped_as, stepped, ticked, later}
+use Rattle.vss_model.specs.Steps.{answered, is_flush, is_failed_step, stepped_as, stepped, ticked, later}
 use Rattle.vss_model.proofs.LogRule.{Running, unspoken}
-use Rattle.promises.proofs.Truth.{and_true, both_are, both_parts, equal, false_of, left_part, not_false, not_true, right_part, same_number}
+use Rattle.promises.proofs.Truth.{both_parts, equal, false_of, left_part, not_true, right_part}
 use Rattle.promises.proofs.Scripts.{kept_test, kept_among}
 use Rattle.promises.proofs.Speaks.{deed_at, deed_in, said_at, Grows, made_now, lost_told, grows_answered, grows_stepped, grows_timed}
 use Rattle.promises.proofs.BusyAgendas.{course_followed}
@@ -42,37 +42,18 @@ kind_for ToIdentify = Gather
 kind_for ForConsent = Prepare
 kind_for AtCompletion = Complete
 
-single : (i : Asking) → places (kind_for i) ≡ p0 i ∷ []
-single ToIdentify = refl
-single _ = refl
-
 -- those of its one group that are not heard
 abbrev waiting : Asking → Agenda → List ℕ
 waiting i a = filter (λ who. not (has_said a.log (p0 i) who)) (writers_at a.members None)
 
-waiting_is : (i : Asking) (a : Agenda) → waited_for a (p0 i) ≡ waiting i a
-waiting_is ToIdentify a = refl
-waiting_is _ a = refl
-
 -- ## the agenda
-
-left_is : (i : Asking) (a : Agenda) → a.kind ≡ kind_for i → groups_left a ≡ with_group (p0 i) (waiting i a) []
-left_is i a k = ap (λ j. left_from a (places j)) k ∙ ap (λ ps. left_from a ps) (single i) ∙ ap (λ ws. with_group (p0 i) ws []) (waiting_is i a)
 
 -- whoever is waited for is so in the one group
 open_is : (i : Asking) (w : ℕ) (a : Agenda) → a.kind ≡ kind_for i → is_among w (waiting i a) ≡ true → open_place (groups_left a) ≡ p0 i
-open_is i w a k e = ap open_place (left_is i a k) ∙ by_waits (waiting i a) e
-  where
-    by_waits : (ws : List ℕ) → is_among w ws ≡ true → open_place (with_group (p0 i) ws []) ≡ p0 i
-    by_waits [] e = absurd cc
-    by_waits (x ∷ ws) e = refl
+open_is i w a k e = grind arith
 
 none_waits : (i : Asking) (w : ℕ) (a : Agenda) → a.kind ≡ kind_for i → is_done (groups_left a) ≡ true → is_among w (waiting i a) ≡ false
-none_waits i w a k e = by_waits (waiting i a) (sym (ap is_done (left_is i a k)) ∙ e)
-  where
-    by_waits : (ws : List ℕ) → is_done (with_group (p0 i) ws []) ≡ true → is_among w ws ≡ false
-    by_waits [] e = refl
-    by_waits (x ∷ ws) e = absurd cc
+none_waits i w a k e = grind arith
 
 -- a new entry of a place is of one who speaks
 new_said : (p q : Place) (said : Said) (now : ℕ) (ws : List ℕ) (w : ℕ) → has_said (map (at_place p said now) ws) q w ≡ true → is_among w ws ≡ true
@@ -100,16 +81,9 @@ new_told g p said now (x ∷ ws) w test f e = by_head (x == w) refl e (new_told 
 both : {X : Type 0} (b : Bool) → b ≡ true → b ≡ false → X
 both b e f = absurd cc
 
--- what is said at the open place counts, where it fails no set
-counts_at : (i : Asking) (g : Group) (said : Said) → g ≡ Orders (order_for i) → (fails_set (order_of g) && not (is_ok said)) ≡ false → counts i said ≡ true
-counts_at ForConsent g said e f = not_false (is_ok said) (ap (λ x. fails_set (order_of x) && not (is_ok said)) (sym e) ∙ f)
-counts_at _ g said e f = refl
-
 own_reply : (i : Asking) (g : Group) (said : Said) (now u w : ℕ) → g ≡ Orders (order_for i) → (fails_set (order_of g) && not (is_ok said)) ≡ false → (u == w) ≡ true
     → is_reply i w (deed_at g u said now) ≡ true
-own_reply i g said now u w e f same =
-    ap (λ x. is_reply i w (deed_at x u said now)) e
-    ∙ both_are (same_order (order_for i) (order_for i)) _ (same_number (order_code (order_for i))) (both_are (counts i said) (u == w) (counts_at i g said e f) same)
+own_reply i g said now u w e f same = grind arith
 
 -- who was not heard is waited for still
 still_waits : (i : Asking) (w : ℕ) (said : Said) (now : ℕ) (ws : List ℕ) (a : Agenda) → a.kind ≡ kind_for i
@@ -158,11 +132,7 @@ module _ (i : Asking) (w : ℕ) where
     settled_waits : (done : Bool) (a : Agenda) (o : SetOutcome) (b : Option Agenda) (p : SetOutcome) → (done ≡ true → is_done (groups_left a) ≡ true) → Settles done a o b p
         → Waits d a
         → Running (Waits d) b × (b ≡ None → a.kind ≡ kind_for i → d ≡ false)
-    settled_waits true a o b p done e h = (subst (Running (Waits d)) (sym e.0) tt, λ f k. false_of d (λ g. both (is_among w (waiting i a)) (h k g) (none_waits i w a k (done refl))))
-    settled_waits false a o b p done e h = (subst (Running (Waits d)) (sym e.0) h, λ f. absurd (differ (sym e.0 ∙ f)))
-      where
-        differ : Some a ≡ None → ⊥
-        differ e = cc
+    settled_waits done a o b p x5 e h = grind (arith, false_of, both, none_waits)
 
     grows_waits : (a : Option Agenda) (o : SetOutcome) (b : Option Agenda) (p : SetOutcome) (news : List Deed) → Grows a o b p news
         → (d ≡ true → list_any (is_reply i w) news ≡ false) → Running (Waits c) a → Running (Waits d) b × Ends a b p
@@ -191,11 +161,7 @@ member_waits w (m ∷ ms) e = by_head (m.writer == w) e (member_waits w ms)
 begun_other : (i : Asking) (w : ℕ) (c : Bool) (k : Kind) (ms : List Member) (vs : List ℕ) (now : ℕ) (x : Course) → (k ≡ kind_for i → ⊥)
     → Running (Waits i w c) (begun k ms vs now x).agenda
 unfolding begun posted settled
-begun_other i w c k ms vs now x other = by_done (is_done (groups_left (unspoken k ms vs now)))
-  where
-    by_done : (b : Bool) → Running (Waits i w c) (settled_if b k (record x { agenda = Some (unspoken k ms vs now) })).agenda
-    by_done true = tt
-    by_done false = λ e. absurd (other e)
+begun_other i w c k ms vs now x other = grind arith
 
 begun_own : (i : Asking) (w : ℕ) (d : Bool) (ms : List Member) (now : ℕ) (x : Course) → (d ≡ true → is_member ms w ≡ true)
     → Running (Waits i w d) (begun (kind_for i) ms [] now x).agenda × ((begun (kind_for i) ms [] now x).agenda ≡ None → d ≡ false)
@@ -234,8 +200,7 @@ member_kept rows (m ∷ ms) w e f = by_head (m.writer == w) (not (has_row_failed
 -- ## what acts tell
 
 no_step : (i : Asking) (w now : ℕ) (os : List Open) (g : Option Group) → list_any (is_reply i w) (made_now os now g) ≡ false
-no_step i w now os None = refl
-no_step i w now os (Some g) = refl
+no_step i w now os g = grind arith
 
 -- whenever it was lost
 lost_when : (i : Asking) (w m n : ℕ) (o : Option Order) (ws : List ℕ) → list_any (is_reply i w) (deeds_lost m o ws) ≡ list_any (is_reply i w) (deeds_lost n o ws)
@@ -251,76 +216,34 @@ stage_for ForConsent = Prepared
 stage_for AtCompletion = Finished
 
 prepares_to : (c : Context) (t : Stage) → (t ≡ Started) × (has_writers c ≡ true) → stage_after c t ≡ Prepared
-prepares_to Backup t e = ap (stage_after Backup) e.0
-prepares_to AppRollback t e = ap (stage_after AppRollback) e.0
-prepares_to NasRollback t e = absurd (differ e.1)
-  where
-    differ : false ≡ true → ⊥
-    differ e = cc
-
--- the stage after an agenda
-waits_for : (i : Asking) (k : Kind) (c : Context) (t : Stage) → WaitsFor k c t → stage_after c t ≡ stage_for i → k ≡ kind_for i
-waits_for i k c t h e = only i k (sym (leads k c t h) ∙ e)
-  where
-    stage_of_kind : Kind → Stage
-    stage_of_kind Gather = Gathered
-    stage_of_kind Prepare = Prepared
-    stage_of_kind Snapshot = Done
-    stage_of_kind Complete = Finished
-
-    leads : (k : Kind) (c : Context) (t : Stage) → WaitsFor k c t → stage_after c t ≡ stage_of_kind k
-    leads Gather c t h = ap (stage_after c) h
-    leads Prepare c t h = prepares_to c t h
-    leads Snapshot Backup t h = ap (stage_after Backup) h
-    leads Snapshot AppRollback t h = ap (stage_after AppRollback) h
-    leads Snapshot NasRollback t h = ap (stage_after NasRollback) h
-    leads Complete c t h = ap (stage_after c) h
-
-    only : (i : Asking) (k : Kind) → stage_of_kind k ≡ stage_for i → k ≡ kind_for i
-    only ToIdentify Gather e = refl
-    only ForConsent Prepare e = refl
-    only AtCompletion Complete e = refl
-    only i k e = absurd cc
-
-not_failed : (i : Asking) → Failed ≡ stage_for i → ⊥
-not_failed ToIdentify e = cc
-not_failed _ e = cc
+prepares_to c t e = grind arith
 
 not_opened : (i : Asking) → Opened ≡ stage_for i → ⊥
-not_opened ToIdentify e = cc
-not_opened _ e = cc
+not_opened i e = grind arith
 
 not_started : (i : Asking) → Started ≡ stage_for i → ⊥
-not_started ToIdentify e = cc
-not_started _ e = cc
+not_started i e = grind arith
 
 not_done : (i : Asking) → Done ≡ stage_for i → ⊥
-not_done ToIdentify e = cc
-not_done _ e = cc
+not_done i e = grind arith
 
 gather_is : (i : Asking) → asks op.Gather i ≡ true → i ≡ ToIdentify
-gather_is ToIdentify e = refl
-gather_is _ e = absurd cc
+gather_is i e = grind arith
 
 gather_not : (i : Asking) → asks op.Gather i ≡ false → (Gather ≡ kind_for i → ⊥) × (Gathered ≡ stage_for i → ⊥)
-gather_not ToIdentify e = absurd cc
-gather_not _ e = (λ f. cc, λ f. cc)
+gather_not i e = grind arith
 
 prepare_is : (i : Asking) → asks op.Prepare i ≡ true → i ≡ ForConsent
-prepare_is ForConsent e = refl
-prepare_is _ e = absurd cc
+prepare_is i e = grind arith
 
 prepare_not : (i : Asking) → asks op.Prepare i ≡ false → (Prepare ≡ kind_for i → ⊥) × (Prepared ≡ stage_for i → ⊥)
-prepare_not ForConsent e = absurd cc
-prepare_not _ e = (λ f. cc, λ f. cc)
+prepare_not i e = grind arith
 
 complete_is : (i : Asking) → asks op.Complete i ≡ true → i ≡ AtCompletion
-complete_is AtCompletion e = refl
-complete_is _ e = absurd cc
+complete_is i e = grind arith
 
 complete_not : (i : Asking) → asks op.Complete i ≡ false → (Complete ≡ kind_for i → ⊥) × (Finished ≡ stage_for i → ⊥)
-complete_not AtCompletion e = absurd cc
-complete_not _ e = (λ f. cc, λ f. cc)
+complete_not i e = grind arith
 
 opened_now : (q : Session) → (is_stage q.stage Opened && has_writers q.context) ≡ true → q.stage ≡ Opened
 opened_now q e = is_opened q.stage (both_parts (is_stage q.stage Opened) (has_writers q.context) e).0
@@ -332,12 +255,10 @@ done_now : (q : Session) → (is_stage q.stage Done && has_writers q.context) �
 done_now q e = is_done_stage q.stage (both_parts (is_stage q.stage Done) (has_writers q.context) e).0
 
 not_snapshot : (i : Asking) → Snapshot ≡ kind_for i → ⊥
-not_snapshot ToIdentify e = cc
-not_snapshot _ e = cc
+not_snapshot i e = grind arith
 
 failed_stage : {X : Type 0} (i : Asking) (why : VssResult) (o : Option Session) (q : Session) → option_map (set_failed why) o ≡ Some q → q.stage ≡ stage_for i → X
-failed_stage i why None q e f = absurd cc
-failed_stage i why (Some p) q e f = absurd (not_failed i (ap (λ (y : Session). y.stage) (some_same (set_failed why p) q e) ∙ f))
+failed_stage i why o q e f = grind arith
 
 -- ## every act
 
@@ -355,44 +276,33 @@ module _ (s : Plan) (so_far : List Act) (i : Asking) (w : ℕ) where
 
     -- a line that tells nothing
     line_flag : (lane now : ℕ) (o : Op) (told : Reply) → line_ticks o ≡ None → (asks o i && is_pending told) ≡ false → c ≡ owes_after i w s so_far (Line lane o) told now c
-    line_flag lane now o told e f =
-        sym (and_true c)
-        ∙ ap (λ b. (if b then is_asked_of w i s so_far else c) && true) (sym f)
-        ∙ ap (λ x. (if asks o i && is_pending told then is_asked_of w i s so_far else c) && not
-        (list_any (is_reply i w) (deeds_lost now (lost_order_if (lost_after x st) (order_now (left_now st))) (lost_after x st)))) (sym e)
+    line_flag lane now o told e f = grind arith
 
     tells_none : (lane : ℕ) (o : Op) (mark : Mark) (told : Reply) (x : State) → line_ticks o ≡ None → (asks o i && is_pending told) ≡ false → Stands i w x c → Next (Line lane o) mark (told, x)
     tells_none lane o mark told x e f k = subst (Stands i w x) (line_flag lane x.clock o told e f) k
 
     beside : (x : State) → x.course ≡ st.course → ((q : Session) → x.session ≡ Some q → q.stage ≡ stage_for i → st.session ≡ Some q) → Stands i w x c
-    beside x e own = record {
-      running = subst (λ (k : Course). Running (Waits i w c) k.agenda) (sym e) h.running;
-      done = λ q f g. h.done q (own q f g) g;
-    }
+    beside x e own = grind arith
 
     same : (x : State) → x.course ≡ st.course → x.session ≡ st.session → Stands i w x c
     same x e f = beside x e (λ q g k. sym f ∙ g)
 
     on_failed : (o : Option SetRow) (why : VssResult) (x : State) → x.course ≡ st.course → x.session ≡ st.session → Stands i w (failed_in o why x) c
     unfolding course_failed
-    on_failed None why x e f = same x e f
-    on_failed (Some r) why x e f = record { running = tt; done = λ q g k. failed_stage i why x.session q g k }
+    on_failed o why x e f = grind arith
 
     on_room : (b : Bool) (x : State) → x.course ≡ st.course → x.session ≡ st.session → Stands i w (with_room_if b x) c
-    on_room true x e f = on_failed (in_progress x) InsufficientStorage x e f
-    on_room false x e f = same x e f
+    on_room b x e f = grind (arith, on_failed, same)
 
     on_put : (v : ℕ) (b : Write) (mark : Mark) (x : State) → Stands i w x c → Stands i w (put v b mark x) c
-    on_put v b Clean x k = record { running = k.running; done = k.done }
-    on_put v b _ x k = k
+    on_put v b mark x k = grind arith
 
     on_write : (v : ℕ) (b : Write) (mark : Mark) → Stands i w (write s v b mark st).1 c
     unfolding write
-    on_write v b mark = on_put v b mark _ (on_room (set_loses_image (in_progress st) st.volumes (cleared s v b.block st).volumes) (cleared s v b.block st) refl refl)
+    on_write v b mark = grind (arith, on_put, on_room)
 
     on_reverts : (v : ℕ) (k : Kept) (mark : Mark) → Stands i w (reverted_as s v k mark st).1 c
-    on_reverts v k Fault = h
-    on_reverts v k _ = same _ refl refl
+    on_reverts v k mark = grind arith
 
     on_close : (q : Session) (x : State) → Stands i w (closed q x) c
     unfolding closed released
@@ -411,11 +321,7 @@ module _ (s : Plan) (so_far : List Act) (i : Asking) (w : ℕ) where
       over_by : (q : Session) (a : Option Agenda) (p : Option Session) → st.course.agenda ≡ a → st.session ≡ p → is_some a ≡ true → option_map agenda_ended p ≡ Some q
           → q.stage ≡ stage_for i → IsAgendaOf a p
           → Ends i w c d keeps a k.agenda k.outcome → x.session ≡ Some q → runs x ≡ false → d ≡ false
-      over_by q None p e f ran ended stage waits ends own quiet = absurd cc
-      over_by q (Some a) None e f ran ended stage waits ends own quiet = absurd cc
-      over_by q (Some a) (Some p) e f ran ended stage waits ends own quiet =
-          ends (ap (λ (y : Course). y.agenda) (sym is) ∙ quiet_none x quiet) (ap (λ (y : Course). has_failed y.outcome) (sym is) ∙ calm q own (λ f. not_failed i (sym f ∙ stage)))
-          (waits_for i a.kind p.context p.stage waits (ap (λ (y : Session). y.stage) (some_same (agenda_ended p) q ended) ∙ stage))
+      over_by q a p e f ran ended stage waits ends own quiet = grind arith
 
       done_by : (q : Session) → x.session ≡ Some q → q.stage ≡ stage_for i → Turn st x (runs st) → d ≡ false
       done_by q f g (inl t) = failed_stage i t.why st.session q (sym t.session ∙ f) g
@@ -452,8 +358,7 @@ module _ (s : Plan) (so_far : List Act) (i : Asking) (w : ℕ) where
         (λ e. (both_parts c _ e).0) (λ e. not_true _ (both_parts c _ e).1)
 
     step_course : (b : Bool) (g : Option Group) → (stepped_as b g st).course ≡ course_stepped (not b) st.clock st.course
-    step_course true g = course_followed (runs st) (course_stepped false st.clock st.course) st
-    step_course false g = course_followed (runs st) (course_stepped true st.clock st.course) (step_made g st)
+    step_course b g = grind (arith, course_followed)
 
     on_steps : (mark : Mark) (told : Reply) → is_working (left_now st) ≡ true → Next Provider mark (told, stepped mark st)
     unfolding stepped
@@ -527,20 +432,11 @@ module _ (s : Plan) (so_far : List Act) (i : Asking) (w : ℕ) where
     in_stage : {X : Type 0} (p q : Session) (t : Stage) → Some p ≡ Some q → p.stage ≡ t → (t ≡ stage_for i → ⊥) → q.stage ≡ stage_for i → X
     in_stage p q t e f never g = absurd (never (sym f ∙ ap (λ (z : Session). z.stage) (some_same p q e) ∙ g))
 
-    and_false : (b : Bool) → (b && false) ≡ false
-    and_false true = refl
-    and_false false = refl
-
     not_asked : (o : Op) (told : Reply) → (begins_agenda o ≡ true → is_pending told ≡ false) → (asks o i && is_pending told) ≡ false
-    not_asked op.Gather told f = ap (λ b. asks op.Gather i && b) (f refl) ∙ and_false (asks op.Gather i)
-    not_asked op.Prepare told f = ap (λ b. asks op.Prepare i && b) (f refl) ∙ and_false (asks op.Prepare i)
-    not_asked op.Complete told f = ap (λ b. asks op.Complete i && b) (f refl) ∙ and_false (asks op.Complete i)
-    not_asked o told f = refl
+    not_asked o told f = grind arith
 
     write_not_asked : (o : Op) (t : Target) (told : Reply) → target_of o ≡ Some t → (asks o i && is_pending told) ≡ false
-    write_not_asked (op.WriteFill v b x) t told e = refl
-    write_not_asked (op.WriteStamp v b x) t told e = refl
-    write_not_asked o t told e = absurd cc
+    write_not_asked o t told e = grind arith
 
     -- ## the lines that ask
 
@@ -644,9 +540,7 @@ module _ (s : Plan) (so_far : List Act) (i : Asking) (w : ℕ) where
     }
 
     stands_if : (b : Bool) (act : Act) → enabled s st act.event ≡ b → Stands i w (after s st act) (owes_if b i w s so_far act c)
-    stands_if true act e = let is = after_enabled s st act e in subst (λ (x : State). Stands i w x (owes_after i w s so_far act.event (reply s st act) x.clock c)) (sym is)
-        (covered Next s st every_act act.event act.mark e)
-    stands_if false act e = subst (λ (x : State). Stands i w x c) (sym (after_not_enabled s st act e)) h
+    stands_if b act e = grind (arith, after_enabled, covered, every_act, after_not_enabled)
 
 -- ## every list of acts
 

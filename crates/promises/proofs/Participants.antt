@@ -1,32 +1,21 @@
 -- Who takes part: along the acts of a session the participants are those that its `prepare` chose, of what its lines have said.
 use Rattle.promises.proofs.Words.{list_any, length-map, list_any-append, Context, BadState, AsyncCancelled, row_gathered, row_ended, Mark, said_of, Meta, Member, is_among, Pair, Names, naming}
-use Rattle.promises.proofs.Words.{naming_of, naming_found, naming_if, has_pair, found_in, with_pair, comes_before, takers, Mode, Components, All, Session, mode_of, opened, Op, Target, target_of, Plan}
+use Rattle.promises.proofs.Words.{naming_of, naming_found, naming_if, has_pair, found_in, with_pair, comes_before, takers, Mode, Session, mode_of, opened, Op, Target, target_of, Plan}
 use Rattle.promises.proofs.Words.{class_of, token, Event, Line, Reply, State, start, in_progress, row_of_writer, followed, failed, Replied, refused, write, Act, enabled, idle_now, after, state}
-use Rattle.promises.proofs.Words.{is_fine, is_pending, Choosing, unsaid, is_chosen, line_says, event_says, is_unfit, choosing_if, choosing_from, choosing, is_writer, ChosenTakePart, Covers}
+use Rattle.promises.proofs.Words.{Choosing, unsaid, is_chosen, line_says, event_says, is_unfit, choosing_if, choosing_from, choosing, is_writer, ChosenTakePart, Covers}
 use Rattle.promises.proofs.Words.{ChangesNothing, covered, after_enabled, after_not_enabled}
-use Rattle.std.proofs.Common.{◌≡◌, ◌∙◌, ℕ, ◌==◌, List, [], ◌∷◌, ◌++◌, Option, Some, None, refl, Bool, true, false, ap, ap₂, sym, subst, map, fold, length}
-use Rattle.std.specs.Prelude.{◌&&◌, ◌||◌, not, if◌then◌else◌, slice_get}
-use Rattle.vss_names.specs.declared.writer_state.WriterState.{WriterState}
-use Rattle.vss_names.specs.declared.writer_state.WriterState.TheVariants.{FailedAtIdentify}
-use Rattle.writer_state.specs.declared.writer_row.WriterRow.{WriterRow}
+use Rattle.std.proofs.Common.{◌≡◌, ◌∙◌, ℕ, ◌==◌, List, [], ◌∷◌, ◌++◌, Option, Some, None, refl, Bool, true, false, ap, sym, subst, map, fold, length}
+use Rattle.std.specs.Prelude.{◌&&◌, ◌||◌, not, if◌then◌else◌}
+use Rattle.std.proofs.Common.{arith}
 use Rattle.set_agenda.specs.declared.kind.Kind.TheVariants as kind
 use Rattle.set_agenda.specs.Course.{Course, begun, is_member, members_from, prepared as course_prepared, snapshot_begun, released}
-use Rattle.scenario.specs.declared.op.Op.TheVariants.{Begin, Disable, Component, Prepare, Snapshot}
-use Rattle.vss_model.specs.Sessions.{is_disabled, is_identify_failure, has_failed_identify, known_metas, disable, pending, selected, has_no_volume, volumes_of, closed}
-use Rattle.promises.specs.Participants.{is_unfit_state, is_unfit_row}
+use Rattle.scenario.specs.declared.op.Op.TheVariants.{Prepare, Snapshot}
+use Rattle.vss_model.specs.Sessions.{is_disabled, known_metas, disable, pending, selected, has_no_volume, volumes_of, closed}
 use Rattle.promises.proofs.Truth.{or_false}
 use Rattle.promises.proofs.Members.{is_selected, selected_are}
 use Rattle.promises.proofs.SameChoice.{same_course, SameChoice, same_choice, same_beside, mode_in, on_begun, on_agenda_begun, on_followed, on_failed_in, on_answered, on_ticked, on_stepped, on_write, on_revert}
 
 -- ## who has failed at Identify, in the words of the promise
-
-unfit_state_is : (x : WriterState) → is_identify_failure x ≡ is_unfit_state x
-unfit_state_is FailedAtIdentify = refl
-unfit_state_is _ = refl
-
-unfit_is : (o : Option WriterRow) → has_failed_identify o ≡ is_unfit_row o
-unfit_is None = refl
-unfit_is (Some r) = unfit_state_is r.state
 
 -- ## what the session has said, and where it stands
 
@@ -44,56 +33,26 @@ pub record Follows (s : Plan) (w : ℕ) (st : State) (c : Choosing) : Type 0 whe
   pub rows : length st.course.rows ≡ length s.writers
   pub chosen : ChosenIn (mode_in st.session) s w st c
 
-same_chosen : (m : Option Mode) (s : Plan) (w : ℕ) (st x : State) (c : Choosing) → SameChoice st x → ChosenIn m s w st c → ChosenIn m s w x c
-same_chosen None s w st x c e h = (e.course.disabled ∙ h.0, e.course.members ∙ h.1)
-same_chosen (Some m) s w st x c e h = record {
-  mode = h.mode;
-  named = ap (λ ps. list_any (λ (p : Pair). p.writer == w) ps) e.explicit ∙ h.named;
-  disabled = ap (λ ds. list_any (λ d. class_of s d == class_of s w) ds) e.course.disabled ∙ h.disabled;
-  members = ap (λ ms. is_member ms w) e.course.members ∙ h.members;
-}
-
 -- what keeps the choice
 follows_same : (s : Plan) (w : ℕ) (st x : State) (c : Choosing) → SameChoice st x → Follows s w st c → Follows s w x c
-follows_same s w st x c e h = record {
-  rows = e.course.rows ∙ h.rows;
-  chosen = subst (λ m. ChosenIn m s w x c) (sym e.mode) (same_chosen (mode_in st.session) s w st x c e h.chosen);
-}
+follows_same s w st x c e h = grind arith
 
 -- ## what lines say
 
-skip_if : (b : Bool) (x y : Choosing) → b ≡ false → (if b then x else y) ≡ y
-skip_if true x y e = absurd cc
-skip_if false x y e = refl
-
 says_nothing : (s : Plan) (w : ℕ) (f : Bool) (c : Choosing) (o : Op) (told : Reply) → ChangesNothing o told → line_says s w f o told c ≡ c
-says_nothing s w f c (Begin n all) told g = skip_if (is_fine told) _ c (g.session refl)
-says_nothing s w f c (Disable u) told g = skip_if (is_fine told) _ c (g.session refl)
-says_nothing s w f c (Component u full) told g = skip_if (is_fine told) _ c (g.session refl)
-says_nothing s w f c Prepare told g = skip_if (is_pending told) _ c (g.agenda refl)
-says_nothing s w f c _ told g = refl
+says_nothing s w f c o told g = grind arith
 
 -- a write
 says_no_write : (s : Plan) (w : ℕ) (f : Bool) (c : Choosing) (o : Op) (t : Target) (told : Reply) → target_of o ≡ Some t → line_says s w f o told c ≡ c
-says_no_write s w f c (Begin n all) t told e = absurd cc
-says_no_write s w f c (Disable u) t told e = absurd cc
-says_no_write s w f c (Component u full) t told e = absurd cc
-says_no_write s w f c Prepare t told e = absurd cc
-says_no_write s w f c _ t told e = refl
+says_no_write s w f c o t told e = grind arith
 
 -- ## what a line names
 
 behind : (a b c : Bool) → (a || (b || c)) ≡ ((b || c) || a)
-behind true true c = refl
-behind true false true = refl
-behind true false false = refl
-behind false true c = refl
-behind false false true = refl
-behind false false false = refl
+behind a b c = grind arith
 
 within : (b c d e : Bool) → d ≡ (c || e) → (b || d) ≡ ((b || c) || e)
-within true c d e f = refl
-within false c d e f = f
+within b c d e f = grind arith
 
 pub pair_added : (test : Pair → Bool) (q : Pair) (ps : List Pair) → list_any test (with_pair q ps) ≡ (list_any test ps || test q)
 pair_added test q [] = or_false (test q)
@@ -121,8 +80,7 @@ one_disabled : (f : ℕ → Bool) (ds : List ℕ) (u : ℕ) → list_any f (ds +
 one_disabled f ds u = list_any-append f ds (u ∷ []) ∙ ap (λ b. list_any f ds || b) (or_false (f u))
 
 pub off : (b : Bool) → false ≡ (b && false)
-off true = refl
-off false = refl
+off b = grind arith
 
 -- ## every act
 
@@ -145,51 +103,18 @@ module _ (s : Plan) (w : ℕ) (st : State) (c : Choosing) (h : Follows s w st c)
   beside x e f g = same x (same_beside st x e f g)
 
   on_begin : (lane : ℕ) (all : Bool) (x : Context) → st.session ≡ None → ChosenIn None s w st c → Follows s w (record st { session = Some (opened lane x all); explicit = [] }) (unsaid all)
-  on_begin lane all x e none = record {
-    rows = h.rows;
-    chosen = record {
-      mode = refl;
-      named = refl;
-      disabled = ap (λ ds. list_any (λ d. class_of s d == class_of s w) ds) none.0;
-      members = ap (λ ms. is_member ms w) none.1 ∙ off (is_writer s w);
-    };
-  }
+  on_begin lane all x e none = grind arith
 
   on_disable : (u : ℕ) (q : Session) → st.session ≡ Some q → Follows s w (disable u st).1 (record c { disabled = c.disabled || (class_of s u == class_of s w) })
-  on_disable u q e =
-      let k = standing q e in
-      record {
-        rows = h.rows;
-        chosen = stands_on (disable u st).1 (record c { disabled = c.disabled || (class_of s u == class_of s w) }) q e
-            (record {
-              mode = k.mode;
-              named = k.named;
-              disabled = one_disabled (λ d. class_of s d == class_of s w) st.course.disabled u ∙ ap (λ b. b || (class_of s u == class_of s w)) k.disabled;
-              members = k.members;
-            });
-      }
+  on_disable u q e = grind (arith, standing, stands_on, one_disabled)
 
   on_name : (u : ℕ) (name : List ℕ) (q : Session) (new : List Pair) → st.session ≡ Some q → naming (known_metas s st) u name st.explicit ≡ Names new → Follows s w (record st { explicit = new }) (record c { named = c.named || (u == w) })
-  on_name u name q new e f =
-      let k = standing q e in
-      record {
-        rows = h.rows;
-        chosen = stands_on (record st { explicit = new }) (record c { named = c.named || (u == w) }) q e
-            (record {
-              mode = k.mode;
-              named = named_of w u name (slice_get (known_metas s st) u) st.explicit new f ∙ ap (λ b. b || (u == w)) k.named;
-              disabled = k.disabled;
-              members = k.members;
-            });
-      }
+  on_name u name q new e f = grind (arith, standing, stands_on, named_of)
 
   -- whom the session chooses
   pub chosen_by : (m : Mode) (all : Bool) → m ≡ mode_of all → list_any (λ (p : Pair). p.writer == w) st.explicit ≡ c.named → is_disabled s st w ≡ c.disabled
       → is_selected s st m w ≡ (if all then not c.disabled && not (is_unfit st w) else c.named)
-  chosen_by All true e named off = ap₂ (λ a b. not a && not b) off (unfit_is (slice_get st.course.rows w))
-  chosen_by All false e named off = absurd cc
-  chosen_by Components true e named off = absurd cc
-  chosen_by Components false e named off = named
+  chosen_by m all e named off = grind arith
 
   abbrev pub asked_by : Session → List Member
   asked_by q = members_from (λ x. is_among x (takers (length s.writers) (selected s q st))) 0 st.course.rows
@@ -212,12 +137,10 @@ module _ (s : Plan) (w : ℕ) (st : State) (c : Choosing) (h : Follows s w st c)
 
   prepare_if : (b : Bool) (lane : ℕ) (q : Session) (mark : Mark) → st.session ≡ Some q
       → Next (Line lane Prepare) mark (if b then refused BadState st else pending (course_prepared (takers (length s.writers) (selected s q st)) st.clock st.course) st)
-  prepare_if true lane q mark e = h
-  prepare_if false lane q mark e = on_prepare q e
+  prepare_if b lane q mark e = grind (arith, on_prepare)
 
   snapshot_if : (b : Bool) (lane : ℕ) (mark : Mark) → Next (Line lane Snapshot) mark (if b then refused BadState st else pending (snapshot_begun (volumes_of (in_progress st)) st.clock st.course) st)
-  snapshot_if true lane mark = h
-  snapshot_if false lane mark = same _ (on_agenda_begun kind.Snapshot st.course.members (volumes_of (in_progress st)) st st st.course (same_choice st) (same_course st.course))
+  snapshot_if b lane mark = grind (arith, same, on_agenda_begun, same_choice, same_course)
 
   on_close : (q : Session) (x : State) → length x.course.rows ≡ length s.writers → Follows s w (closed q x) c
   unfolding closed released
@@ -248,8 +171,7 @@ module _ (s : Plan) (w : ℕ) (st : State) (c : Choosing) (h : Follows s w st c)
   }
 
   follows_if : (b : Bool) (act : Act) → enabled s st act.event ≡ b → Follows s w (after s st act) (choosing_if b s w st c act)
-  follows_if true act e = subst (λ (x : State). Follows s w x (choosing_if true s w st c act)) (sym (after_enabled s st act e)) (covered Next s st follows act.event act.mark e)
-  follows_if false act e = subst (λ (x : State). Follows s w x c) (sym (after_not_enabled s st act e)) h
+  follows_if b act e = grind (arith, after_enabled, covered, follows, after_not_enabled)
 
   follows_after : (act : Act) → Follows s w (after s st act) (choosing_if (enabled s st act.event) s w st c act)
   follows_after act = follows_if (enabled s st act.event) act refl

@@ -26,8 +26,7 @@ module _ (s : Plan) (st : State) where
   none_some o r e f = absurd cc
 
   snapshot_stays : (b : Bool) → (if b then refused BadState st else pending (snapshot_begun (volumes_of (in_progress st)) st.clock st.course) st).1.course.members ≡ st.course.members
-  snapshot_stays true = refl
-  snapshot_stays false = (on_agenda_begun kind.Snapshot st.course.members (volumes_of (in_progress st)) st st st.course (same_choice st) (same_course st.course)).course.members
+  snapshot_stays b = grind (arith, on_agenda_begun, same_choice, same_course)
 
   stays : Covers Stays s st
   stays = record {
@@ -54,10 +53,7 @@ module _ (s : Plan) (st : State) where
   }
 
   stay_if : (b : Bool) (act : Act) (r : SetRow) → enabled s st act.event ≡ b → is_prepare act.event ≡ false → in_progress (after s st act) ≡ Some r → (after s st act).course.members ≡ st.course.members
-  stay_if true act r e f g =
-      let same = after_enabled s st act e in
-      ap (λ (x : State). x.course.members) same ∙ covered Stays s st stays act.event act.mark e r f (ap in_progress (sym same) ∙ g)
-  stay_if false act r e f g = ap (λ (x : State). x.course.members) (after_not_enabled s st act e)
+  stay_if b act r e f g = grind (arith, after_enabled, covered, stays, after_not_enabled)
 
 -- ## a writer that is named is known, so its class is not disabled
 
@@ -87,15 +83,11 @@ module _ (s : Plan) (w : ℕ) (st : State) (c : Choosing) (h : Follows s w st c)
   not_pending o told lane other e f g = both (is_pending told) (ap is_pending g) (f.agenda (ap begins_agenda (same_op o lane other e)))
 
   writes_nothing : {X : Type 0} (o : Op) (t : Target) (lane other : ℕ) → Line lane o ≡ Line other Prepare → target_of o ≡ Some t → X
-  writes_nothing o t lane other e f = none_there (target_of o) t (ap target_of (same_op o lane other e)) f
-    where
-      none_there : {X : Type 0} (x : Option Target) (t : Target) → x ≡ None → x ≡ Some t → X
-      none_there x t e f = absurd cc
+  writes_nothing o t lane other e f = grind arith
 
   enabled_by : (m : Mode) (all : Bool) → m ≡ mode_of all → list_any (λ (p : Pair). p.writer == w) st.explicit ≡ c.named → is_disabled s st w ≡ c.disabled
       → (if all then not c.disabled && not (is_unfit st w) else c.named) ≡ true → c.disabled ≡ false
-  enabled_by m true e named off f = not_true c.disabled (first_both (not c.disabled) (not (is_unfit st w)) f)
-  enabled_by m false e named off f = sym off ∙ named_enabled s st w over (named ∙ f)
+  enabled_by m all e named off f = grind (arith, not_true, first_both, named_enabled)
 
   members_fixed : (q : Session) → (followed true (course_prepared (takers (length s.writers) (selected s q st)) st.clock st.course) st).course.members ≡ asked_by s w st c h q
   members_fixed q =
@@ -109,33 +101,11 @@ module _ (s : Plan) (w : ℕ) (st : State) (c : Choosing) (h : Follows s w st c)
   prepared_if false q e f = let k = standing s w st c h q e in (ap (λ ms. is_member ms w) (members_fixed q) ∙ asked_are s w st c h q e, enabled_by q.mode c.all k.mode k.named k.disabled)
 
   chooses : Covers Chooses s st
-  chooses = record {
-    stays = λ lane o mark told e f other g i. not_pending o told lane other g f i;
-    writes = λ lane o v u mark e f other g i. writes_nothing o _ lane other g e;
-    reverts = λ lane n v k mark e f other g i. absurd cc;
-    deletes_set = λ lane n x mark e other g i. absurd cc;
-    deletes_image = λ lane n v k mark e other g i. absurd cc;
-    ticks = λ lane n mark other g i. absurd cc;
-    begins = λ lane n all x mark e ctx other g i. absurd cc;
-    disables = λ lane u q mark e other g i. absurd cc;
-    gathers = λ lane q mark e other g i. absurd cc;
-    names = λ lane u full q explicit mark e f other g i. absurd cc;
-    starts = λ lane q mark e f other g i. absurd cc;
-    adds = λ lane v r q mark e f j other g i. absurd cc;
-    prepares = λ lane q mark e other g i. prepared_if (has_no_volume (in_progress st)) q e.stands i;
-    snapshots = λ lane q mark e other g i. absurd cc;
-    completes = λ lane q mark e other g i. absurd cc;
-    aborts = λ lane q mark e other g i. absurd cc;
-    ends = λ lane q mark e other g i. absurd cc;
-    answers = λ u answer mark e other g i. absurd cc;
-    steps = λ mark e other g i. absurd cc;
-    idles = λ mark e other g i. absurd cc;
-  }
+  chooses = grind (arith, stays, not_pending, writes_nothing, prepared_if)
 
   chosen_in : (act : Act) (lane : ℕ) → act.event ≡ Line lane Prepare → enabled s st act.event ≡ true → reply s st act ≡ Coded AsyncPending
       → (is_member (after s st act).course.members w ≡ (is_writer s w && is_chosen (is_unfit st w) c)) × (is_chosen (is_unfit st w) c ≡ true → c.disabled ≡ false)
-  chosen_in act lane e on told =
-      let x = covered Chooses s st chooses act.event act.mark on lane e told in (ap (λ (y : State). is_member y.course.members w) (after_enabled s st act on) ∙ x.0, x.1)
+  chosen_in act lane e on told = grind (arith, covered, chooses, after_enabled)
 
 pub takes_part : (s : Plan) (so_far : List Act) (act : Act) → TakesPart s so_far act
 takes_part s so_far act =

@@ -1,14 +1,13 @@
 -- A session stands where its accepted lines have brought it.
-use Rattle.promises.proofs.Words.{Context, Backup, AppRollback, NasRollback, SetOutcome, VssResult, AsyncPending, AsyncCancelled, BadState, number_of, context_of_number, IsLookUp-context_of_number}
+use Rattle.promises.proofs.Words.{Context, VssResult, AsyncPending, AsyncCancelled, BadState, number_of, context_of_number, IsLookUp-context_of_number}
 use Rattle.promises.proofs.Words.{Mark, Clean, said_of, open_group, next_volume, Course, prepared, snapshot_begun, takers, Stage, Session, has_writers, makes_set, context_of, context_if, without_all}
 use Rattle.promises.proofs.Words.{mode_of, opened, started as session_started, stage_after, agenda_ended, set_failed, is_stage, Op, Target, target_of, Plan, Event, Reply, Fine, Coded, Deleted, Idled}
-use Rattle.promises.proofs.Words.{State, SetRow, start, in_progress, left_now, row_of, followed, runs, failed, Replied, refused, write, reverted_as, LetsGo, IsAgendaOf, IsOfSession, has_failed, Act}
-use Rattle.promises.proofs.Words.{order_of_writer, enabled, answer_reply, step_reply, reply, idle_now, after, state, state-append, orderly, failure_of, failure_in, set_failure, Step, ByBegin}
+use Rattle.promises.proofs.Words.{State, SetRow, start, in_progress, left_now, followed, runs, failed, Replied, refused, write, reverted_as, LetsGo, IsAgendaOf, IsOfSession, has_failed, Act}
+use Rattle.promises.proofs.Words.{order_of_writer, enabled, answer_reply, step_reply, reply, idle_now, after, state, state-append, orderly, set_failure, Step, ByBegin}
 use Rattle.promises.proofs.Words.{ByGather, ByStart, ByPrepare, BySnapshot, ByComplete, ByFailure, Progress, line_brings, event_brings, lost_if, progress_after, progress_if, progress_from, progress}
-use Rattle.promises.proofs.Words.{HasItsContext, row_fails, set_fails, Covers, ChangesNothing, covered, after_enabled, after_not_enabled, some_same, append_nothing}
-use Rattle.std.proofs.Common.{◌≡◌, ◌∙◌, ℕ, List, [], ◌∷◌, ◌++◌, Option, Some, None, refl, Bool, true, false, ap, sym, subst, inl, inr, fold}
+use Rattle.promises.proofs.Words.{HasItsContext, set_fails, Covers, ChangesNothing, covered, after_enabled, after_not_enabled, some_same, append_nothing}
+use Rattle.std.proofs.Common.{◌≡◌, ◌∙◌, ℕ, List, [], ◌∷◌, ◌++◌, Option, Some, None, refl, Bool, true, false, ap, sym, subst, inl, inr, fold, arith}
 use Rattle.std.specs.Prelude.{is_some, option_map, option_and_then, if◌then◌else◌, length}
-use Rattle.vss_names.specs.declared.set_outcome.SetOutcome.TheVariants.{Running}
 use Rattle.set_agenda.specs.declared.kind.Kind.TheVariants as kind
 use Rattle.requestor.specs.declared.stage.Stage.TheVariants.{Opened, Gathered, Started, Prepared, Done, Finished, Failed}
 use Rattle.requestor.specs.declared.session_call.SessionCall.TheVariants as call
@@ -43,17 +42,8 @@ pub record StandsAt (q : Session) (busy : Bool) (p : Progress) : Type 0 where
 
 -- ## what is known of the parts
 
-fails_so : (o : SetOutcome) → has_failed o ≡ is_some (failure_of o)
-fails_so Running = refl
-fails_so _ = refl
-
-row_so : (o : Option SetRow) → row_fails o ≡ is_some (failure_in o)
-row_so None = refl
-row_so (Some r) = fails_so r.result
-
 set_so : (o : Option SetRow) (x : State) → set_fails o x ≡ is_some (set_failure o x)
-set_so None x = refl
-set_so (Some r) x = row_so (row_of x r.number)
+set_so o x = grind arith
 
 -- a context by its number
 context_is : (n : ℕ) (all : Bool) (c : Context) → context_of n all ≡ Some c → number_of c ≡ n
@@ -72,43 +62,25 @@ context_is n all c e = by_number (context_of_number n) refl e
     by_number (Some a) f e = ap number_of (sym (by_mode all a e)) ∙ (IsLookUp-context_of_number n (Some a) (sym f)).has
 
 brings_none : (o : Op) (told : Reply) (p : Progress) → ChangesNothing o told → line_brings o told p ≡ p
-brings_none (op.Begin n all) told p g = ap (λ b. if b then record { context = n; all = all; step = ByBegin } else p) (g.session refl)
-brings_none op.Gather told p g = ap (λ b. if b then record p { step = ByGather } else p) (g.agenda refl)
-brings_none op.Start told p g = ap (λ b. if b then record p { step = ByStart } else p) (g.set refl)
-brings_none op.Prepare told p g = ap (λ b. if b then record p { step = ByPrepare } else p) (g.agenda refl)
-brings_none op.Snapshot told p g = ap (λ b. if b then record p { step = BySnapshot } else p) (g.agenda refl)
-brings_none op.Complete told p g = ap (λ b. if b then record p { step = ByComplete } else p) (g.agenda refl)
-brings_none o told p g = refl
+brings_none o told p g = grind arith
 
 write_brings : (o : Op) (t : Target) (told : Reply) (p : Progress) → target_of o ≡ Some t → line_brings o told p ≡ p
-write_brings (op.WriteFill v b x) t told p e = refl
-write_brings (op.WriteStamp v b n) t told p e = refl
-write_brings o t told p e = absurd cc
+write_brings o t told p e = grind arith
 
 pub is_opened : (t : Stage) → is_stage t Opened ≡ true → t ≡ Opened
-is_opened Opened e = refl
-is_opened t e = absurd cc
+is_opened t e = grind arith
 
 pub is_started : (t : Stage) → is_stage t Started ≡ true → t ≡ Started
-is_started Started e = refl
-is_started t e = absurd cc
-
-pub is_prepared : (t : Stage) → is_stage t Prepared ≡ true → t ≡ Prepared
-is_prepared Prepared e = refl
-is_prepared t e = absurd cc
+is_started t e = grind arith
 
 pub is_done : (t : Stage) → is_stage t Done ≡ true → t ≡ Done
-is_done Done e = refl
-is_done t e = absurd cc
+is_done t e = grind arith
 
 prepares : (c : Context) → has_writers c ≡ true → stage_after c Started ≡ Prepared
-prepares NasRollback e = absurd cc
-prepares _ e = refl
+prepares c e = grind arith
 
 pub snapshots : (c : Context) (t : Stage) → (if has_writers c then is_stage t Prepared else is_stage t Started) ≡ true → stage_after c t ≡ Done
-snapshots Backup t e = ap (stage_after Backup) (is_prepared t e)
-snapshots AppRollback t e = ap (stage_after AppRollback) (is_prepared t e)
-snapshots NasRollback t e = ap (stage_after NasRollback) (is_started t e)
+snapshots c t e = grind arith
 
 -- ## every act
 
@@ -120,8 +92,7 @@ module _ (s : Plan) (so_far : List Act) (p : Progress) where
   Stands x q = (own : Session) → x.session ≡ Some own → StandsAt own (runs x) q
 
   come_failed : (b : Bool) (why : VssResult) (q : Session) → stage_to_come b (set_failed why q) ≡ Failed
-  come_failed true why q = refl
-  come_failed false why q = refl
+  come_failed b why q = grind arith
 
   module _ (h : Stands st p) where
     abbrev Next : Event → Mark → Replied → Type 0
@@ -135,8 +106,7 @@ module _ (s : Plan) (so_far : List Act) (p : Progress) where
     on_failed why (Some q) to busy k own e = subst (λ (y : Session). StandsAt y busy (record to { step = ByFailure })) (some_same (set_failed why q) own e) (record { context = (k q refl).0; mode = (k q refl).1; stage = come_failed busy why q })
 
     on_ended : (o : Option Session) (to : Progress) → ((q : Session) → o ≡ Some q → StandsAt q true to) → (own : Session) → option_map agenda_ended o ≡ Some own → StandsAt own false to
-    on_ended None to k own e = absurd cc
-    on_ended (Some q) to k own e = subst (λ (y : Session). StandsAt y false to) (some_same (agenda_ended q) own e) (record { context = (k q refl).context; mode = (k q refl).mode; stage = (k q refl).stage })
+    on_ended o to k own e = grind arith
 
     by_turn : (event : Event) (told : Reply) (x : State) (ran : Bool) (to : Progress) → event_brings event told p ≡ to → ((q : Session) → st.session ≡ Some q → StandsAt q ran to) → Turn st x ran → Stands x (progress_after st event told x p)
     by_turn event told x ran to e k (inl t) own i =
@@ -172,8 +142,7 @@ module _ (s : Plan) (so_far : List Act) (p : Progress) where
     on_close event told q x own e = absurd cc
 
     no_agenda : (a : Option _) → IsAgendaOf a None → is_some a ≡ false
-    no_agenda None i = refl
-    no_agenda (Some a) i = absurd i
+    no_agenda a i = grind arith
 
     no_set : st.session ≡ None → (x : State) → set_fails (in_progress st) x ≡ false
     no_set e x = by_set (in_progress st) (subst (λ o. IsOfSession o st.course.outcome (in_progress st)) e (orderly s so_far).session)

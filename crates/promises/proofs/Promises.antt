@@ -12,7 +12,9 @@ use Rattle.promises.proofs.Completing.{completes_unfailed}
 use Rattle.promises.proofs.Contents.{contents_change}
 use Rattle.promises.proofs.ContextZero.{backups_end}
 use Rattle.promises.proofs.Copies.{copies_hold}
+use Rattle.promises.proofs.CutStep.{cuts_at_the_step}
 use Rattle.promises.proofs.Done.{is_done}
+use Rattle.promises.proofs.Ended.{tells_the_end}
 use Rattle.promises.proofs.Evicted.{tells_evicted}
 use Rattle.promises.proofs.Idle.{idles_shortest}
 use Rattle.promises.proofs.Images.{images_go_for_cause}
@@ -20,6 +22,7 @@ use Rattle.promises.proofs.Kept.{finds_the_kept}
 use Rattle.promises.proofs.KeptCopies.{keeps_copies}
 use Rattle.promises.proofs.Levels.{has_its_numbers}
 use Rattle.promises.proofs.Lost.{loses_the_late}
+use Rattle.promises.proofs.Marks.{marks_are_due}
 use Rattle.promises.proofs.OwnSlots.{writes_fail_for_slots}
 use Rattle.promises.proofs.Participants.{chosen_take_part}
 use Rattle.promises.proofs.Prepares.{takes_part}
@@ -64,6 +67,8 @@ as_promised s trail = record {
     rows = rows_change s so_far act;
     loses = loses_the_late s so_far act;
     document = tells_document s so_far act;
+    cuts = cuts_at_the_step s so_far act;
+    ends = tells_the_end s so_far act;
     refused = refuses_for_cause s so_far act;
   };
   each_state = λ so_far rest e. record {
@@ -86,6 +91,7 @@ as_promised s trail = record {
     copies = copies_hold s so_far;
     still = stands_still s so_far;
     keeps = keeps_copies s so_far;
+    marks = marks_are_due s so_far;
   };
   scripts = answers_by_script s trail;
 }

@@ -1,16 +1,15 @@
 -- What a session call is answered that is not accepted.
-use Rattle.promises.proofs.Words.{bytes_eq, Context, BadState, UnsupportedContext, SnapshotSetInProgress, ObjectAlreadyExists, MaximumNumberOfVolumesReached, MaximumNumberOfSnapshotsReached, Mark}
+use Rattle.promises.proofs.Words.{bytes_eq, BadState, UnsupportedContext, SnapshotSetInProgress, ObjectAlreadyExists, MaximumNumberOfVolumesReached, MaximumNumberOfSnapshotsReached, Mark}
 use Rattle.promises.proofs.Words.{Part, Meta, full_name, is_among, Pair, has_pair, found_from, naming_if, naming_found, naming_of, Mode, SessionCall, Started, Session, has_writers, makes_set, mode_of}
-use Rattle.promises.proofs.Words.{context_of, check, check_begin, begin_verdict, check_other, owner_only, verdict_of, allows, is_stage, goes_beside_agenda, is_start, is_await, Op, Plan, token, Line}
-use Rattle.promises.proofs.Words.{Reply, Coded, NotSelectable, State, SetRow, in_progress, history_of, runs, Replied, begin_in, known_metas, named_as, component_in, most_volumes, most_images, add_to}
+use Rattle.promises.proofs.Words.{check, check_other, owner_only, verdict_of, allows, is_stage, goes_beside_agenda, is_start, is_await, Op, Plan, token, Line}
+use Rattle.promises.proofs.Words.{Reply, Coded, NotSelectable, State, SetRow, in_progress, history_of, runs, Replied, known_metas, named_as, component_in, most_volumes, most_images, add_to}
 use Rattle.promises.proofs.Words.{add, has_no_volume, judged, line_in, session_line, Act, happens, state, owns, is_fine, is_ordered, is_accepted, ByBegin, ByGather, ByStart, BySnapshot, Progress}
-use Rattle.promises.proofs.Words.{progress, is_step, asks_writers, comes_now, name_refusal_in, name_refusal, place_refusal, want_refusal, order_refusal, RefusesForCause, true_not_false}
+use Rattle.promises.proofs.Words.{progress, is_step, asks_writers, comes_now, name_refusal_in, name_refusal, place_refusal, want_refusal, order_refusal, RefusesForCause}
 use Rattle.std.proofs.Common.{◌≡◌, ◌∙◌, ℕ, ◌+◌, ◌==◌, List, [], ◌∷◌, Option, Some, None, refl, Bool, true, false, ap, sym, subst, length, arith}
 use Rattle.std.specs.Prelude.{◌&&◌, ◌||◌, not, nat_le, nat_lt, is_some, is_none, slice_get, if◌then◌else◌}
 use Rattle.requestor.specs.declared.session_call.SessionCall.TheVariants as call
 use Rattle.scenario.specs.declared.op.Op.TheVariants as op
 use Rattle.vss_model.specs.Lines.{called}
-use Rattle.promises.proofs.Truth.{not_both}
 use Rattle.promises.proofs.Accepted.{allowed_in, same_stage, start_stage, either_stage, writers_asked, makes_its_set, line_reply}
 use Rattle.promises.proofs.Progress.{stage_of, StandsAt, stands_all}
 
@@ -42,12 +41,7 @@ module _ (s : Plan) (st : State) where
 
   component_refused : (w : ℕ) (name : List ℕ) (mode : Mode) (all : Bool) → mode ≡ mode_of all → is_accepted (component_in mode s w name st).0 ≡ false
       → (component_in mode s w name st).0 ≡ (if all then Coded BadState else name_refusal name (slice_get (known_metas s st) w))
-  component_refused w name mode all e = subst (λ m. is_accepted (component_in m s w name st).0 ≡ false → (component_in m s w name st).0 ≡ (if all then Coded BadState else name_refusal name (slice_get (known_metas s st) w))) (sym e) (by_all all)
-    where
-      by_all : (b : Bool) → is_accepted (component_in (mode_of b) s w name st).0 ≡ false
-          → (component_in (mode_of b) s w name st).0 ≡ (if b then Coded BadState else name_refusal name (slice_get (known_metas s st) w))
-      by_all true f = refl
-      by_all false f = name_of w name (slice_get (known_metas s st) w) f
+  component_refused w name mode all e = grind (arith, name_of)
 
   add_refused : (v : ℕ) (o : Option SetRow) → is_accepted (add v o st).0 ≡ false → (add v o st).0 ≡ place_refusal v o
   add_refused v None e = refl
@@ -69,8 +63,7 @@ module _ (s : Plan) (st : State) where
 
   -- a call that waits for nothing but a set with a volume
   volume_refused : (b : Bool) (x y : Replied) → x.0 ≡ Coded BadState → is_accepted y.0 ≡ true → is_accepted (if b then x else y).0 ≡ false → (if b then x else y).0 ≡ Coded BadState
-  volume_refused true x y e f g = e
-  volume_refused false x y e f g = absurd (not_both (is_accepted y.0) f g)
+  volume_refused b x y e f g = grind arith
 
 -- ## ordered calls
 
@@ -87,24 +80,13 @@ module _ (s : Plan) (so_far : List Act) (lane : ℕ) where
 
   by_checks : (o : Op) (own start busy may : Bool)
       → (judged (owner_only own (verdict_of start (busy && true) may false)) s lane o st).0 ≡ checked own start busy may (line_in s lane o st.session st).0
-  by_checks o false start busy may = refl
-  by_checks o true true busy may = refl
-  by_checks o true false true may = refl
-  by_checks o true false false true = refl
-  by_checks o true false false false = refl
+  by_checks o own start busy may = grind arith
 
   called_is : (c : SessionCall) (o : Op) (q : Session) → st.session ≡ Some q → check st.session (runs st) lane c ≡ check_other st.session (runs st) lane c
       → goes_beside_agenda c ≡ false → is_await c ≡ false
       → (called c s lane o st).0 ≡ checked (q.owner == lane) (is_start c && makes_set q.stage) (runs st) (allows q.stage (has_writers q.context) c) (session_line s lane o q st).0
   unfolding called
-  called_is c o q e same beside waits =
-      let start = is_start c && makes_set q.stage in
-      let may = allows q.stage (has_writers q.context) c in
-      ap (λ v. (judged v s lane o st).0) (same ∙ ap (λ x. check_other x (runs st) lane c) e)
-      ∙ ap (λ b. (judged (owner_only (q.owner == lane) (verdict_of start (runs st && not b) may (is_await c && runs st))) s lane o st).0) beside
-      ∙ ap (λ b. (judged (owner_only (q.owner == lane) (verdict_of start (runs st && true) may (b && runs st))) s lane o st).0) waits
-      ∙ by_checks o (q.owner == lane) start (runs st) may
-      ∙ ap (λ x. checked (q.owner == lane) start (runs st) may (line_in s lane o x st).0) e
+  called_is c o q e same beside waits = grind (arith, by_checks)
 
   none_called : (c : SessionCall) (o : Op) → st.session ≡ None → check st.session (runs st) lane c ≡ check_other st.session (runs st) lane c
       → (called c s lane o st).0 ≡ Coded BadState
@@ -115,24 +97,7 @@ module _ (s : Plan) (so_far : List Act) (lane : ℕ) where
       → (start ≡ false → order ≡ Coded BadState)
       → (is_accepted answer ≡ false → answer ≡ want) → is_accepted (checked own start busy may answer) ≡ false
       → checked own start busy may answer ≡ (if not own then Coded BadState else if not busy && comes then want else order)
-  parts false start busy may comes answer want order f g h k e = refl
-  parts true true true may comes answer want order f g h k e = sym (g refl)
-  parts true true false may true answer want order f g h k e = absurd (not_both (f refl))
-    where
-      not_both : false ≡ true → ⊥
-      not_both e = cc
-  parts true true false may false answer want order f g h k e = sym (g refl)
-  parts true false true may comes answer want order f g h k e = sym (h refl)
-  parts true false false true true answer want order f g h k e = k e
-  parts true false false true false answer want order f g h k e = absurd (not_both (f refl))
-    where
-      not_both : true ≡ false → ⊥
-      not_both e = cc
-  parts true false false false true answer want order f g h k e = absurd (not_both (f refl))
-    where
-      not_both : false ≡ true → ⊥
-      not_both e = cc
-  parts true false false false false answer want order f g h k e = sym (h refl)
+  parts own start busy may comes answer want order f g h k e = grind arith
 
   abbrev Told : Option Session → Op → Reply
   Told x o = if not (owns x lane) then Coded BadState else if not (runs st) && comes_now p o then want_refusal s st p o else order_refusal o (in_progress st)
@@ -166,12 +131,7 @@ module _ (s : Plan) (so_far : List Act) (lane : ℕ) where
       → allowed_in (asks_writers p) (stage_of p.step) c ≡ comes_now p o → order_refusal o (in_progress st) ≡ Coded BadState
       → ((q : Session) → q.mode ≡ mode_of p.all → is_accepted (session_line s lane o q st).0 ≡ false → (session_line s lane o q st).0 ≡ want_refusal s st p o)
       → is_accepted (called c s lane o st).0 ≡ false → (called c s lane o st).0 ≡ Told st.session o
-  other_call c o same beside waits other order bad wants e =
-      refused_call c o same beside waits order (λ q f g. absurd (both (makes_set q.stage) (is_start c) other g)) (λ q f g. bad) wants e
-    where
-      both : (m b : Bool) → b ≡ false → (b && m) ≡ true → ⊥
-      both m true e f = cc
-      both m false e f = cc
+  other_call c o same beside waits other order bad wants e = grind (arith, refused_call)
 
   start_now : (q : Session) → st.session ≡ Some q → makes_set q.stage ≡ true → order_refusal op.Start (in_progress st) ≡ Coded SnapshotSetInProgress
   start_now q e f = by_set (in_progress st) (sym (makes_its_set s so_far lane q e) ∙ f)
@@ -212,65 +172,14 @@ module _ (s : Plan) (so_far : List Act) (lane : ℕ) where
   begin_refused : (n : ℕ) (all : Bool) → is_fine (called (call.Begin n all) s lane (op.Begin n all) st).0 ≡ false
       → (called (call.Begin n all) s lane (op.Begin n all) st).0 ≡ Coded (if is_none st.session then UnsupportedContext else BadState)
   unfolding called
-  begin_refused n all e = by_session st.session refl e
-    where
-      opens : (o : Option Context) → is_fine (begin_in lane all o st).0 ≡ false → (begin_in lane all o st).0 ≡ Coded UnsupportedContext
-      opens None e = refl
-      opens (Some c) e = absurd cc
-
-      by_owner : (b : Bool) → (judged (begin_verdict b) s lane (op.Begin n all) st).0 ≡ Coded BadState
-      by_owner true = refl
-      by_owner false = refl
-
-      by_session : (x : Option Session) → st.session ≡ x → is_fine (judged (check_begin st.session lane) s lane (op.Begin n all) st).0 ≡ false
-          → (judged (check_begin st.session lane) s lane (op.Begin n all) st).0 ≡ Coded (if is_none st.session then UnsupportedContext else BadState)
-      by_session None f g =
-          let is = ap (λ x. (judged (check_begin x lane) s lane (op.Begin n all) st).0) f ∙ ap (λ x. (line_in s lane (op.Begin n all) x st).0) f in
-          is ∙ opens (context_of n all) (ap is_fine (sym is) ∙ g) ∙ ap (λ x. Coded (if is_none x then UnsupportedContext else BadState)) (sym f)
-      by_session (Some q) f g =
-          ap (λ x. (judged (check_begin x lane) s lane (op.Begin n all) st).0) f
-          ∙ by_owner (q.owner == lane)
-          ∙ ap (λ x. Coded (if is_none x then UnsupportedContext else BadState)) (sym f)
+  begin_refused n all e = grind arith
 
   -- a call that goes beside an agenda
   beside_refused : (c : SessionCall) (o : Op) → check st.session (runs st) lane c ≡ check_other st.session (runs st) lane c → is_start c ≡ false → goes_beside_agenda c ≡ true
       → is_await c ≡ false
       → ((q : Session) → is_fine (session_line s lane o q st).0 ≡ true) → is_fine (called c s lane o st).0 ≡ false → (called c s lane o st).0 ≡ Coded BadState
   unfolding called
-  beside_refused c o same start on waits fine e = by_session st.session refl
-    where
-      by_parts : (own busy may : Bool) → is_fine (line_in s lane o st.session st).0 ≡ true
-          → is_fine (judged (owner_only own (verdict_of false (busy && false) may false)) s lane o st).0 ≡ false
-          → (judged (owner_only own (verdict_of false (busy && false) may false)) s lane o st).0 ≡ Coded BadState
-      by_parts false busy may f g = refl
-      by_parts true true true f g = absurd (true_not_false (is_fine (line_in s lane o st.session st).0) f g)
-      by_parts true false true f g = absurd (true_not_false (is_fine (line_in s lane o st.session st).0) f g)
-      by_parts true true false f g = refl
-      by_parts true false false f g = refl
-
-      by_session : (x : Option Session) → st.session ≡ x → (judged (check st.session (runs st) lane c) s lane o st).0 ≡ Coded BadState
-      by_session None f = ap (λ v. (judged v s lane o st).0) (same ∙ ap (λ x. check_other x (runs st) lane c) f)
-      by_session (Some q) f =
-          let may = allows q.stage (has_writers q.context) c in
-          let is =
-          ap (λ v. (judged v s lane o st).0) (same ∙ ap (λ x. check_other x (runs st) lane c) f)
-          ∙ ap (λ b. (judged (owner_only (q.owner == lane) (verdict_of (b && makes_set q.stage) (runs st && not (goes_beside_agenda c)) may (is_await c && runs st))) s lane o st).0) start
-          ∙ ap (λ b. (judged (owner_only (q.owner == lane) (verdict_of false (runs st && not b) may (is_await c && runs st))) s lane o st).0) on
-          ∙ ap (λ b. (judged (owner_only (q.owner == lane) (verdict_of false (runs st && false) may (b && runs st))) s lane o st).0) waits in
-          is ∙ by_parts (q.owner == lane) (runs st) may (ap (λ x. is_fine (line_in s lane o x st).0) f ∙ fine q) (ap is_fine (sym is) ∙ e)
+  beside_refused c o same start on waits fine e = grind arith
 
 pub refuses_for_cause : (s : Plan) (so_far : List Act) (act : Act) → RefusesForCause s so_far act
-refuses_for_cause s so_far act =
-    let st = state s so_far in
-    record {
-      ordered = λ lane o e f g. line_reply s st act (Line lane o) e ∙ refused_line s so_far lane o act.mark f (ap is_accepted (sym (line_reply s st act (Line lane o) e)) ∙ g);
-      begins =
-          λ lane n all e g. line_reply s st act (Line lane (op.Begin n all)) e
-          ∙ begin_refused s so_far lane n all (ap is_fine (sym (line_reply s st act (Line lane (op.Begin n all)) e)) ∙ g);
-      aborts =
-          λ lane e g. line_reply s st act (Line lane op.Abort) e
-          ∙ beside_refused s so_far lane call.Abort op.Abort refl refl refl refl (λ q. refl) (ap is_fine (sym (line_reply s st act (Line lane op.Abort) e)) ∙ g);
-      ends =
-          λ lane e g. line_reply s st act (Line lane op.End) e
-          ∙ beside_refused s so_far lane call.End op.End refl refl refl refl (λ q. refl) (ap is_fine (sym (line_reply s st act (Line lane op.End) e)) ∙ g);
-    }
+refuses_for_cause s so_far act = grind (arith, line_reply, refused_line, begin_refused, beside_refused)

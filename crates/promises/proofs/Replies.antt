@@ -1,33 +1,25 @@
 -- Replies tell what stands.
 use Rattle.promises.proofs.Words.{range_with_len, Mark, Clean, Image, AreLater, AreInTime, content, point_in, sets_of, is_among, Op, Read, ImageDigest, ImageBlock, Query, Plan, blocks_of, Line}
-use Rattle.promises.proofs.Words.{BlockOf, BlocksOf, State, SetRow, Kept, history_of, is_kept_set, kept, kept_at, kept_if, kept_of, kept_image, is_complete, row_of, image_block, image_blocks, line}
-use Rattle.promises.proofs.Words.{Act, happens, reply, state, ReadsAsAtTheCut, reads_as_at_cut, block_now, images_in_time, IsBelow, AreRising, TellsTheCut, RepliesTell, some_same}
-use Rattle.std.proofs.Common.{◌≡◌, ◌∙◌, ℕ, ◌==◌, List, [], ◌∷◌, Option, Some, None, refl, Bool, true, false, ap, sym, map, filter}
+use Rattle.promises.proofs.Words.{BlockOf, BlocksOf, State, SetRow, Kept, history_of, is_kept_set, kept, kept_of, kept_image, image_block, image_blocks, line}
+use Rattle.promises.proofs.Words.{Act, happens, reply, state, ReadsAsAtTheCut, reads_as_at_cut, block_now, images_in_time, IsBelow, AreRising, TellsTheCut, RepliesTell}
+use Rattle.write_history.specs.declared.mark.Mark.TheVariants.{Fault}
+use Rattle.vss_model.specs.Reply.{Faulted}
+use Rattle.std.proofs.Common.{◌≡◌, ◌∙◌, ℕ, ◌==◌, List, [], ◌∷◌, Option, Some, None, refl, Bool, true, false, ap, sym, map, filter, arith}
 use Rattle.std.specs.Prelude.{◌&&◌, ◌||◌, is_some, if◌then◌else◌}
 use Rattle.promises.proofs.Truth.{equal}
 use Rattle.promises.proofs.Participants.{off}
 
 -- ## the point of a kept image
 
-point_at : (r : SetRow) (o : Option ℕ) (k : Kept) → kept_at r o ≡ Some k → o ≡ Some k.point
-point_at r None k e = absurd cc
-point_at r (Some p) k e = ap (λ (x : Kept). Some x.point) (some_same (record { row = r; point = p }) k e)
-
-point_if : (b : Bool) (r : SetRow) (o : Option ℕ) (k : Kept) → kept_if b r o ≡ Some k → o ≡ Some k.point
-point_if true r o k e = point_at r o k e
-point_if false r o k e = absurd cc
-
 pub point_of : (row : Option SetRow) (o : Option ℕ) (k : Kept) → kept_of row o ≡ Some k → o ≡ Some k.point
-point_of None o k e = absurd cc
-point_of (Some r) o k e = point_if (is_complete r.result) r o k e
+point_of row o k e = grind arith
 
 -- a kept image reads as the volume at the cut
 pub at_the_cut : (s : Plan) (so_far : List Act) (n v : ℕ) (k : Kept) → kept_image (state s so_far) n v ≡ Some k → ReadsAsAtTheCut s so_far n v k.point
-at_the_cut s so_far n v k e = reads_as_at_cut s so_far n v k.point (point_of (row_of (state s so_far) n) (point_in n (history_of (state s so_far) v).images) k e)
+at_the_cut s so_far n v k e = grind (arith, reads_as_at_cut, point_of)
 
 map_along : {X : Type 0} (f g : ℕ → X) → ((n : ℕ) → f n ≡ g n) → (ns : List ℕ) → map f ns ≡ map g ns
-map_along f g e [] = refl
-map_along f g e (n ∷ ns) = ap (λ x. x ∷ map f ns) (e n) ∙ ap (λ xs. g n ∷ xs) (map_along f g e ns)
+map_along f g e ns = grind arith
 
 -- ## the sets that are listed
 
@@ -102,6 +94,14 @@ module _ (s : Plan) (so_far : List Act) (act : Act) where
             ∙ ap (BlocksOf v) (map_along (content (history_of st v).writes k.point) (block_now (state s cut.before) v) cut.reads (range_with_len 0 (blocks_of s v)));
       }
 
+  block_failed : (lane n v b : ℕ) (o : Option Kept) → kept_image st n v ≡ o → is_some o ≡ true → act.event ≡ Line lane (ImageBlock n v b) → act.mark ≡ Fault → reply s st act ≡ Faulted
+  block_failed lane n v b None e f g h = absurd cc
+  block_failed lane n v b (Some k) e f g h = told lane (ImageBlock n v b) Fault g h ∙ ap (λ o. (image_block v b o Fault st).0) e
+
+  image_failed : (lane n v : ℕ) (o : Option Kept) → kept_image st n v ≡ o → is_some o ≡ true → act.event ≡ Line lane (ImageDigest n v) → act.mark ≡ Fault → reply s st act ≡ Faulted
+  image_failed lane n v None e f g h = absurd cc
+  image_failed lane n v (Some k) e f g h = told lane (ImageDigest n v) Fault g h ∙ ap (λ o. (image_blocks s v o Fault st).0) e
+
 pub replies_tell : (s : Plan) (so_far : List Act) (act : Act) → RepliesTell s so_far act
 replies_tell s so_far act =
     let st = state s so_far in
@@ -109,6 +109,9 @@ replies_tell s so_far act =
       block = λ lane v b e f. told s so_far act lane (Read v b) Clean e f;
       image_block = λ lane n v b e f g. block_told s so_far act lane n v b (kept_image st n v) refl g e f;
       image = λ lane n v e f g. image_told s so_far act lane n v (kept_image st n v) refl g e f;
+      failed = λ lane v b e f. told s so_far act lane (Read v b) Fault e f;
+      failed_block = λ lane n v b e f g. block_failed s so_far act lane n v b (kept_image st n v) refl g e f;
+      failed_image = λ lane n v e f g. image_failed s so_far act lane n v (kept_image st n v) refl g e f;
       no_block = λ lane n v b e f. told s so_far act lane (ImageBlock n v b) act.mark e refl ∙ ap (λ o. (image_block v b o act.mark st).0) f;
       no_image = λ lane n v e f. told s so_far act lane (ImageDigest n v) act.mark e refl ∙ ap (λ o. (image_blocks s v o act.mark st).0) f;
       sets = λ lane v e. record {

@@ -1,6 +1,6 @@
 -- What stands in a block after some blocks were brought back.
-use Rattle.promises.proofs.Words.{take-length, zeros, Write, last_bytes, content, restoring, is_among}
-use Rattle.std.proofs.Common.{◌≡◌, ◌∙◌, ℕ, ◌==◌, List, [], ◌∷◌, ◌++◌, refl, Bool, true, false, ap, sym, map, length}
+use Rattle.promises.proofs.Words.{take-length, Write, last_bytes, content, restoring, is_among}
+use Rattle.std.proofs.Common.{◌≡◌, ◌∙◌, ℕ, ◌==◌, List, [], ◌∷◌, ◌++◌, refl, Bool, true, false, ap, map, length, arith}
 use Rattle.std.specs.Prelude.{◌||◌, if◌then◌else◌}
 use Rattle.promises.proofs.Truth.{equal}
 
@@ -20,6 +20,4 @@ last_restored ws point b (c ∷ bs) before = last_restored ws point b bs (if c =
 
 -- these blocks are written once more as they were at a point, and the others stay
 pub some_restored : (ws : List Write) (point b : ℕ) (bs : List ℕ) → content (ws ++ map (restoring ws point) bs) (length (ws ++ map (restoring ws point) bs)) b ≡ (if is_among b bs then content ws point b else content ws (length ws) b)
-some_restored ws point b bs =
-    ap (last_bytes b zeros) (take-length (ws ++ map (restoring ws point) bs)) ∙ last_append b zeros ws (map (restoring ws point) bs) ∙ last_restored ws point b bs (last_bytes b zeros ws)
-    ∙ ap (λ x. if is_among b bs then content ws point b else last_bytes b zeros x) (sym (take-length ws))
+some_restored ws point b bs = grind (arith, take-length, last_append, last_restored)

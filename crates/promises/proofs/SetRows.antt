@@ -1,13 +1,13 @@
 -- The rows of sets go on: no act loses one, and one that is over stays as it is.
-use Rattle.promises.proofs.Words.{append_assoc, list_any-append, SetOutcome, VssResult, InsufficientStorage, AsyncCancelled, Said, Mark, Clean, Write, said_of, Group, Orders, PreCommit, Flush, Hold}
-use Rattle.promises.proofs.Words.{Cut, Commit, Release, PostCommit, is_among, open_group, Session, Plan, Event, State, SetRow, Kept, is_running, in_progress, row_changed, left_now, NumberedFrom, Act}
+use Rattle.promises.proofs.Words.{append_assoc, list_any-append, SetOutcome, VssResult, AsyncCancelled, Said, Mark, Write, said_of, Group}
+use Rattle.promises.proofs.Words.{open_group, Session, Plan, Event, State, SetRow, Kept, is_running, in_progress, row_changed, left_now, NumberedFrom, Act}
 use Rattle.promises.proofs.Words.{enabled, idle_now, after, state, state-append, orderly, found_above, IsLaterRow, HasLaterRow, KeepsRows, Covers, covered, after_enabled, after_not_enabled, some_same}
 use Rattle.promises.proofs.Words.{by_if, append_nothing}
 use Rattle.std.proofs.Common.{◌≡◌, ◌∙◌, ℕ, ◌+◌, ◌==◌, ◌<◌, ◌≤◌, List, [], ◌∷◌, ◌++◌, Option, Some, None, refl, Bool, true, false, ap, sym, subst, map, find, arith}
-use Rattle.std.specs.Prelude.{◌||◌, if◌then◌else◌}
-use Rattle.set_agenda.specs.Course.{Course, answered as course_answered, stepped as course_stepped, timed as course_timed}
-use Rattle.vss_model.specs.Ending.{Ending, NothingEnds, ending, row_settled, concluded, followed, runs, failed_in, failed}
-use Rattle.vss_model.specs.Images.{Replied, cleared, set_loses_image, with_room_if, put, write, reverted_as}
+use Rattle.std.specs.Prelude.{if◌then◌else◌}
+use Rattle.set_agenda.specs.Course.{Course, answered as course_answered, timed as course_timed}
+use Rattle.vss_model.specs.Ending.{Ending, ending, row_settled, concluded, followed, runs, failed_in, failed}
+use Rattle.vss_model.specs.Images.{Replied, with_room_if, put, write, reverted_as}
 use Rattle.vss_model.specs.Sessions.{new_set, new_number, with_volume, has_no_volume, closed}
 use Rattle.vss_model.specs.Steps.{answered, with_cut, cut_set, step_made, is_flush, is_failed_step, stepped_as, stepped, ticked, later}
 use Rattle.promises.proofs.Truth.{equal, left_part}
@@ -18,26 +18,14 @@ use Rattle.promises.proofs.Members.{still_less}
 pub same_row : (r : SetRow) → IsLaterRow r r
 same_row r = record { number = refl; context = refl; volumes = λ v e. e; over = λ e. refl }
 
-over_still : (r q p : SetRow) → IsLaterRow r q → IsLaterRow q p → is_running r.result ≡ false → p ≡ r
-over_still r q p h k e = let same = h.over e in k.over (subst (λ (x : SetRow). is_running x.result ≡ false) (sym same) e) ∙ same
-
 pub later_again : (r q p : SetRow) → IsLaterRow r q → IsLaterRow q p → IsLaterRow r p
-later_again r q p h k = record { number = k.number ∙ h.number; context = k.context ∙ h.context; volumes = λ v e. k.volumes v (h.volumes v e); over = over_still r q p h k }
+later_again r q p h k = grind arith
 
 settled_row : (p : SetOutcome) (r : SetRow) → IsLaterRow r (row_settled p r)
-settled_row p r = by_case (is_running r.result) refl
-  where
-    by_case : (b : Bool) → is_running r.result ≡ b → IsLaterRow r (if b then record r { result = p } else r)
-    by_case true e = record { number = refl; context = refl; volumes = λ v e. e; over = λ f. absurd cc }
-    by_case false e = same_row r
+settled_row p r = grind arith
 
 more_volumes : (v : ℕ) (r : SetRow) → is_running r.result ≡ true → IsLaterRow r (with_volume v r)
-more_volumes v r e = record {
-  number = refl;
-  context = refl;
-  volumes = λ u f. list_any-append (λ (x : ℕ). x == u) r.volumes (v ∷ []) ∙ left_part (is_among u r.volumes) ((v == u) || false) f;
-  over = λ f. absurd cc;
-}
+more_volumes v r e = grind (arith, list_any-append, left_part)
 
 row_with_cut : (now : ℕ) (r : SetRow) → is_running r.result ≡ true → IsLaterRow r (with_cut now r)
 row_with_cut now r e = record { number = refl; context = refl; volumes = λ v f. f; over = λ f. absurd cc }
@@ -125,32 +113,27 @@ changed_in_progress k f (q ∷ rows) r num e h = by_head (is_running q.result) r
 
 module _ (s : Plan) (st : State) (num : NumberedFrom 1 st.sets) where
   in_concluded : (e : Ending) (x : State) → GoOn st.sets x.sets → GoOn st.sets (concluded e x).sets
-  in_concluded NothingEnds x g = g
-  in_concluded _ x g = go_on_again st.sets x.sets _ g (go_on_settled x.course.outcome x.sets)
+  in_concluded e x g = grind (arith, go_on_again, go_on_settled)
 
   in_followed : (ran : Bool) (c : Course) (x : State) → GoOn st.sets x.sets → GoOn st.sets (followed ran c x).sets
   unfolding followed
   in_followed ran c x g = in_concluded (ending x.course.outcome c.outcome ran c.agenda) (record x { course = c }) g
 
   in_failed : (o : Option SetRow) (why : VssResult) (x : State) → GoOn st.sets x.sets → GoOn st.sets (failed_in o why x).sets
-  in_failed None why x g = g
-  in_failed (Some r) why x g = go_on_again st.sets x.sets _ g (go_on_settled _ x.sets)
+  in_failed o why x g = grind (arith, go_on_again, go_on_settled)
 
   in_room : (b : Bool) (x : State) → GoOn st.sets x.sets → GoOn st.sets (with_room_if b x).sets
-  in_room true x g = in_failed (in_progress x) InsufficientStorage x g
-  in_room false x g = g
+  in_room b x g = grind (arith, in_failed)
 
   in_put : (v : ℕ) (w : Write) (mark : Mark) (x : State) → GoOn st.sets x.sets → GoOn st.sets (put v w mark x).sets
-  in_put v w Clean x g = g
-  in_put v w _ x g = g
+  in_put v w mark x g = grind arith
 
   in_write : (v : ℕ) (w : Write) (mark : Mark) → GoOn st.sets (write s v w mark st).1.sets
   unfolding write
-  in_write v w mark = in_put v w mark _ (in_room (set_loses_image (in_progress st) st.volumes (cleared s v w.block st).volumes) (cleared s v w.block st) (go_on_same st.sets))
+  in_write v w mark = grind (arith, in_put, in_room, go_on_same)
 
   in_revert : (v : ℕ) (k : Kept) (mark : Mark) → GoOn st.sets (reverted_as s v k mark st).1.sets
-  in_revert v k Clean = go_on_same st.sets
-  in_revert v k _ = go_on_same st.sets
+  in_revert v k mark = grind (arith, go_on_same)
 
   in_closed : (q : Session) (x : State) → GoOn st.sets x.sets → GoOn st.sets (closed q x).sets
   unfolding closed
@@ -161,15 +144,7 @@ module _ (s : Plan) (st : State) (num : NumberedFrom 1 st.sets) where
   in_cut (Some r) e = changed_in_progress 1 (with_cut st.clock) st.sets r num e (row_with_cut st.clock)
 
   in_made : (g : Option Group) → GoOn st.sets (step_made g st).sets
-  in_made None = go_on_same st.sets
-  in_made (Some (Orders o)) = go_on_same st.sets
-  in_made (Some PreCommit) = go_on_same st.sets
-  in_made (Some Flush) = go_on_same st.sets
-  in_made (Some Hold) = go_on_same st.sets
-  in_made (Some Cut) = in_cut (in_progress st) refl
-  in_made (Some Commit) = go_on_same st.sets
-  in_made (Some Release) = go_on_same st.sets
-  in_made (Some PostCommit) = go_on_same st.sets
+  in_made g = grind (arith, go_on_same, in_cut)
 
   in_answers : (w : ℕ) (said : Said) → GoOn st.sets (answered w said st).sets
   unfolding answered
@@ -180,8 +155,7 @@ module _ (s : Plan) (st : State) (num : NumberedFrom 1 st.sets) where
   in_ticks n = in_followed (runs st) (course_timed (st.clock + n) st.course) (later n st) (go_on_same st.sets)
 
   in_step_as : (f : Bool) (g : Option Group) → GoOn st.sets (stepped_as f g st).sets
-  in_step_as true g = in_followed (runs st) (course_stepped false st.clock st.course) st (go_on_same st.sets)
-  in_step_as false g = in_followed (runs st) (course_stepped true st.clock st.course) (step_made g st) (in_made g)
+  in_step_as f g = grind (arith, in_followed, go_on_same, in_made)
 
   in_steps : (mark : Mark) → GoOn st.sets (stepped mark st).sets
   unfolding stepped
@@ -215,8 +189,7 @@ module _ (s : Plan) (st : State) (num : NumberedFrom 1 st.sets) where
   }
 
   go_on_if : (b : Bool) (act : Act) → enabled s st act.event ≡ b → GoOn st.sets (after s st act).sets
-  go_on_if true act e = subst (λ (x : State). GoOn st.sets x.sets) (sym (after_enabled s st act e)) (covered RowsGoOn s st rows_go_on act.event act.mark e)
-  go_on_if false act e = subst (λ (x : State). GoOn st.sets x.sets) (sym (after_not_enabled s st act e)) (go_on_same st.sets)
+  go_on_if b act e = grind (arith, after_enabled, covered, rows_go_on, after_not_enabled, go_on_same)
 
   pub go_on_after : (act : Act) → GoOn st.sets (after s st act).sets
   go_on_after act = go_on_if (enabled s st act.event) act refl

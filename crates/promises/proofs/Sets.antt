@@ -1,15 +1,15 @@
 -- No volume is twice in a set.
-use Rattle.promises.proofs.Words.{list_any-append, SetOutcome, VssResult, InsufficientStorage, AsyncCancelled, ObjectAlreadyExists, MaximumNumberOfVolumesReached, MaximumNumberOfSnapshotsReached}
-use Rattle.promises.proofs.Words.{Said, Mark, Clean, Write, said_of, Group, Orders, PreCommit, Flush, Hold, Cut, Commit, Release, PostCommit, is_among, open_group, are_distinct, Session, Plan, Event}
-use Rattle.promises.proofs.Words.{State, SetRow, Kept, is_running, in_progress, row_changed, left_now, history_of, NumberedFrom, Act, enabled, idle_now, after, state, state-append, orderly}
+use Rattle.promises.proofs.Words.{list_any-append, SetOutcome, VssResult, AsyncCancelled}
+use Rattle.promises.proofs.Words.{Said, Mark, Write, said_of, Group, is_among, open_group, are_distinct, Session, Plan, Event}
+use Rattle.promises.proofs.Words.{State, SetRow, Kept, in_progress, row_changed, left_now, NumberedFrom, Act, enabled, idle_now, after, state, state-append, orderly}
 use Rattle.promises.proofs.Words.{row_running, VolumesAreDistinct, Covers, covered, after_enabled, after_not_enabled, some_same, by_if, other_way}
 use Rattle.std.proofs.Common.{◌≡◌, ◌∙◌, ℕ, ◌+◌, ◌==◌, ◌<◌, List, [], ◌∷◌, ◌++◌, Option, Some, None, refl, Bool, true, false, ap, sym, subst, map, find, fold, arith}
-use Rattle.std.specs.Prelude.{◌&&◌, ◌||◌, not, nat_le, length, if◌then◌else◌}
-use Rattle.set_agenda.specs.Course.{Course, answered as course_answered, stepped as course_stepped, timed as course_timed}
-use Rattle.vss_model.specs.Ending.{Ending, NothingEnds, ending, row_settled, concluded, followed, runs, failed_in, failed}
-use Rattle.vss_model.specs.Images.{Replied, cleared, set_loses_image, with_room_if, put, write, reverted_as, is_in_set}
-use Rattle.vss_model.specs.Sessions.{most_volumes, most_images, new_set, new_number, with_volume, add_refusal, has_no_volume, closed}
-use Rattle.vss_model.specs.Steps.{answered, with_cut, row_cut, cut_set, step_made, is_flush, is_failed_step, stepped_as, stepped, ticked, later}
+use Rattle.std.specs.Prelude.{◌&&◌, ◌||◌, not, if◌then◌else◌}
+use Rattle.set_agenda.specs.Course.{Course, answered as course_answered, timed as course_timed}
+use Rattle.vss_model.specs.Ending.{Ending, ending, row_settled, concluded, followed, runs, failed_in, failed}
+use Rattle.vss_model.specs.Images.{Replied, cleared, set_loses_image, with_room_if, put, write, reverted_as}
+use Rattle.vss_model.specs.Sessions.{new_set, new_number, with_volume, add_refusal, has_no_volume, closed}
+use Rattle.vss_model.specs.Steps.{answered, row_cut, cut_set, step_made, is_flush, is_failed_step, stepped_as, stepped, ticked, later}
 use Rattle.promises.proofs.Members.{still_less}
 
 abbrev AllDistinct : List SetRow → Type 0
@@ -59,8 +59,7 @@ distinct_more v (x ∷ xs) e f = by_parts (x == v) (is_among x xs) refl e f (dis
         split false b e = (refl, e)
 
 changed_volumes : (b : Bool) (f : SetRow → SetRow) (r : SetRow) → b ≡ false → (if b then f r else r).volumes ≡ r.volumes
-changed_volumes true f r e = absurd cc
-changed_volumes false f r e = refl
+changed_volumes b f r e = grind arith
 
 none_changed : (k n : ℕ) (f : SetRow → SetRow) (rows : List SetRow) → NumberedFrom k rows → n < k → AllDistinct rows → AllDistinct (map (row_changed n f) rows)
 none_changed k n f [] num l h = tt
@@ -87,72 +86,49 @@ added k (q ∷ rows) r v num e f h = by_head (q.number == r.number) refl e (adde
     by_head false g e ih = (h.0, ih e f h.1)
 
 not_in_set : (in_set many full : Bool) (x y z : VssResult) → (if in_set then Some x else if many then Some y else if full then Some z else None) ≡ None → in_set ≡ false
-not_in_set true many full x y z e = absurd cc
-not_in_set false many full x y z e = refl
+not_in_set in_set many full x y z e = grind arith
 
 -- ## every act
 
 settled_volumes : (p : SetOutcome) (r : SetRow) → (row_settled p r).volumes ≡ r.volumes
-settled_volumes p r = by_running (is_running r.result)
-  where
-    by_running : (b : Bool) → (if b then record r { result = p } else r).volumes ≡ r.volumes
-    by_running true = refl
-    by_running false = refl
+settled_volumes p r = grind arith
 
 cut_volumes : (n now : ℕ) (r : SetRow) → (row_cut n now r).volumes ≡ r.volumes
-cut_volumes n now r = by_number (r.number == n)
-  where
-    by_number : (b : Bool) → (if b then with_cut now r else r).volumes ≡ r.volumes
-    by_number true = refl
-    by_number false = refl
+cut_volumes n now r = grind arith
 
 module _ (s : Plan) (st : State) (num : NumberedFrom 1 st.sets) (h : AllDistinct st.sets) where
   in_ended : (e : Ending) (x : State) → AllDistinct x.sets → AllDistinct (concluded e x).sets
-  in_ended NothingEnds x d = d
-  in_ended _ x d = distinct_map (row_settled x.course.outcome) (settled_volumes x.course.outcome) x.sets d
+  in_ended e x d = grind (arith, distinct_map, settled_volumes)
 
   in_followed : (ran : Bool) (c : Course) (x : State) → AllDistinct x.sets → AllDistinct (followed ran c x).sets
   unfolding followed
   in_followed ran c x d = in_ended (ending x.course.outcome c.outcome ran c.agenda) (record x { course = c }) d
 
   in_failed : (o : Option SetRow) (why : VssResult) (x : State) → AllDistinct x.sets → AllDistinct (failed_in o why x).sets
-  in_failed None why x d = d
-  in_failed (Some r) why x d = distinct_map (row_settled _) (settled_volumes _) x.sets d
+  in_failed o why x d = grind (arith, distinct_map, settled_volumes)
 
   in_room : (b : Bool) (x : State) → AllDistinct x.sets → AllDistinct (with_room_if b x).sets
-  in_room true x d = in_failed (in_progress x) InsufficientStorage x d
-  in_room false x d = d
+  in_room b x d = grind (arith, in_failed)
 
   in_put : (v : ℕ) (w : Write) (mark : Mark) (x : State) → AllDistinct x.sets → AllDistinct (put v w mark x).sets
-  in_put v w Clean x d = d
-  in_put v w _ x d = d
+  in_put v w mark x d = grind arith
 
   in_write : (v : ℕ) (w : Write) (mark : Mark) → AllDistinct (write s v w mark st).1.sets
   unfolding write
   in_write v w mark = in_put v w mark _ (in_room (set_loses_image (in_progress st) st.volumes (cleared s v w.block st).volumes) (cleared s v w.block st) h)
 
   in_revert : (v : ℕ) (k : Kept) (mark : Mark) → AllDistinct (reverted_as s v k mark st).1.sets
-  in_revert v k Clean = h
-  in_revert v k _ = h
+  in_revert v k mark = grind arith
 
   in_closed : (q : Session) (x : State) → AllDistinct x.sets → AllDistinct (closed q x).sets
   unfolding closed
   in_closed q x d = d
 
   in_cut : (o : Option SetRow) → AllDistinct (cut_set o st).sets
-  in_cut None = h
-  in_cut (Some r) = distinct_map (row_cut r.number st.clock) (cut_volumes r.number st.clock) st.sets h
+  in_cut o = grind (arith, distinct_map, cut_volumes)
 
   in_made : (g : Option Group) → AllDistinct (step_made g st).sets
-  in_made None = h
-  in_made (Some (Orders o)) = h
-  in_made (Some PreCommit) = h
-  in_made (Some Flush) = h
-  in_made (Some Hold) = h
-  in_made (Some Cut) = in_cut (in_progress st)
-  in_made (Some Commit) = h
-  in_made (Some Release) = h
-  in_made (Some PostCommit) = h
+  in_made g = grind (arith, in_cut)
 
   in_answers : (w : ℕ) (said : Said) → AllDistinct (answered w said st).sets
   unfolding answered
@@ -163,8 +139,7 @@ module _ (s : Plan) (st : State) (num : NumberedFrom 1 st.sets) (h : AllDistinct
   in_ticks n = in_followed (runs st) (course_timed (st.clock + n) st.course) (later n st) h
 
   in_step_as : (f : Bool) (g : Option Group) → AllDistinct (stepped_as f g st).sets
-  in_step_as true g = in_followed (runs st) (course_stepped false st.clock st.course) st h
-  in_step_as false g = in_followed (runs st) (course_stepped true st.clock st.course) (step_made g st) (in_made g)
+  in_step_as f g = grind (arith, in_followed, in_made)
 
   in_steps : (mark : Mark) → AllDistinct (stepped mark st).sets
   unfolding stepped
@@ -174,7 +149,7 @@ module _ (s : Plan) (st : State) (num : NumberedFrom 1 st.sets) (h : AllDistinct
   Distinct event mark x = AllDistinct x.1.sets
 
   on_add : (v : ℕ) (r : SetRow) → in_progress st ≡ Some r → add_refusal v r st ≡ None → AllDistinct (map (row_changed r.number (with_volume v)) st.sets)
-  on_add v r e f = added 1 st.sets r v num (row_running 1 st.sets r num e) (not_in_set (is_in_set v (Some r)) (nat_le most_volumes (length r.volumes)) (nat_le most_images (length (history_of st v).images)) ObjectAlreadyExists MaximumNumberOfVolumesReached MaximumNumberOfSnapshotsReached f) h
+  on_add v r e f = grind (arith, added, row_running, not_in_set)
 
   all_distinct : Covers Distinct s st
   all_distinct = record {
@@ -201,8 +176,7 @@ module _ (s : Plan) (st : State) (num : NumberedFrom 1 st.sets) (h : AllDistinct
   }
 
   distinct_if : (b : Bool) (act : Act) → enabled s st act.event ≡ b → AllDistinct (after s st act).sets
-  distinct_if true act e = subst (λ (x : State). AllDistinct x.sets) (sym (after_enabled s st act e)) (covered Distinct s st all_distinct act.event act.mark e)
-  distinct_if false act e = subst (λ (x : State). AllDistinct x.sets) (sym (after_not_enabled s st act e)) h
+  distinct_if b act e = grind (arith, after_enabled, covered, all_distinct, after_not_enabled)
 
   pub distinct_after : (act : Act) → AllDistinct (after s st act).sets
   distinct_after act = distinct_if (enabled s st act.event) act refl

@@ -1,9 +1,10 @@
 -- Volumes with fewer images use no more slots, and no write needs a slot there that needed none before.
 use Rattle.promises.proofs.Words.{Context, Backup, AppRollback, NasRollback, Image, History, dropped, after_set, Placed, used, needs_slot, gone_up_to, is_among, change_at, SetRow, images_dropped}
 use Rattle.promises.proofs.Words.{images_released, cut_if, cut_each, at, Each, each_map, each_change, each_gone, as_many_map, as_many_change, as_many_gone, as_many_cut}
-use Rattle.std.proofs.Common.{◌≡◌, ◌∙◌, ℕ, ◌+◌, ◌==◌, ◌≤◌, zero, suc, List, [], ◌∷◌, Option, Some, None, refl, Bool, true, false, sym, subst, map, filter, length}
+use Rattle.std.proofs.Common.{◌≡◌, ◌∙◌, ℕ, ◌+◌, ◌==◌, ◌≤◌, zero, suc, List, [], ◌∷◌, Option, Some, None, refl, Bool, true, map, filter, length}
 use Rattle.std.specs.Prelude.{not, nat_lt}
-use Rattle.promises.proofs.Truth.{chain, no_less}
+use Rattle.std.proofs.Common.{arith}
+use Rattle.promises.proofs.Truth.{no_less}
 use Rattle.promises.proofs.Used.{Rising, rising_fewer, rising_cut, fewer_used, fewer_need, cut_used}
 
 -- ## a volume
@@ -26,17 +27,10 @@ pub less_same : (h : History) → Less h h
 less_same h t = record { in_time = t; uses = λ n. no_less (used_in n h); needs = λ b e. e }
 
 less_over : (h k l : History) → Less h k → Less k l → Less h l
-less_over h k l f g t =
-    let x = f t in
-    let y = g x.in_time in
-    record { in_time = y.in_time; uses = λ n. chain (used_in n l) (used_in n k) (used_in n h) (y.uses n) (x.uses n); needs = λ b e. x.needs b (y.needs b e) }
+less_over h k l f g t = grind arith
 
 less_fewer : (test : Image → Bool) (h : History) → Less h (record { writes = h.writes; images = filter test h.images })
-less_fewer test h t = record {
-  in_time = rising_fewer test 0 (length h.writes) h.images t;
-  uses = λ n. fewer_used test n 0 h.writes h.images t;
-  needs = λ b e. fewer_need test b 0 h.writes h.images t e;
-}
+less_fewer test h t = grind (arith, rising_fewer, fewer_used, fewer_need)
 
 less_dropped : (n : ℕ) (h : History) → Less h (dropped n h)
 less_dropped n h = less_fewer (λ i. not (i.set == n)) h
@@ -86,20 +80,14 @@ pub uses_less : (hs ks : List History) → LessIn hs ks → UsesNoMore hs ks
 uses_less hs ks h = record { in_time = λ v t. (h.each v t).in_time; uses = λ v n t. (h.each v t).uses n; as_many = h.as_many }
 
 pub uses_over : (hs ks ls : List History) → UsesNoMore hs ks → UsesNoMore ks ls → UsesNoMore hs ls
-uses_over hs ks ls h g = record {
-  in_time = λ v t. g.in_time v (h.in_time v t);
-  uses = λ v n t. chain (used_in n (at ls v)) (used_in n (at ks v)) (used_in n (at hs v)) (g.uses v n (h.in_time v t)) (h.uses v n t);
-  as_many = g.as_many ∙ h.as_many;
-}
+uses_over hs ks ls h g = grind arith
 
 -- the cut uses no slot
 cut_in_time : (m : ℕ) (b : Bool) (h : History) → InTime h → InTime (cut_if b m h)
-cut_in_time m true h t = rising_cut m 0 (length h.writes) h.images t
-cut_in_time m false h t = t
+cut_in_time m b h t = grind (arith, rising_cut)
 
 cut_uses : (m n : ℕ) (b : Bool) (h : History) → used_in n (cut_if b m h) ≤ used_in n h
-cut_uses m n true h = subst (λ k. k ≤ used_in n h) (sym (cut_used m n h.writes h.images)) (no_less (used_in n h))
-cut_uses m n false h = no_less (used_in n h)
+cut_uses m n b h = grind (arith, cut_used, no_less)
 
 each_cut : (m : ℕ) (vs : List ℕ) (u : ℕ) (hs : List History) (v : ℕ) → InTime (at hs v) → InTime (at (cut_each m vs u hs) v)
 each_cut m vs u [] v t = t

@@ -1,12 +1,12 @@
 -- Images never use more slots than their group has: of each change of the volumes, that it leaves it so.
 use Rattle.promises.proofs.Words.{slice_get_within, get_or_from_slice_get, slice_get-map, VssResult, InsufficientStorage, AsyncCancelled, Said, Mark, Clean, Fault, FaultAfter, Write, Image, History}
 use Rattle.promises.proofs.Words.{fresh, point_in, written, reverted, reverted_in_part, AreInTime, Placed, Copy, named, copy_of, copies_of, copies_from, group_used, used, needs_slot, said_of, Group}
-use Rattle.promises.proofs.Words.{Orders, PreCommit, Flush, Hold, Cut, Commit, Release, PostCommit, open_group, Session, VolumeRow, IsPlan, group_slots, Plan, slots_in, slots_of, placed, placed_in}
-use Rattle.promises.proofs.Words.{group_of, blocks_of, Event, State, SetRow, Kept, in_progress, row_of, left_now, history_of, kept_image, Act, enabled, idle_now, after, state, state-append, UpTo}
+use Rattle.promises.proofs.Words.{Cut, open_group, Session, VolumeRow, IsPlan, group_slots, Plan, slots_in, slots_of, placed, placed_in}
+use Rattle.promises.proofs.Words.{group_of, blocks_of, Event, State, SetRow, Kept, in_progress, left_now, kept_image, Act, enabled, idle_now, after, state, state-append, UpTo}
 use Rattle.promises.proofs.Words.{images_up_to, kept_point, row_number, images_in_time, orderly, at, as_many_change, within, SlotsSuffice, Covers, covered, after_enabled, after_not_enabled}
 use Rattle.std.proofs.Common.{◌≡◌, ◌∙◌, ℕ, ◌+◌, ◌==◌, ◌≤◌, ◌<◌, suc, List, [], ◌∷◌, ◌++◌, Option, Some, None, refl, Bool, true, false, ap, sym, subst, map, fold, length, arith}
 use Rattle.std.specs.Prelude.{if◌then◌else◌, slice_get, option_map}
-use Rattle.set_agenda.specs.Course.{Course, answered as course_answered, stepped as course_stepped, timed as course_timed, change_at}
+use Rattle.set_agenda.specs.Course.{Course, answered as course_answered, timed as course_timed, change_at}
 use Rattle.vss_model.specs.Ending.{Ending, SetFails, ending, concluded, followed, runs, failed_in, failed}
 use Rattle.vss_model.specs.Images.{Replied, going_up_to, cleared, set_loses_image, with_room_if, put, write, reverted_as}
 use Rattle.vss_model.specs.Sessions.{has_no_volume, closed}
@@ -20,7 +20,7 @@ use Rattle.promises.proofs.Orders.{smaller}
 -- ## the groups of a plan
 
 volume_in : (s : Plan) (v : ℕ) (r : VolumeRow) → IsPlan s → slice_get s.volumes v ≡ Some r → r.slots ≡ group_slots (slice_get s.groups r.group)
-volume_in s v r plan e = subst (λ (x : VolumeRow). x.slots ≡ group_slots (slice_get s.groups x.group)) (get_or_from_slice_get s.volumes v r r e) (plan.grouped.rows v r (slice_get_within s.volumes v r e)).slots
+volume_in s v r plan e = grind (arith, get_or_from_slice_get, slice_get_within)
 
 -- each volume of a group names the same volumes and the same slots
 same_slots : (s : Plan) (v u : ℕ) (r q : VolumeRow) → IsPlan s → slice_get s.volumes v ≡ Some r → slice_get s.volumes u ≡ Some q → q.group ≡ r.group → slots_of s u ≡ slots_of s v
@@ -112,19 +112,11 @@ module _ (s : Plan) (plan : IsPlan s) (st : State) (time : (v : ℕ) → AreInTi
           by_needs false f l = none_more _ _ _ (subst (λ u. group_used (group_of s v) (change_at v (written w) (with_room_if b roomy).volumes) ≤ group_used (group_of s v) (with_room_if b roomy).volumes + one_if u) f l) (fit_room b v)
 
       within_own : (q : VolumeRow) → slice_get s.volumes v ≡ Some q → within (slice_get (group_of s v) v) ≡ true
-      within_own q f = ap (λ o. within (slice_get (placed_in s.volumes o) v)) f ∙ within_placed q.group s.volumes v ∙ ap (λ o. within (option_map (placed q.group) o)) f ∙ same_number q.group
+      within_own q f = grind (arith, within_placed, same_number)
 
       -- in any group
       put_fits : (b t : Bool) (x : ℕ) (r q : VolumeRow) → slice_get s.volumes x ≡ Some r → slice_get s.volumes v ≡ Some q → (q.group == r.group) ≡ t → group_used (group_of s x) (change_at v (written w) (with_room_if b roomy).volumes) ≤ slots_of s x
-      put_fits b true x r q e f g =
-          let same = equal q.group r.group g in
-          let here = own_fits b (needs_slot (at (with_room_if b roomy).volumes v).writes (at (with_room_if b roomy).volumes v).images w.block) (within_own q f) refl in
-          subst (λ n. group_used (group_of s x) (change_at v (written w) (with_room_if b roomy).volumes) ≤ n) (same_slots s x v r q plan e f same)
-          (subst (λ ps. group_used ps (change_at v (written w) (with_room_if b roomy).volumes) ≤ slots_of s v) (same_group s x v r q e f same) here)
-      put_fits b false x r q e f g =
-          subst (λ n. n ≤ slots_of s x) (sym (group_other (written w) v (group_of s x) (with_room_if b roomy).volumes
-          (ap (λ o. within (slice_get (placed_in s.volumes o) v)) e ∙ within_placed r.group s.volumes v ∙ ap (λ o. within (option_map (placed r.group) o)) f ∙ g)))
-          (fit_room b x)
+      put_fits b t x r q e f g = grind (arith, equal, own_fits, within_own, same_slots, same_group, group_other, within_placed, fit_room)
 
       fit_put_at : (b : Bool) (x : ℕ) (o p : Option VolumeRow) → slice_get s.volumes x ≡ o → slice_get s.volumes v ≡ p → group_used (group_of s x) (change_at v (written w) (with_room_if b roomy).volumes) ≤ slots_of s x
       fit_put_at b x None p e f = subst (λ ps. group_used ps (change_at v (written w) (with_room_if b roomy).volumes) ≤ slots_of s x) (sym (ap (placed_in s.volumes) e)) (none_used (slots_of s x))
@@ -138,8 +130,7 @@ module _ (s : Plan) (plan : IsPlan s) (st : State) (time : (v : ℕ) → AreInTi
       fit_put_at b x (Some r) (Some q) e f = put_fits b (q.group == r.group) x r q e f refl
 
       fit_put : (b : Bool) (mark : Mark) → Fit (put v w mark (with_room_if b roomy)).volumes
-      fit_put b Clean x = fit_put_at b x (slice_get s.volumes x) (slice_get s.volumes v) refl refl
-      fit_put b _ x = fit_room b x
+      fit_put b mark x = grind (arith, fit_put_at, fit_room)
 
     fit_write : (v : ℕ) (w : Write) (mark : Mark) → Fit (write s v w mark st).1.volumes
     unfolding write
@@ -148,12 +139,10 @@ module _ (s : Plan) (plan : IsPlan s) (st : State) (time : (v : ℕ) → AreInTi
     -- ## a revert
 
     fit_changed : (f : History → History) (v : ℕ) → ((n : ℕ) → used_in n (f (at st.volumes v)) ≤ used_in n (at st.volumes v)) → Fit (change_at v f st.volumes)
-    fit_changed f v g x = chain _ _ _ (group_less (group_of s x) st.volumes (change_at v f st.volumes) (changed_uses f v st.volumes g) (as_many_change f v st.volumes)) (fit x)
+    fit_changed f v g x = grind (arith, chain, group_less, changed_uses, as_many_change)
 
     point_of : (n v : ℕ) (k : Kept) → kept_image st n v ≡ Some k → point_in k.row.number (at st.volumes v).images ≡ Some k.point
-    point_of n v k e =
-        let parts = kept_point n (row_of st n) (point_in n (history_of st v).images) k (λ r f. row_number n st.sets r f) e in
-        subst (λ m. point_in m (at st.volumes v).images ≡ Some k.point) (sym parts.0) parts.1
+    point_of n v k e = grind (arith, kept_point, row_number)
 
     fit_revert : (n v : ℕ) (k : Kept) (mark : Mark) → kept_image st n v ≡ Some k → Fit (reverted_as s v k mark st).1.volumes
     fit_revert n v k Clean e = fit_changed (reverted k.row.number k.point) v (λ m. reverted_used m k.row.number k.point (at st.volumes v).writes (at st.volumes v).images (time v) (point_of n v k e))
@@ -179,20 +168,11 @@ module _ (s : Plan) (plan : IsPlan s) (st : State) (time : (v : ℕ) → AreInTi
     uses_cut_set (Some r) = uses_cut r.number r.volumes 0 st.volumes
 
     uses_made : (g : Option Group) → UsesNoMore st.volumes (step_made g st).volumes
-    uses_made None = uses_same
-    uses_made (Some (Orders o)) = uses_same
-    uses_made (Some PreCommit) = uses_same
-    uses_made (Some Flush) = uses_same
-    uses_made (Some Hold) = uses_same
     uses_made (Some Cut) = uses_cut_set (in_progress st)
-    uses_made (Some Commit) = uses_same
-    uses_made (Some Release) = uses_same
-    uses_made (Some PostCommit) = uses_same
+    uses_made _ = uses_same
 
     fit_step_as : (b : Bool) (g : Option Group) → Fit (stepped_as b g st).volumes
-    fit_step_as true g = by_less _ (less_followed (runs st) (course_stepped false st.clock st.course) st)
-    fit_step_as false g =
-        by_uses _ (uses_over st.volumes (step_made g st).volumes _ (uses_made g) (uses_less (step_made g st).volumes _ (less_followed (runs st) (course_stepped true st.clock st.course) (step_made g st))))
+    fit_step_as b g = grind (arith, by_less, less_followed, by_uses, uses_over, uses_made, uses_less)
 
     fit_step : (mark : Mark) → Fit (stepped mark st).volumes
     unfolding stepped
@@ -202,14 +182,13 @@ module _ (s : Plan) (plan : IsPlan s) (st : State) (time : (v : ℕ) → AreInTi
 
     fit_end : (q : Session) (why : VssResult) → Fit (closed q (failed why st)).volumes
     unfolding closed
-    fit_end q why = by_less _ (less_in_over st.volumes (failed why st).volumes _ (less_failed (in_progress st) why st) (less_released q.context q.set (failed why st).volumes))
+    fit_end q why = grind (arith, by_less, less_in_over, less_failed, less_released)
 
     abbrev Next : Event → Mark → Replied → Type 0
     Next event mark x = Fit x.1.volumes
 
     either : (b : Bool) (x y : Replied) → Fit x.1.volumes → Fit y.1.volumes → Fit (if b then x else y).1.volumes
-    either true x y d e = d
-    either false x y d e = e
+    either b x y d e = grind arith
 
     fits : Covers Next s st
     fits = record {
@@ -236,8 +215,7 @@ module _ (s : Plan) (plan : IsPlan s) (st : State) (time : (v : ℕ) → AreInTi
     }
 
     fit_if : (b : Bool) (act : Act) → enabled s st act.event ≡ b → Fit (after s st act).volumes
-    fit_if true act e = subst (λ (x : State). Fit x.volumes) (sym (after_enabled s st act e)) (covered Next s st fits act.event act.mark e)
-    fit_if false act e = subst (λ (x : State). Fit x.volumes) (sym (after_not_enabled s st act e)) fit
+    fit_if b act e = grind (arith, after_enabled, covered, fits, after_not_enabled)
 
 -- ## every act
 

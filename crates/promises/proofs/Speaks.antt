@@ -1,13 +1,13 @@
 -- What a call does to a running agenda, with the deeds that it tells: the agenda stops and the set fails; or it rests, and nothing
 -- is told; or one member that is waited for, or all of them, say the same at the open place, and that is told.
 use Rattle.promises.proofs.Words.{Order, SetOutcome, VssResult, Said, Ok, Lost, is_ok, Group, Orders, PreCommit, Flush, Hold, Cut, Commit, Release, PostCommit, Limit, Place, Agenda, Entry, Open}
-use Rattle.promises.proofs.Words.{order_of, is_orders, is_over_volumes, with_group, waited_for, left_from, places, groups_left, left, open_group, open_place, is_asked, is_among, order_if, open_order}
-use Rattle.promises.proofs.Words.{order_now, waits_now, head_or_0, next_member, volume_if, next_volume, is_done, is_working, at_place, all_say, Running as RunningLimit, running_limits, spent_of}
+use Rattle.promises.proofs.Words.{order_of, is_orders, with_group, waited_for, left_from, places, groups_left, left, open_group, open_place, is_asked, is_among, open_order}
+use Rattle.promises.proofs.Words.{order_now, waits_now, next_member, next_volume, is_done, is_working, at_place, all_say, Running as RunningLimit, running_limits, spent_of}
 use Rattle.promises.proofs.Words.{lost_order_if, Settles, Stops, asked_if, asked_waits, first_among, not_ok_of_ok, Deed, Spoke, Made, deeds_lost, now_if}
-use Rattle.std.proofs.Common.{◌≡◌, ◌∙◌, ℕ, List, [], ◌∷◌, ◌⊎◌, Option, Some, None, refl, Bool, true, false, ap, sym, subst, inl, inr, map}
+use Rattle.std.proofs.Common.{◌≡◌, ◌∙◌, ℕ, List, [], ◌∷◌, ◌⊎◌, Option, Some, None, refl, Bool, true, false, ap, sym, subst, inl, inr, map, arith}
 use Rattle.std.specs.Prelude.{option_map, ◌&&◌, not}
 use Rattle.set_agenda.specs.declared.limit.Limit.TheVariants.{Hold as HoldLimit, Freeze as FreezeLimit, Answer as AnswerLimit}
-use Rattle.set_agenda.specs.Course.{Course, posted, outcome_after, failed as course_failed, settled_if, settled_in, settled, is_decisive, told, decided, answered_to, answered as course_answered, worked, stepped_as as course_stepped_as, stepped as course_stepped, freeze_limit, limits_now, lost_at, lost_to, lost, fails_set, lost_decided, treated_as, treated, timed as course_timed}
+use Rattle.set_agenda.specs.Course.{Course, posted, failed as course_failed, settled_in, settled, is_decisive, told, decided, answered_to, answered as course_answered, worked, stepped_as as course_stepped_as, stepped as course_stepped, freeze_limit, limits_now, lost_at, lost_to, lost, fails_set, lost_decided, treated_as, treated, timed as course_timed}
 
 -- ## deeds in a log
 
@@ -68,15 +68,8 @@ GrowsTo c d news = Grows c.agenda c.outcome d.agenda d.outcome news
 
 -- ## settled
 
-settles_if : (done : Bool) (b : Agenda) (o : SetOutcome) (d : Course) → d.agenda ≡ Some b → d.outcome ≡ o → Settles done b o (settled_if done b.kind d).agenda (settled_if done b.kind d).outcome
-settles_if true b o d e f = (refl, ap (λ x. outcome_after b.kind x) f)
-settles_if false b o d e f = (e, f)
-
 settles_in : (x : Option Agenda) (b : Agenda) (o : SetOutcome) (d : Course) → d.agenda ≡ x → x ≡ Some b → d.outcome ≡ o → Settles (is_done (groups_left b)) b o (settled_in x d).agenda (settled_in x d).outcome
-settles_in None b o d e f g = absurd cc
-settles_in (Some y) b o d e f g =
-    let same : y ≡ b = cc in
-    subst (λ z. Settles (is_done (groups_left z)) z o (settled_in (Some y) d).agenda (settled_in (Some y) d).outcome) same (settles_if (is_done (groups_left y)) y o d e g)
+settles_in x b o d e f g = grind arith
 
 settles : (b : Agenda) (o : SetOutcome) (d : Course) → d.agenda ≡ Some b → d.outcome ≡ o → Settles (is_done (groups_left b)) b o (settled d).agenda (settled d).outcome
 unfolding settled
@@ -91,21 +84,15 @@ unfolding course_failed
 grows_failed a o why d news = inl (record { agenda = refl; failed = refl })
 
 grows_same : (a : Option Agenda) (o : SetOutcome) → Grows a o a o []
-grows_same None o = (refl, refl, refl)
-grows_same (Some a) o = inr (inl (record { done = false; is_done = λ e. absurd cc; told = refl; settles = (refl, refl) }))
+grows_same a o = grind arith
 
 along : (a : Option Agenda) (c d : Course) (news : List Deed) → c.agenda ≡ a → Grows a c.outcome d.agenda d.outcome news → GrowsTo c d news
 along a c d news e h = subst (λ x. Grows x c.outcome d.agenda d.outcome news) (sym e) h
 
 -- ## the open place
 
-group_of_order : (g : Group) (o : Order) → order_of g ≡ Some o → g ≡ Orders o
-group_of_order (Orders x) o e = cc
-group_of_order _ o e = absurd cc
-
 pub now_group : (os : List Open) (o : Order) → order_now os ≡ Some o → (open_place os).group ≡ Orders o
-now_group [] o e = absurd cc
-now_group (x ∷ os) o e = group_of_order x.place.group o e
+now_group os o e = grind arith
 
 mild_at : (g : Group) (o : Order) (said : Said) → g ≡ Orders o → (is_decisive o && not (is_ok said)) ≡ false → (fails_set (order_of g) && not (is_ok said)) ≡ false
 mild_at g o said e f = ap (λ x. fails_set (order_of x) && not (is_ok said)) e ∙ f
@@ -116,8 +103,7 @@ says_told : (o : Order) (said : Said) (now : ℕ) (ws : List ℕ) (news : List D
     → (fails_set (order_of (open_place (groups_left a)).group) && not (is_ok said)) ≡ false → news ≡ map deed_in (said_at (groups_left a) said now ws)
     → Grows (Some a) c.outcome (settled (told o said now ws c)).agenda (settled (told o said now ws c)).outcome news
 unfolding told
-says_told o said now ws news a c e who mild told_so =
-    inr (inr (record { said = said; now = now; ws = ws; who = who; mild = mild; told = told_so; settles = settles (all_say said now ws a) c.outcome (told o said now ws c) (ap (option_map (all_say said now ws)) e) refl }))
+says_told o said now ws news a c e who mild told_so = grind (arith, settles)
 
 one_spoke : (g : Group) (o : Order) (w : ℕ) (said : Said) (now : ℕ) → g ≡ Orders o → Spoke o w said now ∷ [] ≡ deed_at g w said now ∷ []
 one_spoke g o w said now e = ap (λ x. deed_at x w said now ∷ []) (sym e)
@@ -132,16 +118,10 @@ grows_decided false w o said now a c e f g =
     (mild_at (open_place os).group o said group g) (one_spoke (open_place os).group o w said now group)
 
 grows_answered_at : (x : Option Agenda) (w : ℕ) (o : Order) (said : Said) (now : ℕ) (c : Course) → c.agenda ≡ x → open_order (left x) w ≡ Some o → GrowsTo c (answered_to (Some o) w said now c) (Spoke o w said now ∷ [])
-grows_answered_at None w o said now c e f = absurd (no_order (is_asked w (left None)) f)
-  where
-    no_order : (b : Bool) → order_if b None ≡ Some o → ⊥
-    no_order true e = cc
-    no_order false e = cc
-grows_answered_at (Some a) w o said now c e f = along (Some a) c (answered_to (Some o) w said now c) _ e (grows_decided (is_decisive o && not (is_ok said)) w o said now a c e f refl)
+grows_answered_at x w o said now c e f = grind (arith, along, grows_decided)
 
 pub grows_answered : (w : ℕ) (o : Order) (said : Said) (now : ℕ) (c : Course) → open_order (left c.agenda) w ≡ Some o → GrowsTo c (course_answered w said now c) (Spoke o w said now ∷ [])
-grows_answered w o said now c e =
-    grows_posted c c _ _ (subst (λ x. GrowsTo c (answered_to x w said now c) (Spoke o w said now ∷ [])) (sym e) (grows_answered_at c.agenda w o said now c refl e))
+grows_answered w o said now c e = grind (arith, grows_posted, grows_answered_at)
 
 -- ## a step
 
@@ -158,13 +138,8 @@ abbrev pub made_now : List Open → ℕ → Option Group → List Deed
 made_now os now None = []
 made_now os now (Some g) = Made g (next_volume os) now ∷ []
 
-made_at : (g : Group) (who now : ℕ) → not (is_orders g) ≡ true → Made g (volume_if (is_over_volumes g) who) now ≡ deed_at g who Ok now
-made_at (Orders o) who now e = absurd cc
-made_at _ who now e = refl
-
 step_told : (os : List Open) (now : ℕ) → is_working os ≡ true → made_now os now (open_group os) ≡ map deed_in (said_at os Ok now (next_member os ∷ []))
-step_told [] now e = absurd cc
-step_told (x ∷ os) now e = ap (λ d. d ∷ []) (made_at x.place.group (head_or_0 x.waits) now e)
+step_told os now e = grind arith
 
 says_worked : (now : ℕ) (a : Agenda) (c : Course) → c.agenda ≡ Some a → is_working (groups_left a) ≡ true
     → Grows (Some a) c.outcome (settled (worked now c)).agenda (settled (worked now c)).outcome (made_now (groups_left a) now (open_group (groups_left a)))
@@ -183,9 +158,7 @@ says_worked now a c e f =
     }))
 
 grows_stepped_as : (ok : Bool) (x : Option Agenda) (now : ℕ) (c : Course) → c.agenda ≡ x → is_working (left x) ≡ true → GrowsTo c (course_stepped_as ok now c) (made_now (left x) now (open_group (left x)))
-grows_stepped_as ok None now c e f = absurd cc
-grows_stepped_as true (Some a) now c e f = along (Some a) c (course_stepped_as true now c) _ e (says_worked now a c e f)
-grows_stepped_as false (Some a) now c e f = along (Some a) c (course_stepped_as false now c) _ e (grows_failed a c.outcome _ c _)
+grows_stepped_as ok x now c e f = grind (arith, along, says_worked, grows_failed)
 
 pub grows_stepped : (ok : Bool) (now : ℕ) (c : Course) → is_working (left c.agenda) ≡ true → GrowsTo c (course_stepped ok now c) (made_now (left c.agenda) now (open_group (left c.agenda)))
 grows_stepped ok now c f = grows_posted c c _ _ (grows_stepped_as ok c.agenda now c refl f)
@@ -201,8 +174,7 @@ map_lost p o now (w ∷ ws) e =
     ap (λ g. deed_at g w Lost now ∷ map (λ x. Spoke o x Lost now) ws) (sym e) ∙ ap (λ ds. deed_at p.group w Lost now ∷ ds) (map_lost p o now ws e)
 
 lost_are : (p : Place) (o : Order) (now : ℕ) (ws : List ℕ) → p.group ≡ Orders o → deeds_lost now (lost_order_if ws (Some o)) ws ≡ map deed_in (map (at_place p Lost now) ws)
-lost_are p o now [] e = refl
-lost_are p o now (w ∷ ws) e = map_lost p o now (w ∷ ws) e
+lost_are p o now ws e = grind (arith, map_lost)
 
 -- what is told of lost answers, by the open order
 abbrev lost_by : ℕ → Option Order → List ℕ → List Deed
@@ -220,8 +192,7 @@ grows_lost_to (Some o) now a c e f g =
 
 grows_lost_decided : (fails : Bool) (now : ℕ) (a : Agenda) (c : Course) → c.agenda ≡ Some a → fails_set (order_now (groups_left a)) ≡ fails
     → Grows (Some a) c.outcome (lost_decided fails (lost_to (order_now (groups_left a)) now c)).agenda (lost_decided fails (lost_to (order_now (groups_left a)) now c)).outcome (lost_by now (order_now (groups_left a)) (waits_now (groups_left a)))
-grows_lost_decided true now a c e f = grows_failed a c.outcome _ (lost_to (order_now (groups_left a)) now c) _
-grows_lost_decided false now a c e f = grows_lost_to (order_now (groups_left a)) now a c e refl f
+grows_lost_decided fails now a c e f = grind (arith, grows_failed, grows_lost_to)
 
 grows_treated_as : (l : Limit) (now : ℕ) (a : Agenda) (c : Course) → c.agenda ≡ Some a → Grows (Some a) c.outcome (treated_as l now c).agenda (treated_as l now c).outcome (lost_by now (order_now (groups_left a)) (waits_now (groups_left a)))
 grows_treated_as HoldLimit now a c e = grows_failed a c.outcome _ c _
@@ -231,8 +202,7 @@ grows_treated_as AnswerLimit now a c e =
     subst R (sym e) (grows_lost_decided (fails_set (order_now (groups_left a))) now a c e refl)
 
 lost_by_is : (l : RunningLimit) (now : ℕ) (o : Option Order) (ws : List ℕ) → lost_by now o ws ≡ deeds_lost now (lost_order_if (lost_at (Some l) o ws) o) (lost_at (Some l) o ws)
-lost_by_is l now None ws = refl
-lost_by_is l now (Some o) ws = refl
+lost_by_is l now o ws = grind arith
 
 grows_treated : (l : Option RunningLimit) (now : ℕ) (a : Agenda) (c : Course) → c.agenda ≡ Some a → Grows (Some a) c.outcome (treated l now c).agenda (treated l now c).outcome (lost_told now l (groups_left a))
 grows_treated None now a c e = subst (λ x. Grows (Some a) c.outcome x c.outcome []) (sym e) (grows_same (Some a) c.outcome)
@@ -240,8 +210,7 @@ grows_treated (Some l) now a c e =
     subst (λ news. Grows (Some a) c.outcome (treated_as l.limit now c).agenda (treated_as l.limit now c).outcome news) (lost_by_is l now (order_now (groups_left a)) (waits_now (groups_left a))) (grows_treated_as l.limit now a c e)
 
 grows_timed_at : (x : Option Agenda) (now : ℕ) (c : Course) → c.agenda ≡ x → GrowsTo c (treated (spent_of now (running_limits (freeze_limit c) x)) now c) (lost_told now (spent_of now (running_limits (freeze_limit c) x)) (left x))
-grows_timed_at None now c e = grows_same c.agenda c.outcome
-grows_timed_at (Some a) now c e = along (Some a) c (treated (spent_of now (running_limits (freeze_limit c) (Some a))) now c) _ e (grows_treated (spent_of now (running_limits (freeze_limit c) (Some a))) now a c e)
+grows_timed_at x now c e = grind (arith, grows_same, along, grows_treated)
 
 pub grows_timed : (now : ℕ) (c : Course) → GrowsTo c (course_timed now c) (lost_told now (spent_of now (limits_now c)) (left c.agenda))
 grows_timed now c = grows_posted c c _ _ (grows_timed_at c.agenda now c refl)

@@ -1,10 +1,10 @@
 -- The stages of a snapshot's sequence in its agenda: groups stay closed, the stage of the open group does not fall, and what is said
 -- belongs to it.
-use Rattle.promises.proofs.Words.{list_any, list_any-append, Level, System, Identify, PrepareBackup, PrepareSnapshot, Freeze, Thaw, PostSnapshot, BackupComplete, Said, is_ok, Group, Orders, PreCommit}
+use Rattle.promises.proofs.Words.{list_any, list_any-append, Level, System, Identify, PrepareBackup, PrepareSnapshot, Freeze, Thaw, PostSnapshot, BackupComplete, Said, Group, Orders, PreCommit}
 use Rattle.promises.proofs.Words.{Flush, Hold, Cut, Commit, Release, PostCommit, Snapshot, Place, Plan, after, said_stays, true_not_false, Deed, level_of, order_stage, stage, Rising}
 use Rattle.std.proofs.Common.{◌≡◌, ◌∙◌, ℕ, ◌==◌, ◌≤◌, ◌<◌, List, [], ◌∷◌, ◌++◌, Option, Some, None, refl, Bool, true, false, ap, sym, map, filter, arith}
-use Rattle.std.specs.Prelude.{◌&&◌, ◌||◌, not, if◌then◌else◌}
-use Rattle.set_agenda.specs.Agenda.{Agenda, Entry, Open, places, is_orders, has_failed, has_said, writers_at, members_of, waited_for, with_group, left_from, groups_left, is_among, at_place, all_say}
+use Rattle.std.specs.Prelude.{◌||◌, not, if◌then◌else◌}
+use Rattle.set_agenda.specs.Agenda.{Agenda, Entry, Open, places, has_failed, has_said, writers_at, members_of, waited_for, with_group, left_from, groups_left, is_among, at_place, all_say}
 use Rattle.promises.proofs.Truth.{chain, left_part, no_less, right_part, same_number}
 use Rattle.promises.proofs.Speaks.{deed_at, deed_in, said_at}
 
@@ -14,8 +14,7 @@ deeds_in a = map deed_in a.log
 -- ## truth values
 
 pub either_true : (a b c : Bool) → (a || b) ≡ true → (a ≡ true → c ≡ true) → (b ≡ true → c ≡ true) → c ≡ true
-either_true true b c e f g = f refl
-either_true false b c e f g = g e
+either_true a b c e f g = grind arith
 
 pub deeds_append : (xs ys : List Entry) → map deed_in (xs ++ ys) ≡ map deed_in xs ++ map deed_in ys
 deeds_append [] ys = refl
@@ -64,10 +63,7 @@ abbrev pub IsOfLevel : Plan → Place → ℕ → Type 0
 IsOfLevel s p w = leveled p.group ≡ true → level_of s w ≡ level_or p.level
 
 pub stage_at : (s : Plan) (g : Group) (l : Option Level) (who : ℕ) (said : Said) (now : ℕ) → (leveled g ≡ true → level_of s who ≡ level_or l) → stage s (deed_at g who said now) ≡ group_stage g l
-stage_at s (Orders Freeze) l who said now h = ap (order_stage Freeze) (h refl)
-stage_at s (Orders Thaw) l who said now h = ap (order_stage Thaw) (h refl)
-stage_at s (Orders _) l who said now h = refl
-stage_at s _ l who said now h = refl
+stage_at s g l who said now h = grind arith
 
 abbrev pub open_stage : List Open → ℕ
 open_stage [] = 15
@@ -87,9 +83,8 @@ below_append m [] (w ∷ ws) k h l = (l, below_append m [] ws k h l)
 below_append m (n ∷ ns) ws k h l = (h.0, below_append m ns ws k h.1 l)
 
 pub rising_same : (k : ℕ) (ws : List ℕ) → Rising (map (λ w. k) ws)
-rising_same k [] = tt
-rising_same k (w ∷ []) = tt
 rising_same k (w ∷ v ∷ ws) = (no_less k, rising_same k (v ∷ ws))
+rising_same k _ = tt
 
 pub rising_append : (ns : List ℕ) (k : ℕ) (ws : List ℕ) → Rising ns → Below k ns → Rising (ns ++ map (λ w. k) ws)
 rising_append [] k ws h b = rising_same k ws
@@ -126,7 +121,7 @@ fewer_wait log new p (x ∷ xs) e = by_head (has_said log p x) (has_said (log ++
     by_head false c f e ih = absurd cc
 
 pub failed_stays : (log new : List Entry) (w : ℕ) → has_failed log w ≡ true → has_failed (log ++ new) w ≡ true
-failed_stays log new w e = list_any-append (λ (x : Entry). is_orders x.place.group && not (is_ok x.said) && (x.who == w)) log new ∙ left_part (has_failed log w) (has_failed new w) e
+failed_stays log new w e = grind (arith, list_any-append, left_part)
 
 -- of those that have not failed
 pub fewer_unfailed : (log new : List Entry) (p : Place) (xs : List ℕ) → filter (λ x. not (has_said log p x)) (filter (λ w. not (has_failed log w)) xs) ≡ []
@@ -234,4 +229,4 @@ closed_below a m (p ∷ ps) h = at_group (waited_for a p) (left_from a ps) refl 
     at_group (w ∷ ws) later e c = (λ l. absurd (itself (place_stage p) l), none_below a (place_stage p) (place_stage p) ps h.1 (no_less (place_stage p)))
 
 pub snapshot_from : From 0 (places Snapshot)
-snapshot_from = (omega arith, (omega arith, (omega arith, (omega arith, (omega arith, (omega arith, (omega arith, (omega arith, (omega arith, (omega arith, (omega arith, (omega arith, (omega arith, (omega arith, (omega arith, omega arith)))))))))))))))
+snapshot_from = grind arith

@@ -1,5 +1,5 @@
 -- Truth values, and tests of numbers: what several proofs ask of them.
-use Rattle.std.proofs.Common.{◌≡◌, ℕ, ◌==◌, ◌≤◌, refl, sym, arith, Bool, true, false}
+use Rattle.std.proofs.Common.{◌≡◌, ℕ, ◌==◌, ◌≤◌, arith, Bool, true, false}
 use Rattle.std.specs.Prelude.{◌&&◌, ◌||◌, not}
 
 pub equal : (a b : ℕ) → (a == b) ≡ true → a ≡ b
@@ -9,65 +9,49 @@ pub same_number : (a : ℕ) → (a == a) ≡ true
 same_number a = grind arith
 
 pub not_true : (b : Bool) → not b ≡ true → b ≡ false
-not_true true e = absurd cc
-not_true false e = refl
+not_true b e = grind arith
 
 pub not_false : (b : Bool) → not b ≡ false → b ≡ true
-not_false true e = refl
-not_false false e = absurd cc
+not_false b e = grind arith
 
 pub false_of : (b : Bool) → (b ≡ true → ⊥) → b ≡ false
-false_of true f = absurd (f refl)
-false_of false f = refl
+false_of b f = grind arith
 
 pub left_part : (a b : Bool) → a ≡ true → (a || b) ≡ true
-left_part true b e = refl
-left_part false b e = absurd cc
+left_part a b e = grind arith
 
 pub right_part : (a b : Bool) → b ≡ true → (a || b) ≡ true
-right_part true b e = refl
-right_part false b e = e
+right_part a b e = grind arith
 
 pub neither : (a b : Bool) → a ≡ false → b ≡ false → (a || b) ≡ false
-neither true b e f = absurd cc
-neither false true e f = absurd cc
-neither false false e f = refl
+neither a b e f = grind arith
 
 pub both_parts : (a b : Bool) → (a && b) ≡ true → (a ≡ true) × (b ≡ true)
-both_parts true b e = (refl, e)
-both_parts false b e = absurd cc
+both_parts a b e = grind arith
 
 pub first_both : (a b : Bool) → (a && b) ≡ true → a ≡ true
-first_both true b e = refl
-first_both false b e = absurd cc
+first_both a b e = grind arith
 
 pub second_both : (a b : Bool) → (a && b) ≡ true → b ≡ true
-second_both true b e = e
-second_both false b e = absurd cc
+second_both a b e = grind arith
 
 pub both_are : (a b : Bool) → a ≡ true → b ≡ true → (a && b) ≡ true
-both_are true b e f = f
-both_are false b e f = absurd cc
+both_are a b e f = grind arith
 
 pub and_true : (b : Bool) → (b && true) ≡ b
-and_true true = refl
-and_true false = refl
+and_true b = grind arith
 
 pub or_false : (b : Bool) → (b || false) ≡ b
-or_false true = refl
-or_false false = refl
+or_false b = grind arith
 
 pub not_both : (b : Bool) → b ≡ true → b ≡ false → ⊥
 not_both b e f = cc
 
 pub not_itself : (b : Bool) → b ≡ true → not b ≡ true → ⊥
-not_itself true e f = cc
-not_itself false e f = cc
+not_itself b e f = grind arith
 
 pub both_ways : (a b : Bool) → (a ≡ true → b ≡ true) → (b ≡ true → a ≡ true) → a ≡ b
-both_ways true b f g = sym (f refl)
-both_ways false true f g = g refl
-both_ways false false f g = refl
+both_ways a b f g = grind arith
 
 pub chain : (a b c : ℕ) → a ≤ b → b ≤ c → a ≤ c
 chain a b c l h = omega arith

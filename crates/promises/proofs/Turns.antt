@@ -1,15 +1,15 @@
 -- What an act makes of a session: its set fails, its agenda ends, or it stays as it is.
-use Rattle.promises.proofs.Words.{SetOutcome, VssResult, AsyncCancelled, InsufficientStorage, Said, Mark, Clean, Fault, FaultAfter, Write, Group, Agenda, open_group, is_working, Session, makes_set}
-use Rattle.promises.proofs.Words.{agenda_ended, set_failed, Plan, State, SetRow, Kept, is_running, in_progress, row_changed, left_now, change_set, with_volume, IsOfSession, has_failed, Act, state}
-use Rattle.promises.proofs.Words.{outcome_is_running, course-step_made, Moves, MovesOn, moves_answered, moves_stepped, moves_timed, orderly, running_found, row_running, row_settles, result-settled}
+use Rattle.promises.proofs.Words.{SetOutcome, VssResult, AsyncCancelled, Said, Mark, Write, Group, Agenda, open_group, is_working, Session, makes_set}
+use Rattle.promises.proofs.Words.{agenda_ended, set_failed, Plan, State, SetRow, Kept, is_running, in_progress, left_now, change_set, with_volume, IsOfSession, has_failed, Act, state}
+use Rattle.promises.proofs.Words.{outcome_is_running, course-step_made, MovesOn, moves_answered, moves_stepped, moves_timed, orderly, running_found, row_running, row_settles, result-settled}
 use Rattle.promises.proofs.Words.{failure_of, failure_in, set_failure}
-use Rattle.std.proofs.Common.{◌≡◌, ◌∙◌, ℕ, ◌+◌, List, ◌⊎◌, Option, Some, None, refl, Bool, true, false, ap, sym, subst, inl, inr, map}
+use Rattle.std.proofs.Common.{◌≡◌, ◌∙◌, ℕ, List, ◌⊎◌, Option, Some, None, refl, Bool, true, false, ap, subst, inl, inr, map, arith}
 use Rattle.std.specs.Prelude.{is_some, option_map}
 use Rattle.vss_names.specs.declared.set_outcome.SetOutcome.TheVariants.{Running as RunningSet, Complete as CompleteSet, Failed as FailedSet}
-use Rattle.set_agenda.specs.Course.{Course, failed as course_failed, answered as course_answered, stepped as course_stepped, timed as course_timed}
+use Rattle.set_agenda.specs.Course.{Course, failed as course_failed, stepped as course_stepped}
 use Rattle.vss_model.specs.Ending.{AgendaEnds, SetFails, ending, row_settled, concluded, followed, runs, failed_in, failed}
 use Rattle.vss_model.specs.Images.{cleared, set_loses_image, with_room_if, put, write, reverted_as}
-use Rattle.vss_model.specs.Steps.{answered, step_made, is_flush, is_failed_step, stepped_as, stepped, ticked, later}
+use Rattle.vss_model.specs.Steps.{answered, step_made, is_flush, is_failed_step, stepped_as, stepped, ticked}
 use Rattle.promises.proofs.Truth.{not_both}
 use Rattle.promises.proofs.BusyAgendas.{IsBusy, busy_set, busy_step}
 use Rattle.promises.proofs.CalmCourses.{CalmOrBusy, calm_answered, calm_stepped, calm_timed}
@@ -58,18 +58,13 @@ module _ (s : Plan) (so_far : List Act) where
   -- ## the course goes on
 
   set_there : (o : Option SetRow) (X : Type 0) → is_some o ≡ true → ((r : SetRow) → o ≡ Some r → X) → X
-  set_there None X e f = absurd cc
-  set_there (Some r) X e f = f r refl
+  set_there o x1 e f = grind arith
 
   busy_there : IsBusy st.course.agenda → is_some (in_progress st) ≡ true
   busy_there b = busy_set st.course.agenda st.session st.course.outcome (in_progress st) b (orderly s so_far).agenda (orderly s so_far).session
 
   failing_set : (c : Course) (why : VssResult) → st.course.outcome ≡ RunningSet → c.outcome ≡ FailedSet why → CalmOrBusy st.course c → is_some (in_progress st) ≡ true
-  failing_set c why e f (inl calm) = absurd (differ (calm (ap has_failed e)) (ap has_failed f))
-    where
-      differ : has_failed c.outcome ≡ false → has_failed c.outcome ≡ true → ⊥
-      differ g i = cc
-  failing_set c why e f (inr busy) = busy_there busy
+  failing_set c why e f x4 = grind (arith, busy_there)
 
   -- its row has the result
   fallen : (x : State) (p : SetOutcome) (why : VssResult) → x.sets ≡ map (row_settled p) st.sets → p ≡ FailedSet why → is_some (in_progress st) ≡ true → set_failure (in_progress st) x ≡ Some why
@@ -82,11 +77,7 @@ module _ (s : Plan) (so_far : List Act) where
 
   -- no set is in progress where the outcome is an end
   no_set : (x : State) → (st.course.outcome ≡ RunningSet → ⊥) → set_failure (in_progress st) x ≡ None
-  no_set x f = by_set (in_progress st) refl
-    where
-      by_set : (o : Option SetRow) → in_progress st ≡ o → set_failure o x ≡ None
-      by_set None e = refl
-      by_set (Some r) e = absurd (f (outcome_is_running s so_far r e))
+  no_set x f = grind (arith, outcome_is_running)
 
   -- from a state with the same session and the same failures; and with the same sets, where the course fails
   module _ (c : Course) (y : State) (session : y.session ≡ st.session) (failures : (n : ℕ) → failure_at y.sets n ≡ failure_at st.sets n) (calm : CalmOrBusy st.course c) (sets : has_failed c.outcome ≡ true → y.sets ≡ st.sets) where
@@ -97,10 +88,7 @@ module _ (s : Plan) (so_far : List Act) where
     settled_failures e n = failure_map (row_settled c.outcome) (settled_number c.outcome) (settled_calm c.outcome e) y.sets n ∙ failures n
 
     not_running : (o : SetOutcome) → st.course.outcome ≡ o → is_running o ≡ false → st.course.outcome ≡ RunningSet → ⊥
-    not_running o e f g = differ o f (sym e ∙ g)
-      where
-        differ : (p : SetOutcome) → is_running p ≡ false → p ≡ RunningSet → ⊥
-        differ p e f = absurd (not_both (is_running p) (ap is_running f) e)
+    not_running o e f g = grind arith
 
     over : c.agenda ≡ None → set_failure (in_progress st) (concluded AgendaEnds z) ≡ None → Turn st (concluded AgendaEnds z) true
     over e f = inr (inl (record { ran_is = refl; session = ap (option_map agenda_ended) session; failure = f; quiet = ap is_some e }))
@@ -126,16 +114,11 @@ module _ (s : Plan) (so_far : List Act) where
 
     followed_turn : (ran : Bool) → y.course ≡ st.course → (ran ≡ false → is_some c.agenda ≡ false) → Turn st (followed ran c y) ran
     unfolding followed
-    followed_turn ran g idle = subst (λ o. Turn st (concluded (ending o c.outcome ran c.agenda) z) ran) (ap (λ (d : Course). d.outcome) (sym g)) (by_ending st.course.outcome c.outcome ran c.agenda refl refl refl idle)
+    followed_turn ran g idle = grind (arith, by_ending)
 
   -- no agenda comes where none ran
   still_idle : (c : Course) → MovesOn st.course c → runs st ≡ false → is_some c.agenda ≡ false
-  still_idle c m e = by_agendas st.course.agenda c.agenda e m
-    where
-      by_agendas : (a b : Option Agenda) → is_some a ≡ false → Moves a st.course.outcome b c.outcome → is_some b ≡ false
-      by_agendas None None e m = refl
-      by_agendas None (Some b) e m = absurd m
-      by_agendas (Some a) b e m = absurd cc
+  still_idle c m e = grind arith
 
   -- ## the set fails at once
 
@@ -151,31 +134,17 @@ module _ (s : Plan) (so_far : List Act) where
   -- ## writes and reverts
 
   room_turn : (v b : ℕ) (c : Bool) → Turn st (with_room_if c (cleared s v b st)) (runs st)
-  room_turn v b true = failed_turn (in_progress st) InsufficientStorage (cleared s v b st) refl refl refl refl
-  room_turn v b false = quiet_turn (cleared s v b st) refl (λ n. refl) refl
+  room_turn v b c = grind (arith, failed_turn, quiet_turn)
 
   put_turn : (v : ℕ) (w : Write) (mark : Mark) (x : State) → Turn st x (runs st) → Turn st (put v w mark x) (runs st)
-  put_turn v w Clean x i = same_turn i
-    where
-      same_failure : (o : Option SetRow) → set_failure o (put v w Clean x) ≡ set_failure o x
-      same_failure None = refl
-      same_failure (Some r) = refl
-
-      -- volumes alone change
-      same_turn : Turn st x (runs st) → Turn st (put v w Clean x) (runs st)
-      same_turn (inl t) = inl (record { why = t.why; session = t.session; failure = same_failure (in_progress st) ∙ t.failure; outcome = t.outcome })
-      same_turn (inr (inl t)) = inr (inl (record { ran_is = t.ran_is; session = t.session; failure = same_failure (in_progress st) ∙ t.failure; quiet = t.quiet }))
-      same_turn (inr (inr t)) = inr (inr (record { session = t.session; failure = same_failure (in_progress st) ∙ t.failure; runs_is = t.runs_is }))
-  put_turn v w Fault x i = i
-  put_turn v w (FaultAfter k) x i = i
+  put_turn v w mark x i = grind arith
 
   pub write_turn : (v : ℕ) (w : Write) (mark : Mark) → Turn st (write s v w mark st).1 (runs st)
   unfolding write
   write_turn v w mark = put_turn v w mark _ (room_turn v w.block (set_loses_image (in_progress st) st.volumes (cleared s v w.block st).volumes))
 
   pub revert_turn : (v : ℕ) (k : Kept) (mark : Mark) → Turn st (reverted_as s v k mark st).1 (runs st)
-  revert_turn v k Fault = quiet_turn st refl (λ m. refl) refl
-  revert_turn v k _ = quiet_turn _ refl (λ m. refl) refl
+  revert_turn v k mark = grind (arith, quiet_turn)
 
   -- ## agendas
 
@@ -184,30 +153,15 @@ module _ (s : Plan) (so_far : List Act) where
 
   pub answer_turn : (w : ℕ) (said : Said) → Turn st (answered w said st) (runs st)
   unfolding answered
-  answer_turn w said =
-      let c = course_answered w said st.clock st.course in
-      followed_turn c st refl (λ n. refl) (calm_answered w said st.clock st.course) (λ g. refl) (runs st) refl (still_idle c (moves_answered w said st.clock st.course))
+  answer_turn w said = grind (arith, followed_turn, calm_answered, still_idle, moves_answered)
 
   pub tick_turn : (n : ℕ) → Turn st (ticked n st) (runs st)
   unfolding ticked
-  tick_turn n =
-      let c = course_timed (st.clock + n) st.course in
-      followed_turn c (later n st) refl (λ m. refl) (calm_timed (st.clock + n) st.course) (λ g. refl) (runs st) refl (still_idle c (moves_timed (st.clock + n) st.course))
+  tick_turn n = grind (arith, followed_turn, calm_timed, still_idle, moves_timed)
 
   -- a step that is made fails nothing
   step_calm : is_working (left_now st) ≡ true → has_failed (course_stepped true st.clock st.course).outcome ≡ true → ⊥
-  step_calm e f = set_there (in_progress st) ⊥ (busy_calm (calm_stepped true st.clock st.course e)) (λ r i. differ (none_stepped st.clock st.course (ap has_failed (outcome_is_running s so_far r i))))
-    where
-      differ : has_failed (course_stepped true st.clock st.course).outcome ≡ false → ⊥
-      differ g = absurd (not_both (has_failed (course_stepped true st.clock st.course).outcome) f g)
-
-      busy_calm : CalmOrBusy st.course (course_stepped true st.clock st.course) → is_some (in_progress st) ≡ true
-      busy_calm (inr b) = busy_there b
-      busy_calm (inl calm) = by_set (in_progress st) refl
-        where
-          by_set : (o : Option SetRow) → in_progress st ≡ o → is_some o ≡ true
-          by_set (Some r) e = refl
-          by_set None i = ap is_some (sym i) ∙ busy_there (busy_step st.course.agenda e)
+  step_calm e f = grind (arith, set_there, calm_stepped, none_stepped, outcome_is_running, not_both, busy_there, busy_step)
 
   step_as : (b : Bool) (g : Option Group) → is_working (left_now st) ≡ true → Turn st (stepped_as b g st) (runs st)
   step_as true g e =
@@ -233,4 +187,4 @@ module _ (s : Plan) (so_far : List Act) where
           absurd (not_both (makes_set q.stage) own.0 g)
 
   pub add_turn : (v : ℕ) (r : SetRow) → Turn st (change_set r.number (with_volume v) st) (runs st)
-  add_turn v r = quiet_turn _ refl (failure_map (row_changed r.number (with_volume v)) (λ x. changed_number r.number (with_volume v) x refl) (λ x. changed_result r.number (with_volume v) x refl) st.sets) refl
+  add_turn v r = grind (arith, quiet_turn, failure_map, changed_number, changed_result)

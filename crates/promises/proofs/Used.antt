@@ -2,8 +2,8 @@
 -- more, and that where it needs a slot; where the volume is reverted, no more.
 use Rattle.promises.proofs.Words.{take-add, drop-nil, drop-append-le, take-append-drop, drop_all, take_all, length-drop, list_any-append, Write, Image, point_in, up_to_set, AreLater, AreInTime, names}
 use Rattle.promises.proofs.Words.{blocks_named, to_restore, restoring, writes_since, used, needs_slot, some_same}
-use Rattle.std.proofs.Common.{◌≡◌, ◌∙◌, ℕ, ◌+◌, ◌-◌, ◌==◌, ◌≤◌, ◌<◌, zero, suc, List, [], ◌∷◌, ◌++◌, ◌⊎◌, Some, refl, Bool, true, false, ap, sym, subst, inl, inr, map, filter, length, take, drop, arith}
-use Rattle.std.specs.Prelude.{◌||◌, not, nat_lt, if◌then◌else◌, slice_range}
+use Rattle.std.proofs.Common.{◌≡◌, ◌∙◌, ℕ, ◌+◌, ◌-◌, ◌==◌, ◌≤◌, ◌<◌, zero, suc, List, [], ◌∷◌, ◌++◌, Some, refl, Bool, true, false, ap, sym, subst, map, filter, length, take, drop, arith}
+use Rattle.std.specs.Prelude.{not, nat_lt, if◌then◌else◌, slice_range}
 use Rattle.promises.proofs.Truth.{chain, no_less, not_both, not_true}
 use Rattle.promises.proofs.Named.{NameNoMore, either, named_no_more, named_in_parts, named_by_none, named_by_one, inner_no_more, later_no_more, since_later, inner_append, restored_no_more}
 
@@ -21,10 +21,6 @@ rising_most from most (i ∷ images) h = chain from i.point most h.0 (rising_mos
 pub rising_from : (a from most : ℕ) (images : List Image) → a ≤ from → Rising from most images → Rising a most images
 rising_from a from most [] l h = chain a from most l h
 rising_from a from most (i ∷ images) l h = (chain a from i.point l h.0, h.1)
-
-pub rising_to : (from most more : ℕ) (images : List Image) → most ≤ more → Rising from most images → Rising from more images
-rising_to from most more [] l h = chain from most more h l
-rising_to from most more (i ∷ images) l h = (h.0, rising_to i.point most more images l h.1)
 
 pub rising_fewer : (test : Image → Bool) (from most : ℕ) (images : List Image) → Rising from most images → Rising from most (filter test images)
 rising_fewer test from most [] h = h
@@ -68,8 +64,7 @@ drop_twice (suc p) (suc q) (w ∷ ws) l = ap (λ n. drop n (drop p ws)) (one_les
 
 -- the writes since one point are those up to a later one, and those since that
 since_in_parts : (ws : List Write) (p q : ℕ) (newer : List Image) → p ≤ q → Rising q (length ws) newer → writes_since ws p newer ≡ slice_range ws p q ++ writes_since ws q newer
-since_in_parts ws p q [] l h = sym (take-append-drop (q - p) (drop p ws)) ∙ ap (λ xs. slice_range ws p q ++ xs) (drop_twice p q ws l)
-since_in_parts ws p q (j ∷ newer) l h = split_inner p q j.point ws l h.0 ∙ ap (λ xs. slice_range ws p q ++ take (j.point - q) xs) (drop_twice p q ws l)
+since_in_parts ws p q newer l h = grind (arith, take-append-drop, drop_twice, split_inner)
 
 -- the slots of an image with this point, and of these newer ones
 abbrev used_from : ℕ → List Write → ℕ → List Image → ℕ
@@ -153,25 +148,7 @@ one_if b = if b then 1 else 0
 
 -- the newest image gets the block, unless it has it
 newest_gains : (n p : ℕ) (ws : List Write) (w : Write) → p ≤ length ws → length (blocks_named n (drop p (ws ++ w ∷ []))) ≤ length (blocks_named n (drop p ws)) + one_if (not (names (drop p ws) w.block))
-newest_gains n p ws w l = subst (λ xs. length (blocks_named n xs) ≤ length (blocks_named n (drop p ws)) + one_if (not (names (drop p ws) w.block))) (sym (drop-append-le p ws (w ∷ []) l)) (by_named (names (drop p ws) w.block) refl)
-  where
-    none_more : (x y : ℕ) → x ≤ y → x ≤ y + 0
-    none_more x y l = omega arith
-
-    one_more : (x y z : ℕ) → x ≤ y + z → z ≤ 1 → x ≤ y + 1
-    one_more x y z l h = omega arith
-
-    same_block : (a b : ℕ) → ((a == b) || false) ≡ true → a ≡ b
-    same_block a b e = grind arith
-
-    named_before : (b : ℕ) → names (drop p ws) w.block ≡ true → (names (drop p ws) b ≡ true) ⊎ (names (w ∷ []) b ≡ true) → names (drop p ws) b ≡ true
-    named_before b e (inl f) = f
-    named_before b e (inr f) = subst (λ x. names (drop p ws) x ≡ true) (same_block w.block b f) e
-
-    by_named : (t : Bool) → names (drop p ws) w.block ≡ t → length (blocks_named n (drop p ws ++ w ∷ [])) ≤ length (blocks_named n (drop p ws)) + one_if (not t)
-    by_named true e =
-        none_more _ _ (named_no_more n (drop p ws ++ w ∷ []) (drop p ws) (λ b f. named_before b e (either _ _ (sym (list_any-append (λ (x : Write). x.block == b) (drop p ws) (w ∷ [])) ∙ f))))
-    by_named false e = one_more _ _ _ (named_in_parts n (drop p ws) (w ∷ [])) (named_by_one n w)
+newest_gains n p ws w l = grind (arith, drop-append-le, named_no_more, either, list_any-append, named_in_parts, named_by_one)
 
 pub written_used : (n from : ℕ) (ws : List Write) (w : Write) (images : List Image) → Rising from (length ws) images → used n (ws ++ w ∷ []) images ≤ used n ws images + one_if (needs_slot ws images w.block)
 written_used n from ws w [] h = omega arith

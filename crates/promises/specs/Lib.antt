@@ -36,3 +36,6 @@ pub mod Documented
 pub mod Owed
 pub mod Promises
 pub mod Headline
+pub mod CutStep
+pub mod Ended
+pub mod Marks

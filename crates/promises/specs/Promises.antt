@@ -15,7 +15,9 @@ use Rattle.promises.specs.Completing.{CompletesUnfailed}
 use Rattle.promises.specs.Contents.{ContentsChange}
 use Rattle.promises.specs.ContextZero.{BackupsEnd}
 use Rattle.promises.specs.Copies.{CopiesHold, KeepsCopies}
+use Rattle.promises.specs.CutStep.{CutsAtTheStep}
 use Rattle.promises.specs.Done.{IsDone}
+use Rattle.promises.specs.Ended.{TellsTheEnd}
 use Rattle.promises.specs.Ends.{KeepsRows}
 use Rattle.promises.specs.Evicted.{TellsEvicted}
 use Rattle.promises.specs.Failing.{WritesFailForSlots}
@@ -24,6 +26,7 @@ use Rattle.promises.specs.Idle.{IdlesShortest}
 use Rattle.promises.specs.InOrder.{HasItsContext}
 use Rattle.promises.specs.Kept.{FindsTheKept}
 use Rattle.promises.specs.Lost.{LosesTheLate}
+use Rattle.promises.specs.Marks.{MarksAreDue}
 use Rattle.promises.specs.Numbers.{HasItsNumbers}
 use Rattle.promises.specs.Participants.{ChosenTakePart, TakesPart}
 use Rattle.promises.specs.Properties.{PropertiesTell}
@@ -65,6 +68,8 @@ pub record IsActAsPromised (s : Plan) (so_far : List Act) (act : Act) : Type 0 w
   pub loses : LosesTheLate s so_far act
   pub refused : RefusesForCause s so_far act
   pub document : TellsDocument s so_far act
+  pub cuts : CutsAtTheStep s so_far act
+  pub ends : TellsTheEnd s so_far act
 
 -- of the state after these acts
 pub record IsStateAsPromised (s : Plan) (so_far : List Act) : Type 0 where
@@ -87,6 +92,7 @@ pub record IsStateAsPromised (s : Plan) (so_far : List Act) : Type 0 where
   pub copies : CopiesHold s so_far
   pub still : StandsStill s so_far
   pub keeps : KeepsCopies s so_far
+  pub marks : MarksAreDue s so_far
 
 -- of each act of a trail, and of each state on its way
 pub record IsAsPromised (s : Plan) (trail : List Move) : Type 0 where

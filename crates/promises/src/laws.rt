@@ -17,7 +17,9 @@ ghost use Rattle.promises.specs.Completing.{CompletesUnfailed};
 ghost use Rattle.promises.specs.Contents.{ContentsChange};
 ghost use Rattle.promises.specs.ContextZero.{BackupsEnd};
 ghost use Rattle.promises.specs.Copies.{CopiesHold, KeepsCopies};
+ghost use Rattle.promises.specs.CutStep.{CutsAtTheStep};
 ghost use Rattle.promises.specs.Done.{IsDone};
+ghost use Rattle.promises.specs.Ended.{TellsTheEnd};
 ghost use Rattle.promises.specs.Ends.{KeepsRows, EndsEachSet, CompletesWhereCalm};
 ghost use Rattle.promises.specs.Evicted.{TellsEvicted};
 ghost use Rattle.promises.specs.Failing.{FailsForCause, WritesFailForSlots};
@@ -27,6 +29,7 @@ ghost use Rattle.promises.specs.Idle.{IdlesShortest};
 ghost use Rattle.promises.specs.InOrder.{HasItsContext};
 ghost use Rattle.promises.specs.Kept.{FindsTheKept};
 ghost use Rattle.promises.specs.Lost.{LosesTheLate};
+ghost use Rattle.promises.specs.Marks.{MarksAreDue};
 ghost use Rattle.promises.specs.Numbers.{HasItsNumbers};
 ghost use Rattle.promises.specs.Participants.{ChosenTakePart, TakesPart};
 ghost use Rattle.promises.specs.Promises.{IsAsPromised};
@@ -64,6 +67,21 @@ pub fn writes_tell_the_evicted()
 /// A copy that an area keeps holds its block as it was at the one cut of its set.
 pub fn copies_hold_the_cut()
     ensures { (s : Plan) (so_far : List Act) → CopiesHold s so_far }
+{}
+
+/// A set is cut in the act that is answered as its Cut step, and in no other.
+pub fn sets_are_cut_at_their_step()
+    ensures { (s : Plan) (so_far : List Act) (act : Act) → CutsAtTheStep s so_far act }
+{}
+
+/// The set that is told as ended is the one that was in progress and is over after the act.
+pub fn the_set_that_ends_is_told()
+    ensures { (s : Plan) (so_far : List Act) (act : Act) → TellsTheEnd s so_far act }
+{}
+
+/// A move may have a fault mark only if a device is called in it: a write, a read, an image that is kept, a flush, or a revert.
+pub fn devices_fail_where_they_are_called()
+    ensures { (s : Plan) (so_far : List Act) → MarksAreDue s so_far }
 {}
 
 /// BackupComplete goes to no writer that has failed.
