@@ -1,3 +1,1 @@
-pub mod JoinedParts
-pub mod PayloadLemmas
 pub mod RunsOfBytes

@@ -61,8 +61,3 @@ more_words done more word before after whole within front is =
     let times : (done + more) * length word ≡ (done + more) * 8 = ap (λ k. (done + more) * k) whole in
     let size : 8 * (done + more) ≡ length (repeated (done + more) word) = omega (arith, length-repeated (done + more) word, times) in
     ap (λ xs. take (8 * (done + more)) xs) joined ∙ ap (λ k. take k (repeated (done + more) word ++ rest)) size ∙ take-append_seam (repeated (done + more) word) rest
-
--- a run of one piece is the piece
-pub one_run : (piece : List ℕ) → repeated 1 piece ≡ piece
-unfolding repeated
-one_run piece = append-nil piece

@@ -1,5 +1,5 @@
 -- A component that is named is a selectable one, and goes to its place.
-use Rattle.std.proofs.Common.{◌≡◌, ℕ, suc, ◌+◌, List, [], ◌∷◌, Bool, true, false, ◌&&◌, if◌then◌else◌, Option, Some, None, slice_get, arith, sym, ap, ◌∙◌}
+use Rattle.std.proofs.Common.{◌≡◌, ℕ, suc, ◌+◌, List, [], ◌∷◌, Bool, true, false, ◌&&◌, if◌then◌else◌, Option, Some, slice_get, arith, sym, ap, ◌∙◌}
 use Rattle.std.proofs.lemmas.Option.{none-some, same_Some}
 use Rattle.std.specs.List.{list_all}
 use Rattle.std.specs.Str.{bytes_eq}
@@ -26,18 +26,10 @@ found-at name i (p ∷ ps) f e = found-here (bytes_eq (full_name p) name) p ps i
 
 -- what is found is as selectable as the component at its place
 found-selectable : (name : List ℕ) (o : Option (Option Meta)) (f : Found) → found_of name o ≡ Some f → is_selectable_of f.component (meta_at o) ≡ f.selectable
-found-selectable name None f e = absurd (none-some f e)
-found-selectable name (Some None) f e = absurd (none-some f e)
-found-selectable name (Some (Some m)) f e =
-    let found = found-at name 0 m.parts f e in
-    let place : f.component ≡ found.0 = found.1 ∙ omega arith in
-    ap (λ k. is_selectable (slice_get m.parts k)) place ∙ found.2
+found-selectable name o f e = grind (arith, none-some, found-at)
 
 -- the pairs stay over these metadata
 pub over-more : (ms : List (Option Meta)) (name : List ℕ) (q : Pair) (f : Found) (old : List Pair) → Some f ≡ found_of name (slice_get ms q.writer) → q.component ≡ f.component → f.selectable ≡ true
     → has_pair old q.writer q.component ≡ false → (list_all (names_selectable ms) old && is_ascending old) ≡ true
     → (list_all (names_selectable ms) (with_pair q old) && is_ascending (with_pair q old)) ≡ true
-over-more ms name q f old found place selectable new over =
-    let names : names_selectable ms q ≡ true =
-    ap (λ k. is_selectable_of k (meta_at (slice_get ms q.writer))) place ∙ found-selectable name (slice_get ms q.writer) f (sym found) ∙ selectable in
-    both _ _ (all-with_pair (names_selectable ms) q old names (and_left _ _ over)) (ascending-with_pair q old new (and_right (list_all (names_selectable ms) old) _ over))
+over-more ms name q f old found place selectable new over = grind (arith, found-selectable, both, all-with_pair, and_left, ascending-with_pair, and_right)

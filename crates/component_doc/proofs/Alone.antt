@@ -1,14 +1,15 @@
 -- A text is the document of one selection in one context, and of no other.
-use Rattle.std.proofs.Common.{◌≡◌, ◌∙◌, ℕ, ◌<◌, ◌^◌, List, length, Bool, true, false, if◌then◌else◌, Option, Some, None, Result, Ok, Err, IfErr, IsErrAnd, sym, ap, subst}
+use Rattle.std.proofs.Common.{◌≡◌, ◌∙◌, ℕ, ◌<◌, ◌^◌, List, length, Bool, if◌then◌else◌, Option, Some, None, Result, IfErr, IsErrAnd, sym, ap}
 use Rattle.std.proofs.lemmas.Option.{none-some, same_Some}
 use Rattle.std.specs.Str.{is_utf8}
+use Rattle.std.proofs.Common.{arith}
 use Rattle.serde_json.specs.Data.{Data}
 use Rattle.serde_json.specs.Read.{read}
 use Rattle.vss_names.specs.declared.context.Context.{Context}
 use Rattle.writer_meta.specs.Metadata.{Meta}
 use Rattle.writer_meta.specs.Document.{value_of_text}
 use Rattle.component_doc.specs.declared.doc_fault.DocFault.{DocFault}
-use Rattle.component_doc.specs.declared.doc_fault.DocFault.TheVariants.{NotJson, NotDocument, OutOfMemory}
+use Rattle.component_doc.specs.declared.doc_fault.DocFault.TheVariants.{NotDocument}
 use Rattle.component_doc.specs.Selection.{Selected}
 use Rattle.component_doc.specs.Held.{Held}
 use Rattle.component_doc.specs.Over.{AreAllowed, IsOver}
@@ -19,8 +20,7 @@ use Rattle.component_doc.proofs.ReadBack.{read-document_text}
 use Rattle.component_doc.proofs.Told.{selected-back, context-back}
 
 value-if : (b : Bool) (found : Option Data) (d : Data) → (if b then found else None) ≡ Some d → found ≡ Some d
-value-if true found d e = e
-value-if false found d e = absurd (none-some d e)
+value-if b found d e = grind arith
 
 read-of_value : (text : List ℕ) (d : Data) → value_of_text text ≡ Some d → read text ≡ Some d
 unfolding value_of_text
@@ -28,8 +28,7 @@ read-of_value text d e = value-if (is_utf8 text) (read text) d e
 
 -- the value of a document
 document-value : (ms : List (Option Meta)) (text : List ℕ) (d : Data) (c : Context) (h : Held) → length ms < 2 ^ 32 → value_of_text text ≡ Some d → IsDocument ms text c h → d ≡ document ms h.selected c
-document-value ms text d c h few value is =
-    same_Some d (document ms h.selected c) (sym (read-of_value text d value) ∙ ap read is.written ∙ read-document_text ms h.selected c few)
+document-value ms text d c h few value is = grind (arith, same_Some, read-of_value, read-document_text)
 
 pub context-of : (ms : List (Option Meta)) (text : List ℕ) (d : Data) (c : Context) (h : Held) → length ms < 2 ^ 32 → value_of_text text ≡ Some d → IsDocument ms text c h → context_in d ≡ Some c
 context-of ms text d c h few value is = ap context_in (document-value ms text d c h few value is) ∙ context-back ms h.selected c
@@ -62,23 +61,14 @@ pub no-context : (ms : List (Option Meta)) (text : List ℕ) (d : Data) → leng
 no-context ms text d few value none = ((d, value), λ c h is. none-some c (sym none ∙ context-of ms text d c h few value is))
 
 no-selection : (ms : List (Option Meta)) (text : List ℕ) (d : Data) (fault : DocFault) → AreAllowed ms → length ms < 2 ^ 32 → value_of_text text ≡ Some d → Lacks fault (selected_in ms d) → TellsOfText ms fault text
-no-selection ms text d NotJson allowed few value lacks = absurd lacks
-no-selection ms text d NotDocument allowed few value lacks = ((d, value), λ c h is. none-some h.selected (sym lacks ∙ selected-of ms text d c h allowed few value is))
-no-selection ms text d OutOfMemory allowed few value lacks = tt
+no-selection ms text d fault allowed few value lacks = grind (arith, none-some, selected-of)
 
 -- a value that names no selection
 pub no-selection-handed_on : {T : Type 0} (r : Result T DocFault) (ms : List (Option Meta)) (text : List ℕ) (d : Data) (fault : DocFault) → IsErrAnd r (λ f. f ≡ fault) → AreAllowed ms → length ms < 2 ^ 32
     → value_of_text text ≡ Some d → Lacks fault (selected_in ms d) → IfErr r (λ f. TellsOfText ms f text)
-no-selection-handed_on (Ok x) ms text d fault is allowed few value lacks = tt
-no-selection-handed_on (Err f) ms text d fault is allowed few value lacks = subst (λ (g : DocFault). TellsOfText ms g text) (sym is) (no-selection ms text d fault allowed few value lacks)
+no-selection-handed_on r ms text d fault is allowed few value lacks = grind (arith, no-selection)
 
 -- a text that is not the one that is written of what it names
 pub no-document : (ms : List (Option Meta)) (text : List ℕ) (d : Data) (c : Context) (s : Selected) (written : List ℕ) → AreAllowed ms → length ms < 2 ^ 32 → value_of_text text ≡ Some d
     → context_in d ≡ Some c → selected_in ms d ≡ Some s → written ≡ document_text ms s c → (written ≡ text → ⊥) → TellsOfText ms NotDocument text
-no-document ms text d c s written allowed few value context selected is other = (
-  (d, value),
-  λ e h doc.
-      let same_context : e ≡ c = same_Some e c (sym (context-of ms text d e h few value doc) ∙ context) in
-      let same_selected : h.selected ≡ s = same_Some h.selected s (sym (selected-of ms text d e h allowed few value doc) ∙ selected) in
-      other (is ∙ sym (doc.written ∙ ap (λ t. document_text ms t e) same_selected ∙ ap (document_text ms s) same_context)),
-)
+no-document ms text d c s written allowed few value context selected is other = grind (arith, same_Some, context-of, selected-of)

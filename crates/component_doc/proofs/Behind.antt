@@ -1,5 +1,5 @@
 -- What a path has behind a component's full name, and so whether the component is an ancestor on that path.
-use Rattle.std.proofs.Common.{◌≡◌, ◌≢◌, ◌∙◌, ℕ, List, [], ◌∷◌, ◌++◌, length, length-append, Bool, true, false, Option, Some, None, nat_eq, ◌==◌, ◌||◌, arith, refl, ap, sym, Bor, get_or}
+use Rattle.std.proofs.Common.{◌≡◌, ◌≢◌, ◌∙◌, ℕ, List, [], ◌∷◌, ◌++◌, length, length-append, Bool, true, false, Option, None, nat_eq, ◌==◌, ◌||◌, arith, refl, ap, sym, Bor, get_or}
 use Rattle.std.proofs.lemmas.Bool.{false_from_ne_true, true≢false}
 use Rattle.std.proofs.lemmas.Bool.Decides.{Decides-eqb}
 use Rattle.std.proofs.lemmas.List.{append-nil, append_assoc, append_cancel_left}
@@ -15,12 +15,10 @@ pub not_behind : (p q text : List ℕ) → ((more : List ℕ) → text ≢ p ++ 
 not_behind p q text none more is = none (q ++ more) (is ∙ append_assoc p q more)
 
 pub behind_both : (p q text x : List ℕ) (rest : Option (Bor (List ℕ))) → text ≡ p ++ x → IsBehind x q rest → IsBehind text (p ++ q) rest
-behind_both p q text x None is none = λ more all. none more (append_cancel_left p x (q ++ more) (sym is ∙ all ∙ append_assoc p q more))
-behind_both p q text x (Some y) is some = is ∙ ap (λ (xs : List ℕ). p ++ xs) some ∙ sym (append_assoc p q y.now)
+behind_both p q text x rest is none = grind (arith, append_cancel_left, append_assoc)
 
 pub joined_is : (path name : List ℕ) → path ≢ [] → joined path name ≡ path ++ backslash ∷ name
-joined_is [] name some = absurd (some refl)
-joined_is (c ∷ path) name some = refl
+joined_is path name some = grind arith
 
 -- ## whether a path is that name, or goes on below it
 

@@ -1,8 +1,8 @@
 -- The metadata of one writer, by its number.
-use Rattle.std.proofs.Common.{◌≡◌, ◌∙◌, ℕ, zero, suc, ◌+◌, ◌<◌, ◌≤◌, ◌==◌, ◌↔◌, append_assoc, append-nil, is_some, if◌then◌else◌, List, [], ◌∷◌, ◌++◌, length, drop, map, nat_le, Bool, true, false, ◌&&◌, inl, inr, Option, None, Some, option_map, slice_get, arith, refl, sym, ap, subst}
+use Rattle.std.proofs.Common.{◌≡◌, ◌∙◌, ℕ, zero, suc, ◌+◌, ◌<◌, ◌≤◌, ◌==◌, ◌↔◌, append_assoc, append-nil, is_some, if◌then◌else◌, List, [], ◌∷◌, ◌++◌, length, drop, map, nat_le, Bool, true, false, ◌&&◌, Option, None, Some, option_map, slice_get, arith, refl, sym, ap, subst}
 use Rattle.std.specs.Prelude.{Result, IfOk}
 use Rattle.std.proofs.lemmas.Bool.Decides.{nat_tests}
-use Rattle.std.proofs.lemmas.Bool.{eqb-true, cases_eq, false≢true}
+use Rattle.std.proofs.lemmas.Bool.{eqb-true, false≢true}
 use Rattle.std.proofs.lemmas.List.{drop_all, length-map}
 use Rattle.std.proofs.lemmas.Option.{none-some, same_Some}
 use Rattle.writer_meta.specs.declared.metadata.Metadata.{Metadata}
@@ -13,7 +13,7 @@ use Rattle.component_doc.specs.declared.choice.Choice.{Choice}
 use Rattle.component_doc.proofs.Order.{both, drop-further}
 use Rattle.component_doc.specs.Held.{metas_of, has_few, all_have_few}
 use Rattle.component_doc.specs.Over.{AreAllowed, IsKnownAllowed, IsOver, IsSelectedOver, meta_at}
-use Rattle.component_doc.specs.Selection.{Selected, choices_of, chosen, chosen_from, found_in, found_of, known_from}
+use Rattle.component_doc.specs.Selection.{Selected, choices_of, chosen, chosen_from, known_from}
 
 pub map-at : {A B : Type 0} (f : A → B) (xs : List A) (i : ℕ) (x : A) → slice_get xs i ≡ Some x → slice_get (map f xs) i ≡ Some (f x)
 map-at f [] i x e = absurd (none-some x e)
@@ -25,11 +25,6 @@ pub get-some : {R : Type 0} (xs : List (Option R)) (f : R → Metadata) (w : ℕ
     → option_map (λ r. meta_of (f r)) known ≡ meta_at (slice_get (metas_of (map (option_map f) xs)) w)
 get-some xs f w None at = sym (ap meta_at (map-at (option_map meta_of) (map (option_map f) xs) w None (map-at (option_map f) xs w None at)))
 get-some xs f w (Some r) at = sym (ap meta_at (map-at (option_map meta_of) (map (option_map f) xs) w (Some (f r)) (map-at (option_map f) xs w (Some r) at)))
-
-pub get-none : {R : Type 0} (f : R → Metadata) (xs : List (Option R)) (w : ℕ) → slice_get xs w ≡ None → None ≡ meta_at (slice_get (metas_of (map (option_map f) xs)) w)
-get-none f [] w e = refl
-get-none f (x ∷ xs) zero e = cc
-get-none f (x ∷ xs) (suc w) e = get-none f xs w e
 
 pub known-is : {R : Type 0} (r : Option R) (m : R) (f : R → Metadata) (x : Option Meta) → r ≡ Some m → option_map (λ k. meta_of (f k)) r ≡ x → Some (meta_of (f m)) ≡ x
 known-is r m f x is e = sym (ap (option_map (λ k. meta_of (f k))) is) ∙ e
@@ -72,7 +67,7 @@ pub known_allowed : {R E : Type 0} (r : Option R) (m : R) (f : R → Metadata) (
 known_allowed r m f x result is at allowed = subst (λ (o : Option Meta). IfOk result (λ a. (a ≡ true) ↔ IsKnownAllowed o)) (known-is r m f x is at) allowed
 
 pub none_allowed : {R : Type 0} (r : Option R) (f : R → Metadata) (x : Option Meta) → r ≡ None → option_map (λ k. meta_of (f k)) r ≡ x → (true ≡ true) ↔ IsKnownAllowed x
-none_allowed r f x is at = subst (λ (o : Option Meta). (true ≡ true) ↔ IsKnownAllowed o) (sym (ap (option_map (λ k. meta_of (f k))) is) ∙ at) (λ e. tt, λ u. refl)
+none_allowed r f x is at = grind arith
 
 -- and of all: one is refused, one more is not, and none is left
 pub one_refused : (ms : List (Option Meta)) (w : ℕ) (b : Bool) → (b ≡ true) ↔ IsKnownAllowed (meta_at (slice_get ms w)) → b ≡ false → (false ≡ true) ↔ AreAllowed ms
@@ -80,31 +75,17 @@ one_refused ms w b is refused = (λ e. absurd (false≢true e), λ all. absurd (
 
 pub allowed-on : (ms : List (Option Meta)) (k : ℕ) (b : Bool) → (b ≡ true) ↔ IsKnownAllowed (meta_at (slice_get ms k)) → b ≡ true → ((w : ℕ) → w < k → IsKnownAllowed (meta_at (slice_get ms w)))
     → (w : ℕ) → w < k + 1 → IsKnownAllowed (meta_at (slice_get ms w))
-allowed-on ms k b is test before w low = elim (cases_eq w k) [
-  | inl same ↦ subst (λ (i : ℕ). IsKnownAllowed (meta_at (slice_get ms i))) (sym same) (is.0 test)
-  | inr other ↦ before w (omega arith)
-]
+allowed-on ms k b is test before w low = grind arith
 
 pub allowed-end : (ms : List (Option Meta)) (k : ℕ) → length ms ≤ k → ((w : ℕ) → w < k → IsKnownAllowed (meta_at (slice_get ms w))) → (true ≡ true) ↔ AreAllowed ms
 allowed-end ms k past each = (λ e. all-allowed ms (λ w low. each w (omega arith)), λ all. refl)
 
 -- ## a component by its full name
 
-pub found-none : (name : List ℕ) (o : Option (Option Meta)) → None ≡ meta_at o → None ≡ found_of name o
-found-none name None e = refl
-found-none name (Some None) e = refl
-found-none name (Some (Some m)) e = absurd (none-some m e)
-
-pub found-some : (name : List ℕ) (o : Option (Option Meta)) (m : Meta) → Some m ≡ meta_at o → found_in name m.parts ≡ found_of name o
-found-some name None m e = absurd (none-some m (sym e))
-found-some name (Some None) m e = absurd (none-some m (sym e))
-found-some name (Some (Some x)) m e = ap (λ (y : Meta). found_in name y.parts) (same_Some m x e)
-
 -- ## writer after writer
 
 some-map : {A B : Type 0} (f : A → B) (o : Option A) → is_some o ≡ is_some (option_map f o)
-some-map f None = refl
-some-map f (Some x) = refl
+some-map f o = grind arith
 
 known-step : (a w : ℕ) (ms : List (Option Meta)) → w < length ms
     → (if is_some (meta_at (slice_get ms w)) then a ∷ [] else []) ++ known_from (a + 1) (drop (w + 1) ms) ≡ known_from a (drop w ms)
@@ -141,12 +122,4 @@ chosen-on s t ms w cs new o same l is at so_far =
 
 pub over-both : (ms : List (Option Metadata)) (n : ℕ) (s : Selected) (b r : Bool) → r ≡ ((n == length ms) && b) → (b ≡ true) ↔ IsSelectedOver (metas_of ms) s
     → (r ≡ true) ↔ IsOver (metas_of ms) (record { writers = n; selected = s })
-over-both ms n s b r e h = let same : length (metas_of ms) ≡ length ms = simp length-map in (
-  λ t.
-      let all : ((n == length ms) && b) ≡ true = sym e ∙ t in
-      record { writers = eqb-true n (length ms) (and_left _ _ all) ∙ sym same; selected = h.0 (and_right (n == length ms) b all) },
-  λ over.
-      let len : n ≡ length ms = over.writers ∙ same in
-      let here : (n == length ms) ≡ true = grind (arith, nat_tests) in
-      e ∙ both (n == length ms) b here (h.1 over.selected),
-)
+over-both ms n s b r e h = grind (arith, length-map, eqb-true, and_left, and_right, both)

@@ -2,7 +2,6 @@
 use Rattle.std.proofs.Common.{◌≡◌, ℕ, ◌<◌, ◌≤◌, ◌^◌, nat_eq, false, None, arith, refl}
 use Rattle.std.proofs.lemmas.Bool.Decides.{nat_tests}
 use Rattle.vss_names.specs.declared.context.Context.{Context}
-use Rattle.vss_names.specs.declared.context.Context.TheVariants.{Backup, AppRollback, NasRollback}
 use Rattle.vss_names.specs.Context.{context_of_number, number_of}
 
 other : (k n : ℕ) → k < n → nat_eq k n ≡ false
@@ -14,6 +13,4 @@ unfolding context_of_number
 no_context_past n h = rw (other 0 n (omega arith), other 9 n (omega arith), other 25 n (omega arith)) refl
 
 pub small-number_of : (c : Context) → number_of c < 2 ^ 64
-small-number_of Backup = omega arith
-small-number_of AppRollback = omega arith
-small-number_of NasRollback = omega arith
+small-number_of c = grind arith

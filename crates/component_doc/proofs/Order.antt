@@ -1,5 +1,5 @@
 -- Pairs in order of writers and then of components.
-use Rattle.std.proofs.Common.{◌≡◌, ◌∙◌, ℕ, zero, suc, ◌+◌, ◌<◌, length, drop, sym, ap, List, [], ◌∷◌, Bool, true, false, true≢false, ◌&&◌, ◌||◌, if◌then◌else◌, arith, refl}
+use Rattle.std.proofs.Common.{◌≡◌, ◌∙◌, ℕ, zero, suc, ◌+◌, ◌<◌, length, drop, sym, ap, List, [], ◌∷◌, Bool, true, false, ◌&&◌, ◌||◌, if◌then◌else◌, arith, refl}
 use Rattle.std.proofs.lemmas.Bool.Decides.{nat_tests}
 use Rattle.std.specs.List.{list_all}
 use Rattle.writer_meta.proofs.Laws.{and_left, and_right}
@@ -10,8 +10,7 @@ pub both : (a b : Bool) → a ≡ true → b ≡ true → (a && b) ≡ true
 both a b x y = rw (x, y) refl
 
 pub none-of : (a b : Bool) → (a || b) ≡ false → (a ≡ false) × (b ≡ false)
-none-of true b e = absurd (true≢false e)
-none-of false b e = (refl, e)
+none-of a b e = grind arith
 
 trans : (p q r : Pair) → comes_before p q ≡ true → comes_before q r ≡ true → comes_before p r ≡ true
 trans p q r first second = grind (arith, nat_tests)
@@ -25,12 +24,10 @@ behind-all q p [] before all = refl
 behind-all q p (r ∷ ps) before all = both _ _ (trans q p r before (and_left _ _ all)) (behind-all q p ps before (and_right (comes_before p r) _ all))
 
 all-if : (P : Pair → Bool) (b : Bool) (xs ys : List Pair) → (b ≡ true → list_all P xs ≡ true) → (b ≡ false → list_all P ys ≡ true) → list_all P (if b then xs else ys) ≡ true
-all-if P true xs ys one other = one refl
-all-if P false xs ys one other = other refl
+all-if x0 b xs ys one other = grind arith
 
 ascending-if : (b : Bool) (xs ys : List Pair) → (b ≡ true → is_ascending xs ≡ true) → (b ≡ false → is_ascending ys ≡ true) → is_ascending (if b then xs else ys) ≡ true
-ascending-if true xs ys one other = one refl
-ascending-if false xs ys one other = other refl
+ascending-if b xs ys one other = grind arith
 
 -- what holds of the new pair and of all others holds of all
 pub all-with_pair : (P : Pair → Bool) (q : Pair) (ps : List Pair) → P q ≡ true → list_all P ps ≡ true → list_all P (with_pair q ps) ≡ true
@@ -57,22 +54,14 @@ pub drop-further : {X : Type 0} (i : ℕ) (x : X) (xs : List X) → drop (suc i 
 drop-further i x xs = let e : suc i + 1 ≡ suc (i + 1) = omega arith in ap (λ k. drop k (x ∷ xs)) e
 
 and-none : (b : Bool) → (b && false) ≡ false
-and-none true = refl
-and-none false = refl
+and-none b = grind arith
 
 -- a list whose first pair comes before the second is as ascending as the rest
 pub ascending-next : (p : Pair) (ps : List Pair) → is_before_next (p ∷ ps) ≡ true → is_ascending (p ∷ ps) ≡ is_ascending ps
-ascending-next p [] next = refl
-ascending-next p (q ∷ ps) next = when (is_ascending (q ∷ ps)) refl
-  where
-    when : (b : Bool) → is_ascending (q ∷ ps) ≡ b → is_ascending (p ∷ q ∷ ps) ≡ is_ascending (q ∷ ps)
-    when true up = both (comes_before p q && list_all (comes_before p) ps) _ (both (comes_before p q) _ next (behind-all p q ps next (and_left _ _ up))) up ∙ sym up
-    when false up = ap (λ b. (comes_before p q && list_all (comes_before p) ps) && b) up ∙ and-none (comes_before p q && list_all (comes_before p) ps) ∙ sym up
+ascending-next p ps next = grind (arith, both, behind-all, and_left, and-none)
 
 pub not-ascending : (ps : List Pair) → is_before_next ps ≡ false → is_ascending ps ≡ false
-not-ascending [] e = absurd (true≢false e)
-not-ascending (p ∷ []) e = absurd (true≢false e)
-not-ascending (p ∷ q ∷ ps) e = rw e refl
+not-ascending ps e = grind arith
 
 -- one pair further
 pub ascending-on : (ps : List Pair) (i : ℕ) → i < length ps → is_before_next (drop i ps) ≡ true → is_ascending (drop i ps) ≡ is_ascending (drop (i + 1) ps)

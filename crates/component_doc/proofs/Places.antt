@@ -1,24 +1,20 @@
 -- Pairs that come before a component, and pairs that do not.
 use Rattle.std.proofs.Common.{◌≡◌, ◌∙◌, ℕ, ◌+◌, ◌<◌, ◌≤◌, List, [], ◌∷◌, ◌++◌, length, Bool, true, false, true≢false, ◌||◌, ◌==◌, Option, Some, None, slice_get, arith, refl, sym, ap, subst}
 use Rattle.std.specs.Prelude.{⊤}
-use Rattle.std.proofs.lemmas.Bool.{eqb-true}
 use Rattle.std.proofs.lemmas.Bool.Decides.{nat_tests}
 use Rattle.std.proofs.lemmas.Option.{slice_get_past}
 use Rattle.std.specs.List.{list_all}
 use Rattle.writer_meta.specs.Metadata.{Meta}
 use Rattle.writer_meta.proofs.Laws.{and_left, and_right}
 use Rattle.component_doc.specs.Selection.{Pair, Named, comes_before, is_pair, has_pair, with_pair, is_taker}
-use Rattle.component_doc.specs.Over.{meta_at, is_selectable, is_selectable_of, names_selectable, is_ascending}
+use Rattle.component_doc.specs.Over.{meta_at, is_selectable_of, names_selectable, is_ascending}
 use Rattle.component_doc.proofs.Order.{none-of}
 
 abbrev pub pair : ℕ → ℕ → Pair
 pair w i = record { writer = w; component = i }
 
 same-pair : (w i : ℕ) (p : Pair) → is_pair w i p ≡ true → p ≡ pair w i
-same-pair w i p e =
-    let writer : p.writer ≡ w = eqb-true p.writer w (and_left _ _ e) in
-    let component : p.component ≡ i = eqb-true p.component i (and_right (p.writer == w) _ e) in
-    ap (λ (a : ℕ). pair a p.component) writer ∙ ap (pair w) component
+same-pair w i p e = grind arith
 
 -- ## before
 
@@ -72,14 +68,8 @@ pub all-ahead : (ps : List Pair) → AllAhead 0 0 ps
 all-ahead [] = tt
 all-ahead (p ∷ ps) = (record { writer = omega arith; component = λ _. omega arith }, all-ahead ps)
 
-other-component : (w i : ℕ) (p : Pair) → p.writer ≡ w → is_pair w i p ≡ false → p.component ≡ i → ⊥
-other-component w i p writer other component = grind (arith, nat_tests)
-
 ahead-one : (w i : ℕ) (p : Pair) → IsAhead w i p → is_pair w i p ≡ false → IsAhead w (i + 1) p
-ahead-one w i p ahead other = record {
-  writer = ahead.writer;
-  component = λ e. let apart = other-component w i p e other in omega (arith, ahead.component e, apart);
-}
+ahead-one w i p ahead other = grind arith
 
 pub ahead-next : (w i : ℕ) (ps : List Pair) → AllAhead w i ps → has_pair ps w i ≡ false → AllAhead w (i + 1) ps
 ahead-next w i [] all none = tt
@@ -98,8 +88,7 @@ not-behind : (w i : ℕ) (r : Pair) → IsAhead w i r → comes_before r (pair w
 not-behind w i r ahead before = grind (arith, nat_tests)
 
 behind-if : (r p : Pair) (w i : ℕ) (b among : Bool) → is_pair w i p ≡ b → comes_before r p ≡ true → (b || among) ≡ true → (among ≡ true → comes_before r (pair w i) ≡ true) → comes_before r (pair w i) ≡ true
-behind-if r p w i true among is before has later = subst (λ q. comes_before r q ≡ true) (same-pair w i p is) before
-behind-if r p w i false among is before has later = later has
+behind-if r p w i b among is before has later = grind arith
 
 member-behind : (r : Pair) (ps : List Pair) (w i : ℕ) → list_all (comes_before r) ps ≡ true → has_pair ps w i ≡ true → comes_before r (pair w i) ≡ true
 member-behind r [] w i all has = absurd (true≢false (sym has))
@@ -136,9 +125,7 @@ absent-over w i (p ∷ ps) all none =
     (ahead-writer w i p all.0 (λ e. grind (arith, nat_tests, others.0, e)), absent-over w i ps all.1 others.1)
 
 not-unknown : (ms : List (Option Meta)) (w : ℕ) (p : Pair) → slice_get ms w ≡ Some None → names_selectable ms p ≡ true → p.writer ≡ w → ⊥
-not-unknown ms w p at names e =
-    let none : names_selectable ms p ≡ false = ap (λ k. is_selectable_of p.component (meta_at (slice_get ms k))) e ∙ ap (λ o. is_selectable_of p.component (meta_at o)) at in
-    true≢false (sym names ∙ none)
+not-unknown ms w p at names e = grind arith
 
 -- none is of a writer that is not known
 pub unknown-over : (ms : List (Option Meta)) (w i : ℕ) (ps : List Pair) → slice_get ms w ≡ Some None → list_all (names_selectable ms) ps ≡ true → AllAhead w i ps → AllAhead (w + 1) 0 ps
@@ -147,10 +134,7 @@ unknown-over ms w i (p ∷ ps) at names all =
     (ahead-writer w i p all.0 (not-unknown ms w p at (and_left _ _ names)), unknown-over ms w i ps at (and_right (names_selectable ms p) _ names) all.1)
 
 not-past : (ms : List (Option Meta)) (w : ℕ) (m : Meta) (p : Pair) → slice_get ms w ≡ Some (Some m) → names_selectable ms p ≡ true → IsAhead w (length m.parts) p → p.writer ≡ w → ⊥
-not-past ms w m p at names ahead e =
-    let none : names_selectable ms p ≡ false =
-    ap (λ k. is_selectable_of p.component (meta_at (slice_get ms k))) e ∙ ap (λ o. is_selectable_of p.component (meta_at o)) at ∙ ap is_selectable (slice_get_past m.parts p.component (ahead.component e)) in
-    true≢false (sym names ∙ none)
+not-past ms w m p at names ahead e = grind (arith, slice_get_past)
 
 -- none is behind a writer's last component
 pub writer-over : (ms : List (Option Meta)) (w : ℕ) (m : Meta) (ps : List Pair) → slice_get ms w ≡ Some (Some m) → list_all (names_selectable ms) ps ≡ true → AllAhead w (length m.parts) ps → AllAhead (w + 1) 0 ps

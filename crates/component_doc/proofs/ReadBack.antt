@@ -7,7 +7,7 @@ use Rattle.json.specs.Tree as tree
 use Rattle.json.proofs.Printed.Trees.{value-json_tokens, ArePrintable-json_tokens}
 use Rattle.json.proofs.Printed.Tokens.{tokens-print}
 use Rattle.json.proofs.Printed.Decimals.{IsNumber-decimal}
-use Rattle.serde_json.specs.Data.{Data, Items, item}
+use Rattle.serde_json.specs.Data.{Data, Items}
 use Rattle.serde_json.specs.Read.{read, of_json, of_items, max_depth}
 use Rattle.serde_json.specs.Written.{outline, items_outline, has_float, items_have_float, compact_text}
 use Rattle.serde_json.proofs.Numbers.{number_of-decimal}
@@ -54,12 +54,7 @@ unfolding component_data
 component-whole class explicit full writer = refl
 
 component-reads : (class : ℕ) (explicit : Bool) (full : List ℕ) (writer : ℕ) → writer < 2 ^ 64 → Reads (component_data class explicit full writer)
-component-reads class explicit full writer small = record {
-  back = component-back class explicit full writer small;
-  numbers = component-numbers class explicit full writer small;
-  depth = component-depth class explicit full writer;
-  whole = component-whole class explicit full writer;
-}
+component-reads class explicit full writer small = grind (arith, component-back, component-numbers, component-depth, component-whole)
 
 part-reads : (c : Choice) (m : Meta) (found : Option Part) (d : Data) → c.writer < 2 ^ 64 → option_map (λ p. component_data m.class c.explicit (full_name p) c.writer) found ≡ Some d → Reads d
 part-reads c m None d small e = absurd (none-some d e)
@@ -70,25 +65,14 @@ choice-reads c None d small e = absurd (none-some d e)
 choice-reads c (Some m) d small e = part-reads c m (slice_get m.parts c.component) d (small m refl) e
 
 from-meta_at : (found : Option (Option Meta)) (m : Meta) → meta_at found ≡ Some m → found ≡ Some (Some m)
-from-meta_at None m e = absurd (none-some m e)
-from-meta_at (Some o) m e = ap Some e
+from-meta_at found m e = grind arith
 
 -- a writer that is known has a small number
 known-small : (ms : List (Option Meta)) (w : ℕ) (m : Meta) → length ms < 2 ^ 32 → meta_at (slice_get ms w) ≡ Some m → w < 2 ^ 64
-known-small ms w m few e =
-    let within : w < length ms = slice_get_within ms w (Some m) (from-meta_at (slice_get ms w) m e) in
-    omega arith
+known-small ms w m few e = grind (arith, slice_get_within, from-meta_at)
 
 with_item-reads : (found : Option Data) (rest : Items) → ((d : Data) → found ≡ Some d → Reads d) → ItemsRead rest → ItemsRead (with_item found rest)
-with_item-reads None rest each more = more
-with_item-reads (Some d) rest each more =
-    let first = each d refl in
-    record {
-      back = rw first.back (ap (option_map (item d)) more.back);
-      numbers = (first.numbers, more.numbers);
-      depth = omega (arith, first.depth, more.depth);
-      whole = rw (first.whole, more.whole) refl;
-    }
+with_item-reads found rest each more = grind arith
 
 choices-read : (ms : List (Option Meta)) (choices : List Choice) → length ms < 2 ^ 32 → ItemsRead (choices_data ms choices)
 choices-read ms [] few = record { back = refl; numbers = tt; depth = omega arith; whole = refl }
@@ -100,8 +84,7 @@ choices-read ms (c ∷ choices) few =
 
 document-back : (items : Items) (c : Context) (named : Bool) → of_items (items_outline items) ≡ Some items → of_json (outline (document_of items c named)) ≡ Some (document_of items c named)
 unfolding document_of
-document-back items c true back = rw (back, number_of-decimal (number_of c) (small-number_of c)) refl
-document-back items c false back = rw (back, number_of-decimal (number_of c) (small-number_of c)) refl
+document-back items c named back = grind (arith, number_of-decimal, small-number_of)
 
 document-numbers : (items : Items) (c : Context) (named : Bool) → tree.ItemsHaveNumbers (items_outline items) → tree.HasNumbers (outline (document_of items c named))
 unfolding document_of
@@ -110,13 +93,11 @@ document-numbers items c false numbers = (numbers, (IsNumber-decimal (number_of 
 
 document-depth : (items : Items) (c : Context) (named : Bool) → tree.items_depth (items_outline items) ≤ 1 → tree.depth (outline (document_of items c named)) ≤ 127
 unfolding document_of
-document-depth items c true depth = omega (arith, depth)
-document-depth items c false depth = omega (arith, depth)
+document-depth items c named depth = grind arith
 
 document-whole : (items : Items) (c : Context) (named : Bool) → items_have_float items ≡ false → has_float (document_of items c named) ≡ false
 unfolding document_of
-document-whole items c true whole = rw whole refl
-document-whole items c false whole = rw whole refl
+document-whole items c named whole = grind arith
 
 pub has_float-document : (ms : List (Option Meta)) (s : Selected) (c : Context) → length ms < 2 ^ 32 → has_float (document ms s c) ≡ false
 has_float-document ms s c few = document-whole (choices_data ms (chosen s ms)) c (is_named s) (choices-read ms (chosen s ms) few).whole
@@ -131,7 +112,4 @@ read-compact_text d back numbers shallow =
 
 pub read-document_text : (ms : List (Option Meta)) (s : Selected) (c : Context) → length ms < 2 ^ 32 → read (document_text ms s c) ≡ Some (document ms s c)
 unfolding document_text
-read-document_text ms s c few =
-    let items = choices_data ms (chosen s ms) in
-    let reads = choices-read ms (chosen s ms) few in
-    read-compact_text (document ms s c) (document-back items c (is_named s) reads.back) (document-numbers items c (is_named s) reads.numbers) (document-depth items c (is_named s) reads.depth)
+read-document_text ms s c few = grind (arith, choices-read, read-compact_text, document-back, document-numbers, document-depth)

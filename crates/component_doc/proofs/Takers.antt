@@ -30,8 +30,7 @@ passed s n writers takes so_far =
 
 range-step : (a n w : ℕ) (b : Bool) → (a == w) ≡ b → a ≤ w → (a + 1 ≤ w → list_any (λ x. x == w) (range_with_len (a + 1) n) ≡ nat_lt w (a + 1 + n))
     → (b || list_any (λ x. x == w) (range_with_len (a + 1) n)) ≡ nat_lt w (a + suc n)
-range-step a n w true e l more = grind (arith, nat_tests)
-range-step a n w false e l more = let next : a + 1 ≤ w = grind (arith, nat_tests) in more next ∙ ap (nat_lt w) (omega arith)
+range-step a n w b e l more = grind arith
 
 -- a number is in a range below whose end it is
 any-range : (a n w : ℕ) → a ≤ w → list_any (λ x. x == w) (range_with_len a n) ≡ nat_lt w (a + n)
@@ -39,10 +38,7 @@ any-range a zero w l = grind (arith, nat_tests)
 any-range a (suc n) w l = range-step a n w (a == w) refl l (any-range (a + 1) n w)
 
 swapped : (b c : Bool) → (b && c) ≡ (c && b)
-swapped true true = refl
-swapped true false = refl
-swapped false true = refl
-swapped false false = refl
+swapped b c = grind arith
 
 -- a writer takes part that is one of them, and is taken
 pub takes-is : (n : ℕ) (s : Selected) (w : ℕ) → (nat_lt w n && is_taker s w) ≡ list_any (λ x. x == w) (takers n s)

@@ -1,5 +1,5 @@
 -- What a component document names is the selection that it was written of.
-use Rattle.std.proofs.Common.{◌≡◌, ◌∙◌, ℕ, zero, suc, ◌+◌, List, [], ◌∷◌, ◌++◌, length, Bool, true, false, not, ◌&&◌, ◌||◌, if◌then◌else◌, Option, Some, None, option_map, option_and_then, slice_get, arith, refl, sym, ap, subst, append_assoc, append-nil}
+use Rattle.std.proofs.Common.{◌≡◌, ◌∙◌, ℕ, zero, suc, ◌+◌, List, [], ◌∷◌, ◌++◌, length, Bool, true, false, not, ◌&&◌, ◌||◌, if◌then◌else◌, Option, Some, None, option_and_then, slice_get, arith, refl, sym, ap, subst, append_assoc, append-nil}
 use Rattle.std.proofs.lemmas.List.Folds.{list_any-append}
 use Rattle.std.proofs.lemmas.Option.{none-some, same_Some}
 use Rattle.std.proofs.lemmas.Slice.Eq.{bytes_eq-Decides}
@@ -13,7 +13,7 @@ use Rattle.writer_meta.specs.Document.{double_after}
 use Rattle.writer_meta.proofs.Laws.{and_left, and_right}
 use Rattle.component_doc.specs.declared.choice.Choice.{Choice}
 use Rattle.component_doc.specs.declared.found.Found.{Found}
-use Rattle.component_doc.specs.Selection.{Pair, Selected, Named, AllOf, is_pair, has_pair, found_from, found_in, naming, is_taker, has_named_ancestor, has_selectable_ancestor, is_chosen, choice_if, choices_from, chosen_from, chosen}
+use Rattle.component_doc.specs.Selection.{Pair, Selected, Named, has_pair, found_from, found_in, naming, is_taker, has_named_ancestor, has_selectable_ancestor, is_chosen, choice_if, choices_from, chosen_from, chosen}
 use Rattle.component_doc.specs.Over.{AreAllowed, names_selectable, is_ascending, IsSelectedOver, is_selectable_of, meta_at, is_selectable}
 use Rattle.component_doc.specs.Document.{component_data, choices_data, document_of, document}
 use Rattle.component_doc.specs.Reading.{context_in, explicit_in, writer_in, path_in, pairs_named, named_by, named_by_all, components_in, selected_in}
@@ -26,8 +26,7 @@ same-text : (xs : List ℕ) → bytes_eq xs xs ≡ true
 same-text xs = (bytes_eq-Decides xs xs).1 refl
 
 apart-if : (b : Bool) (x : List ℕ) (rest : Option (List ℕ)) → (if b then Some x else rest) ≡ None → (b ≡ false) × (rest ≡ None)
-apart-if true x rest e = absurd (none-some x (sym e))
-apart-if false x rest e = (refl, e)
+apart-if b x rest e = grind arith
 
 -- a component of such a list has none of these names
 apart-at : (names : List (List ℕ)) (parts : List Part) (i : ℕ) (c : Part) → double_after names parts ≡ None → slice_get parts i ≡ Some c → list_any (λ name. bytes_eq name (full_name c)) names ≡ false
@@ -90,8 +89,7 @@ record Names-up-to (ms : List (Option Meta)) (ps : List Pair) (w i : ℕ) (done 
   place : IsAt ms ps w i now left
 
 has-rest : (ms : List (Option Meta)) (ps : List Pair) (w i : ℕ) (done rest : List Pair) → IsAt ms ps w i done rest → has_pair ps w i ≡ has_pair rest w i
-has-rest ms ps w i done rest at =
-    ap (λ qs. has_pair qs w i) (sym at.whole) ∙ list_any-append (is_pair w i) done rest ∙ ap (λ b. b || has_pair rest w i) (has-none w i done at.passed)
+has-rest ms ps w i done rest at = grind (arith, list_any-append, has-none)
 
 -- a component that was named
 named-one : (ms : List (Option Meta)) (ps : List Pair) (m : Meta) (w i : ℕ) (c : Part) (done rest : List Pair) (more : List Choice) → slice_get ms w ≡ Some (Some m) → slice_get m.parts i ≡ Some c
@@ -124,26 +122,12 @@ other-one : (ms : List (Option Meta)) (ps : List Pair) (m : Meta) (w i : ℕ) (c
     → slice_get m.parts i ≡ Some c → IsAt ms ps w i done rest → has_pair rest w i ≡ false
     → Names-up-to ms ps w (i + 1) done (choices_data ms (choice_if is_chosen w i false ++ more)) (choices_data ms more)
 unfolding named_by_all
-other-one ms ps m w i c done rest more true known found at none =
-    let here = item-here ms m (record { writer = w; component = i; explicit = false }) c more known found in
-    record {
-      now = done;
-      left = rest;
-      step = ap (named_by_all ms done) here ∙ ap (option_and_then (λ qs. named_by_all ms qs (choices_data ms more))) (named_by-implicit ms done m.class (full_name c) w);
-      place = record { whole = at.whole; passed = passed-on w i done at.passed; ahead = ahead-next w i rest at.ahead none; up = at.up; names = at.names };
-    }
-other-one ms ps m w i c done rest more false known found at none = record {
-  now = done;
-  left = rest;
-  step = refl;
-  place = record { whole = at.whole; passed = passed-on w i done at.passed; ahead = ahead-next w i rest at.ahead none; up = at.up; names = at.names };
-}
+other-one ms ps m w i c done rest more is_chosen known found at none = grind (arith, item-here, named_by-implicit, passed-on, ahead-next)
 
 one-if : (ms : List (Option Meta)) (ps : List Pair) (m : Meta) (w i : ℕ) (c : Part) (done rest : List Pair) (more : List Choice) (named below alone : Bool) → slice_get ms w ≡ Some (Some m)
     → slice_get m.parts i ≡ Some c → double_after [] m.parts ≡ None → IsAt ms ps w i done rest → has_pair rest w i ≡ named
     → Names-up-to ms ps w (i + 1) done (choices_data ms (choice_if (named || below || alone) w i named ++ more)) (choices_data ms more)
-one-if ms ps m w i c done rest more true below alone known found apart at has = named-one ms ps m w i c done rest more known found apart at (front w i rest at.ahead at.up has)
-one-if ms ps m w i c done rest more false below alone known found apart at has = other-one ms ps m w i c done rest more (below || alone) known found at has
+one-if ms ps m w i c done rest more named below alone known found apart at has = grind (arith, named-one, front, other-one)
 
 -- ## the components of a writer
 
@@ -185,26 +169,12 @@ through-parts ms ps m w i (c ∷ cs) done rest more known apart tie end at =
 -- ## the writers
 
 taker-rest : (ms : List (Option Meta)) (ps : List Pair) (w i : ℕ) (done rest : List Pair) → IsAt ms ps w i done rest → is_taker (Named ps) w ≡ false → is_taker (Named rest) w ≡ false
-taker-rest ms ps w i done rest at none =
-    (none-of (is_taker (Named done) w) (is_taker (Named rest) w) (sym (list_any-append _ done rest) ∙ ap (λ qs. is_taker (Named qs) w) at.whole ∙ none)).1
+taker-rest ms ps w i done rest at none = grind (arith, none-of, list_any-append)
 
 writer-if : (ms : List (Option Meta)) (ps : List Pair) (m : Meta) (w : ℕ) (done rest : List Pair) (more : List Choice) (takes : Bool) → is_taker (Named ps) w ≡ takes → slice_get ms w ≡ Some (Some m)
     → double_after [] m.parts ≡ None → IsAt ms ps w 0 done rest
     → Names-up-to ms ps (w + 1) 0 done (choices_data ms ((if takes then choices_from (Named ps) m.parts w 0 m.parts else []) ++ more)) (choices_data ms more)
-writer-if ms ps m w done rest more true takes known apart at =
-    through-parts ms ps m w 0 m.parts done rest more known apart (λ k. ap (slice_get m.parts) (omega arith)) (omega arith) at
-writer-if ms ps m w done rest more false takes known apart at = record {
-  now = done;
-  left = rest;
-  step = refl;
-  place = record {
-    whole = at.whole;
-    passed = passed-writer w 0 done at.passed;
-    ahead = absent-over w 0 rest at.ahead (taker-rest ms ps w 0 done rest at takes);
-    up = at.up;
-    names = at.names;
-  };
-}
+writer-if ms ps m w done rest more takes x8 known apart at = grind (arith, through-parts, passed-writer, absent-over, taker-rest)
 
 through-writers : (ms : List (Option Meta)) (ps : List Pair) (w : ℕ) (os : List (Option Meta)) (done rest : List Pair) → AreAllowed os → ((k : ℕ) → slice_get os k ≡ slice_get ms (w + k)) → w + length os ≡ length ms
     → IsAt ms ps w 0 done rest → named_by_all ms done (choices_data ms (chosen_from (Named ps) w os)) ≡ Some ps
@@ -248,8 +218,7 @@ named-back ms ps allowed over =
 
 pub selected-back : (ms : List (Option Meta)) (s : Selected) (c : Context) → AreAllowed ms → IsSelectedOver ms s → selected_in ms (document ms s c) ≡ Some s
 unfolding selected_in components_in document_of
-selected-back ms (Named ps) c allowed over = ap (option_map Named) (named-back ms ps allowed over)
-selected-back ms (AllOf ws) c allowed over = ap (λ xs. Some (AllOf xs)) (sym over)
+selected-back ms s c allowed over = grind (arith, named-back)
 
 pub context-back : (ms : List (Option Meta)) (s : Selected) (c : Context) → context_in (document ms s c) ≡ Some c
 unfolding context_in document_of

@@ -47,7 +47,7 @@ pub(crate) fn has_named_ancestor(
             writer,
             component: i as u32,
         };
-        if pairs::has(pairs, pair) && is_ancestor(ancestor, component) {
+        if is_ancestor(ancestor, component) && pairs::has(pairs, pair) {
             return true;
         }
     }

@@ -1,10 +1,10 @@
 -- The members whom an agenda asks, in the order of their writers.
-use Rattle.std.proofs.Common.{◌≡◌, ℕ, zero, suc, ◌+◌, ◌<◌, ◌≤◌, List, [], ◌∷◌, ◌++◌, length, get_or, refl, Bool, true, false, cond, ap, sym, ◌∙◌, arith, filter, map, drop, Some, append-nil, append_assoc}
+use Rattle.std.proofs.Common.{◌≡◌, ℕ, zero, suc, ◌+◌, ◌<◌, ◌≤◌, List, [], ◌∷◌, ◌++◌, length, refl, Bool, true, false, cond, ap, sym, ◌∙◌, arith, filter, map, drop, Some, append-nil, append_assoc}
 use Rattle.std.specs.Prelude.{◌==◌, ◌&&◌, ◌||◌, nat_lt, slice_get, All}
 use Rattle.std.specs.List.{flat_map, range_with_len}
 use Rattle.std.proofs.lemmas.Bool.Decides.{nat_tests}
 use Rattle.std.proofs.lemmas.List.Concat.{flat_map-cons}
-use Rattle.std.proofs.lemmas.List.Elements.{All-append, All-nil, filter-append}
+use Rattle.std.proofs.lemmas.List.Elements.{All-nil, filter-append}
 use Rattle.writer_state.specs.declared.writer_row.WriterRow.{WriterRow}
 use Rattle.set_agenda.specs.declared.member.Member.{Member}
 use Rattle.set_agenda.specs.Agenda.{is_among}
@@ -22,8 +22,7 @@ abbrev number_of : Member → ℕ
 number_of m = m.writer
 
 distinct-step : (b : Bool) (i : ℕ) (r : WriterRow) (ms : List Member) → is_among i (map number_of ms) ≡ false → are_distinct (map number_of ms) ≡ true → are_distinct (map number_of (member_if b i r ++ ms)) ≡ true
-distinct-step true i r ms h d = rw h d
-distinct-step false i r ms h d = d
+distinct-step b i r ms h d = grind arith
 
 pub members-distinct : (t : ℕ → Bool) (i : ℕ) (rs : List WriterRow) → are_distinct (map number_of (members_from t i rs)) ≡ true
 members-distinct t i [] = refl
@@ -33,13 +32,8 @@ members-distinct t i (r ∷ rs) = distinct-step (t i) i r (members_from t (i + 1
 abbrev IsSmall : Member → Type 0
 IsSmall m = m.writer < 64
 
-small-one : (m : Member) → IsSmall m → (k : ℕ) (d : Member) → k < 1 → IsSmall (get_or (m ∷ []) k d)
-small-one m h zero d l = h
-small-one m h (suc k) d l = absurd (omega arith)
-
 small-step : (b : Bool) (i : ℕ) (r : WriterRow) (ms : List Member) → i < 64 → All IsSmall ms → All IsSmall (member_if b i r ++ ms)
-small-step true i r ms h a = All-append IsSmall (member_if true i r) ms (small-one (record { writer = i; level = r.level }) h) a
-small-step false i r ms h a = a
+small-step b i r ms h a = grind arith
 
 pub members-small : (t : ℕ → Bool) (i : ℕ) (rs : List WriterRow) → i + length rs ≤ 64 → All IsSmall (members_from t i rs)
 members-small t i [] h = All-nil IsSmall
@@ -61,10 +55,7 @@ flat-agree f g a (suc n) h =
     ∙ ap (λ ms. g a ++ ms) (flat-agree f g (a + 1) n (λ i l. h i (omega arith))) ∙ sym (flat_map-cons g a (range_with_len (a + 1) n))
 
 member_if-of : (b : Bool) (i : ℕ) (r : WriterRow) (w : ℕ) (c : Bool) → (i == w) ≡ c → of_writer (member_if b i r) w ≡ cond c (member_if b i r) []
-member_if-of true i r w true e = rw e refl
-member_if-of true i r w false e = rw e refl
-member_if-of false i r w true e = refl
-member_if-of false i r w false e = refl
+member_if-of b i r w c e = grind arith
 
 of-below : (t : ℕ → Bool) (i : ℕ) (rs : List WriterRow) (w : ℕ) → w < i → of_writer (members_from t i rs) w ≡ []
 of-below t i [] w h = refl
@@ -74,17 +65,10 @@ of-below t i (r ∷ rs) w h =
     ∙ ap (λ ms. ms ++ of_writer (members_from t (i + 1) rs) w) (member_if-of (t i) i r w false e) ∙ of-below t (i + 1) rs w (omega arith)
 
 of-here : (t : ℕ → Bool) (i : ℕ) (r : WriterRow) (rs : List WriterRow) → of_writer (members_from t i (r ∷ rs)) i ≡ member_if (t i) i r
-of-here t i r rs =
-    let e : (i == i) ≡ true = grind (arith, nat_tests) in
-    filter-append (λ (m : Member). m.writer == i) (member_if (t i) i r) (members_from t (i + 1) rs)
-    ∙ ap (λ ms. ms ++ of_writer (members_from t (i + 1) rs) i) (member_if-of (t i) i r i true e)
-    ∙ ap (λ ms. member_if (t i) i r ++ ms) (of-below t (i + 1) rs i (omega arith)) ∙ append-nil (member_if (t i) i r)
+of-here t i r rs = grind (arith, filter-append, member_if-of, of-below)
 
 of-later : (t : ℕ → Bool) (i : ℕ) (r : WriterRow) (rs : List WriterRow) (w : ℕ) → i + 1 ≤ w → of_writer (members_from t i (r ∷ rs)) w ≡ of_writer (members_from t (i + 1) rs) w
-of-later t i r rs w h =
-    let e : (i == w) ≡ false = grind (arith, nat_tests) in
-    filter-append (λ (m : Member). m.writer == w) (member_if (t i) i r) (members_from t (i + 1) rs)
-    ∙ ap (λ ms. ms ++ of_writer (members_from t (i + 1) rs) w) (member_if-of (t i) i r w false e)
+of-later t i r rs w h = grind arith
 
 in-order : (t : ℕ → Bool) (i n : ℕ) (rs : List WriterRow) → length rs ≤ n → flat_map (of_writer (members_from t i rs)) (range_with_len i n) ≡ members_from t i rs
 in-order t i n [] h = flat-none (of_writer []) (range_with_len i n) (λ x. refl)
@@ -101,9 +85,7 @@ members-ordered t rs h = in-order t 0 64 rs h
 -- ## who passes a test more
 
 filter-if : (b c : Bool) (i : ℕ) (r : WriterRow) (g : ℕ → Bool) → g i ≡ c → filter (λ (m : Member). g m.writer) (member_if b i r) ≡ member_if (b && c) i r
-filter-if true true i r g e = rw e refl
-filter-if true false i r g e = rw e refl
-filter-if false c i r g e = refl
+filter-if b c i r g e = grind arith
 
 pub filter-members : (t g : ℕ → Bool) (i : ℕ) (rs : List WriterRow) → filter (λ (m : Member). g m.writer) (members_from t i rs) ≡ members_from (λ w. t w && g w) i rs
 filter-members t g i [] = refl
@@ -115,34 +97,17 @@ filter-members t g i (r ∷ rs) =
 -- ## a set of writers that is made one after another
 
 below-step : (p : ℕ → Bool) (n w : ℕ) (c : Bool) → (n == w) ≡ c → ((nat_lt w n && p w) || (p n && c)) ≡ (nat_lt w (n + 1) && p w)
-below-step p n w true e =
-    let s : n ≡ w = grind (arith, nat_tests, e) in
-    let a : nat_lt w n ≡ false = grind (arith, nat_tests, s) in
-    let b : nat_lt w (n + 1) ≡ true = grind (arith, nat_tests, s) in
-    rw (a, b) (and-true (p n) ∙ ap p s)
-  where
-    and-true : (b : Bool) → (b && true) ≡ b
-    and-true true = refl
-    and-true false = refl
-below-step p n w false e =
-    let a : nat_lt w (n + 1) ≡ nat_lt w n = grind (arith, nat_tests, e) in
-    rw a (none (nat_lt w n && p w) (p n))
-  where
-    none : (b c : Bool) → (b || (c && false)) ≡ b
-    none true c = refl
-    none false true = refl
-    none false false = refl
+below-step p n w c e = grind arith
 
 pub below-none : (p : ℕ → Bool) → [] ≡ writers (λ w. nat_lt w 0 && p w)
-below-none p = sym (writers-agree (λ w. nat_lt w 0 && p w) (λ w. false) (λ w l. let e : nat_lt w 0 ≡ false = grind (arith, nat_tests) in ap (λ b. b && p w) e) ∙ writers-none)
+below-none p = grind (arith, writers-agree, writers-none)
 
 pub below-next : (p : ℕ → Bool) (n : ℕ) → writers (λ w. (nat_lt w n && p w) || (p n && (n == w))) ≡ writers (λ w. nat_lt w (n + 1) && p w)
 below-next p n = writers-agree (λ w. (nat_lt w n && p w) || (p n && (n == w))) (λ w. nat_lt w (n + 1) && p w) (λ w l. below-step p n w (n == w) refl)
 
 -- one writer more, where it is so
 pub inserted : (old new : List ℕ) (writer : ℕ) (really : Bool) → really ≡ true → new ≡ writers (λ w. is_among w old || (writer == w)) → (p : ℕ → Bool) → old ≡ writers p → new ≡ writers (λ w. p w || (really && (writer == w)))
-inserted old new writer really e f p h = f ∙ writers-agree (λ w. is_among w old || (writer == w)) (λ w. p w || (really && (writer == w)))
-    (λ w l. ap (λ b. b || (writer == w)) (ap (is_among w) h ∙ among-writers p w l) ∙ ap (λ r. p w || (r && (writer == w))) (sym e))
+inserted old new writer really e f p h = grind (arith, writers-agree, among-writers)
 
 -- the next row is looked at
 pub members-next : (rows : List WriterRow) (t : ℕ → Bool) (n : ℕ) (r : WriterRow) (xs ys : List Member) → n < length rows → Some r ≡ slice_get rows n → ys ≡ xs ++ member_if (t n) n r

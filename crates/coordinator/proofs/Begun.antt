@@ -1,8 +1,7 @@
 -- An agenda that begins, in what is kept of the course and in the course.
-use Rattle.std.proofs.Common.{◌≡◌, ℕ, ◌<◌, ◌≤◌, List, [], length, Option, Some, None, refl, Bool, true, false, ap, sym, ◌∙◌, subst, arith, filter, map}
-use Rattle.std.specs.Prelude.{◌&&◌, ◌==◌, not, nat_lt, is_some}
+use Rattle.std.proofs.Common.{◌≡◌, ℕ, ◌<◌, ◌≤◌, List, [], length, Some, refl, Bool, false, ap, sym, ◌∙◌, subst, arith, filter, map}
+use Rattle.std.specs.Prelude.{◌&&◌, not, nat_lt, is_some}
 use Rattle.std.proofs.lemmas.Bool.{eqb-true}
-use Rattle.std.proofs.lemmas.Bool.Decides.{nat_tests}
 use Rattle.std.proofs.lemmas.Map.Views.{any-filter_same}
 use Rattle.writer_state.specs.declared.writer_row.WriterRow.{WriterRow}
 use Rattle.writer_state.specs.WriterRow.{row_gathered}
@@ -21,13 +20,12 @@ use Rattle.coordinator.specs.declared.kept_course.KeptCourse.{KeptCourse}
 use Rattle.coordinator.specs.declared.row_change.RowChange.TheVariants.{Gathered}
 use Rattle.coordinator.specs.declared.running_agenda.RunningAgenda.{RunningAgenda}
 use Rattle.coordinator.specs.RunningAgenda.{Fits}
-use Rattle.coordinator.specs.KeptCourse.{Follows, StandsFor, left_now}
+use Rattle.coordinator.specs.KeptCourse.{Follows, StandsFor}
 use Rattle.coordinator.specs.OpenOrders.{AreFit}
 use Rattle.coordinator.specs.Coordinator.{Registered, is_disabled}
 use Rattle.coordinator.specs.Beginning.{asked_by, asks, begun_as, enabled, ready_for, volumes_if}
 use Rattle.coordinator.proofs.Asking.{filter-members}
 use Rattle.coordinator.proofs.Calls.{Posts}
-use Rattle.coordinator.proofs.Following.{left-is}
 use Rattle.coordinator.proofs.GroupsAfter.{goes-begun, opened-settled}
 use Rattle.coordinator.proofs.Members.{member-above, member-here, members-agree, members-map}
 use Rattle.coordinator.proofs.OpenOrders.{GoesOn, ready-fit}
@@ -36,14 +34,10 @@ use Rattle.coordinator.proofs.Registering.{disabled-is}
 -- ## who is asked
 
 asked-at : (kind : Kind) (ws : List Registered) (k : KeptCourse) (ts : List ℕ) (w : ℕ) → w < length k.rows → w < 64 → is_among w (asked_by kind ws k ts) ≡ asks kind ws k ts w
-asked-at kind ws k ts w l m =
-    let e : nat_lt w (length k.rows) ≡ true = grind (arith, nat_tests, l) in
-    among-writers (λ x. nat_lt x (length k.rows) && asks kind ws k ts x) w m ∙ ap (λ b. b && asks kind ws k ts w) e
+asked-at kind ws k ts w l m = grind (arith, among-writers)
 
 asked-above : (kind : Kind) (ws : List Registered) (k : KeptCourse) (ts : List ℕ) (w : ℕ) → length k.rows ≤ w → w < 64 → is_among w (asked_by kind ws k ts) ≡ false
-asked-above kind ws k ts w l m =
-    let e : nat_lt w (length k.rows) ≡ false = grind (arith, nat_tests, l) in
-    among-writers (λ x. nat_lt x (length k.rows) && asks kind ws k ts x) w m ∙ ap (λ b. b && asks kind ws k ts w) e
+asked-above kind ws k ts w l m = grind (arith, among-writers)
 
 abbrev asked_members : Kind → List Registered → KeptCourse → List ℕ → Course → List Member
 asked_members kind ws k ts c = members_from (λ w. is_among w (asked_by kind ws k ts)) 0 c.rows
@@ -52,23 +46,14 @@ member-at : (t : ℕ → Bool) (rs : List WriterRow) (w n : ℕ) → n ≡ lengt
 member-at t rs w n e = ((λ l. member-here t 0 rs w (omega arith) (omega (arith, e, l))), (λ l. member-above t 0 rs w (omega (arith, e, l))))
 
 split-at : (P : Type 0) (w n : ℕ) (b : Bool) → nat_lt w n ≡ b → (w < n → P) → (n ≤ w → P) → P
-split-at P w n true e f g = f (grind (arith, nat_tests, e))
-split-at P w n false e f g = g (grind (arith, nat_tests, e))
+split-at x0 w n b e f g = grind arith
 
 -- those that are asked are the members made of them
 pub asked-participants : (kind : Kind) (ws : List Registered) (k : KeptCourse) (ts : List ℕ) (c : Course) → Follows k c → asked_by kind ws k ts ≡ writers (is_member (asked_members kind ws k ts c))
-asked-participants kind ws k ts c h = writers-agree (λ w. nat_lt w (length k.rows) && asks kind ws k ts w) (is_member (asked_members kind ws k ts c))
-    (λ w m. sym (among-writers (λ x. nat_lt x (length k.rows) && asks kind ws k ts x) w m)
-    ∙ split-at (is_among w (asked_by kind ws k ts) ≡ is_member (asked_members kind ws k ts c) w) w (length k.rows) (nat_lt w (length k.rows)) refl
-    (λ l. sym ((member-at (λ x. is_among x (asked_by kind ws k ts)) c.rows w (length k.rows) (ap length h.rows)).0 l))
-    (λ l. asked-above kind ws k ts w l m ∙ sym ((member-at (λ x. is_among x (asked_by kind ws k ts)) c.rows w (length k.rows) (ap length h.rows)).1 l)))
+asked-participants kind ws k ts c h = grind (arith, writers-agree, among-writers, split-at, member-at, asked-above)
 
 members-asked : (kind : Kind) (ws : List Registered) (k : KeptCourse) (ts : List ℕ) (c : Course) (t : ℕ → Bool) → length k.rows ≤ 64 → Follows k c → ((w : ℕ) → w < length k.rows → t w ≡ asks kind ws k ts w) → members_from t 0 c.rows ≡ asked_members kind ws k ts c
-members-asked kind ws k ts c t f h same =
-    members-agree t (λ w. is_among w (asked_by kind ws k ts)) 0 c.rows
-    (λ w m l. let e : length k.rows ≡ length c.rows = ap length h.rows in
-    let b : w < length k.rows = omega (arith, e, l) in
-    same w b ∙ sym (asked-at kind ws k ts w b (omega (arith, f, b))))
+members-asked kind ws k ts c t f h same = grind (arith, members-agree, asked-at)
 
 -- ## what becomes of the course
 
@@ -77,15 +62,10 @@ unfolding begun
 begun-posted kind ms vs now c = refl
 
 and-swapped : (a b : Bool) → (a && b) ≡ (b && a)
-and-swapped true true = refl
-and-swapped true false = refl
-and-swapped false true = refl
-and-swapped false false = refl
+and-swapped a b = grind arith
 
 enabled-among : (ws : List Registered) (ds ts : List ℕ) (w : ℕ) → is_among w (enabled ws ds ts) ≡ (is_among w ts && not (is_disabled ws ds w))
-enabled-among ws ds ts w =
-    any-filter_same (λ x. x == w) (λ x. not (is_disabled ws ds x)) (not (is_disabled ws ds w)) (λ x e. ap (λ y. not (is_disabled ws ds y)) (eqb-true x w e)) ts
-    ∙ and-swapped (not (is_disabled ws ds w)) (is_among w ts)
+enabled-among ws ds ts w = grind (arith, any-filter_same, eqb-true, and-swapped)
 
 begun-at : (kind : Kind) (ws : List Registered) (s : Held) (k : KeptCourse) (ts vs : List ℕ) (now : ℕ) (c : Course) → length ws ≤ 64 → length k.rows ≤ 64 → ts ≡ takers s.writers s.selected → Follows k c
     → begun_as kind ws s vs now c ≡ begun kind (asked_members kind ws k ts c) (volumes_if kind vs) now (ready_for kind (asked_members kind ws k ts c) c)
@@ -119,31 +99,18 @@ pub follows-prepared : (k : KeptCourse) (ws : List ℕ) (c : Course) → ws ≡ 
 follows-prepared k ws c e h = record { rows = h.rows; members = refl; participants = e; disabled = h.disabled; outcome = h.outcome; agenda = h.agenda }
 
 pub follows-running : (k : KeptCourse) (r : RunningAgenda) (c : Course) (a : Agenda) → Fits r a → Follows k c → Follows (record k { running = Some r }) (record c { agenda = Some a })
-follows-running k r c a f h = record { rows = h.rows; members = h.members; participants = h.participants; disabled = h.disabled; outcome = h.outcome; agenda = f }
+follows-running k r c a f h = grind arith
 
 -- ## the call
 
 ready-agenda : (kind : Kind) (ms : List Member) (c : Course) → (ready_for kind ms c).agenda ≡ c.agenda
-ready-agenda Gather ms c = refl
-ready-agenda Prepare ms c = refl
-ready-agenda Snapshot ms c = refl
-ready-agenda Complete ms c = refl
+ready-agenda kind ms c = grind arith
 
 ready-opened : (kind : Kind) (ms : List Member) (c : Course) → (ready_for kind ms c).opened ≡ c.opened
-ready-opened Gather ms c = refl
-ready-opened Prepare ms c = refl
-ready-opened Snapshot ms c = refl
-ready-opened Complete ms c = refl
+ready-opened kind ms c = grind arith
 
 idle-left : (k : KeptCourse) (c : Course) → is_some k.running ≡ false → Follows k c → left c.agenda ≡ []
-idle-left k c e h = sym (left-is k c h) ∙ none k.running e
-  where
-    none : (r : Option RunningAgenda) → is_some r ≡ false → left_now r ≡ []
-    none None e = refl
-    none (Some r) e = cc
-
-pub fits-ordered : (r : RunningAgenda) (kind : Kind) (ms : List Member) (vs us : List ℕ) (now : ℕ) → by_writer ms ≡ ms → us ≡ vs → Fits r (unspoken kind (by_writer ms) us now) → Fits r (unspoken kind ms vs now)
-fits-ordered r kind ms vs us now e f h = subst (λ xs. Fits r (unspoken kind ms xs now)) f (subst (λ xs. Fits r (unspoken kind xs us now)) e h)
+idle-left k c e h = grind arith
 
 pub begun-stands : (kind : Kind) (ws : List Registered) (s : Held) (k m n : KeptCourse) (p : Place) (ts vs : List ℕ) (now : ℕ) (c : Course) → length ws ≤ 64 → length k.rows ≤ 64 → ts ≡ takers s.writers s.selected → is_some k.running ≡ false
     → m.mailboxes ≡ k.mailboxes → Posts m n p → p ≡ open_place (left c.agenda)

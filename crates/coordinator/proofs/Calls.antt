@@ -4,24 +4,24 @@ use Rattle.std.specs.Prelude.{◌==◌, fold, option_map, replicate, slice_get}
 use Rattle.std.specs.Prelude.{Ok as OkResult}
 use Rattle.std.proofs.lemmas.Bool.Decides.{nat_tests}
 use Rattle.vss_names.specs.declared.order.Order.{Order}
-use Rattle.vss_names.specs.declared.order.Order.TheVariants.{Identify, PrepareBackup, PrepareSnapshot, Freeze, Thaw, PostSnapshot, BackupComplete}
+use Rattle.vss_names.specs.declared.order.Order.TheVariants.{Identify}
 use Rattle.vss_names.specs.declared.vss_result.VssResult.{VssResult}
 use Rattle.vss_names.specs.declared.set_outcome.SetOutcome.{SetOutcome}
-use Rattle.vss_names.specs.declared.set_outcome.SetOutcome.TheVariants.{Running, Complete as CompleteSet, Failed as FailedSet}
+use Rattle.vss_names.specs.declared.set_outcome.SetOutcome.TheVariants.{Running}
 use Rattle.writer_state.specs.declared.said.Said.{Said}
 use Rattle.writer_state.specs.declared.writer_row.WriterRow.{WriterRow}
 use Rattle.writer_state.specs.WriterRow.{row_ended}
 use Rattle.writer_calls.specs.declared.mailbox.Mailbox.{Mailbox}
 use Rattle.writer_calls.specs.declared.order_counts.OrderCounts.{OrderCounts}
 use Rattle.writer_calls.specs.declared.standing.Standing.{Standing}
-use Rattle.writer_calls.specs.Mailbox.{answer_if, answer_to, closed, count_of, empty, mailbox_at, number_of, standing, standing_of, total, with_mailbox}
+use Rattle.writer_calls.specs.Mailbox.{answer_to, closed, count_of, empty, mailbox_at, number_of, standing, standing_of, total, with_mailbox}
 use Rattle.writer_calls.proofs.Counts.{total-one_more}
 use Rattle.set_agenda.specs.declared.limit.Limit.{Limit}
 use Rattle.set_agenda.specs.declared.member.Member.{Member}
 use Rattle.set_agenda.specs.declared.place.Place.{Place}
-use Rattle.set_agenda.specs.Agenda.{Open, is_among, is_asked, left, open_order, open_place, order_if, order_now, waits_now}
+use Rattle.set_agenda.specs.Agenda.{Open, is_among, left, open_order, open_place, order_now, waits_now}
 use Rattle.set_agenda.specs.Limits.{Running as RunningLimit, spent_of}
-use Rattle.set_agenda.specs.Course.{Course, OrderGroup, answered, answered_to, course_start, failed, limit_of, limits_now, lost_at, lost_writers, member_if, members_from, opens, posted, released, timed, treated}
+use Rattle.set_agenda.specs.Course.{Course, OrderGroup, answered, answered_to, course_start, failed, limit_of, limits_now, lost_writers, member_if, members_from, opens, posted, released, timed, treated}
 use Rattle.set_agenda.proofs.WriterSets.{writers-none}
 use Rattle.coordinator.specs.declared.kept_course.KeptCourse.{KeptCourse}
 use Rattle.coordinator.specs.KeptCourse.{FitsRun, Follows, IsSound, IsTaken, StandsFor, kind_if_done, least_if, left_now, lost_by, treated_by}
@@ -36,12 +36,7 @@ use Rattle.coordinator.proofs.OpenOrders.{GoesOn, at-changed, at-other, count-mo
 -- the nth of an order is the count of its groups
 count_of-in : (gs : List OrderGroup) (w : ℕ) (o : Order) → count_of o (counts_in gs w) ≡ nth_in gs w o
 count_of-in gs w Identify = refl
-count_of-in gs w PrepareBackup = refl
-count_of-in gs w PrepareSnapshot = refl
-count_of-in gs w Freeze = refl
-count_of-in gs w Thaw = refl
-count_of-in gs w PostSnapshot = refl
-count_of-in gs w BackupComplete = refl
+count_of-in gs w _ = refl
 
 total-with : (gs : List OrderGroup) (w : ℕ) (g : OrderGroup) (b : Bool) → is_among w g.members ≡ b → total (counts_in (gs ++ g ∷ []) w) ≡ cond b (total (counts_in gs w) + 1) (total (counts_in gs w))
 total-with gs w g true e = ap total (counts-more gs w g.order g.members e) ∙ total-one_more g.order (counts_in gs w)
@@ -69,26 +64,12 @@ standing-is ms c w f l = ap standing (f w l) ∙ standing-at c.opened w (open_or
 
 -- ## an answer is taken
 
-answered-if : (b : Bool) (s t : Standing) → OkResult s ≡ answer_if b t → s ≡ t
-answered-if true s t e = cc
-answered-if false s t e = cc
-
 answered-at : (number : ℕ) (counts : OrderCounts) (s : Standing) (x : Option Order) → OkResult s ≡ answer_to number (option_map (standing_of counts) x) → x ≡ Some s.order
-answered-at number counts s None e = cc
-answered-at number counts s (Some o) e = ap (λ (t : Standing). Some t.order) (sym (answered-if (total counts == number) s (standing_of counts o) e))
+answered-at number counts s x e = grind arith
 
 -- the order that was answered is the writer's open one
 pub order-answered : (ms : List Mailbox) (os : List Open) (gs : List OrderGroup) (w number : ℕ) (s : Standing) → AreFit ms os gs → w < 64 → OkResult s ≡ answer_to number (standing (mailbox_at ms w)) → open_order os w ≡ Some s.order
 order-answered ms os gs w number s f l e = answered-at number (counts_in gs w) s (open_order os w) (e ∙ ap (λ m. answer_to number (standing m)) (f w l))
-
-asked-if : (b : Bool) (x : Option Order) (o : Order) → order_if b x ≡ Some o → b ≡ true
-asked-if true x o e = refl
-asked-if false x o e = cc
-
-pub asked-answered : (k : KeptCourse) (w number : ℕ) (s : Standing) → IsSound k → w < 64 → OkResult s ≡ answer_to number (standing (mailbox_at k.mailboxes w)) → is_asked w (left_now k.running) ≡ true
-asked-answered k w number s h l e =
-    ap (is_asked w) (left-is k h.course h.stands.follows)
-    ∙ asked-if (is_asked w (left h.course.agenda)) (order_now (left h.course.agenda)) s.order (order-answered k.mailboxes (left h.course.agenda) h.course.opened w number s h.stands.mailboxes l e)
 
 same_from : (a w : ℕ) → (a == w) ≡ true → a ≡ w
 same_from a w e = grind (arith, nat_tests)
@@ -128,9 +109,7 @@ pub sent-answered : (ms ns : List Mailbox) (w : ℕ) → ns ≡ with_mailbox w c
 sent-answered ms ns w e l n h = λ x m. subst (λ ys. number_of (mailbox_at ys x) ≤ n) (sym e) (subst (λ y. y ≤ n) (sym (room-at ms w x (w == x) refl l)) (h x m))
 
 number-posted : (b : Bool) (o : Option Order) (m : Mailbox) (n : ℕ) → number_of m ≤ n → number_of (posted_to b o m) ≤ n + 1
-number-posted b None m n h = omega (arith, h)
-number-posted true (Some o) m n h = let e = total-one_more o m.sent in omega (arith, h, e)
-number-posted false (Some o) m n h = omega (arith, h)
+number-posted b o m n h = grind arith
 
 -- each writer is sent one order more at most
 pub sent-posted : (ms ns : List Mailbox) (b : Bool) (os : List Open) → ((w : ℕ) → w < 64 → mailbox_at ns w ≡ posted_to b (open_order os w) (mailbox_at ms w)) → (n : ℕ) → SentAtMost n ms → SentAtMost (n + 1) ns
@@ -150,7 +129,7 @@ room-of ms ns n e l h = λ w m. subst (λ xs. number_of (mailbox_at xs w) < 2 ^ 
 
 -- the mailboxes play no part in what follows the course
 pub follows-boxes : (k : KeptCourse) (ns : List Mailbox) (c : Course) → Follows k c → Follows (record k { mailboxes = ns }) c
-follows-boxes k ns c h = record { rows = h.rows; members = h.members; participants = h.participants; disabled = h.disabled; outcome = h.outcome; agenda = h.agenda }
+follows-boxes k ns c h = grind arith
 
 stands-posted : (k : KeptCourse) (ns : List Mailbox) (c d : Course) → Follows k d → d.opened ≡ c.opened → AreFit ns (left d.agenda) (c.opened ++ opens (left c.agenda) (left d.agenda)) → StandsFor (record k { mailboxes = ns }) (posted c d)
 unfolding posted
@@ -177,18 +156,14 @@ close-stands k ns c d f b l o h = record {
 -- ## a new coordinator
 
 pub stands-new : (k : KeptCourse) (n : ℕ) → k.rows ≡ [] → k.mailboxes ≡ replicate n empty → k.members ≡ [] → k.disabled ≡ [] → k.running ≡ None → k.outcome ≡ Running → StandsFor k (course_start [])
-stands-new k n r b m d u o = record {
-  follows = record { rows = r; members = refl; participants = m ∙ sym writers-none; disabled = d ∙ sym writers-none; outcome = o; agenda = subst (λ x. FitsRun x None) (sym u) tt };
-  mailboxes = λ w l. ap (λ ms. mailbox_at ms w) b ∙ fresh-at n w;
-}
+stands-new k n r b m d u o = grind (arith, writers-none, fresh-at)
 
 -- ## the freeze limit
 
 least-step : (rows : List WriterRow) (t : ℕ → Bool) (limit n : ℕ) (r : WriterRow) (rest : List Member) (b : Bool) → t n ≡ b → slice_get rows n ≡ Some r
     → fold (λ l (m : Member). min l (limit_of (slice_get rows m.writer))) (least_if b limit r.limit) rest
     ≡ fold (λ l (m : Member). min l (limit_of (slice_get rows m.writer))) limit (member_if b n r ++ rest)
-least-step rows t limit n r rest true e g = rw g refl
-least-step rows t limit n r rest false e g = refl
+least-step rows t limit n r rest b e g = grind arith
 
 drop-suc : (rows : List WriterRow) (n : ℕ) (r : WriterRow) → n < length rows → Some r ≡ slice_get rows n → drop n rows ≡ r ∷ drop (suc n) rows
 drop-suc [] n r h g = absurd (omega arith)
@@ -237,7 +212,7 @@ abbrev pub Posts : KeptCourse → KeptCourse → Place → Type 0
 Posts m n p = (c e : Course) → p ≡ open_place (left c.agenda) → Follows m e → e.opened ≡ c.opened → AreReady m.mailboxes (left c.agenda) (left e.agenda) c.opened → StandsFor n (posted c e)
 
 pub act-stands : (k m n : KeptCourse) (p : Place) (d e : Course) → m.mailboxes ≡ k.mailboxes → Follows m e → Posts m n p → p ≡ open_place (left d.agenda) → e.opened ≡ d.opened → GoesOn (left d.agenda) (left e.agenda) → StandsFor k d → StandsFor n (posted d e)
-act-stands k m n p d e b f posts q o g h = posts d e q f o (subst (λ ms. AreReady ms (left d.agenda) (left e.agenda) d.opened) (sym b) (ready-fit k.mailboxes (left d.agenda) (left e.agenda) d.opened g h.mailboxes))
+act-stands k m n p d e b f posts q o g h = grind arith
 
 pub sound-after : (k n : KeptCourse) (d : Course) → length n.rows ≡ length k.rows → length n.mailboxes ≡ 64 → kind_if_done n.running ≡ None → StandsFor n d → IsSound k → IsSound n
 sound-after k n d r b l s h = record { few = subst (λ x. x ≤ 64) (sym r) h.few; boxes = b; live = l; course = d; stands = s }
@@ -250,26 +225,15 @@ answered-stands k m n p d w o said heard now s t b f posts q =
     (posts d (answered_to (Some o) w heard now d) q f (opened-answered o w heard now d) (subst (λ ms. AreReady ms (left d.agenda) (left (answered_to (Some o) w heard now d).agenda) d.opened) (sym b) (t.ready heard now))))
 
 treated-is : (x : Option RunningLimit) (now : ℕ) (d : Course) → treated_by (option_map (λ (l : RunningLimit). l.limit) x) now d ≡ treated x now d
-treated-is None now d = refl
-treated-is (Some l) now d = refl
+treated-is x now d = grind arith
 
 pub timed-stands : (k m n : KeptCourse) (p : Place) (d : Course) (spent : Option Limit) (now : ℕ) → spent ≡ option_map (λ (l : RunningLimit). l.limit) (spent_of now (limits_now d)) → m.mailboxes ≡ k.mailboxes
     → Follows m (treated_by spent now d) → Posts m n p → p ≡ open_place (left d.agenda) → StandsFor k d → StandsFor n (timed now d)
-timed-stands k m n p d spent now s b f posts q h =
-    subst (λ e. StandsFor n (posted d e)) (ap (λ l. treated_by l now d) s ∙ treated-is (spent_of now (limits_now d)) now d)
-    (act-stands k m n p d (treated_by spent now d) b f posts q (opened-treated spent now d) (goes-treated spent now d) h)
-
-lost-at : (x : Option RunningLimit) (o : Option Order) (ws : List ℕ) → lost_by (option_map (λ (l : RunningLimit). l.limit) x) o ws ≡ lost_at x o ws
-lost-at None o ws = refl
-lost-at (Some l) None ws = refl
-lost-at (Some l) (Some o) ws = refl
+timed-stands k m n p d spent now s b f posts q h = grind (arith, treated-is, act-stands, opened-treated, goes-treated)
 
 pub lost-told : (k : KeptCourse) (d : Course) (spent : Option Limit) (now : ℕ) → spent ≡ option_map (λ (l : RunningLimit). l.limit) (spent_of now (limits_now d)) → Follows k d
     → lost_by spent (order_now (left_now k.running)) (waits_now (left_now k.running)) ≡ lost_writers now d
-lost-told k d spent now s h =
-    ap (λ l. lost_by l (order_now (left_now k.running)) (waits_now (left_now k.running))) s
-    ∙ ap (λ os. lost_by (option_map (λ (l : RunningLimit). l.limit) (spent_of now (limits_now d))) (order_now os) (waits_now os)) (left-is k d h)
-    ∙ lost-at (spent_of now (limits_now d)) (order_now (left d.agenda)) (waits_now (left d.agenda))
+lost-told k d spent now s h = grind arith
 
 left-failed : (why : VssResult) (d : Course) → left (failed why d).agenda ≡ []
 unfolding failed
@@ -289,14 +253,10 @@ Closes m n = (c e : Course) → AreFit m.mailboxes (left c.agenda) c.opened → 
 
 -- a set in progress fails, and another does not
 pub fails-running : (o : SetOutcome) (why : VssResult) (d : Course) → is_running o ≡ true → o ≡ d.outcome → failed why d ≡ failed_if_running d.outcome why d
-fails-running Running why d runs e = ap (λ x. failed_if_running x why d) e
-fails-running CompleteSet why d runs e = cc
-fails-running (FailedSet earlier) why d runs e = cc
+fails-running o why d runs e = grind arith
 
 pub stays-ended : (o : SetOutcome) (why : VssResult) (d : Course) → is_running o ≡ false → o ≡ d.outcome → d ≡ failed_if_running d.outcome why d
-stays-ended Running why d over e = cc
-stays-ended CompleteSet why d over e = ap (λ x. failed_if_running x why d) e
-stays-ended (FailedSet earlier) why d over e = ap (λ x. failed_if_running x why d) e
+stays-ended o why d over e = grind arith
 
 pub failed-stands : (k m n : KeptCourse) (d : Course) (why : VssResult) → m.mailboxes ≡ k.mailboxes → Follows m (failed why d) → Closes m n → StandsFor k d → StandsFor n (failed why d)
 failed-stands k m n d why b f closes h = closes d (failed why d) (subst (λ ms. AreFit ms (left d.agenda) d.opened) (sym b) h.mailboxes) (left-failed why d) (opened-failed why d) f

@@ -1,14 +1,12 @@
 -- What something said in the open group does to what is kept of a log.
-use Rattle.std.proofs.Common.{◌≡◌, ℕ, List, [], ◌∷◌, ◌++◌, Some, None, refl, Bool, true, false, cond, ap, sym, ◌∙◌, subst, filter, map, append-nil}
+use Rattle.std.proofs.Common.{◌≡◌, ℕ, List, [], ◌∷◌, ◌++◌, Some, refl, Bool, true, false, cond, ap, sym, ◌∙◌, subst, filter, map, append-nil, arith}
 use Rattle.std.specs.Prelude.{◌&&◌, ◌||◌, not, ◌==◌}
 use Rattle.std.proofs.lemmas.Bool.{and_parts, eqb-true}
 use Rattle.std.proofs.lemmas.List.Elements.{filter_agree, filter-append}
 use Rattle.writer_state.specs.declared.said.Said.{Said}
 use Rattle.writer_state.specs.WriterState.{is_ok}
-use Rattle.set_agenda.specs.declared.group.Group.{Group}
-use Rattle.set_agenda.specs.declared.group.Group.TheVariants.{Orders, PreCommit, Flush, Hold, Cut, Commit, Release, PostCommit}
 use Rattle.set_agenda.specs.declared.place.Place.{Place}
-use Rattle.set_agenda.specs.Agenda.{Agenda, Entry, HoldsOwn, Open, all_say, at_place, group_code, groups_left, has_frozen, has_thawed, is_among, is_freeze, is_frozen, is_orders, is_snapshot, is_thaw, is_working, level_code, open_place, same_place, waits_now}
+use Rattle.set_agenda.specs.Agenda.{Agenda, Entry, HoldsOwn, Open, all_say, at_place, groups_left, has_frozen, has_thawed, is_among, is_freeze, is_frozen, is_snapshot, is_thaw, is_working, open_place, same_place, waits_now}
 use Rattle.set_agenda.specs.Advance.{advance, others}
 use Rattle.set_agenda.specs.Limits.{first_hold, first_time, is_hold, is_prepare_snapshot, last_time}
 use Rattle.set_agenda.specs.WriterSet.{is_nil, writers}
@@ -39,25 +37,15 @@ last-passing f t log p said now true h ws n = ap (last_time t) (filter-append f 
 last-passing f t log p said now false h ws n = ap (last_time t) (filter-append f log (map (at_place p said now) ws) ∙ ap (λ es. filter f log ++ es) (filter-said f p said now false h ws) ∙ append-nil (filter f log))
 
 same_place-swap : (x p q : Place) → same_place p q ≡ true → same_place x q ≡ same_place x p
-same_place-swap x p q e =
-    let h : ((group_code p.group == group_code q.group) ≡ true) × ((level_code p.level == level_code q.level) ≡ true) = and_parts _ _ e in
-    let g : group_code p.group ≡ group_code q.group = eqb-true _ _ h.0 in
-    let l : level_code p.level ≡ level_code q.level = eqb-true _ _ h.1 in
-    ap (λ n. (group_code x.group == n) && (level_code x.level == level_code q.level)) (sym g) ∙ ap (λ n. (group_code x.group == group_code p.group) && (level_code x.level == n)) (sym l)
+same_place-swap x p q e = grind (arith, and_parts, eqb-true)
 
 opened-said : (t : ℕ) (log : List Entry) (p : Place) (said : Said) (now : ℕ) (ws : List ℕ) → is_nil ws ≡ false → (q : Place) (b : Bool) → same_place p q ≡ b
     → cond b (last_time t (filter (λ x. not (same_place x.place p)) log)) now ≡ last_time t (filter (λ x. not (same_place x.place q)) (log ++ map (at_place p said now) ws))
 opened-said t log p said now ws n q true h = ap (last_time t) (filter_agree _ (λ x. not (same_place x.place q)) (λ x. ap not (sym (same_place-swap x.place p q h))) log) ∙ sym (last-passing (λ x. not (same_place x.place q)) t log p said now false (λ w. ap not h) ws n)
 opened-said t log p said now ws n q false h = sym (last-passing (λ x. not (same_place x.place q)) t log p said now true (λ w. ap not h) ws n)
 
-held-new : (p : Place) (said : Said) (now : ℕ) (ws : List ℕ) → is_nil ws ≡ false → (b : Bool) → is_hold p.group ≡ b → cond b (Some now) None ≡ first_time (cond b (map (at_place p said now) ws) [])
-held-new p said now [] n b e = cc
-held-new p said now (w ∷ ws) n true e = refl
-held-new p said now (w ∷ ws) n false e = refl
-
 held-more : (p : Place) (said : Said) (now : ℕ) (ws : List ℕ) → is_nil ws ≡ false → (es : List Entry) → held_after p (first_time es) now ≡ first_time (es ++ cond (is_hold p.group) (map (at_place p said now) ws) [])
-held-more p said now ws n [] = held-new p said now ws n (is_hold p.group) refl
-held-more p said now ws n (e ∷ es) = refl
+held-more p said now ws n es = grind arith
 
 held-said : (log : List Entry) (p : Place) (said : Said) (now : ℕ) (ws : List ℕ) → is_nil ws ≡ false → held_after p (first_hold log) now ≡ first_hold (log ++ map (at_place p said now) ws)
 held-said log p said now ws n =
@@ -71,11 +59,10 @@ abbrev pub Enters : List ℕ → List ℕ → Bool → List ℕ → Type 0
 Enters old new really ws = (q : ℕ → Bool) → old ≡ writers q → new ≡ writers (λ w. q w || (really && is_among w ws))
 
 among-taken : (b : Bool) (w : ℕ) (ws : List ℕ) → is_among w (taken_if b ws) ≡ (b && is_among w ws)
-among-taken true w ws = refl
-among-taken false w ws = refl
+among-taken b w ws = grind arith
 
 pub enters-taken : (old new : List ℕ) (b : Bool) (ws : List ℕ) → new ≡ entered (taken_if b ws) old → Enters old new b ws
-enters-taken old new b ws e = λ q h. e ∙ writers-agree _ (λ w. q w || (b && is_among w ws)) (λ w l. ap (λ c. c || is_among w (taken_if b ws)) (ap (is_among w) h ∙ among-writers q w l) ∙ ap (λ c. q w || c) (among-taken b w ws))
+enters-taken old new b ws e = grind (arith, writers-agree, among-writers, among-taken)
 
 enters-false : (old ws : List ℕ) → Enters old old false ws
 enters-false old ws = λ q h. h ∙ writers-agree q (λ w. q w || false) (λ w l. sym (or-false (q w)))
@@ -134,38 +121,12 @@ fits-all_say r n p whos said now y e k a f waited =
 
 -- ## the provider's groups
 
-working-freeze : (g : Group) → not (is_orders g) ≡ true → (is_freeze g && true) ≡ false
-working-freeze (Orders o) e = cc
-working-freeze PreCommit e = refl
-working-freeze Flush e = refl
-working-freeze Hold e = refl
-working-freeze Cut e = refl
-working-freeze Commit e = refl
-working-freeze Release e = refl
-working-freeze PostCommit e = refl
-
-working-thaw : (g : Group) → not (is_orders g) ≡ true → is_thaw g ≡ false
-working-thaw (Orders o) e = cc
-working-thaw PreCommit e = refl
-working-thaw Flush e = refl
-working-thaw Hold e = refl
-working-thaw Cut e = refl
-working-thaw Commit e = refl
-working-thaw Release e = refl
-working-thaw PostCommit e = refl
-
 -- no writer freezes or thaws at a step of the provider
 pub no-freeze : (os : List Open) (p : Place) → p ≡ open_place os → is_working os ≡ true → (is_freeze p.group && true) ≡ false
-no-freeze [] p e h = cc
-no-freeze (o ∷ os) p e h = ap (λ (x : Place). is_freeze x.group && true) e ∙ working-freeze o.place.group h
+no-freeze os p e h = grind arith
 
 pub no-thaw : (os : List Open) (p : Place) → p ≡ open_place os → is_working os ≡ true → is_thaw p.group ≡ false
-no-thaw [] p e h = cc
-no-thaw (o ∷ os) p e h = ap (λ (x : Place). is_thaw x.group) e ∙ working-thaw o.place.group h
-
-pub not-not : (b : Bool) → not (not b) ≡ b
-not-not true = refl
-not-not false = refl
+no-thaw os p e h = grind arith
 
 -- ## a call in its parts: who is done, who froze or thawed, and the times
 
@@ -177,15 +138,7 @@ pub keeps-timed : (r e n : RunningAgenda) (p : Place) (whos : List ℕ) (said : 
     → e.kind ≡ r.kind → e.opened ≡ r.opened → e.freeze_opened ≡ r.freeze_opened → e.held ≡ r.held
     → n.opened ≡ opened_after p (open_place e.agenda) e.opened now → n.freeze_opened ≡ freeze_opened_after p e.freeze_opened now → n.held ≡ held_after p e.held now → n ≡ timed_as e n
     → Keeps r n p whos said now
-keeps-timed r e n p whos said now l f t ek eo ef eh nx nf nh same = record {
-  kind = ap (λ (x : RunningAgenda). x.kind) same ∙ ek;
-  left = ap (λ (x : RunningAgenda). x.agenda) same ∙ l;
-  froze = λ q h. ap (λ (x : RunningAgenda). x.froze) same ∙ f q h;
-  thawed = λ q h. ap (λ (x : RunningAgenda). x.thawed) same ∙ t q h;
-  opened = nx ∙ ap (λ s. opened_after p (open_place e.agenda) s now) eo ∙ ap (λ os. opened_after p (open_place os) r.opened now) (sym (ap (λ (x : RunningAgenda). x.agenda) same));
-  freeze_opened = nf ∙ ap (λ s. freeze_opened_after p s now) ef;
-  held = nh ∙ ap (λ s. held_after p s now) eh;
-}
+keeps-timed r e n p whos said now l f t ek eo ef eh nx nf nh same = grind arith
 
 abbrev entered_as : RunningAgenda → RunningAgenda → RunningAgenda
 entered_as m e = record m { froze = e.froze; thawed = e.thawed }
@@ -217,4 +170,4 @@ frozen-yes r a e f =
     ∙ writers-agree _ (is_frozen (Some a)) (λ w l. ap (λ b. has_frozen a.log w && not b) (among-writers (has_thawed a.log) w l) ∙ ap (λ s. s && has_frozen a.log w && not (has_thawed a.log w)) (sym (ap is_snapshot (sym f.kind) ∙ e)))
 
 pub frozen-no : (r : RunningAgenda) (a : Agenda) → is_snapshot r.kind ≡ false → Fits r a → [] ≡ writers (is_frozen (Some a))
-frozen-no r a e f = sym (writers-agree (is_frozen (Some a)) (λ w. false) (λ w l. ap (λ s. s && has_frozen a.log w && not (has_thawed a.log w)) (ap is_snapshot (sym f.kind) ∙ e)) ∙ writers-none)
+frozen-no r a e f = grind (arith, writers-agree, writers-none)

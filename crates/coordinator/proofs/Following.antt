@@ -1,5 +1,5 @@
 -- What each part of an act does to what is kept of a course.
-use Rattle.std.proofs.Common.{◌≡◌, ℕ, List, [], ◌∷◌, Option, Some, None, refl, Bool, true, false, cond, ap, sym, ◌∙◌, subst}
+use Rattle.std.proofs.Common.{◌≡◌, ℕ, List, [], ◌∷◌, Option, Some, None, Bool, ap, sym, ◌∙◌, subst, arith}
 use Rattle.std.specs.Prelude.{◌==◌, option_map}
 use Rattle.vss_names.specs.declared.order.Order.{Order}
 use Rattle.vss_names.specs.declared.vss_result.VssResult.{VssResult}
@@ -9,12 +9,10 @@ use Rattle.writer_state.specs.declared.said.Said.TheVariants.{Ok, Lost}
 use Rattle.writer_state.specs.declared.writer_row.WriterRow.{WriterRow}
 use Rattle.writer_state.specs.WriterRow.{row_aborted, row_after}
 use Rattle.set_agenda.specs.declared.kind.Kind.{Kind}
-use Rattle.set_agenda.specs.declared.group.Group.{Group}
-use Rattle.set_agenda.specs.declared.group.Group.TheVariants.{Orders, PreCommit, Flush, Hold, Cut, Commit, Release, PostCommit}
 use Rattle.set_agenda.specs.declared.limit.Limit.{Limit}
 use Rattle.set_agenda.specs.declared.limit.Limit.TheVariants.{Answer as AnswerLimit}
-use Rattle.set_agenda.specs.Agenda.{Agenda, Open, all_say, groups_left, is_among, is_asking, is_done, is_orders, left, next_member, order_now, order_of, waits_now}
-use Rattle.set_agenda.specs.Course.{Course, failed, fails_set, is_member, lost, lost_decided, lost_to, members_from, outcome_after, rows_where, settled, settled_if, settled_in, told, worked}
+use Rattle.set_agenda.specs.Agenda.{Agenda, all_say, is_among, left, next_member, order_now, waits_now}
+use Rattle.set_agenda.specs.Course.{Course, failed, fails_set, is_member, lost, lost_decided, lost_to, members_from, outcome_after, rows_where, settled, settled_in, told, worked}
 use Rattle.set_agenda.proofs.WriterSets.{or-false}
 use Rattle.coordinator.specs.declared.kept_course.KeptCourse.{KeptCourse}
 use Rattle.coordinator.specs.declared.row_change.RowChange.TheVariants.{Told, Aborted}
@@ -27,18 +25,14 @@ use Rattle.coordinator.proofs.RowChanges.{where-agree}
 -- ## the agenda that runs
 
 left-at : (r : Option RunningAgenda) (ag : Option Agenda) → FitsRun r ag → left_now r ≡ left ag
-left-at None None h = refl
-left-at None (Some a) h = absurd h
-left-at (Some r) None h = absurd h
-left-at (Some r) (Some a) h = h.left
+left-at r ag h = grind arith
 
 -- the groups that are left are those of the log
 pub left-is : (k : KeptCourse) (c : Course) → Follows k c → left_now k.running ≡ left c.agenda
 left-is k c h = left-at k.running c.agenda h.agenda
 
 runs-more : (r n : RunningAgenda) (said : Said) (now : ℕ) (ws : List ℕ) → ((a : Agenda) → Fits r a → Fits n (all_say said now ws a)) → (ag : Option Agenda) → FitsRun (Some r) ag → FitsRun (Some n) (option_map (all_say said now ws) ag)
-runs-more r n said now ws f None h = absurd h
-runs-more r n said now ws f (Some a) h = f a h
+runs-more r n said now ws f ag h = grind arith
 
 -- ## something is said
 
@@ -69,52 +63,17 @@ one-where f w rs = where-agree f (λ x. w == x) (λ x. is_among x (w ∷ [])) 0 
 pub follows-worked : (k n : KeptCourse) (c : Course) (r s : RunningAgenda) (now : ℕ) → k.running ≡ Some r → n.running ≡ Some s → n.rows ≡ k.rows → Alike k n
     → ((a : Agenda) → Fits r a → Fits s (all_say Ok now (next_member r.agenda ∷ []) a)) → Follows k c → Follows n (worked now c)
 unfolding worked
-follows-worked k n c r s now e f y l g h =
-    let z : r.agenda ≡ left c.agenda = ap left_now (sym e) ∙ left-is k c h in
-    record {
-      rows = y ∙ h.rows;
-      members = h.members ∙ ap (λ ms. members_from (λ w. is_among w ms) 0 c.rows) (sym l.members);
-      participants = l.members ∙ h.participants;
-      disabled = l.disabled ∙ h.disabled;
-      outcome = l.outcome ∙ h.outcome;
-      agenda = subst (λ y. FitsRun y (option_map (all_say Ok now (next_member (left c.agenda) ∷ [])) c.agenda)) (sym f)
-          (subst (λ os. FitsRun (Some s) (option_map (all_say Ok now (next_member os ∷ [])) c.agenda)) z
-          (runs-more r s Ok now (next_member r.agenda ∷ []) g c.agenda (subst (λ y. FitsRun y c.agenda) e h.agenda)));
-    }
+follows-worked k n c r s now e f y l g h = grind arith
 
 -- ## the agenda ends
 
-ended-some : (b : Bool) (k1 k2 kind : Kind) (c : Course) → cond b (Some k1) None ≡ Some kind → k1 ≡ k2 → settled_if b k2 c ≡ settled_if true kind c
-ended-some true k1 k2 kind c e f = let g : k1 ≡ kind = cc in ap (λ x. settled_if true x c) (sym f ∙ g)
-ended-some false k1 k2 kind c e f = cc
-
-ended-none : (b : Bool) (k1 k2 : Kind) (c : Course) → cond b (Some k1) None ≡ None → settled_if b k2 c ≡ c
-ended-none true k1 k2 c e = cc
-ended-none false k1 k2 c e = refl
-
-settled-some : (r : Option RunningAgenda) (ag : Option Agenda) (kind : Kind) (c : Course) → FitsRun r ag → kind_if_done r ≡ Some kind → settled_in ag c ≡ settled_if true kind c
-settled-some None ag kind c h e = cc
-settled-some (Some r) None kind c h e = absurd h
-settled-some (Some r) (Some a) kind c h e = ended-some (is_done (groups_left a)) r.kind a.kind kind c (ap (λ os. cond (is_done os) (Some r.kind) None) (sym h.left) ∙ e) h.kind
-
 settled-none : (r : Option RunningAgenda) (ag : Option Agenda) (c : Course) → FitsRun r ag → kind_if_done r ≡ None → settled_in ag c ≡ c
-settled-none None None c h e = refl
-settled-none None (Some a) c h e = absurd h
-settled-none (Some r) None c h e = absurd h
-settled-none (Some r) (Some a) c h e = ended-none (is_done (groups_left a)) r.kind a.kind c (ap (λ os. cond (is_done os) (Some r.kind) None) (sym h.left) ∙ e)
+settled-none r ag c h e = grind arith
 
 pub follows-ended : (k n : KeptCourse) (c : Course) (kind : Kind) → kind_if_done k.running ≡ Some kind → n.running ≡ None
     → n.rows ≡ k.rows → n.members ≡ k.members → n.disabled ≡ k.disabled → n.outcome ≡ outcome_after kind k.outcome → Follows k c → Follows n (settled c)
 unfolding settled
-follows-ended k n c kind e r w m d u h = subst (Follows n) (sym (settled-some k.running c.agenda kind c h.agenda e))
-    (record {
-      rows = w ∙ h.rows;
-      members = h.members ∙ ap (λ ms. members_from (λ x. is_among x ms) 0 c.rows) (sym m);
-      participants = m ∙ h.participants;
-      disabled = d ∙ h.disabled;
-      outcome = u ∙ ap (outcome_after kind) h.outcome;
-      agenda = subst (λ x. FitsRun x None) (sym r) tt;
-    })
+follows-ended k n c kind e r w m d u h = grind arith
 
 pub follows-goes_on : (k : KeptCourse) (c : Course) → kind_if_done k.running ≡ None → Follows k c → Follows k (settled c)
 unfolding settled
@@ -140,26 +99,9 @@ follows-failed k n c why e m d u r h =
 
 -- ## open orders
 
-group-orders : (g : Group) (o : Order) → order_of g ≡ Some o → is_orders g ≡ true
-group-orders (Orders p) o e = refl
-group-orders PreCommit o e = cc
-group-orders Flush o e = cc
-group-orders Hold o e = cc
-group-orders Cut o e = cc
-group-orders Commit o e = cc
-group-orders Release o e = cc
-group-orders PostCommit o e = cc
-
--- where an order is open, a group of writers is
-pub order-asks : (os : List Open) (o : Order) → order_now os ≡ Some o → is_asking os ≡ true
-order-asks [] o e = cc
-order-asks (p ∷ os) o e = group-orders p.place.group o e
-
 -- those that are waited for are lost
 pub follows-lost : (k n : KeptCourse) (c : Course) (o : Order) (now : ℕ) → order_now (left_now k.running) ≡ Some o → Follows n (told o Lost now (waits_now (left_now k.running)) c) → Follows k c → Follows n (lost now c)
-follows-lost k n c o now e f h =
-    let l : left_now k.running ≡ left c.agenda = left-is k c h in
-    subst (λ x. Follows n (lost_to x now c)) (sym e ∙ ap order_now l) (subst (λ os. Follows n (told o Lost now (waits_now os) c)) l f)
+follows-lost k n c o now e f h = grind arith
 
 pub follows-lost-none : (k : KeptCourse) (c : Course) (now : ℕ) → order_now (left_now k.running) ≡ None → Follows k c → Follows k (lost now c)
 follows-lost-none k c now e h = subst (λ x. Follows k (lost_to x now c)) (sym e ∙ ap order_now (left-is k c h)) h

@@ -1,5 +1,5 @@
 -- The limits that run follow from what is kept; what is kept is from no later tick than now.
-use Rattle.std.proofs.Common.{◌≡◌, ◌≤◌, ℕ, Bool, true, false, List, [], ◌∷◌, ◌++◌, Option, Some, None, cond, refl, ap, sym, ◌∙◌, append-nil, append_assoc, arith}
+use Rattle.std.proofs.Common.{◌≡◌, ◌≤◌, ℕ, Bool, List, [], ◌∷◌, ◌++◌, Option, Some, None, cond, refl, ap, sym, ◌∙◌, arith}
 use Rattle.std.specs.Prelude.{IfSome, filter, not, option_map, unwrap_or}
 use Rattle.std.specs.Option.{ForSome}
 use Rattle.writer_state.specs.declared.said.Said.{Said}
@@ -8,7 +8,7 @@ use Rattle.set_agenda.specs.declared.limit.Limit.{Limit}
 use Rattle.set_agenda.specs.declared.limit.Limit.TheVariants.{Hold as HoldLimit, Freeze as FreezeLimit, Answer as AnswerLimit}
 use Rattle.set_agenda.specs.declared.place.Place.{Place}
 use Rattle.set_agenda.specs.Agenda.{Agenda, Entry, Open, groups_left, open_group, open_place, same_place}
-use Rattle.set_agenda.specs.Limits.{Running, answer_runs, first_hold, freeze_opened_at, freeze_runs, hold_running, hold_runs, is_hold, is_prepare_snapshot, last_time, opened_at, running_at, running_limits, runs_if, spent_of, ticks_to_spend}
+use Rattle.set_agenda.specs.Limits.{Running, answer_runs, first_hold, freeze_opened_at, freeze_runs, hold_running, hold_runs, is_prepare_snapshot, last_time, opened_at, running_at, running_limits, runs_if, spent_of, ticks_to_spend}
 use Rattle.tick_limits.specs.Time.{answer_limit, hold_limit}
 use Rattle.coordinator.specs.declared.running_agenda.RunningAgenda.{RunningAgenda}
 use Rattle.coordinator.specs.RunningAgenda.{Fits, held_after, place_opened_at}
@@ -19,16 +19,10 @@ use Rattle.coordinator.proofs.Fitting.{Keeps}
 -- ## the limits that run
 
 runs-since : (b : Bool) (l : Limit) (since ticks : ℕ) → runs_if b l since ticks ≡ runs_since l (cond b (Some since) None) ticks
-runs-since true l since ticks = refl
-runs-since false l since ticks = refl
-
-no-since : (b : Bool) (l : Limit) (ticks : ℕ) → [] ≡ runs_since l (cond b None None) ticks
-no-since true l ticks = refl
-no-since false l ticks = refl
+runs-since b l since ticks = grind arith
 
 hold-since : (g : Group) (held : Option ℕ) → hold_running g held ≡ runs_since HoldLimit (cond (hold_runs g) held None) hold_limit
-hold-since g None = no-since (hold_runs g) HoldLimit hold_limit
-hold-since g (Some since) = runs-since (hold_runs g) HoldLimit since hold_limit
+hold-since g held = grind arith
 
 limits-at : (freeze : ℕ) (r : RunningAgenda) (a : Agenda) (os : List Open) → r.held ≡ first_hold a.log → r.freeze_opened ≡ freeze_opened_at a → r.opened ≡ place_opened_at a → groups_left a ≡ os
     → running_at freeze a os
@@ -48,23 +42,11 @@ limits-kept freeze r a f = ap (running_at freeze a) (sym f.left) ∙ limits-at f
 
 -- ## the first that is spent
 
-first-spent : (now : ℕ) (l : Limit) (since : Option ℕ) (ticks : ℕ) (rest : List Running) (b : Bool) → spent_since now since ticks ≡ b
-    → option_map (λ (x : Running). x.limit) (spent_of now (runs_since l since ticks ++ rest)) ≡ cond b (Some l) (option_map (λ (x : Running). x.limit) (spent_of now rest))
-first-spent now l None ticks rest true e = cc
-first-spent now l None ticks rest false e = refl
-first-spent now l (Some since) ticks rest true e = rw e refl
-first-spent now l (Some since) ticks rest false e = rw e refl
-
 -- b, d and e say whether hold, freeze and answer are spent
 first-of-all : (now : ℕ) (h f a : Option ℕ) (freeze : ℕ) (b d e : Bool) → spent_since now h hold_limit ≡ b → spent_since now f freeze ≡ d → spent_since now a answer_limit ≡ e
     → option_map (λ (x : Running). x.limit) (spent_of now (runs_since HoldLimit h hold_limit ++ runs_since FreezeLimit f freeze ++ runs_since AnswerLimit a answer_limit))
     ≡ cond b (Some HoldLimit) (cond d (Some FreezeLimit) (cond e (Some AnswerLimit) None))
-first-of-all now h f a freeze b d e hb hd he =
-    ap (λ ls. option_map (λ (x : Running). x.limit) (spent_of now ls)) (append_assoc (runs_since HoldLimit h hold_limit) (runs_since FreezeLimit f freeze) (runs_since AnswerLimit a answer_limit))
-    ∙ first-spent now HoldLimit h hold_limit (runs_since FreezeLimit f freeze ++ runs_since AnswerLimit a answer_limit) b hb
-    ∙ ap (cond b (Some HoldLimit)) (first-spent now FreezeLimit f freeze (runs_since AnswerLimit a answer_limit) d hd)
-    ∙ ap (λ (x : Option Limit). cond b (Some HoldLimit) (cond d (Some FreezeLimit) x))
-    (ap (λ ls. option_map (λ (x : Running). x.limit) (spent_of now ls)) (sym (append-nil (runs_since AnswerLimit a answer_limit))) ∙ first-spent now AnswerLimit a answer_limit [] e he)
+first-of-all now h f a freeze b d e hb hd he = grind arith
 
 pub spent-kept : (freeze now : ℕ) (r : RunningAgenda) (b d e : Bool)
     → spent_since now (running_since HoldLimit r) hold_limit ≡ b → spent_since now (running_since FreezeLimit r) freeze ≡ d → spent_since now (running_since AnswerLimit r) answer_limit ≡ e
@@ -79,40 +61,23 @@ spent-kept freeze now r b d e hb hd he a f =
 until-all : (now : ℕ) (h f a : Option ℕ) (freeze : ℕ)
     → unwrap_or (sooner (sooner (until_since now h hold_limit) (until_since now f freeze)) (until_since now a answer_limit)) 0
     ≡ ticks_to_spend now (runs_since HoldLimit h hold_limit ++ runs_since FreezeLimit f freeze ++ runs_since AnswerLimit a answer_limit)
-until-all now None None None freeze = refl
-until-all now None None (Some a) freeze = refl
-until-all now None (Some f) None freeze = refl
-until-all now None (Some f) (Some a) freeze = refl
-until-all now (Some h) None None freeze = refl
-until-all now (Some h) None (Some a) freeze = refl
-until-all now (Some h) (Some f) None freeze = refl
-until-all now (Some h) (Some f) (Some a) freeze = refl
+until-all now h f a freeze = grind arith
 
 pub until-kept : (freeze now : ℕ) (r : RunningAgenda) (a : Agenda) → Fits r a
     → unwrap_or (sooner (sooner (until_since now (running_since HoldLimit r) hold_limit) (until_since now (running_since FreezeLimit r) freeze)) (until_since now (running_since AnswerLimit r) answer_limit)) 0
     ≡ ticks_to_spend now (running_limits freeze (Some a))
-until-kept freeze now r a f = until-all now (running_since HoldLimit r) (running_since FreezeLimit r) (running_since AnswerLimit r) freeze ∙ ap (ticks_to_spend now) (sym (limits-kept freeze r a f))
+until-kept freeze now r a f = grind (arith, until-all, limits-kept)
 
 pub most-or : (o : Option ℕ) (r n : ℕ) → r ≡ unwrap_or o 0 → IfSome o (λ t. t ≤ n) → r ≤ n
-most-or None r n e h = omega arith
-most-or (Some t) r n e h = omega (arith, h)
+most-or o r n e h = grind arith
 
 -- ## no time that is kept is after now
 
-if-since : (b : Bool) (now : ℕ) (since : Option ℕ) → ForSome since (λ t. t ≤ now) → ForSome (cond b since None) (λ t. t ≤ now)
-if-since true now since h = h
-if-since false now since h = λ t e. cc
-
-some-since : (now since : ℕ) → since ≤ now → ForSome (Some since) (λ t. t ≤ now)
-some-since now since h = λ t e. grind (arith, h, e)
-
 if-before : (b : Bool) (now t u : ℕ) → t ≤ now → u ≤ now → cond b t u ≤ now
-if-before true now t u h k = h
-if-before false now t u h k = k
+if-before b now t u h k = grind arith
 
 held-before : (p : Place) (now : ℕ) (held : Option ℕ) → ForSome held (λ t. t ≤ now) → ForSome (held_after p held now) (λ t. t ≤ now)
-held-before p now None h = if-since (is_hold p.group) now (Some now) (some-since now now (grind arith))
-held-before p now (Some t) h = h
+held-before p now held h = grind arith
 
 -- nor after something is said now
 pub none-after-keeps : (r n : RunningAgenda) (p : Place) (whos : List ℕ) (said : Said) (now : ℕ) → Keeps r n p whos said now → NoneAfter now r → NoneAfter now n
@@ -122,14 +87,5 @@ none-after-keeps r n p whos said now k h = record {
   held = rw k.held (held-before p now r.held h.held);
 }
 
--- nor as the clock goes on
-pub none-after-later : (now later : ℕ) (r : RunningAgenda) → now ≤ later → NoneAfter now r → NoneAfter later r
-none-after-later now later r l h = record {
-  opened = grind (arith, l, h.opened);
-  freeze_opened = grind (arith, l, h.freeze_opened);
-  held = λ t e. grind (arith, l, h.held t e);
-}
-
 pub by-later : (now later : ℕ) (r : Option RunningAgenda) → now ≤ later → IsBy now r → IsBy later r
-by-later now later None l h = tt
-by-later now later (Some r) l h = none-after-later now later r l h
+by-later now later r l h = grind arith

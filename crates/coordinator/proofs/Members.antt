@@ -1,26 +1,16 @@
 -- The writers that pass a test, as members.
-use Rattle.std.proofs.Common.{◌≡◌, ◌≢◌, ℕ, suc, ◌+◌, ◌<◌, ◌≤◌, List, [], ◌∷◌, ◌++◌, length, refl, Bool, true, false, cond, ap, sym, ◌∙◌, arith, map}
+use Rattle.std.proofs.Common.{◌≡◌, ◌≢◌, ℕ, suc, ◌+◌, ◌<◌, ◌≤◌, List, [], ◌∷◌, ◌++◌, length, refl, Bool, true, false, ap, sym, ◌∙◌, arith, map}
 use Rattle.std.specs.Prelude.{◌==◌, ◌&&◌, ◌||◌}
 use Rattle.std.proofs.lemmas.Bool.Decides.{nat_tests}
 use Rattle.writer_state.specs.declared.writer_row.WriterRow.{WriterRow}
-use Rattle.writer_state.specs.WriterState.{is_failed, stable_again}
-use Rattle.writer_state.specs.WriterRow.{one_more}
-use Rattle.set_agenda.specs.declared.member.Member.{Member}
 use Rattle.set_agenda.specs.Course.{is_member, member_if, members_from, row_if, rows_where}
-use Rattle.set_agenda.proofs.GroupsLeft.{any-append}
-use Rattle.set_agenda.proofs.WriterSets.{or-false}
 use Rattle.coordinator.specs.declared.row_change.RowChange.{RowChange}
-use Rattle.coordinator.specs.declared.row_change.RowChange.TheVariants.{Told, Aborted, Gathered, Ended}
 use Rattle.coordinator.specs.KeptCourse.{changed}
 
 -- ## who is a member
 
-member_if-has : (b : Bool) (i : ℕ) (r : WriterRow) (w : ℕ) → is_member (member_if b i r) w ≡ (b && (i == w))
-member_if-has true i r w = or-false (i == w)
-member_if-has false i r w = refl
-
 member-step : (t : ℕ → Bool) (i : ℕ) (r : WriterRow) (rs : List WriterRow) (w : ℕ) → is_member (members_from t i (r ∷ rs)) w ≡ ((t i && (i == w)) || is_member (members_from t (i + 1) rs) w)
-member-step t i r rs w = any-append (λ (m : Member). m.writer == w) (member_if (t i) i r) (members_from t (i + 1) rs) ∙ ap (λ b. b || is_member (members_from t (i + 1) rs) w) (member_if-has (t i) i r w)
+member-step t i r rs w = grind arith
 
 same_from : (a w : ℕ) → (a == w) ≡ true → a ≡ w
 same_from a w e = grind (arith, nat_tests)
@@ -29,16 +19,7 @@ other_from : (a w : ℕ) → (a == w) ≡ false → a ≢ w
 other_from a w e = grind (arith, nat_tests)
 
 and_false : (b c : Bool) → c ≡ false → (b && c) ≡ false
-and_false true c e = e
-and_false false c e = refl
-
-and_true-or : (b : Bool) → ((b && true) || false) ≡ b
-and_true-or true = refl
-and_true-or false = refl
-
-and_false-or : (b d : Bool) → ((b && false) || d) ≡ d
-and_false-or true d = refl
-and_false-or false d = refl
+and_false b c e = grind arith
 
 pub member-below : (t : ℕ → Bool) (i : ℕ) (rs : List WriterRow) (w : ℕ) → w < i → is_member (members_from t i rs) w ≡ false
 member-below t i [] w h = refl
@@ -47,8 +28,7 @@ member-below t i (r ∷ rs) w h =
     member-step t i r rs w ∙ ap (λ b. b || is_member (members_from t (i + 1) rs) w) (and_false (t i) (i == w) e) ∙ member-below t (i + 1) rs w (omega arith)
 
 here-step : (t : ℕ → Bool) (i w : ℕ) (d c : Bool) → (i == w) ≡ c → ((i == w) ≡ true → d ≡ false) → ((i == w) ≡ false → d ≡ t w) → ((t i && c) || d) ≡ t w
-here-step t i w d true e f g = rw (f e) (and_true-or (t i) ∙ ap t (same_from i w e))
-here-step t i w d false e f g = and_false-or (t i) d ∙ g e
+here-step t i w d c e f g = grind arith
 
 -- a writer is a member where it passes
 pub member-here : (t : ℕ → Bool) (i : ℕ) (rs : List WriterRow) (w : ℕ) → i ≤ w → w < i + length rs → is_member (members_from t i rs) w ≡ t w
@@ -62,23 +42,14 @@ member-here t i (r ∷ rs) w h l =
 -- ## what members depend on
 
 member_if-level : (b : Bool) (i : ℕ) (q r : WriterRow) → q.level ≡ r.level → member_if b i q ≡ member_if b i r
-member_if-level true i q r e = ap (λ l. record { writer = i; level = l } ∷ []) e
-member_if-level false i q r e = refl
-
-cond-level : (b : Bool) (q r : WriterRow) → q.level ≡ r.level → (cond b r q).level ≡ r.level
-cond-level true q r e = refl
-cond-level false q r e = e
+member_if-level b i q r e = grind arith
 
 row_if-level : (b : Bool) (f : WriterRow → WriterRow) (r : WriterRow) → (f r).level ≡ r.level → (row_if b f r).level ≡ r.level
-row_if-level true f r e = e
-row_if-level false f r e = refl
+row_if-level b f r e = grind arith
 
 -- no change is one of the level
 pub changed-level : (h : RowChange) (r : WriterRow) → (changed h r).level ≡ r.level
-changed-level (Told o said) r = refl
-changed-level Aborted r = cond-level (is_failed r.state) (record r { state = stable_again r.state; aborts = one_more r.aborts }) r refl
-changed-level Gathered r = refl
-changed-level Ended r = refl
+changed-level h r = grind arith
 
 pub members-where : (h : RowChange) (t u : ℕ → Bool) (i : ℕ) (rs : List WriterRow) → members_from t i (rows_where (changed h) u i rs) ≡ members_from t i rs
 members-where h t u i [] = refl
@@ -106,8 +77,7 @@ member-above t i (r ∷ rs) w h =
     member-step t i r rs w ∙ ap (λ b. b || is_member (members_from t (i + 1) rs) w) (and_false (t i) (i == w) e) ∙ member-above t (i + 1) rs w (omega arith)
 
 member_if-out : (b : Bool) (i : ℕ) (r : WriterRow) → b ≡ false → member_if b i r ≡ []
-member_if-out true i r e = cc
-member_if-out false i r e = refl
+member_if-out b i r e = grind arith
 
 -- a writer more that does not pass
 pub members-more : (t : ℕ → Bool) (i : ℕ) (rs : List WriterRow) (r : WriterRow) → t (i + length rs) ≡ false → members_from t i (rs ++ r ∷ []) ≡ members_from t i rs

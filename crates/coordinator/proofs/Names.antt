@@ -1,5 +1,5 @@
 -- Names in the order of their registration.
-use Rattle.std.proofs.Common.{◌≡◌, ℕ, ◌+◌, List, [], ◌∷◌, ◌++◌, Vec, Global, Some, None, refl, Bool, true, false, cond, ap, sym, ◌∙◌, map}
+use Rattle.std.proofs.Common.{◌≡◌, ℕ, ◌+◌, List, [], ◌∷◌, ◌++◌, Vec, Global, Some, None, refl, Bool, cond, ap, sym, ◌∙◌, map, arith}
 use Rattle.std.specs.Prelude.{position}
 use Rattle.std.specs.List.{position_from}
 use Rattle.std.specs.Str.{bytes_eq}
@@ -27,8 +27,7 @@ place-is name es = position_from-zero (is_key name) (keys_of es) ∙ place-from 
 
 insert-at : (eq : Key → Key → Bool) (k : Key) (v i : ℕ) (e : Key × ℕ) (es : List (Key × ℕ)) (b : Bool) → eq k e.0 ≡ b → cond b (Some i) (position_from (is_name k.items) (i + 1) (map registered es)) ≡ None
     → (position_from (is_name k.items) (i + 1) (map registered es) ≡ None → insert_entry eq es k v ≡ es ++ (k, v) ∷ []) → insert_entry eq (e ∷ es) k v ≡ e ∷ es ++ (k, v) ∷ []
-insert-at eq k v i e es true h n f = cc
-insert-at eq k v i e es false h n f = rw h (ap (λ xs. e ∷ xs) (f n))
+insert-at eq k v i e es b h n f = grind arith
 
 insert-from : (eq : Key → Key → Bool) (k : Key) (v i : ℕ) (es : List (Key × ℕ)) → ((x : Key) → eq k x ≡ bytes_eq k.items x.items) → position_from (is_name k.items) i (map registered es) ≡ None → insert_entry eq es k v ≡ es ++ (k, v) ∷ []
 insert-from eq k v i [] same n = refl
@@ -37,6 +36,4 @@ insert-from eq k v i (e ∷ es) same n = insert-at eq k v i e es (eq k e.0) refl
 -- a new name goes last
 pub insert-new : (eq : Key → Key → Bool) (k : Key) (v : ℕ) (name : List ℕ) (es : List (Key × ℕ)) (ws : List Registered) → ((x : Key) → eq k x ≡ bytes_eq k.items x.items) → k.items ≡ name → map registered es ≡ ws → place_of name ws ≡ None
     → map registered (insert_entry eq es k v) ≡ ws ++ record { name = name; class = v } ∷ []
-insert-new eq k v name es ws same e m n =
-    let absent : position_from (is_name k.items) 0 (map registered es) ≡ None = sym (position_from-zero (is_name k.items) (map registered es)) ∙ ap (λ x. place_of x (map registered es)) e ∙ ap (place_of name) m ∙ n in
-    ap (map registered) (insert-from eq k v 0 es same absent) ∙ map-append registered es ((k, v) ∷ []) ∙ ap (λ x. map registered es ++ record { name = x; class = v } ∷ []) e ∙ ap (λ xs. xs ++ record { name = name; class = v } ∷ []) m
+insert-new eq k v name es ws same e m n = grind (arith, position_from-zero, insert-from, map-append)

@@ -7,9 +7,9 @@ use Rattle.std.proofs.lemmas.Bool.{and_parts}
 use Rattle.vss_names.specs.declared.order.Order.{Order}
 use Rattle.vss_names.specs.declared.order.Order.TheVariants.{Identify, PrepareBackup, PrepareSnapshot, Freeze, Thaw, PostSnapshot, BackupComplete}
 use Rattle.set_agenda.specs.declared.group.Group.{Group}
-use Rattle.set_agenda.specs.declared.group.Group.TheVariants.{Orders, PreCommit, Flush, Hold, Cut, Commit, Release, PostCommit}
+use Rattle.set_agenda.specs.declared.group.Group.TheVariants.{PreCommit}
 use Rattle.set_agenda.specs.declared.place.Place.{Place}
-use Rattle.set_agenda.specs.Agenda.{Open, group_code, is_among, is_asked, is_orders, level_code, open_order, open_place, order_if, order_now, order_of, plain, same_order, same_place, waits_now}
+use Rattle.set_agenda.specs.Agenda.{Open, group_code, is_among, is_asked, level_code, open_order, open_place, order_if, order_now, order_of, plain, same_order, same_place, waits_now}
 use Rattle.set_agenda.specs.Course.{OrderGroup, group_of_orders, opens}
 use Rattle.writer_calls.specs.declared.mailbox.Mailbox.{Mailbox}
 use Rattle.writer_calls.specs.declared.order_counts.OrderCounts.{OrderCounts}
@@ -27,8 +27,7 @@ at-other w f ms x h = get_or-set_other ms w x (f (mailbox_at ms w)) empty h
 -- ## counts
 
 pub count-more : {X : Type 0} (p : X → Bool) (xs : List X) (x : X) (b : Bool) → p x ≡ b → count_by p (xs ++ x ∷ []) ≡ cond b (count_by p xs + 1) (count_by p xs)
-count-more p xs x true e = sum_by-append (λ y. cond (p y) 1 0) xs (x ∷ []) ∙ ap (λ b. count_by p xs + (0 + cond b 1 0)) e
-count-more p xs x false e = sum_by-append (λ y. cond (p y) 1 0) xs (x ∷ []) ∙ ap (λ b. count_by p xs + (0 + cond b 1 0)) e ∙ omega arith
+count-more p xs x b e = grind (arith, sum_by-append)
 
 -- a group of another order, or without the writer
 nth-not : (gs : List OrderGroup) (w : ℕ) (o p : Order) (ws : List ℕ) → (same_order o p && is_among w ws) ≡ false → nth_in (gs ++ record { order = o; members = ws } ∷ []) w p ≡ nth_in gs w p
@@ -39,8 +38,7 @@ nth-more : (gs : List OrderGroup) (w : ℕ) (o p : Order) (ws : List ℕ) → (s
 nth-more gs w o p ws e = count-more (λ (g : OrderGroup). same_order g.order p && is_among w g.members) gs (record { order = o; members = ws }) true e
 
 and_false : (b c : Bool) → c ≡ false → (b && c) ≡ false
-and_false true c e = e
-and_false false c e = refl
+and_false b c e = grind arith
 
 counts-are : (a b c d e f g : ℕ) (n : OrderCounts) → a ≡ n.identify → b ≡ n.prepare_backup → c ≡ n.prepare_snapshot → d ≡ n.freeze → e ≡ n.thaw → f ≡ n.post_snapshot → g ≡ n.backup_complete
     → record { identify = a; prepare_backup = b; prepare_snapshot = c; freeze = d; thaw = e; post_snapshot = f; backup_complete = g } ≡ n
@@ -74,20 +72,7 @@ counts-more gs w BackupComplete ws e = counts-are _ _ _ _ _ _ _ (one_more Backup
 
 -- PreCommit asks no writer
 pub order-precommit : (g : Group) → (7 == group_code g) ≡ true → order_of g ≡ None
-order-precommit (Orders Identify) e = cc
-order-precommit (Orders PrepareBackup) e = cc
-order-precommit (Orders PrepareSnapshot) e = cc
-order-precommit (Orders Freeze) e = cc
-order-precommit (Orders Thaw) e = cc
-order-precommit (Orders PostSnapshot) e = cc
-order-precommit (Orders BackupComplete) e = cc
-order-precommit PreCommit e = refl
-order-precommit Flush e = refl
-order-precommit Hold e = refl
-order-precommit Cut e = refl
-order-precommit Commit e = refl
-order-precommit Release e = refl
-order-precommit PostCommit e = refl
+order-precommit g e = grind arith
 
 -- no group opens where the place is the same
 opens-same : (os ps : List Open) → is_elsewhere (open_place os) ps ≡ false → opens os ps ≡ []
@@ -116,27 +101,14 @@ opens-elsewhere (o ∷ os) (p ∷ ps) e = rw (other (same_place o.place p.place)
 -- ## a mailbox after an act
 
 asked-order : (b : Bool) (x : Option Order) (o : Order) → order_if b x ≡ Some o → (b ≡ true) × (x ≡ Some o)
-asked-order true x o e = (refl, e)
-asked-order false x o e = cc
+asked-order b x o e = grind arith
 
 unasked-order : (b : Bool) (x : Option Order) (o : Order) → x ≡ Some o → order_if b x ≡ None → b ≡ false
-unasked-order true x o e f = cc
-unasked-order false x o e f = refl
+unasked-order b x o e f = grind arith
 
 -- an order that is open is one of a group of writers
 asked-among : (ps : List Open) (w : ℕ) (o : Order) → order_now ps ≡ Some o → is_asked w ps ≡ is_among w (waits_now ps)
-asked-among [] w o e = cc
-asked-among (p ∷ ps) w o e = ap (λ b. b && is_among w p.waits) (orders p.place.group o e)
-  where
-    orders : (g : Group) (o : Order) → order_of g ≡ Some o → is_orders g ≡ true
-    orders (Orders p) o e = refl
-    orders PreCommit o e = cc
-    orders Flush o e = cc
-    orders Hold o e = cc
-    orders Cut o e = cc
-    orders Commit o e = cc
-    orders Release o e = cc
-    orders PostCommit o e = cc
+asked-among ps w o e = grind arith
 
 mailbox-is : (m : Mailbox) (s : OrderCounts) (x : Option Order) → m.sent ≡ s → m.open_order ≡ x → m ≡ record { sent = s; open_order = x }
 mailbox-is m s x e f = rw (sym e, sym f) refl
@@ -182,7 +154,7 @@ posted-at m os ps gs w false (Some o) e f r = posted-same m os ps gs w o e f r
 -- all mailboxes, once each is posted to
 pub fit-posted : (ms ns : List Mailbox) (b : Bool) (p : Place) (ps : List Open) → b ≡ is_elsewhere p ps → ((w : ℕ) → w < 64 → mailbox_at ns w ≡ posted_to b (open_order ps w) (mailbox_at ms w))
     → (os : List Open) (gs : List OrderGroup) → p ≡ open_place os → AreReady ms os ps gs → AreFit ns ps (gs ++ opens os ps)
-fit-posted ms ns b p ps e f os gs h r = λ w l. f w l ∙ posted-at (mailbox_at ms w) os ps gs w b (open_order ps w) (ap (λ q. is_elsewhere q ps) (sym h) ∙ sym e) refl (r w l)
+fit-posted ms ns b p ps e f os gs h r = grind (arith, posted-at)
 
 -- ## ready mailboxes
 

@@ -7,7 +7,7 @@ use Rattle.vss_names.specs.declared.level.Level.{Level}
 use Rattle.writer_state.specs.declared.writer_row.WriterRow.{WriterRow}
 use Rattle.writer_state.specs.WriterRow.{first_row}
 use Rattle.set_agenda.specs.Agenda.{is_among}
-use Rattle.set_agenda.specs.Course.{Course, is_member}
+use Rattle.set_agenda.specs.Course.{Course}
 use Rattle.set_agenda.specs.WriterSet.{writers}
 use Rattle.set_agenda.proofs.GroupsLeft.{any-append}
 use Rattle.set_agenda.proofs.WriterSets.{among-writers, or-false, writers-agree}
@@ -20,24 +20,10 @@ use Rattle.coordinator.proofs.Members.{member-above, members-more}
 
 -- no writer that is not registered takes part
 pub none-above : (k : KeptCourse) (c : Course) (w : ℕ) → Follows k c → length c.rows ≤ w → w < 64 → is_among w k.members ≡ false
-none-above k c w h l m =
-    ap (is_among w) h.participants ∙ among-writers (is_member c.members) w m ∙ ap (λ ms. is_member ms w) h.members ∙ member-above (λ x. is_among x k.members) 0 c.rows w (omega (arith, l))
+none-above k c w h l m = grind (arith, among-writers, member-above)
 
 pub stands-registered : (k : KeptCourse) (ns : List WriterRow) (c : Course) (level : Level) (limit : ℕ) → length k.rows < 64 → ns ≡ k.rows ++ first_row level limit ∷ [] → StandsFor k c → StandsFor (record k { rows = ns }) (registered_in level limit c)
-stands-registered k ns c level limit l e h =
-    let f = h.follows in
-    let at : is_among (0 + length c.rows) k.members ≡ false = none-above k c (0 + length c.rows) f (omega arith) (let m = ap length f.rows in omega (arith, m, l)) in
-    record {
-      follows = record {
-        rows = e ∙ ap (λ rs. rs ++ first_row level limit ∷ []) f.rows;
-        members = f.members ∙ sym (members-more (λ w. is_among w k.members) 0 c.rows (first_row level limit) at);
-        participants = f.participants;
-        disabled = f.disabled;
-        outcome = f.outcome;
-        agenda = f.agenda;
-      };
-      mailboxes = h.mailboxes;
-    }
+stands-registered k ns c level limit l e h = grind (arith, none-above, members-more)
 
 -- ## disabled writers
 
@@ -71,14 +57,7 @@ any-nobody x cl [] = refl
 any-nobody x cl (r ∷ rs) = any-nobody (x + 1) cl rs
 
 or-four : (p q a b c : Bool) → (((p || q) && a) || (b || c)) ≡ (((p && a) || b) || ((q && a) || c))
-or-four true true true b c = refl
-or-four true true false b c = refl
-or-four true false true b c = refl
-or-four true false false b c = refl
-or-four false true true true c = refl
-or-four false true true false c = refl
-or-four false true false b c = refl
-or-four false false a b c = refl
+or-four p q a b c = grind arith
 
 any-either : (p q : ℕ → Bool) (x : ℕ) (cl : Option ℕ) (rs : List Registered) → any_class (λ w. p w || q w) x cl rs ≡ (any_class p x cl rs || any_class q x cl rs)
 any-either p q x cl [] = refl
@@ -121,7 +100,7 @@ drop-suc (r ∷ rs) (suc n) b h e p x cl = drop-suc rs n b (omega arith) e p x c
 
 -- the next writer is looked at
 pub class-next : (rs : List Registered) (n b : ℕ) (p : ℕ → Bool) (cl : Option ℕ) → n < length rs → Some b ≡ class_at rs n → any_class p n cl (drop n rs) ≡ ((p n && are_equal (Some b) cl) || any_class p (n + 1) cl (drop (n + 1) rs))
-class-next rs n b p cl h e = let s : suc n ≡ n + 1 = omega arith in drop-suc rs n b h e p n cl ∙ ap (λ m. (p n && are_equal (Some b) cl) || any_class p (n + 1) cl (drop m rs)) s
+class-next rs n b p cl h e = grind (arith, drop-suc)
 
 -- the same, where the class that is sought is known
 pub class-found : (rs : List Registered) (n b sought : ℕ) (p : ℕ → Bool) (cl : Option ℕ) → n < length rs → Some b ≡ class_at rs n → Some sought ≡ cl

@@ -58,7 +58,3 @@ where-one f n (suc k) (r ∷ rs) d x h e =
 
 pub where-at : (f : WriterRow → WriterRow) (k : ℕ) (rs : List WriterRow) (d x : WriterRow) → k < length rs → x ≡ f (get_or rs k d) → set rs k x ≡ rows_where f (λ w. k == w) 0 rs
 where-at f k rs d x h e = let z : 0 + k ≡ k = omega arith in where-one f 0 k rs d x h e ∙ ap (λ i. rows_where f (λ w. i == w) 0 rs) z
-
-pub length-where : (f : WriterRow → WriterRow) (t : ℕ → Bool) (n : ℕ) (rs : List WriterRow) → length (rows_where f t n rs) ≡ length rs
-length-where f t n [] = refl
-length-where f t n (r ∷ rs) = ap suc (length-where f t (n + 1) rs)

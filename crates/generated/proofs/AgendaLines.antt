@@ -1,5 +1,5 @@
 -- The lines that begin an agenda, wait for one and end a session each lead a state from spot to spot.
-use Rattle.std.proofs.Common.{◌≡◌, ℕ, ◌≤◌, List, [], ◌∷◌, Option, Some, None, refl, true, false, ap, sym, ◌∙◌, ◌==◌, subst, length, arith, inl, inr}
+use Rattle.std.proofs.Common.{◌≡◌, ℕ, ◌≤◌, List, [], Option, Some, None, refl, true, false, ap, sym, ◌∙◌, subst, length, arith, inl, inr}
 use Rattle.std.specs.Prelude.{not, if◌then◌else◌}
 use Rattle.vss_names.specs.declared.vss_result.VssResult.{VssResult}
 use Rattle.vss_names.specs.declared.vss_result.VssResult.TheVariants.{AsyncCancelled, BadState}
@@ -36,17 +36,7 @@ record HasOne (c n : ℕ) (more : List Asked) (vs : List ℕ) (x : Option Spot) 
   leads : completes_sets c n more x ≡ true
 
 has_one : (c n : ℕ) (more : List Asked) (vs : List ℕ) (x : Option Spot) → completes_sets c n more (with_volumes vs x) ≡ true → HasOne c n more vs x
-has_one c n [] [] x leads = absurd cc
-has_one c n (a ∷ more) [] x leads = absurd cc
-has_one c n more (v ∷ vs) x leads = record { some = some; leads = leads }
-  where
-    not_none : (us : List ℕ) → us ≡ v ∷ vs → (length us == 0) ≡ false
-    not_none [] e = absurd cc
-    not_none (u ∷ us) e = grind arith
-
-    some : (o : Option SetRow) → volumes_of o ≡ v ∷ vs → has_no_volume o ≡ false
-    some None e = absurd cc
-    some (Some r) e = not_none r.volumes e
+has_one c n more vs x leads = grind arith
 
 pub prepares : (s : Plan) (n : ℕ) (more : List Asked) (k : ℕ) (vs : List ℕ) (op : Op) (mark : Mark) (st : State) → IsAsked s Prepares op → line_enabled s st 0 op ≡ true → completes_sets (length s.volumes) n more (spot_after (Stands Started) k vs Prepares) ≡ true → k ≤ n → IsAt s (Stands Started) k vs st → IsKnown n k st (line s 0 op mark st).1 → LeadsTo s n more st (line s 0 op mark st).1
 prepares s n more k vs op mark st e on leads most h known =

@@ -11,7 +11,7 @@ use Rattle.vss_names.specs.declared.order.Order.{Order}
 use Rattle.writer_calls.specs.declared.answer.Answer.{Answer}
 use Rattle.scenario.specs.Plan.{Plan, LaneLine, lines_of}
 use Rattle.vss_model.specs.declared.event.Event.{Event}
-use Rattle.vss_model.specs.declared.event.Event.TheVariants.{Line, Answer as AnswerEvent, Provider, Idle as IdleEvent}
+use Rattle.vss_model.specs.declared.event.Event.TheVariants.{Line, Provider, Idle as IdleEvent}
 use Rattle.vss_model.specs.State.{State, start, history_of}
 use Rattle.vss_model.specs.Acts.{Act, after, state, order_of_writer}
 use Rattle.vss_model.specs.Effects.{evicted}
@@ -36,8 +36,7 @@ evict_more : (s : Plan) (r : Run) (m : Move) (ms : List Move) (x : Option Event)
     → EvictNone s (after_event s r.state x m.mark) (acts_from s (record { state = after_event s r.state x m.mark; moves = r.moves ++ m ∷ [] }) ms)
     → EvictNone s r.state (acts_if x m.mark ++ acts_from s (record { state = after_event s r.state x m.mark; moves = r.moves ++ m ∷ [] }) ms)
 unfolding IsGrownIf
-evict_more s r m ms None grown later = absurd grown
-evict_more s r m ms (Some event) grown later = (grown.no_eviction, later)
+evict_more s r m ms x grown later = grind arith
 
 none_evicted : (s : Plan) (n : ℕ) (r : Run) (ms : List Move) → IsSmooth n s → IsOnWay s n r → is_legal_from s r ms ≡ true → faults ms ≡ 0 → EvictNone s r.state (acts_from s r ms)
 none_evicted s n r [] smooth way legal clean = tt
@@ -147,13 +146,11 @@ AddsIf owner s r m (Some event) = Adds owner s r m event
 
 lane_adds : (owner : ℕ → ℕ) (s : Plan) (r : Run) (m : Move) (j : ℕ) (x : Option LaneLine) → IsApart owner s → m.actor ≡ Lane j → next_line s r j ≡ x → AddsIf owner s r m (line_event j x)
 unfolding AddsIf
-lane_adds owner s r m j None apart e f = tt
-lane_adds owner s r m j (Some l) apart e f = line_adds owner s r m j l apart e f
+lane_adds owner s r m j x apart e f = grind (arith, line_adds)
 
 answer_adds : (owner : ℕ → ℕ) (s : Plan) (r : Run) (m : Move) (w : ℕ) (x : Option Answer) → m.actor ≡ Writer w → AddsIf owner s r m (answer_event w x)
 unfolding AddsIf
-answer_adds owner s r m w None e = tt
-answer_adds owner s r m w (Some a) e = quiet_adds owner s r m (AnswerEvent w a) (λ i. ap (is_lane i) e) (λ v. refl)
+answer_adds owner s r m w x e = grind (arith, quiet_adds)
 
 order_adds : (owner : ℕ → ℕ) (s : Plan) (r : Run) (m : Move) (w : ℕ) (x : Option Order) → m.actor ≡ Writer w → AddsIf owner s r m (script_event s r.state w x)
 unfolding AddsIf
@@ -169,15 +166,7 @@ move_adds owner s r m Idle apart e = quiet_adds owner s r m IdleEvent (λ i. ap 
 
 holds_more : (owner : ℕ → ℕ) (s : Plan) (r : Run) (m : Move) (x : Option Event) → IsGrownIf s r m x → AddsIf owner s r m x → HoldsWrites owner s r → HoldsWrites owner s (record { state = after_event s r.state x m.mark; moves = r.moves ++ m ∷ [] })
 unfolding IsGrownIf AddsIf
-holds_more owner s r m None grown adds h = absurd grown
-holds_more owner s r m (Some event) grown adds h = record {
-  count = grown.count ∙ h.count;
-  own = λ v i l.
-      ap (filter (is_of owner i)) (grown.writes v (let e = h.count in omega (arith, e, l)))
-      ∙ filter-append (is_of owner i) (history_of r.state v).writes (puts_of v event)
-      ∙ ap (λ ws. ws ++ filter (is_of owner i) (puts_of v event)) (h.own v i l)
-      ∙ sym (adds.own v i);
-}
+holds_more owner s r m x grown adds h = grind (arith, filter-append)
 
 all_hold : (owner : ℕ → ℕ) (s : Plan) (n : ℕ) (r : Run) (ms : List Move) → IsApart owner s → IsSmooth n s → IsOnWay s n r → HoldsWrites owner s r → is_legal_from s r ms ≡ true → faults ms ≡ 0 → HoldsWrites owner s (run_from s r ms)
 all_hold owner s n r [] apart smooth way h legal clean = h
@@ -197,8 +186,7 @@ fresh_writes X (x ∷ rows) zero = refl
 fresh_writes X (x ∷ rows) (suc v) = fresh_writes X rows v
 
 take_none : (lines : List LaneLine) → take 0 lines ≡ []
-take_none [] = refl
-take_none (l ∷ lines) = refl
+take_none lines = grind arith
 
 pub run_holds : (owner : ℕ → ℕ) (s : Plan) (n : ℕ) (trail : List Move) → IsApart owner s → IsSmooth n s → is_legal s trail ≡ true → faults trail ≡ 0 → HoldsWrites owner s (run s trail)
 run_holds owner s n trail apart smooth legal clean =

@@ -5,8 +5,6 @@ use Rattle.std.specs.List.{list_all}
 use Rattle.std.proofs.lemmas.Bool.Decides.{nat_tests}
 use Rattle.vss_names.specs.declared.level.Level.{Level}
 use Rattle.vss_names.specs.declared.order.Order.{Order}
-use Rattle.vss_names.specs.declared.order.Order.TheVariants.{Identify, PrepareBackup, PrepareSnapshot, Freeze, Thaw, PostSnapshot, BackupComplete}
-use Rattle.vss_names.specs.declared.set_outcome.SetOutcome.{SetOutcome}
 use Rattle.writer_state.specs.declared.said.Said.{Said}
 use Rattle.writer_state.specs.declared.said.Said.TheVariants.{Ok}
 use Rattle.writer_state.specs.declared.writer_row.WriterRow.{WriterRow}
@@ -14,28 +12,22 @@ use Rattle.writer_state.specs.WriterRow.{row_gathered, row_ended}
 use Rattle.set_agenda.specs.declared.kind.Kind.{Kind}
 use Rattle.set_agenda.specs.declared.kind.Kind.TheVariants.{Gather, Prepare, Snapshot, Complete}
 use Rattle.set_agenda.specs.declared.group.Group.{Group}
-use Rattle.set_agenda.specs.declared.group.Group.TheVariants.{Orders, PreCommit, Flush, Hold, Cut, Commit, Release, PostCommit}
 use Rattle.set_agenda.specs.declared.place.Place.{Place}
 use Rattle.set_agenda.specs.declared.member.Member.{Member}
-use Rattle.set_agenda.specs.Agenda.{Agenda, Open, is_at, is_orders, has_said, has_failed as has_failed_in, writers_at, members_of, waited_for, with_group, left_from, groups_left, left, places, is_done, is_among, is_asked, order_if, order_now, open_order, next_member, all_say}
-use Rattle.set_agenda.specs.Course.{Course, posted, rows_where, member_if, members_from, outcome_after, settled_if, settled_in, settled, begun, gathered, prepared, snapshot_begun, completing, has_row_failed, is_decisive, told, decided, answered_to, answered, worked, stepped, released}
-use Rattle.vss_model.specs.Facts.{has_failed}
+use Rattle.set_agenda.specs.Agenda.{Agenda, Open, is_orders, has_said, writers_at, members_of, waited_for, with_group, left_from, left, is_among, is_asked, order_if, open_order, all_say}
+use Rattle.set_agenda.specs.Course.{Course, posted, rows_where, member_if, members_from, settled_in, settled, begun, gathered, prepared, snapshot_begun, completing, has_row_failed, is_decisive, told, decided, answered_to, answered, worked, stepped, released}
 use Rattle.generated.proofs.Sound.{are_below, AgendaBelow, IsSound}
 
 -- ## who may be asked
 
 pub and_first : (a b : Bool) → (a && b) ≡ true → a ≡ true
-and_first true b e = refl
-and_first false b e = absurd cc
+and_first a b e = grind arith
 
 pub and_second : (a b : Bool) → (a && b) ≡ true → b ≡ true
-and_second true b e = e
-and_second false b e = absurd cc
+and_second a b e = grind arith
 
 pub and_both : (a b : Bool) → a ≡ true → b ≡ true → (a && b) ≡ true
-and_both true true e f = refl
-and_both true false e f = absurd cc
-and_both false b e f = absurd cc
+and_both a b e f = grind arith
 
 -- ## lists
 
@@ -72,40 +64,22 @@ sound_posted : (k : ℕ) (before c : Course) → IsSound k c → IsSound k (post
 unfolding posted
 sound_posted k before c h = record { rows = h.rows; members = h.members; agenda = h.agenda; fine = h.fine }
 
-fine_after : (x : Kind) (o : SetOutcome) → has_failed o ≡ false → has_failed (outcome_after x o) ≡ false
-fine_after Gather o h = h
-fine_after Prepare o h = h
-fine_after Snapshot o h = refl
-fine_after Complete o h = h
-
-sound_settled_if : (k : ℕ) (done : Bool) (x : Kind) (c : Course) → IsSound k c → IsSound k (settled_if done x c)
-sound_settled_if k false x c h = h
-sound_settled_if k true x c h = record { rows = h.rows; members = h.members; agenda = tt; fine = fine_after x c.outcome h.fine }
-
 sound_settled_in : (k : ℕ) (a : Option Agenda) (c : Course) → IsSound k c → IsSound k (settled_in a c)
-sound_settled_in k None c h = h
-sound_settled_in k (Some a) c h = sound_settled_if k (is_done (groups_left a)) a.kind c h
+sound_settled_in k a c h = grind arith
 
 sound_settled : (k : ℕ) (c : Course) → IsSound k c → IsSound k (settled c)
 unfolding settled
 sound_settled k c h = sound_settled_in k c.agenda c h
 
 below_said : (k : ℕ) (said : Said) (now : ℕ) (ws : List ℕ) (a : Option Agenda) → AgendaBelow k a → AgendaBelow k (option_map (all_say said now ws) a)
-below_said k said now ws None h = tt
-below_said k said now ws (Some a) h = h
+below_said k said now ws a h = grind arith
 
 sound_told : (k : ℕ) (o : Order) (said : Said) (now : ℕ) (ws : List ℕ) (c : Course) → IsSound k c → IsSound k (told o said now ws c)
 unfolding told
-sound_told k o said now ws c h = record {
-  rows = rows_length _ (λ w. is_among w ws) 0 c.rows ∙ h.rows;
-  members = h.members;
-  agenda = below_said k said now ws c.agenda h.agenda;
-  fine = h.fine;
-}
+sound_told k o said now ws c h = grind (arith, rows_length, below_said)
 
 no_veto : (b : Bool) → (b && not true) ≡ false
-no_veto true = refl
-no_veto false = refl
+no_veto b = grind arith
 
 sound_decided : (k : ℕ) (b : Bool) (c : Course) → b ≡ false → IsSound k c → IsSound k (decided b Ok c)
 sound_decided k true c e h = absurd cc
@@ -120,7 +94,7 @@ sound_answered k w now c h = sound_posted k c _ (sound_answered_to k (open_order
 
 sound_worked : (k now : ℕ) (c : Course) → IsSound k c → IsSound k (worked now c)
 unfolding worked
-sound_worked k now c h = record { rows = h.rows; members = h.members; agenda = below_said k Ok now (next_member (left c.agenda) ∷ []) c.agenda h.agenda; fine = h.fine }
+sound_worked k now c h = grind arith
 
 pub sound_stepped : (k now : ℕ) (c : Course) → IsSound k c → IsSound k (stepped true now c)
 sound_stepped k now c h = sound_posted k c _ (sound_settled k (worked now c) (sound_worked k now c h))
@@ -159,31 +133,17 @@ below_mapped k [] h = refl
 below_mapped k (m ∷ ms) h = and_both (nat_lt m.writer k) _ (and_first (nat_lt m.writer k) (are_below k ms) h) (below_mapped k ms (and_second (nat_lt m.writer k) (are_below k ms) h))
 
 below_writers : (k : ℕ) (ms : List Member) (l : Option Level) → are_below k ms ≡ true → below k (writers_at ms l) ≡ true
-below_writers k ms l h = below_mapped k (filter (λ (m : Member). is_at l m.level) ms) (below_filter (λ (m : Member). nat_lt m.writer k) (λ (m : Member). is_at l m.level) ms h)
+below_writers k ms l h = grind (arith, below_mapped, below_filter)
 
 below_group : (k : ℕ) (a : Agenda) (g : Group) (l : Option Level) → are_below k a.members ≡ true → is_orders g ≡ true → below k (members_of a g l) ≡ true
-below_group k a (Orders Identify) l h e = below_writers k a.members l h
-below_group k a (Orders PrepareBackup) l h e = below_writers k a.members l h
-below_group k a (Orders PrepareSnapshot) l h e = below_writers k a.members l h
-below_group k a (Orders Freeze) l h e = below_writers k a.members l h
-below_group k a (Orders Thaw) l h e = below_writers k a.members l h
-below_group k a (Orders PostSnapshot) l h e = below_filter (λ w. nat_lt w k) (λ w. not (has_failed_in a.log w)) (writers_at a.members l) (below_writers k a.members l h)
-below_group k a (Orders BackupComplete) l h e = below_writers k a.members l h
-below_group k a PreCommit l h e = absurd cc
-below_group k a Flush l h e = absurd cc
-below_group k a Hold l h e = absurd cc
-below_group k a Cut l h e = absurd cc
-below_group k a Commit l h e = absurd cc
-below_group k a Release l h e = absurd cc
-below_group k a PostCommit l h e = absurd cc
+below_group k a g l h e = grind (arith, below_writers, below_filter)
 
 abbrev AskedBelow : ℕ → List Open → Type 0
 AskedBelow k [] = Unit {0}
 AskedBelow k (o ∷ os) = is_orders o.place.group ≡ true → below k o.waits ≡ true
 
 asked_with : (k : ℕ) (p : Place) (ws : List ℕ) (later : List Open) → (is_orders p.group ≡ true → below k ws ≡ true) → AskedBelow k later → AskedBelow k (with_group p ws later)
-asked_with k p [] later h g = g
-asked_with k p (w ∷ ws) later h g = h
+asked_with k p ws later h g = grind arith
 
 asked_from : (k : ℕ) (a : Agenda) (ps : List Place) → are_below k a.members ≡ true → AskedBelow k (left_from a ps)
 asked_from k a [] h = tt
@@ -193,8 +153,7 @@ asked_from k a (p ∷ ps) h =
     (asked_from k a ps h)
 
 asked_left : (k : ℕ) (a : Option Agenda) → AgendaBelow k a → AskedBelow k (left a)
-asked_left k None h = tt
-asked_left k (Some a) h = asked_from k a (places a.kind) h
+asked_left k a h = grind (arith, asked_from)
 
 among_below : (k w : ℕ) (ws : List ℕ) → is_among w ws ≡ true → below k ws ≡ true → nat_lt w k ≡ true
 among_below k w [] e h = absurd cc
@@ -208,14 +167,11 @@ among_below k w (x ∷ ws) e h = by_test (x == w) refl e (λ g. among_below k w 
     by_test false f g later = later g
 
 asked_below_at : (k w : ℕ) (os : List Open) → AskedBelow k os → is_asked w os ≡ true → nat_lt w k ≡ true
-asked_below_at k w [] h e = absurd cc
-asked_below_at k w (o ∷ os) h e =
-    among_below k w o.waits (and_second (is_orders o.place.group) (is_among w o.waits) e) (h (and_first (is_orders o.place.group) (is_among w o.waits) e))
+asked_below_at k w os h e = grind (arith, among_below, and_second, and_first)
 
 asked_of_order : (b : Bool) (x : Option Order) → is_some (order_if b x) ≡ true → b ≡ true
-asked_of_order true x e = refl
-asked_of_order false x e = absurd cc
+asked_of_order b x e = grind arith
 
 -- a writer that has an open order is one of these
 pub asked_is_below : (k w : ℕ) (c : Course) → IsSound k c → is_some (open_order (left c.agenda) w) ≡ true → nat_lt w k ≡ true
-asked_is_below k w c h e = asked_below_at k w (left c.agenda) (asked_left k c.agenda h.agenda) (asked_of_order (is_asked w (left c.agenda)) (order_now (left c.agenda)) e)
+asked_is_below k w c h e = grind (arith, asked_below_at, asked_left, asked_of_order)

@@ -9,7 +9,7 @@ use Rattle.writer_meta.specs.Metadata.{Meta}
 use Rattle.writer_meta.specs.Refusal.{Refusal}
 use Rattle.writer_meta.specs.Document.{metadata_in}
 use Rattle.scenario.specs.declared.reason.Reason.{Reason}
-use Rattle.scenario.specs.declared.reason.Reason.TheVariants.{Misplaced, BadName, DoubleName, TooMany}
+use Rattle.scenario.specs.declared.reason.Reason.TheVariants.{Misplaced, TooMany}
 use Rattle.scenario.specs.declared.span.Span.{Span}
 use Rattle.scenario.specs.Plan.{WriterPlan, LanePlan}
 use Rattle.scenario.specs.Lines.{span_from}
@@ -19,7 +19,7 @@ use Rattle.scenario.specs.Words.{word_of}
 use Rattle.vss_names.specs.Names.{is_name}
 use Rattle.scenario.specs.Names.{place_of, volume_named, writer_named}
 use Rattle.scenario.specs.Ops.{◌>>=◌, number_field}
-use Rattle.scenario.specs.SoFar.{SoFar, Saying, nothing, after}
+use Rattle.scenario.specs.SoFar.{SoFar, nothing, after}
 use Rattle.scenario.specs.SoFar as saying
 use Rattle.scenario.specs.Declarations.{name_field, opening_of, own_volume_of, volume_of, own_row, has_volume_room, writer_of, described, document_field, writer_if}
 use Rattle.scenario.specs.Entries.{placed_row_of, row_of, has_lane}
@@ -41,16 +41,13 @@ abbrev pub no_run : Run
 no_run = record { lanes = []; lines = 0; agendas = 0 }
 
 no_lane : (text : List ℕ) (lanes : List LanePlan) → AreLanes text [] lanes → has_lane lanes ≡ false
-no_lane text [] h = refl
-no_lane text (l ∷ lanes) h = absurd h
+no_lane text lanes h = grind arith
 
 -- ## a new name
 
 pub new_name : (text : List ℕ) (taken : Bool) (span : Span) (name : List ℕ) → bytes_of text span ≡ name → is_name name ≡ true → taken ≡ false → name_field text taken span ≡ Ok span
 unfolding name_field
-new_name text taken span name b good free =
-    ap (λ (t : Bool). if t then (if taken then Err DoubleName else Ok span) else Err BadName) (ap is_name b ∙ good)
-    ∙ ap (λ (t : Bool). if t then Err DoubleName else Ok span) free
+new_name text taken span name b good free = grind arith
 
 -- ## the first line
 

@@ -1,6 +1,5 @@
 -- What the documents of the generated scenario's writers say.
-use Rattle.std.proofs.Common.{◌≡◌, ◌∙◌, ℕ, true, List, [], Some, None, Ok, refl, ap, codes}
-use Rattle.std.specs.Prelude.{ok_or, if◌then◌else◌}
+use Rattle.std.proofs.Common.{◌≡◌, ℕ, true, List, [], Some, Ok, refl, codes, arith}
 use Rattle.std.specs.Str.{is_utf8, chars}
 use lib.Utf8.{encode}
 use Rattle.serde_json.specs.Data.{Data, boolean, number, string, array, object, unsigned, no_items, item, no_members, member}
@@ -12,8 +11,7 @@ use Rattle.vss_names.specs.Usage as usage
 use Rattle.vss_names.specs.SourceKind as source
 use Rattle.vss_names.specs.ComponentType as kind
 use Rattle.writer_meta.specs.Metadata.{Meta}
-use Rattle.writer_meta.specs.Refusal.{IsNotJson}
-use Rattle.writer_meta.specs.Document.{class_in, name_in, level_in, usage_in, source_in, freeze_timeout_in, components_in, kind_in, path_in, component_name_in, selectable_in, rows_of_part, part_in, parts_in, double_after, list_of_parts, unknown_in, rows_of_meta, meta_in, value_of_text, metadata_in, then_on}
+use Rattle.writer_meta.specs.Document.{class_in, name_in, level_in, usage_in, source_in, freeze_timeout_in, components_in, kind_in, path_in, component_name_in, selectable_in, rows_of_part, part_in, parts_in, double_after, list_of_parts, unknown_in, rows_of_meta, meta_in, value_of_text, metadata_in}
 use Rattle.generated.specs.Scenario.{system, database, web}
 
 -- a document of one component, all whose members but the time-out are said
@@ -32,10 +30,7 @@ document_data class part_kind rank name origin use_of = object (
 
 metadata_is : (text : List ℕ) (d : Data) (m : Meta) → is_utf8 text ≡ true → read text ≡ Some d → meta_in d ≡ Ok m → metadata_in text ≡ Ok m
 unfolding metadata_in value_of_text
-metadata_is text d m utf8 reads says =
-    ap (λ b. then_on (ok_or (if b then read text else None) IsNotJson) meta_in) utf8
-    ∙ ap (λ r. then_on (ok_or r IsNotJson) meta_in) reads
-    ∙ says
+metadata_is text d m utf8 reads says = grind arith
 
 -- ## the writer `sys`
 

@@ -1,8 +1,7 @@
 -- How a run of a generated scenario ends.
-use Rattle.std.proofs.Common.{◌≡◌, ℕ, zero, suc, ◌+◌, ◌*◌, ◌/◌, ◌%◌, ◌<◌, ◌≤◌, List, [], ◌∷◌, ◌++◌, Some, refl, Bool, true, false, ap, sym, ◌∙◌, ◌==◌, subst, length, take, arith, map}
-use Rattle.std.specs.Prelude.{filter, slice_get, nat_lt, ◌&&◌, if◌then◌else◌}
+use Rattle.std.proofs.Common.{◌≡◌, ℕ, zero, suc, ◌+◌, ◌/◌, ◌<◌, ◌≤◌, List, [], ◌∷◌, ◌++◌, Some, refl, Bool, true, false, ap, sym, ◌∙◌, ◌==◌, subst, length, take, arith, map}
+use Rattle.std.specs.Prelude.{filter, slice_get, nat_lt, if◌then◌else◌}
 use Rattle.std.specs.List.{list_all, range_with_len}
-use Rattle.std.proofs.Math.Nat.{mod-lt}
 use Rattle.block_data.specs.Runs.{zeros}
 use Rattle.write_history.specs.declared.move_item.Move.{Move}
 use Rattle.write_history.specs.History.{Write, last_bytes, content, contents}
@@ -13,9 +12,9 @@ use Rattle.vss_model.specs.Acts.{state}
 use Rattle.vss_model.specs.Trail.{run, acts, cursor, is_legal, is_complete, faults}
 use Rattle.vss_model.proofs.Appending.{state-run, moves-run}
 use Rattle.vss_model.proofs.Headline.{each_line_once}
-use Rattle.generated.specs.Asked.{Asked, Begins, Gathers, Awaits, Names, Starts, Adds, Prepares, Snapshots, Completes, Ends, IsAsked, AreAsked, four_sets}
+use Rattle.generated.specs.Asked.{Asked, IsAsked, AreAsked, four_sets}
 use Rattle.generated.specs.Writes.{write_at}
-use Rattle.generator_text.specs.Draws.{drawn, volume_at, block_at}
+use Rattle.generator_text.specs.Draws.{volume_at, block_at}
 use Rattle.generated.specs.Scenario.{shape_of, IsGenerated}
 use Rattle.generated.proofs.Puts.{put_if, puts_to, puts_in}
 use Rattle.generated.specs.EndsWell.{EndsWell}
@@ -33,22 +32,10 @@ lane_of b = b / 16
 
 block_is_of : (n i k : ℕ) → (lane_of (block_at n i k) == i) ≡ true
 unfolding block_at
-block_is_of n i k =
-    let h : (drawn n i k / 8) % 16 < 16 = mod-lt (drawn n i k / 8) (omega arith) in
-    own i ((drawn n i k / 8) % 16) h
-  where
-    divided : (i x : ℕ) → x < 16 → (16 * i + x) / 16 ≡ i
-    divided i x l = omega (arith, l)
-
-    own : (i x : ℕ) → x < 16 → ((16 * i + x) / 16 == i) ≡ true
-    own i x l = ap (λ y. y == i) (divided i x l) ∙ itself i
-      where
-        itself : (a : ℕ) → (a == a) ≡ true
-        itself a = grind arith
+block_is_of n i k = grind arith
 
 all_put : (b : Bool) (p : Write → Bool) (w : Write) → p w ≡ true → list_all p (put_if b w) ≡ true
-all_put true p w e = ap (λ x. x && true) e
-all_put false p w e = refl
+all_put b p w e = grind arith
 
 op_is_of : (n i v k : ℕ) → list_all (is_of lane_of i) (puts_to v (write_at n i k)) ≡ true
 op_is_of n i v k = all_put (volume_at n i k == v) (is_of lane_of i) (write_of n i k) (block_is_of n i k)
@@ -66,16 +53,7 @@ lines_of_lane n i v a (suc m) (x ∷ lines) e (suc k) l f =
     lines_of_lane n i v (a + 1) m lines rest k l f
 
 no_puts : (s : Plan) (v : ℕ) (a : Asked) (op : Op) → IsAsked s a op → puts_to v op ≡ []
-no_puts s v Begins op e = ap (puts_to v) e
-no_puts s v Gathers op e = ap (puts_to v) e
-no_puts s v Awaits op e = ap (puts_to v) e
-no_puts s v (Names w) op e = ap (puts_to v) e.is
-no_puts s v Starts op e = ap (puts_to v) e
-no_puts s v (Adds u) op e = ap (puts_to v) e
-no_puts s v Prepares op e = ap (puts_to v) e
-no_puts s v Snapshots op e = ap (puts_to v) e
-no_puts s v Completes op e = ap (puts_to v) e
-no_puts s v Ends op e = ap (puts_to v) e
+no_puts s v a op e = grind arith
 
 no_puts_at : (s : Plan) (v : ℕ) (asked : List Asked) (lines : List LaneLine) → AreAsked s asked lines → (k : ℕ) (l : LaneLine) → slice_get lines k ≡ Some l → puts_to v l.op ≡ []
 no_puts_at s v asked [] h zero l e = absurd cc
@@ -90,9 +68,7 @@ no_puts_in s v [] (x ∷ lines) h = absurd h
 no_puts_in s v (a ∷ asked) (x ∷ lines) h = ap (λ (ws : List Write). ws ++ puts_in v lines) (no_puts s v a x.op h.0) ∙ no_puts_in s v asked lines h.1
 
 no_such : (lines : List LaneLine) (k : ℕ) (l : LaneLine) → lines ≡ [] → slice_get lines k ≡ Some l → ⊥
-no_such [] zero l e f = cc
-no_such [] (suc k) l e f = cc
-no_such (x ∷ lines) k l e f = cc
+no_such lines k l e f = grind arith
 
 pub apart : (n : ℕ) (s : Plan) → IsGenerated n s → IsApart lane_of s
 unfolding IsApart
@@ -112,8 +88,7 @@ apart n s g v (suc i) k l e = by_range (nat_lt i 15) refl
 -- ## the last writes
 
 put_filtered : (n i v a : ℕ) (ks : List ℕ) (b : Bool) → put_if b (write_of n i a) ++ map (write_of n i) ks ≡ map (write_of n i) (if b then a ∷ ks else ks)
-put_filtered n i v a ks true = refl
-put_filtered n i v a ks false = refl
+put_filtered n i v a ks b = grind arith
 
 puts_are : (n i v a m : ℕ) (lines : List LaneLine) → map (λ (l : LaneLine). l.op) lines ≡ map (write_at n i) (range_with_len a m) → puts_in v lines ≡ map (write_of n i) (filter (λ k. volume_at n i k == v) (range_with_len a m))
 puts_are n i v a zero [] e = refl

@@ -4,23 +4,14 @@ use Rattle.std.specs.Prelude.{slice_get}
 use Rattle.std.specs.List.{range_with_len}
 use Rattle.scenario.specs.declared.op.Op.{Op}
 use Rattle.scenario.specs.Plan.{LaneLine, LanePlan, lines_in, lines_of}
-use Rattle.generated.specs.Asked.{Asked, Begins, Gathers, Awaits, Names, Starts, Adds, Prepares, Snapshots, Completes, Ends, IsAsked, AreAsked, four_sets}
+use Rattle.generated.specs.Asked.{Asked, IsAsked, AreAsked}
 use Rattle.generated.specs.Writes.{write_at}
 use Rattle.generator_text.specs.Draws.{volume_at, block_at, stamp_at, stands_at, drawn}
 use Rattle.generated.specs.Scenario.{IsGenerated}
 use Rattle.generated.specs.Plans.{op_of, line_of, writing_lane, plan_of}
 
 asked_op : (n : ℕ) (a : Asked) → IsAsked (plan_of n) a (op_of a)
-asked_op n Begins = refl
-asked_op n Gathers = refl
-asked_op n Awaits = refl
-asked_op n (Names w) = record { full = _; is = refl; name = refl }
-asked_op n Starts = refl
-asked_op n (Adds v) = refl
-asked_op n Prepares = refl
-asked_op n Snapshots = refl
-asked_op n Completes = refl
-asked_op n Ends = refl
+asked_op n a = grind arith
 
 are_asked : (n : ℕ) (asked : List Asked) → AreAsked (plan_of n) asked (map line_of (map op_of asked))
 are_asked n [] = tt
@@ -51,14 +42,7 @@ writes_of n i l =
     none i = omega arith
 
 pub plan_is_generated : (n : ℕ) → IsGenerated n (plan_of n)
-plan_is_generated n = record {
-  volumes = refl;
-  writers = refl;
-  scripts = refl;
-  as_whom = refl;
-  sets = are_asked n four_sets;
-  writes = writes_of n;
-}
+plan_is_generated n = grind (arith, are_asked, writes_of)
 
 pub first_volume : volume_at 7 1 0 ≡ 1
 unfolding volume_at drawn stands_at

@@ -3,21 +3,19 @@ use Rattle.std.proofs.Common.{◌≡◌, ℕ, zero, suc, ◌+◌, ◌<◌, ◌�
 use Rattle.std.specs.Prelude.{option_map, is_some, cond, slice_get, nat_lt, ◌&&◌, ◌||◌, not, if◌then◌else◌}
 use Rattle.std.specs.List.{list_all, range_with_len}
 use Rattle.std.proofs.lemmas.Bool.Decides.{nat_tests}
-use Rattle.vss_names.specs.declared.order.Order.TheVariants.{Identify, PrepareBackup, PrepareSnapshot, Freeze, Thaw, PostSnapshot, BackupComplete}
-use Rattle.vss_names.specs.declared.context.Context.TheVariants.{AppRollback}
 use Rattle.vss_names.specs.declared.set_outcome.SetOutcome.{SetOutcome}
 use Rattle.vss_names.specs.declared.set_outcome.SetOutcome.TheVariants.{Running}
 use Rattle.writer_state.specs.declared.said.Said.TheVariants.{Ok as SaidOk}
 use Rattle.write_history.specs.declared.mark.Mark.{Mark}
 use Rattle.write_history.specs.declared.mark.Mark.TheVariants.{Clean}
-use Rattle.write_history.specs.History.{Write, Image, History, written as with_write}
+use Rattle.write_history.specs.History.{Write, Image, History}
 use Rattle.set_agenda.specs.declared.kind.Kind.TheVariants.{Snapshot}
 use Rattle.set_agenda.specs.declared.group.Group.{Group}
 use Rattle.set_agenda.specs.declared.group.Group.TheVariants.{Orders, PreCommit, Flush, Hold, Cut, Commit, Release, PostCommit}
 use Rattle.set_agenda.specs.Agenda.{Agenda, Open, plain, places, same_place, is_snapshot, groups_left, left_from, left, open_place, open_group, next_member, is_working, is_among}
-use Rattle.set_agenda.specs.Course.{Course, change_at, answered as course_answered, stepped as course_stepped}
+use Rattle.set_agenda.specs.Course.{Course, answered as course_answered, stepped as course_stepped}
 use Rattle.requestor.specs.declared.stage.Stage.{Stage}
-use Rattle.requestor.specs.declared.stage.Stage.TheVariants.{Opened, Gathered, Started, Prepared, Done, Finished, Failed}
+use Rattle.requestor.specs.declared.stage.Stage.TheVariants.{Prepared}
 use Rattle.requestor.specs.Session.{Session}
 use Rattle.scenario.specs.Plan.{Plan}
 use Rattle.vss_model.specs.State.{State, SetRow, is_running, is_complete, in_progress, history_in, history_of, left_now}
@@ -27,14 +25,14 @@ use Rattle.vss_model.specs.Sessions.{volumes_of}
 use Rattle.vss_model.specs.Steps.{with_cut, row_cut, cut_if, cut_each, cut_set, step_made, answered, stepped}
 use Rattle.vss_model.specs.Acts.{order_of_writer}
 use Rattle.vss_model.specs.Cut.{is_cut_group}
-use Rattle.vss_model.specs.Facts.{NumberedFrom, IsOfSession, WaitsFor, IsAgendaOf, IsOrderly}
+use Rattle.vss_model.specs.Facts.{NumberedFrom, IsOfSession, IsOrderly}
 use Rattle.vss_model.proofs.AtCut.{CutsNow, cuts, cut_is_open, cut_group, later_places}
 use Rattle.vss_model.proofs.CutStep.{has_set, step_made_same}
 use Rattle.vss_model.proofs.Orderly.{find-map, newest-map, true_not_false}
 use Rattle.vss_model.proofs.OrderlyActs.{same_changed}
 use Rattle.generated.specs.Spots.{Place, Free, Stands, Waits, is_full}
 use Rattle.generated.proofs.Sound.{IsSound}
-use Rattle.generated.proofs.Standing.{session_at, HasVolumes, IsStage, IsPlace, IsAt}
+use Rattle.generated.proofs.Standing.{IsStage, IsPlace, IsAt}
 use Rattle.generated.proofs.CutRows.{is_cut, cuts_made, is_cut_or_open, said_by, IsNow, HasCuts}
 use Rattle.generated.proofs.Courses.{and_first, and_second, and_both, sound_answered, sound_stepped}
 use Rattle.generated.proofs.Cuts.{cuts_followed, said_answered, said_stepped, said_elsewhere, said_cut}
@@ -50,11 +48,10 @@ cuts_volumes : (s : Plan) (st : State) (hs : List History) → ((v : ℕ) → (h
 cuts_volumes s st hs same h = record { count = λ v l. ap length (same v) ∙ h.count v l; done = h.done; now = h.now }
 
 cuts_put : (s : Plan) (v : ℕ) (w : Write) (mark : Mark) (st : State) → mark ≡ Clean → HasCuts s st → HasCuts s (put v w mark st)
-cuts_put s v w mark st e h = subst (λ x. HasCuts s (put v w x st)) (sym e) (cuts_volumes s st (change_at v (with_write w) st.volumes) (λ u. images_change w v u st.volumes) h)
+cuts_put s v w mark st e h = grind (arith, cuts_volumes, images_change)
 
 cuts_room : (s : Plan) (b : Bool) (st : State) → b ≡ false → HasCuts s st → HasCuts s (with_room_if b st)
-cuts_room s true st e h = absurd cc
-cuts_room s false st e h = h
+cuts_room s b st e h = grind arith
 
 pub cuts_write : (s : Plan) (v : ℕ) (w : Write) (mark : Mark) (st : State) → mark ≡ Clean → (cleared s v w.block st).volumes ≡ st.volumes → HasCuts s st → HasCuts s (write s v w mark st).1
 unfolding write
@@ -70,16 +67,13 @@ record HasAgenda (st : State) : Type 0 where
   is : st.course.agenda ≡ Some agenda
 
 has_agenda : (a : Option Agenda) (st : State) → st.course.agenda ≡ a → is_some a ≡ true → HasAgenda st
-has_agenda None st e f = absurd cc
-has_agenda (Some a) st e f = record { agenda = a; is = e }
+has_agenda a st e f = grind arith
 
 running_now : (q : Option Session) (o : SetOutcome) (r : SetRow) → IsOfSession q o (Some r) → o ≡ Running
-running_now None o r h = absurd h
-running_now (Some q) o r h = h.2
+running_now q o r h = grind arith
 
 now_by : (x : Option SetRow) (c : Course) → ((r : SetRow) → x ≡ Some r → is_cut r ≡ said_by c.agenda c.outcome) → IsNow x c
-now_by None c h = tt
-now_by (Some r) c h = h r refl
+now_by x c h = grind arith
 
 outcome_of : (st : State) (r : SetRow) → IsOrderly st → in_progress st ≡ Some r → st.course.outcome ≡ Running
 outcome_of st r o e = running_now st.session st.course.outcome r (subst (IsOfSession st.session st.course.outcome) e o.session)
@@ -96,25 +90,8 @@ cuts_answer s k w st e sound o h =
 
 -- ## steps but the Cut step
 
-group_not_cut : (g : Group) (l : _) → is_cut_group (Some g) ≡ false → same_place (record { group = g; level = l }) (plain Cut) ≡ false
-group_not_cut (Orders Identify) l e = refl
-group_not_cut (Orders PrepareBackup) l e = refl
-group_not_cut (Orders PrepareSnapshot) l e = refl
-group_not_cut (Orders Freeze) l e = refl
-group_not_cut (Orders Thaw) l e = refl
-group_not_cut (Orders PostSnapshot) l e = refl
-group_not_cut (Orders BackupComplete) l e = refl
-group_not_cut PreCommit l e = refl
-group_not_cut Flush l e = refl
-group_not_cut Hold l e = refl
-group_not_cut Cut l e = absurd cc
-group_not_cut Commit l e = refl
-group_not_cut Release l e = refl
-group_not_cut PostCommit l e = refl
-
 place_not_cut : (os : List Open) → is_cut_group (open_group os) ≡ false → same_place (open_place os) (plain Cut) ≡ false
-place_not_cut [] e = refl
-place_not_cut (o ∷ os) e = group_not_cut o.place.group o.place.level e
+place_not_cut os e = grind arith
 
 -- the steps of the set's agenda but the Cut step
 other_step : (s : Plan) (k : ℕ) (st : State) → is_working (left_now st) ≡ true → is_cut_group (open_group (left_now st)) ≡ false → IsSound k st.course → IsOrderly st → HasCuts s st
@@ -154,12 +131,10 @@ images_cut n vs u (suc v) (h ∷ hs) l e = images_cut n vs (u + 1) v hs (omega (
     shift u v = omega arith
 
 row_other : (n now : ℕ) (r : SetRow) (b : Bool) → b ≡ false → is_cut (if b then with_cut now r else r) ≡ is_cut r
-row_other n now r true e = absurd cc
-row_other n now r false e = refl
+row_other n now r b e = grind arith
 
 row_own : (n now : ℕ) (r : SetRow) (b : Bool) → b ≡ true → is_cut (if b then with_cut now r else r) ≡ true
-row_own n now r true e = refl
-row_own n now r false e = absurd cc
+row_own n now r b e = grind arith
 
 not_same : (a b : ℕ) → a < b → (b == a) ≡ false
 not_same a b l = grind (arith, nat_tests)
@@ -223,19 +198,7 @@ record IsMaking (g : Stage) (vs : List ℕ) (st : State) : Type 0 where
   volumes : volumes_of (in_progress st) ≡ vs
 
 is_making : (g : Stage) (vs : List ℕ) (st : State) (a : Agenda) → IsStage g vs true st.session (runs st) st.sets → IsOrderly st → st.course.agenda ≡ Some a → a.kind ≡ Snapshot → IsMaking g vs st
-is_making g vs st a at o e k = by_stage g (waits g at.stage.set at.stage.last (subst (λ q. IsAgendaOf (Some a) q) at.stage.is (subst (λ x. IsAgendaOf x st.session) e o.agenda))) at.volumes
-  where
-    waits : (g : Stage) (set : Option ℕ) (last : Option _) → IsAgendaOf (Some a) (Some (session_at g set last)) → g ≡ Prepared
-    waits g set last h = subst (λ x. WaitsFor x AppRollback g) k h
-
-    by_stage : (g : Stage) → g ≡ Prepared → HasVolumes g vs st.sets → IsMaking g vs st
-    by_stage Prepared e h = record { stage = refl; volumes = h }
-    by_stage Opened e h = absurd cc
-    by_stage Gathered e h = absurd cc
-    by_stage Started e h = absurd cc
-    by_stage Done e h = absurd cc
-    by_stage Finished e h = absurd cc
-    by_stage Failed e h = absurd cc
+is_making g vs st a at o e k = grind arith
 
 all_among : (s : Plan) (c : ℕ) (p : Place) (k : ℕ) (vs : List ℕ) (st : State) (a : Agenda) (r : SetRow) → IsAt s p k vs st → is_full c p vs ≡ true → IsOrderly st → st.course.agenda ≡ Some a → a.kind ≡ Snapshot → in_progress st ≡ Some r
     → (v : ℕ) → v < c → is_among v r.volumes ≡ true

@@ -108,8 +108,7 @@ pub record HoldsImages (s : Plan) (r : Run) : Type 0 where
 
 images_more : (s : Plan) (r : Run) (m : Move) (x : Option Event) → IsGrownIf s r m x → HasCutsIf s r m x → HoldsImages s r → HoldsImages s (record { state = after_event s r.state x m.mark; moves = r.moves ++ m ∷ [] })
 unfolding IsGrownIf HasCutsIf
-images_more s r m None grown cuts h = absurd grown
-images_more s r m (Some event) grown cuts h = record { count = grown.count ∙ h.count; cuts = cuts }
+images_more s r m x grown cuts h = grind arith
 
 all_images : (s : Plan) (n : ℕ) (r : Run) (ms : List Move) → IsSmooth n s → IsOnWay s n r → HoldsImages s r → is_legal_from s r ms ≡ true → faults ms ≡ 0 → HoldsImages s (run_from s r ms)
 all_images s n r [] smooth way h legal clean = h

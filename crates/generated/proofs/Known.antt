@@ -14,12 +14,11 @@ use Rattle.requestor.specs.Session.{Session, makes_set}
 use Rattle.requestor.specs.Check.{check}
 use Rattle.scenario.specs.declared.op.Op.{Op}
 use Rattle.scenario.specs.Plan.{Plan}
-use Rattle.vss_model.specs.State.{State, SetRow, is_complete, in_progress, history_of}
+use Rattle.vss_model.specs.State.{State, SetRow, in_progress, history_of}
 use Rattle.vss_model.specs.Ending.{runs}
-use Rattle.vss_model.specs.Sessions.{session_line, line_in, judged}
+use Rattle.vss_model.specs.Sessions.{session_line}
 use Rattle.vss_model.specs.Lines.{called, line}
 use Rattle.vss_model.specs.Facts.{is_early, IsOfSession, IsOrderly}
-use Rattle.vss_model.proofs.Orderly.{true_not_false}
 use Rattle.generated.specs.Asked.{Asked}
 use Rattle.generated.specs.Spots.{Spot, completes_sets}
 use Rattle.generated.proofs.CutRows.{is_cut, cuts_made, is_cut_or_open, said_by, IsNow, HasCuts}
@@ -44,45 +43,32 @@ pub record LeadsTo (s : Plan) (n : ℕ) (more : List Asked) (st next : State) : 
 -- a call that goes
 pub goes : (c : SessionCall) (s : Plan) (op : Op) (st : State) (q : Session) (b : Bool) → st.session ≡ Some q → runs st ≡ b → check (Some q) b 0 c ≡ Go → called c s 0 op st ≡ session_line s 0 op q st
 unfolding called
-goes c s op st q b e f g =
-    ap (λ v. judged v s 0 op st) (ap (λ x. check x (runs st) 0 c) e ∙ ap (λ y. check (Some q) y 0 c) f ∙ g)
-    ∙ ap (λ x. line_in s 0 op x st) e
+goes c s op st q b e f g = grind arith
 
 pub as_line : (s : Plan) (op a : Op) (mark : Mark) (st : State) (P : State → Type 0) → op ≡ a → P (line s 0 a mark st).1 → P (line s 0 op mark st).1
 as_line s op a mark st P e h = subst (λ x. P (line s 0 x mark st).1) (sym e) h
 
--- while a stage makes no set, none is in progress
-pub none_made : (g : Stage) (q : Session) (o : SetOutcome) (found : Option SetRow) → makes_set g ≡ false → q.stage ≡ g → IsOfSession (Some q) o found → found ≡ None
-none_made g q o None e f h = refl
-none_made g q o (Some r) e f h = absurd (true_not_false (makes_set q.stage) h.0 (ap makes_set f ∙ e))
-
 pub none_in : (g : Stage) (st : State) → makes_set g ≡ false → IsIn g st.session → IsOrderly st → in_progress st ≡ None
-none_in g st e i o = none_made g (session_at g i.set i.last) st.course.outcome (in_progress st) e refl (subst (λ (q : Option Session). IsOfSession q st.course.outcome (in_progress st)) i.is o.session)
+none_in g st e i o = grind arith
 
 -- where no set is in progress, there is nothing to say of it
 pub now_none : (o : Option SetRow) (c : Course) → o ≡ None → IsNow o c
-now_none None c e = tt
-now_none (Some r) c e = absurd cc
+now_none o c e = grind arith
 
 pub now_found : (o : Option SetRow) (r : SetRow) (c : Course) → o ≡ Some r → is_cut r ≡ said_by c.agenda c.outcome → IsNow o c
-now_found None r c e f = absurd cc
-now_found (Some q) r c e f = let same : q ≡ r = cc in ap is_cut same ∙ f
+now_found o r c e f = grind arith
 
 pub cut_row : (o : Option SetRow) (r : SetRow) (c : Course) → o ≡ Some r → IsNow o c → is_cut r ≡ said_by c.agenda c.outcome
-cut_row None r c e h = absurd cc
-cut_row (Some q) r c e h = let same : q ≡ r = cc in ap is_cut (sym same) ∙ h
+cut_row o r c e h = grind arith
 
 pub quiet_said : (a : Option Agenda) (o : SetOutcome) → is_some a ≡ false → o ≡ Running → said_by a o ≡ false
-quiet_said None o e f = ap is_complete f
-quiet_said (Some a) o e f = absurd cc
+quiet_said a o e f = grind arith
 
 pub running_found : (q : Session) (o : SetOutcome) (found : Option SetRow) (r : SetRow) → found ≡ Some r → IsOfSession (Some q) o found → o ≡ Running
-running_found q o None r e h = absurd cc
-running_found q o (Some x) r e h = h.2
+running_found q o found r e h = grind arith
 
 pub running_early : (q : Session) (o : SetOutcome) (found : Option SetRow) → found ≡ None → is_early q.stage ≡ true → IsOfSession (Some q) o found → o ≡ Running
-running_early q o None e f h = h.1 f
-running_early q o (Some x) e f h = absurd cc
+running_early q o found e f h = grind arith
 
 pub of_session : (st : State) (g : Stage) (i : IsIn g st.session) → IsOrderly st → IsOfSession (Some (session_at g i.set i.last)) st.course.outcome (in_progress st)
 of_session st g i o = subst (λ (q : Option Session). IsOfSession q st.course.outcome (in_progress st)) i.is o.session
@@ -104,17 +90,12 @@ done_mapped f same [] = refl
 done_mapped f same (r ∷ rows) = ap (λ b. b && list_all is_cut_or_open (map f rows)) (same r) ∙ ap (λ b. is_cut_or_open r && b) (done_mapped f same rows)
 
 pub now_mapped : (f : SetRow → SetRow) (o : Option SetRow) (c : Course) → ((r : SetRow) → is_cut (f r) ≡ is_cut r) → IsNow o c → IsNow (option_map f o) c
-now_mapped f None c same h = tt
-now_mapped f (Some r) c same h = same r ∙ h
+now_mapped f o c same h = grind arith
 
 -- while a stage makes a set, one is in progress
 pub record Found (x : Option SetRow) : Type 0 where
   pub row : SetRow
   pub is : x ≡ Some row
 
-pub found_made : (q : Session) (o : SetOutcome) (found : Option SetRow) → makes_set q.stage ≡ true → IsOfSession (Some q) o found → Found found
-found_made q o None e h = absurd (true_not_false (makes_set q.stage) e h.0)
-found_made q o (Some r) e h = record { row = r; is = refl }
-
 pub found_in : (g : Stage) (st : State) → makes_set g ≡ true → IsIn g st.session → IsOrderly st → Found (in_progress st)
-found_in g st e i o = found_made (session_at g i.set i.last) st.course.outcome (in_progress st) e (subst (λ (q : Option Session). IsOfSession q st.course.outcome (in_progress st)) i.is o.session)
+found_in g st e i o = grind arith

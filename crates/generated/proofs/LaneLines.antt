@@ -56,8 +56,7 @@ less : (a b : ℕ) → a < b → nat_lt a b ≡ true
 less a b l = grind (arith, nat_tests)
 
 has_room : (lines agendas : ℕ) (begun : Bool) → lines < 100000 → agendas < 2000 → (nat_lt lines 100000 && (not begun || nat_lt agendas 2000)) ≡ true
-has_room lines agendas true l k = grind (arith, nat_tests)
-has_room lines agendas false l k = grind (arith, nat_tests)
+has_room lines agendas begun l k = grind arith
 
 pub lane_line : (text rest : List ℕ) (m : Declared) (run : Run) (c : ℕ) (cs : List ℕ) (ws : List (List ℕ)) (w : Word) (x : Meaning)
     → are_words ((c ∷ cs) ∷ ws) ≡ true → (c == 35) ≡ false → word_of (c ∷ cs) ≡ Some w → IsLineWord w → HasSpace 1 run
@@ -108,26 +107,17 @@ lines_then words [] rest = rest
 lines_then words (a ∷ items) rest = line_then (words a) (lines_then words items rest)
 
 length_more : (xs : List Meaning) (ms : List LaneMeant) → length (lines_more xs ms) ≡ length ms
-length_more xs [] = refl
-length_more xs (m ∷ []) = refl
 length_more xs (m ∷ next ∷ ms) = ap suc (length_more xs (next ∷ ms))
+length_more xs _ = refl
 
 at_most_one : (b : Bool) → cond b 1 0 ≤ 1
-at_most_one true = omega arith
-at_most_one false = omega arith
+at_most_one b = grind arith
 
 one_less : (k : ℕ) (x : Meaning) (run : Run) → HasSpace (suc k) run → HasSpace k (with_meant (x ∷ []) run)
-one_less k x run space =
-    let same = length_more (x ∷ []) run.lanes in
-    let few = space.lines in
-    let few_agendas = space.agendas in
-    let some = space.lane in
-    let one = at_most_one (begins x) in
-    let only = begins_cons x [] in
-    record { lane = omega (arith, same, some); lines = omega (arith, few); agendas = omega (arith, few_agendas, one, only) }
+one_less k x run space = grind (arith, length_more, at_most_one, begins_cons)
 
 first_only : (k : ℕ) (run : Run) → HasSpace (suc k) run → HasSpace 1 run
-first_only k run space = let few = space.lines in let few_agendas = space.agendas in record { lane = space.lane; lines = omega (arith, few); agendas = omega (arith, few_agendas) }
+first_only k run space = grind arith
 
 pub many_lines : {A : Type 0} (text rest : List ℕ) (m : Declared) (words : A → List (List ℕ)) (meaning : A → Meaning) (good : A → Bool)
     → ((a : A) (more : List ℕ) (run : Run) → good a ≡ true → HasSpace 1 run → Then text (line_then (words a) more) (IsSaid text m run) → Then text more (IsSaid text m (with_meant (meaning a ∷ []) run)))

@@ -1,23 +1,22 @@
 -- The lanes that write, one after another.
-use Rattle.std.proofs.Common.{◌≡◌, ◌∙◌, ℕ, suc, ◌+◌, ◌*◌, ◌/◌, ◌%◌, ◌<◌, ◌≤◌, Bool, true, false, List, [], ◌∷◌, ◌++◌, length, map, Option, Some, None, refl, ap, ap₂, sym, subst, arith, codes, append_assoc, length-append}
-use Rattle.std.specs.Prelude.{◌&&◌, not, nat_lt, is_some, ok_or, count_by, if◌then◌else◌, Result, Ok, Err}
-use Rattle.std.specs.List.{flat_map, range_with_len}
+use Rattle.std.proofs.Common.{◌≡◌, ◌∙◌, ℕ, suc, ◌+◌, ◌*◌, ◌<◌, ◌≤◌, Bool, true, false, List, [], ◌∷◌, ◌++◌, length, map, Option, Some, None, refl, ap, ap₂, sym, subst, arith, codes, append_assoc, length-append}
+use Rattle.std.specs.Prelude.{◌&&◌, not, nat_lt, is_some, ok_or, if◌then◌else◌, Result, Ok, Err}
+use Rattle.std.specs.List.{flat_map}
 use Rattle.std.specs.Str.{bytes_eq}
 use Rattle.std.specs.Fmt.{decimal}
 use Rattle.std.proofs.lemmas.Fmt.{decimal_digit, decimal_step}
 use Rattle.std.proofs.lemmas.List.{length-map, map_push}
 use Rattle.std.proofs.lemmas.Bool.Decides.{nat_tests}
 use Rattle.scenario.specs.declared.reason.Reason.{Reason}
-use Rattle.scenario.specs.declared.reason.Reason.TheVariants.{Misplaced, UnknownName, UnknownWord, TooMany}
+use Rattle.scenario.specs.declared.reason.Reason.TheVariants.{Misplaced, UnknownName, UnknownWord}
 use Rattle.scenario.specs.declared.span.Span.{Span}
-use Rattle.scenario.specs.Plan.{LanePlan}
 use Rattle.scenario.specs.Lines.{span_from}
 use Rattle.scenario.specs.Fields.{bytes_of, fields_of}
 use Rattle.scenario.specs.Words.{word_of}
 use Rattle.vss_names.specs.Names.{is_name}
 use Rattle.scenario.specs.Names.{place_of, lane_named, writer_named}
 use Rattle.scenario.specs.Ops.{◌>>=◌, writer_field}
-use Rattle.scenario.specs.SoFar.{SoFar, Saying, after, line_count, agenda_count}
+use Rattle.scenario.specs.SoFar.{SoFar, after}
 use Rattle.scenario.specs.SoFar as saying
 use Rattle.scenario.specs.Declarations.{name_field, free_lane_of, acting_lane_of, lane_of, lane_if}
 use Rattle.scenario.specs.Entries.{placed_row_of, row_of}
@@ -25,7 +24,7 @@ use Rattle.generator_text.specs.ScenarioText.{acting, lane_text, writes_text}
 use Rattle.vss_report.proofs.Joined.{first_of_both, second_of_both}
 use Rattle.generated.proofs.Words.{is_word, spans_at}
 use Rattle.generated.proofs.Reader.{Says, end_of, head_is, tail_is, Then, line_then, then_line, same_rest}
-use Rattle.generated.proofs.Meant.{Declared, LaneMeant, begins, names_meant, lanes_names, lanes_snoc, count_new, agendas_new, Run, IsSaid, still_declared, with_meant, with_lane, into_last}
+use Rattle.generated.proofs.Meant.{Declared, LaneMeant, names_meant, lanes_names, lanes_snoc, count_new, agendas_new, Run, IsSaid, still_declared, with_meant, with_lane, into_last}
 use Rattle.generated.proofs.LaneLines.{HasSpace}
 use Rattle.generated.proofs.SetTexts.{writer_name, all_declared}
 use Rattle.generated.proofs.DeclaredLines.{new_name}
@@ -42,24 +41,16 @@ pub record IsNewLane (name : List ℕ) (run : Run) : Type 0 where
 
 lane_holds : (text : List ℕ) (m : Declared) (run : Run) (d : SoFar) (span : Span) (name : List ℕ) (whom : Option ℕ) → IsSaid text m run d → bytes_of text span ≡ name
     → IsSaid text m (with_lane name whom run) (after d (saying.Lane span whom))
-lane_holds text m run d span name whom h e = record {
-  declared = still_declared text m d _ h.declared;
-  lanes = lanes_snoc text run.lanes d.lanes _ _ h.lanes (record { name = e; whom = refl; lines = tt });
-  lines = count_new _ d.lanes refl ∙ h.lines;
-  agendas = agendas_new _ d.lanes refl ∙ h.agendas;
-}
+lane_holds text m run d span name whom h e = grind (arith, still_declared, lanes_snoc, count_new, agendas_new)
 
 new_lane_is : (text : List ℕ) (m : Declared) (run : Run) (d : SoFar) (span : Span) (name : List ℕ) → IsSaid text m run d → IsNewLane name run → bytes_of text span ≡ name
     → name_field text (is_some (lane_named text d.lanes (bytes_of text span))) span ≡ Ok span
 unfolding lane_named
-new_lane_is text m run d span name h new e =
-    new_name text _ span name e new.named (ap₂ (λ (x : List ℕ) ns. is_some (place_of x ns)) e (lanes_names text run.lanes d.lanes h.lanes) ∙ new.free)
+new_lane_is text m run d span name h new e = grind (arith, new_name, lanes_names)
 
 few_lanes : (text : List ℕ) (m : Declared) (run : Run) (d : SoFar) (span : Span) (name : List ℕ) (whom : Option ℕ) → IsSaid text m run d → IsNewLane name run
     → lane_if d span whom ≡ Ok (saying.Lane span whom)
-few_lanes text m run d span name whom h new =
-    ap (λ n. if nat_lt n 64 then Ok (saying.Lane span whom) else Err TooMany) (sym (length-map d.lanes (λ (l : LanePlan). bytes_of text l.name)) ∙ ap length (lanes_names text run.lanes d.lanes h.lanes))
-    ∙ ap (λ b. if b then Ok (saying.Lane span whom) else Err TooMany) new.few
+few_lanes text m run d span name whom h new = grind (arith, length-map, lanes_names)
 
 pub free_lane : (text rest : List ℕ) (m : Declared) (run : Run) (name : List ℕ) → IsNewLane name run
     → Then text (line_then (codes "lane" ∷ name ∷ []) rest) (IsSaid text m run) → Then text rest (IsSaid text m (with_lane name None run))
@@ -121,21 +112,7 @@ abbrev pub whom_of : ℕ → Option ℕ
 whom_of i = if nat_lt i 4 then Some 2 else if nat_lt i 7 then Some 1 else if nat_lt i 10 then Some 0 else None
 
 decimal_is : (i : ℕ) → i < 16 → decimal i ≡ digits_of i
-decimal_is i l = by_size (nat_lt i 10) refl
-  where
-    small : nat_lt i 10 ≡ true → i < 10
-    small e = grind (arith, nat_tests)
-
-    large : nat_lt i 10 ≡ false → 10 ≤ i
-    large e = grind (arith, nat_tests)
-
-    by_size : (b : Bool) → nat_lt i 10 ≡ b → decimal i ≡ (if b then (48 + i) ∷ [] else 49 ∷ (38 + i) ∷ [])
-    by_size true e = decimal_digit i (small e)
-    by_size false e =
-        let ten = large e in
-        let tens : i / 10 ≡ 1 = omega (arith, ten, l) in
-        let ones : 48 + i % 10 ≡ 38 + i = omega (arith, ten, l) in
-        decimal_step i ten (omega (arith, l)) ∙ ap₂ (λ (t o : ℕ). decimal t ++ o ∷ []) tens ones ∙ ap (λ ds. ds ++ (38 + i) ∷ []) (decimal_digit 1 (omega arith))
+decimal_is i l = grind (arith, decimal_digit, decimal_step)
 
 -- the lane that i is, with its writes
 abbrev pub lane_meant : ℕ → ℕ → LaneMeant
@@ -174,14 +151,7 @@ lane_begins text rest run i new = by_third (nat_lt i 4) (nat_lt i 7) (nat_lt i 1
     by_third false false false t = free_lane text rest all_declared run (lane_name i) new t
 
 begun_with : (n i : ℕ) (run : Run) → with_meant (writes_meant n i) (with_lane (lane_name i) (whom_of i) run) ≡ after_lane n run i
-begun_with n i run =
-    let begun = count_by begins (writes_meant n i) in
-    let none : begun ≡ 0 = writes_begin_none n i (range_with_len 0 200) in
-    ap (λ (lanes : List LaneMeant). record { lanes = lanes; lines = run.lines + 200; agendas = run.agendas + begun }) (into_last (writes_meant n i) run.lanes (lane_name i) (whom_of i))
-    ∙ ap (λ (agendas : ℕ). record { lanes = run.lanes ++ lane_meant n i ∷ []; lines = run.lines + 200; agendas = agendas }) (same run.agendas begun none)
-  where
-    same : (a b : ℕ) → b ≡ 0 → a + b ≡ a
-    same a b e = omega (arith, e)
+begun_with n i run = grind (arith, writes_begin_none, into_last)
 
 writing_lane : (text rest : List ℕ) (run : Run) (n i : ℕ) → i < 16 → IsNewLane (lane_name i) run → HasSpace 200 (with_lane (lane_name i) (whom_of i) run)
     → Then text (lane_text n i ++ rest) (IsSaid text all_declared run) → Then text rest (IsSaid text all_declared (after_lane n run i))
@@ -207,20 +177,8 @@ after_all n run (i ∷ is) = after_all n (after_lane n run i) is
 below : (i : ℕ) → nat_lt i 16 ≡ true → i < 16
 below i e = grind (arith, nat_tests)
 
-not_true : (b : Bool) → not b ≡ true → b ≡ false
-not_true true e = absurd cc
-not_true false e = refl
-
 new_from : (i : ℕ) (run : Run) → (is_word (lane_name i) && (is_name (lane_name i) && (not (is_some (place_of (lane_name i) (names_meant run.lanes))) && nat_lt (length (names_meant run.lanes)) 64))) ≡ true → IsNewLane (lane_name i) run
-new_from i run e =
-    let named = second_of_both (is_word (lane_name i)) _ e in
-    let free = second_of_both (is_name (lane_name i)) _ named in
-    record {
-      word = first_of_both (is_word (lane_name i)) _ e;
-      named = first_of_both (is_name (lane_name i)) _ named;
-      free = not_true _ (first_of_both (not (is_some (place_of (lane_name i) (names_meant run.lanes)))) _ free);
-      few = second_of_both (not (is_some (place_of (lane_name i) (names_meant run.lanes)))) _ free;
-    }
+new_from i run e = grind arith
 
 space_for : (k : ℕ) (run : Run) (name : List ℕ) (whom : Option ℕ) → run.lines + 200 * suc k ≤ 100000 → run.agendas + 200 ≤ 2000 → HasSpace 200 (with_lane name whom run)
 space_for k run name whom few few_agendas =

@@ -79,16 +79,13 @@ all_end [] = true
 all_end (x ∷ xs) = (not (starts x) || list_any stops xs) && all_end xs
 
 pub begins_as : (text : List ℕ) (x : Meaning) (op : Op) → IsMeant text x op → begins_agenda op ≡ begins x
-begins_as text (Does o) op h = ap begins_agenda h
-begins_as text (NamesMain w) op h = ap begins_agenda h.is
+begins_as text x op h = grind arith
 
 starts_as : (text : List ℕ) (x : Meaning) (op : Op) → IsMeant text x op → is_begin op ≡ starts x
-starts_as text (Does o) op h = ap is_begin h
-starts_as text (NamesMain w) op h = ap is_begin h.is
+starts_as text x op h = grind arith
 
 stops_as : (text : List ℕ) (x : Meaning) (op : Op) → IsMeant text x op → is_end op ≡ stops x
-stops_as text (Does o) op h = ap is_end h
-stops_as text (NamesMain w) op h = ap is_end h.is
+stops_as text x op h = grind arith
 
 has_end_as : (text : List ℕ) (xs : List Meaning) (ls : List LaneLine) → AreMeant text xs ls → has_end ls ≡ list_any stops xs
 has_end_as text [] [] h = refl
@@ -263,16 +260,7 @@ pub record IsSaid (text : List ℕ) (m : Declared) (run : Run) (d : SoFar) : Typ
 
 -- what is declared stays the same where the lanes change
 pub still_declared : (text : List ℕ) (m : Declared) (d : SoFar) (lanes : List LanePlan) → IsDeclared text m d → IsDeclared text m (record d { lanes = lanes })
-still_declared text m d lanes h = record {
-  opened = h.opened;
-  names = h.names;
-  shapes = h.shapes;
-  groups = h.groups;
-  size = h.size;
-  writers = h.writers;
-  metas = h.metas;
-  scripts = h.scripts;
-}
+still_declared text m d lanes h = grind arith
 
 -- with these lines more in the last lane
 abbrev pub with_meant : List Meaning → Run → Run
@@ -298,21 +286,16 @@ more_twice xs ys (m ∷ next ∷ []) = ap (λ (zs : List LaneMeant). m ∷ zs) (
 more_twice xs ys (m ∷ next ∷ third ∷ ms) = ap (λ (zs : List LaneMeant). m ∷ zs) (more_twice xs ys (next ∷ third ∷ ms))
 
 pub with_nothing : (run : Run) → with_meant [] run ≡ run
-with_nothing run = same_run (lines_more [] run.lanes) run.lanes (run.lines + 0) run.lines (run.agendas + 0) run.agendas (more_nothing run.lanes) (omega arith) (omega arith)
+with_nothing run = grind (arith, same_run, more_nothing)
 
 pub begins_cons : (x : Meaning) (xs : List Meaning) → count_by begins (x ∷ xs) ≡ cond (begins x) 1 0 + count_by begins xs
 begins_cons x xs = sum_by-cons (λ (y : Meaning). cond (begins y) 1 0) x xs
 
 pub with_first : (x : Meaning) (xs : List Meaning) (run : Run) → with_meant xs (with_meant (x ∷ []) run) ≡ with_meant (x ∷ xs) run
-with_first x xs run =
-    let one = begins_cons x [] in
-    let all = begins_cons x xs in
-    same_run (lines_more xs (lines_more (x ∷ []) run.lanes)) (lines_more (x ∷ xs) run.lanes) (run.lines + 1 + length xs) (run.lines + length (x ∷ xs))
-    (run.agendas + count_by begins (x ∷ []) + count_by begins xs) (run.agendas + count_by begins (x ∷ xs)) (more_twice (x ∷ []) xs run.lanes) (omega arith) (omega (arith, one, all))
+with_first x xs run = grind (arith, begins_cons, same_run, more_twice)
 
 -- the lines go into the lane that began last
 pub into_last : (xs : List Meaning) (ms : List LaneMeant) (name : List ℕ) (whom : Option ℕ)
     → lines_more xs (ms ++ record { name = name; whom = whom; lines = [] } ∷ []) ≡ ms ++ record { name = name; whom = whom; lines = xs } ∷ []
-into_last xs [] name whom = refl
-into_last xs (m ∷ []) name whom = refl
 into_last xs (m ∷ next ∷ ms) name whom = ap (λ (zs : List LaneMeant). m ∷ zs) (into_last xs (next ∷ ms) name whom)
+into_last xs _ name whom = refl

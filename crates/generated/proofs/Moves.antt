@@ -1,5 +1,5 @@
 -- One move of a legal trail without faults keeps a run on its way, and nobody idles.
-use Rattle.std.proofs.Common.{◌≡◌, ℕ, zero, suc, ◌+◌, ◌<◌, ◌≤◌, List, [], ◌∷◌, ◌++◌, Option, Some, None, refl, Bool, true, false, ap, sym, ◌∙◌, ◌==◌, subst, length, drop, arith, inl, inr}
+use Rattle.std.proofs.Common.{◌≡◌, ℕ, zero, suc, ◌+◌, ◌<◌, ◌≤◌, List, [], ◌∷◌, ◌++◌, Option, Some, None, refl, Bool, true, false, ap, sym, ◌∙◌, subst, length, drop, arith, inl, inr}
 use Rattle.std.specs.Prelude.{is_some, nat_lt, nat_le, slice_get, ◌⊎◌, ◌&&◌, not, All}
 use Rattle.std.specs.List.{list_all, range_with_len}
 use Rattle.std.proofs.lemmas.Bool.Decides.{nat_tests}
@@ -34,7 +34,7 @@ use Rattle.vss_model.proofs.GoesOn.{cursor_more, cursor_same}
 use Rattle.vss_model.proofs.OrderlyActs.{orderly}
 use Rattle.vss_model.proofs.Waiting.{agenda_goes_on}
 use Rattle.generated.specs.Asked.{Asked, AreAsked}
-use Rattle.generated.specs.Spots.{Spot, Place, Free, Stands, Waits, is_free, spot_after, completes_sets, is_full}
+use Rattle.generated.specs.Spots.{Spot, Place, spot_after, completes_sets, is_full}
 use Rattle.generated.specs.Smooth.{IsSmooth, writes, is_write}
 use Rattle.generated.proofs.Sound.{IsSound}
 use Rattle.generated.proofs.Standing.{IsAt, IsOnWay}
@@ -117,16 +117,13 @@ writes_op s n lane op _ mark p k vs st smooth reached e o most h = absurd cc
 -- ## nobody idles
 
 pub script_of_order : (s : Plan) (r : Run) (w : ℕ) (x : Option Order) → script_of s w ≡ [] → order_of_writer r.state w ≡ x → is_some x ≡ true → event_enabled s r (script_event s r.state w x) ≡ true
-script_of_order s r w None e f g = absurd cc
-script_of_order s r w (Some o) e f g =
-    subst (λ (rows : List Scripted). event_enabled s r (answer_event w (scripted_answer rows o (sent r.state.course w o))) ≡ true) (sym e) (ap is_some f)
+script_of_order s r w x e f g = grind arith
 
 pub writer_can : (s : Plan) (r : Run) (w : ℕ) → script_of s w ≡ [] → is_some (order_of_writer r.state w) ≡ true → can_act s r (Writer w) ≡ true
 writer_can s r w e f = script_of_order s r w (order_of_writer r.state w) e refl f
 
 pub not_both : (b : Bool) → b ≡ true → not b ≡ true → ⊥
-not_both true e f = cc
-not_both false e f = cc
+not_both b e f = grind arith
 
 abbrev pub no_lane : Plan → Run → Bool
 no_lane s r = list_all (λ i. not (can_act s r (Lane i))) (range_with_len 0 (length s.lanes))
@@ -166,34 +163,14 @@ pub record IsBefore (s : Plan) (n : ℕ) (r : Run) : Type 0 where
   pub way : IsOnWay s n r
 
 pub others_left : (s : Plan) (n : ℕ) (r : Run) (m : Move) (st : State) (way : IsOnWay s n r) → is_lane 0 m.actor ≡ false → IsAt s way.spot.place way.spot.sets way.spot.volumes st → IsNext s n r m st
-others_left s n r m st way e at = record {
-  asked = way.asked;
-  left = subst (λ k. AreAsked s way.asked (drop k (lines_of s 0))) (sym (cursor_same r.moves m 0 e)) way.left;
-  spot = way.spot;
-  leads = way.leads;
-  at = at;
-}
-
-pub nat_le_is : (a b : ℕ) → nat_le a b ≡ true → a ≤ b
-nat_le_is a b e = grind (arith, nat_tests)
+others_left s n r m st way e at = grind (arith, cursor_same)
 
 pub spot_few : (c n : ℕ) (asked : List Asked) (x : Spot) → completes_sets c n asked (Some x) ≡ true → x.sets ≤ n
-spot_few c n [] x e = same (is_free x.place) x.sets n e
-  where
-    same : (b : Bool) (a c : ℕ) → (b && (a == c)) ≡ true → a ≤ c
-    same true a c e = grind arith
-    same false a c e = absurd cc
-spot_few c n (a ∷ more) x e = nat_le_is x.sets n (and_first (nat_le x.sets n) (is_full c x.place x.volumes) (and_first (nat_le x.sets n && is_full c x.place x.volumes) (completes_sets c n more (spot_after x.place x.sets x.volumes a)) e))
+spot_few c n asked x e = grind arith
 
 -- a set that is made has all volumes
 pub spot_full : (c n : ℕ) (asked : List Asked) (x : Spot) → completes_sets c n asked (Some x) ≡ true → is_full c x.place x.volumes ≡ true
-spot_full c n [] x e = at_home x.place x.volumes (and_first (is_free x.place) (x.sets == n) e)
-  where
-    at_home : (p : Place) (vs : List ℕ) → is_free p ≡ true → is_full c p vs ≡ true
-    at_home Free vs e = refl
-    at_home (Stands g) vs e = absurd cc
-    at_home (Waits g) vs e = absurd cc
-spot_full c n (a ∷ more) x e = and_second (nat_le x.sets n) (is_full c x.place x.volumes) (and_first (nat_le x.sets n && is_full c x.place x.volumes) (completes_sets c n more (spot_after x.place x.sets x.volumes a)) e)
+spot_full c n asked x e = grind arith
 
 -- the lane that makes the sets
 pub own_line : (s : Plan) (n : ℕ) (r : Run) (m : Move) (l : LaneLine) (asked : List Asked) → IsBefore s n r → AreAsked s asked (l ∷ drop (suc (cursor r.moves 0)) (lines_of s 0)) → (spot : Spot) → completes_sets (length s.volumes) n asked (Some spot) ≡ true

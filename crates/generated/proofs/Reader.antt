@@ -1,17 +1,16 @@
 -- The reader goes on over a text line by line: each line that says something adds what it says.
-use Rattle.std.proofs.Common.{◌≡◌, ◌∙◌, ℕ, suc, ◌+◌, ◌-◌, Bool, true, false, List, [], ◌∷◌, ◌++◌, length, map, refl, ap, sym, subst, arith, append_assoc, length-append}
-use Rattle.std.specs.Prelude.{◌==◌, ◌||◌, if◌then◌else◌, Result, Ok, Err}
+use Rattle.std.proofs.Common.{◌≡◌, ◌∙◌, ℕ, ◌+◌, ◌-◌, Bool, true, false, List, [], ◌∷◌, ◌++◌, length, map, refl, ap, sym, subst, arith, append_assoc, length-append}
+use Rattle.std.specs.Prelude.{◌==◌, if◌then◌else◌, Result, Ok, Err}
 use Rattle.std.specs.List.{list_all}
-use Rattle.std.proofs.lemmas.Bool.Decides.{nat_tests}
 use Rattle.scenario.specs.declared.reason.Reason.{Reason}
-use Rattle.scenario.specs.declared.reason.Reason.TheVariants.{BadByte, Empty}
+use Rattle.scenario.specs.declared.reason.Reason.TheVariants.{BadByte}
 use Rattle.scenario.specs.Lines.{span_from, lines_from}
 use Rattle.scenario.specs.Fields.{bytes_of, words_from}
 use Rattle.scenario.specs.Words.{word_of}
 use Rattle.scenario.specs.SoFar.{SoFar, Saying, nothing, after, plan_in}
 use Rattle.scenario.specs.SoFar as saying
 use Rattle.scenario.specs.Entries.{is_printable, is_skipped, placed_row_of, said_of, saying_of}
-use Rattle.scenario.specs.Grammar.{IsScenario, IsBad, goes_on, read_from, reading_of}
+use Rattle.scenario.specs.Grammar.{IsScenario, goes_on, read_from, reading_of}
 use Rattle.generated.proofs.Words.{are_words, joined, spans_at, words_joined, joined_printable, part_is, parts_are, line_first}
 
 -- ## what a line says
@@ -33,16 +32,9 @@ head_is x y xs ys e = cc
 pub tail_is : (x y : List ℕ) (xs ys : List (List ℕ)) → x ∷ xs ≡ y ∷ ys → xs ≡ ys
 tail_is x y xs ys e = cc
 
-not_skipped : (c : ℕ) (cs : List ℕ) → (c == 35) ≡ false → is_skipped (c ∷ cs) ≡ false
-not_skipped c cs e = ap (λ b. b || (c == 35)) (some (length cs)) ∙ e
-  where
-    some : (n : ℕ) → (suc n == 0) ≡ false
-    some n = grind (arith, nat_tests)
-
 -- a word that is neither empty nor a comment begins no line that is skipped
 goes_on_after : (c : ℕ) (cs : List ℕ) (ws : List (List ℕ)) → (c == 35) ≡ false → is_skipped (joined ((c ∷ cs) ∷ ws)) ≡ false
-goes_on_after c cs [] e = not_skipped c cs e
-goes_on_after c cs (v ∷ ws) e = not_skipped c (cs ++ 32 ∷ joined (v ∷ ws)) e
+goes_on_after c cs ws e = grind arith
 
 end_is : (start : ℕ) (w : List ℕ) (ws : List (List ℕ)) → start + length (joined (w ∷ ws)) ≡ end_of (start + length w + 1) ws
 end_is start w [] = omega arith
@@ -91,10 +83,6 @@ begins text P holds = record {
 pub same_rest : (text rest other : List ℕ) (P : SoFar → Type 0) → rest ≡ other → Then text rest P → Then text other P
 same_rest text rest other P e i = subst (λ xs. Then text xs P) e i
 
--- the same, or less, is known
-pub known_too : (text rest : List ℕ) (P Q : SoFar → Type 0) → ((d : SoFar) → P d → Q d) → Then text rest P → Then text rest Q
-known_too text rest P Q f i = record { d = i.d; at = i.at; holds = f i.d i.holds }
-
 -- these words as a line, and then the rest
 abbrev pub line_then : List (List ℕ) → List ℕ → List ℕ
 line_then ws rest = joined ws ++ 10 ∷ rest
@@ -131,10 +119,4 @@ then_line text c cs ws rest P Q words first says i =
 
 -- at the end of the text, where the `scenario` line was read
 pub ends : (text : List ℕ) (P : SoFar → Type 0) (i : Then text [] P) → i.d.opened ≡ true → reading_of text ≡ IsScenario (plan_in text i.d)
-ends text P i opened =
-    i.at.reads
-    ∙ ap (λ (b : Bool). read_from text i.at.number i.d (if b then [] else record { span = span_from (length i.at.before) (length i.at.before); ended = false } ∷ [])) (itself (length i.at.before))
-    ∙ ap (λ (b : Bool). if b then IsScenario (plan_in text i.d) else IsBad i.at.number Empty) opened
-  where
-    itself : (n : ℕ) → (n == n) ≡ true
-    itself n = grind arith
+ends text x1 i opened = grind arith

@@ -1,5 +1,5 @@
 -- Each line of the lane that makes the sets leads a state from spot to spot.
-use Rattle.std.proofs.Common.{◌≡◌, ℕ, ◌≤◌, List, [], ◌∷◌, None, true, length}
+use Rattle.std.proofs.Common.{◌≡◌, ℕ, ◌≤◌, List, None, true, length, arith}
 use Rattle.write_history.specs.declared.mark.Mark.{Mark}
 use Rattle.requestor.specs.declared.stage.Stage.TheVariants.{Opened, Gathered, Started, Prepared, Done, Finished, Failed}
 use Rattle.scenario.specs.declared.op.Op.{Op}
@@ -17,8 +17,7 @@ use Rattle.generated.proofs.SetLines.{begins, gathers, names, starts, adds}
 -- ## all of them
 
 nothing_leads : (c n : ℕ) (more : List Asked) → completes_sets c n more None ≡ true → ⊥
-nothing_leads c n [] e = cc
-nothing_leads c n (a ∷ more) e = cc
+nothing_leads c n more e = grind arith
 
 pub requests : (s : Plan) (n : ℕ) (more : List Asked) (p : Place) (k : ℕ) (vs : List ℕ) (a : Asked) (op : Op) (mark : Mark) (st : State) → IsAsked s a op → line_enabled s st 0 op ≡ true → completes_sets (length s.volumes) n more (spot_after p k vs a) ≡ true → k ≤ n → IsAt s p k vs st → IsKnown n k st (line s 0 op mark st).1 → LeadsTo s n more st (line s 0 op mark st).1
 requests s n more Free k vs Begins op mark st e on leads most h known = begins s n more k vs op mark st e on leads most h known

@@ -4,22 +4,19 @@ use Rattle.std.specs.Prelude.{is_none, cond, slice_get, not, if◌then◌else◌
 use Rattle.std.specs.List.{list_all, range_with_len}
 use Rattle.std.proofs.lemmas.List.Sums.{sum_by-cons}
 use Rattle.vss_names.specs.declared.set_outcome.SetOutcome.{SetOutcome}
-use Rattle.vss_names.specs.declared.set_outcome.SetOutcome.TheVariants.{Running, Complete as CompleteSet, Failed as FailedSet}
 use Rattle.write_history.specs.declared.mark.Mark.{Mark}
-use Rattle.write_history.specs.declared.mark.Mark.TheVariants.{Clean, Fault, FaultAfter}
+use Rattle.write_history.specs.declared.mark.Mark.TheVariants.{Clean}
 use Rattle.write_history.specs.declared.move_item.Move.{Move}
-use Rattle.requestor.specs.Session.{Session}
 use Rattle.scenario.specs.Plan.{Plan, LanePlan, lines_in, lines_of}
 use Rattle.vss_model.specs.declared.event.Event.{Event}
-use Rattle.vss_model.specs.State.{State, SetRow, is_running, is_complete, in_progress, row_of_writer}
+use Rattle.vss_model.specs.State.{State, SetRow, is_running, is_complete, row_of_writer}
 use Rattle.vss_model.specs.Ending.{runs}
 use Rattle.vss_model.specs.Acts.{after, state}
 use Rattle.vss_model.specs.Trail.{Run, begin, cursor, next_line, event_of, act_of, acts, after_event, moved, run_from, run, may_move, allows, is_legal_move, is_legal_from, is_legal, is_used_up, is_over, is_complete as is_complete_trail, is_fault, faults}
-use Rattle.vss_model.specs.Facts.{IsOfNone, IsOfSession, has_failed, IsOrderly}
+use Rattle.vss_model.specs.Facts.{IsOfNone, has_failed, IsOrderly}
 use Rattle.vss_model.proofs.Appending.{state-append, state-run}
-use Rattle.vss_model.proofs.Orderly.{true_not_false}
 use Rattle.generated.specs.Asked.{Asked, AreAsked}
-use Rattle.generated.specs.Spots.{Place, Free, Stands, Waits, is_at_end, is_free, completes_sets}
+use Rattle.generated.specs.Spots.{Place, Free, is_at_end, is_free, completes_sets}
 use Rattle.generated.specs.Smooth.{IsSmooth}
 use Rattle.generated.proofs.Standing.{none_failed, IsAt, IsOnWay}
 use Rattle.generated.proofs.Courses.{and_first, and_second, and_both, length_map}
@@ -41,9 +38,7 @@ way_after s n r m (Some event) reached next = record {
 }
 
 pub clean_mark : (mark : Mark) → is_fault mark ≡ false → mark ≡ Clean
-clean_mark Clean e = refl
-clean_mark Fault e = absurd cc
-clean_mark (FaultAfter k) e = absurd cc
+clean_mark mark e = grind arith
 
 pub record IsClean (m : Move) (ms : List Move) : Type 0 where
   pub first : m.mark ≡ Clean
@@ -88,8 +83,7 @@ none_asked s [] h = refl
 none_asked s (a ∷ more) h = absurd h
 
 pub is_none_of : {X : Type 0} (x : Option X) → is_none x ≡ true → x ≡ None
-is_none_of None e = refl
-is_none_of (Some y) e = absurd cc
+is_none_of x e = grind arith
 
 -- the lane that makes the sets is used up
 pub used_up : (s : Plan) (r : Run) → list_all (is_used_up s r) (range_with_len 0 (length s.lanes)) ≡ true → next_line s r 0 ≡ None
@@ -104,13 +98,10 @@ used_up s r h = by_lanes s.lanes refl h
     by_lanes (p ∷ ps) e h = is_none_of (next_line s r 0) (and_first (is_used_up s r 0) _ h)
 
 pub none_running : (o : SetOutcome) (found : Option SetRow) → IsOfNone o found → found ≡ None
-none_running o None h = refl
-none_running o (Some r) h = absurd h
+none_running o found h = grind arith
 
 pub complete_if : (b : Bool) (o : SetOutcome) → is_running o ≡ b → b ≡ false → not (has_failed o) ≡ true → is_complete o ≡ true
-complete_if b Running e f h = absurd (true_not_false b (sym e) f)
-complete_if b CompleteSet e f h = refl
-complete_if b (FailedSet why) e f h = absurd cc
+complete_if b o e f h = grind arith
 
 pub all_complete : (rows : List SetRow) → find (λ r. is_running r.result) rows ≡ None → none_failed rows ≡ true → list_all (λ r. is_complete r.result) rows ≡ true
 all_complete [] e h = refl
@@ -135,12 +126,7 @@ pub same_count : (a b : ℕ) → (a == b) ≡ true → a ≡ b
 same_count a b e = grind arith
 
 pub at_end : (s : Plan) (n : ℕ) (p : Place) (k : ℕ) (vs : List ℕ) (st : State) → is_free p ≡ true → k ≡ n → IsAt s p k vs st → IsOrderly st → AreDone n st
-at_end s n Free k vs st e f h o = record {
-  count = h.sets ∙ f;
-  complete = all_complete st.sets (none_running st.course.outcome (in_progress st) (subst (λ (q : Option Session). IsOfSession q st.course.outcome (in_progress st)) h.place.0 o.session)) h.fine;
-}
-at_end s n (Stands g) k vs st e f h o = absurd cc
-at_end s n (Waits g) k vs st e f h o = absurd cc
+at_end s n p k vs st e f h o = grind (arith, all_complete, none_running)
 
 pub over : (s : Plan) (n : ℕ) (r : Run) → IsOnWay s n r → is_over s r ≡ true → AreDone n r.state
 over s n r way e =

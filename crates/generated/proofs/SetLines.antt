@@ -13,13 +13,12 @@ use Rattle.component_doc.specs.Selection.{Naming, IsNotFound, IsNotSelectable, I
 use Rattle.requestor.specs.declared.session_call.SessionCall.TheVariants as call
 use Rattle.requestor.specs.declared.stage.Stage.TheVariants.{Opened, Gathered, Started}
 use Rattle.requestor.specs.Session.{context_of}
-use Rattle.requestor.specs.Check.{check}
 use Rattle.scenario.specs.declared.op.Op.{Op}
-use Rattle.scenario.specs.declared.op.Op.TheVariants.{Begin, Gather, Component, Start, Add}
+use Rattle.scenario.specs.declared.op.Op.TheVariants.{Gather, Component, Start, Add}
 use Rattle.scenario.specs.Plan.{Plan, token}
 use Rattle.vss_model.specs.State.{State, SetRow, is_running, in_progress, history_of}
-use Rattle.vss_model.specs.Ending.{followed, runs}
-use Rattle.vss_model.specs.Sessions.{is_disabled, known_metas, volumes_of, new_set, new_number, with_volume, change_set, add_refusal, add_to, add, named_as, line_in, judged, begin_in}
+use Rattle.vss_model.specs.Ending.{followed}
+use Rattle.vss_model.specs.Sessions.{is_disabled, known_metas, volumes_of, new_set, new_number, with_volume, change_set, add_refusal, add_to, add, named_as}
 use Rattle.vss_model.specs.Lines.{called, line}
 use Rattle.vss_model.specs.Acts.{line_enabled}
 use Rattle.vss_model.specs.Facts.{has_failed, IsOrderly}
@@ -41,18 +40,7 @@ of_nine = refl
 
 pub begins : (s : Plan) (n : ℕ) (more : List Asked) (k : ℕ) (vs : List ℕ) (op : Op) (mark : Mark) (st : State) → IsAsked s Begins op → line_enabled s st 0 op ≡ true → completes_sets (length s.volumes) n more (spot_after Free k vs Begins) ≡ true → k ≤ n → IsAt s Free k vs st → IsKnown n k st (line s 0 op mark st).1 → LeadsTo s n more st (line s 0 op mark st).1
 unfolding called
-begins s n more k vs op mark st e on leads most h known =
-    as_line s op (Begin 9 false) mark st (LeadsTo s n more st) e
-    (let is : (called (call.Begin 9 false) s 0 (Begin 9 false) st) ≡ begin_in 0 false (Some AppRollback) st
-    = ap (λ x. judged (check x (runs st) 0 (call.Begin 9 false)) s 0 (Begin 9 false) st) h.place.0 ∙ ap (λ x. line_in s 0 (Begin 9 false) x st) h.place.0 ∙ ap (λ c. begin_in 0 false c st) of_nine in
-    subst (λ y. LeadsTo s n more st y.1) (sym is)
-    (record {
-      spot = record { place = Stands Opened; sets = k; volumes = [] };
-      leads = leads;
-      at = record { sets = h.sets; fine = h.fine; sound = h.sound; place = record { stage = record { set = None; last = None; is = refl }; is_busy = h.place.1; volumes = tt } };
-      same = refl;
-      cuts = λ x. record { count = x.count; done = x.done; now = x.now };
-    }))
+begins s n more k vs op mark st e on leads most h known = grind (arith, as_line, of_nine)
 
 pub gathers : (s : Plan) (n : ℕ) (more : List Asked) (k : ℕ) (vs : List ℕ) (op : Op) (mark : Mark) (st : State) → IsAsked s Gathers op → line_enabled s st 0 op ≡ true → completes_sets (length s.volumes) n more (spot_after (Stands Opened) k vs Gathers) ≡ true → k ≤ n → IsAt s (Stands Opened) k vs st → IsKnown n k st (line s 0 op mark st).1 → LeadsTo s n more st (line s 0 op mark st).1
 gathers s n more k vs op mark st e on leads most h known =
@@ -134,14 +122,7 @@ starts s n more k vs op mark st e on leads most h known =
     }
 
 no_refusal : (a b c : Bool) (x y z : VssResult) → a ≡ false → b ≡ false → c ≡ false → (if a then Some x else if b then Some y else if c then Some z else None) ≡ None
-no_refusal true b c x y z e f g = absurd cc
-no_refusal false true c x y z e f g = absurd cc
-no_refusal false false true x y z e f g = absurd cc
-no_refusal false false false x y z e f g = refl
-
-not_true : (a : Bool) → not a ≡ true → a ≡ false
-not_true true e = absurd cc
-not_true false e = refl
+no_refusal a b c x y z e f g = grind arith
 
 not_le : (a b : ℕ) → nat_lt b a ≡ true → nat_le a b ≡ false
 not_le a b l = grind (arith, nat_tests)
@@ -155,32 +136,20 @@ record AddsTo (v : ℕ) (c n : ℕ) (more : List Asked) (k : ℕ) (vs : List ℕ
   leads : completes_sets c n more (Some (record { place = Stands Started; sets = k; volumes = vs ++ v ∷ [] })) ≡ true
 
 adds_to : (b : Bool) (v c n : ℕ) (more : List Asked) (k : ℕ) (vs : List ℕ) → (not (is_among v vs) && nat_lt (length vs) 64) ≡ b → completes_sets c n more (added b k vs v) ≡ true → AddsTo v c n more k vs
-adds_to true v c n more k vs e leads = record {
-  new = not_true (is_among v vs) (and_first (not (is_among v vs)) (nat_lt (length vs) 64) e);
-  few = and_second (not (is_among v vs)) (nat_lt (length vs) 64) e;
-  leads = leads;
-}
-adds_to false v c n more k vs e leads = absurd (nothing more leads)
-  where
-    nothing : (more : List Asked) → completes_sets c n more None ≡ true → ⊥
-    nothing [] f = cc
-    nothing (a ∷ more) f = cc
+adds_to b v c n more k vs e leads = grind arith
 
 fine_mapped : (f : SetRow → SetRow) → ((r : SetRow) → (f r).result ≡ r.result) → (rows : List SetRow) → none_failed (map f rows) ≡ none_failed rows
 fine_mapped f same [] = refl
 fine_mapped f same (r ∷ rows) = ap (λ (x : SetOutcome). not (has_failed x) && none_failed (map f rows)) (same r) ∙ ap (λ b. not (has_failed r.result) && b) (fine_mapped f same rows)
 
 changed_result : (b : Bool) (v : ℕ) (r : SetRow) → (if b then with_volume v r else r).result ≡ r.result
-changed_result true v r = refl
-changed_result false v r = refl
+changed_result b v r = grind arith
 
 changed_cut : (b : Bool) (v : ℕ) (r : SetRow) → is_cut (if b then with_volume v r else r) ≡ is_cut r
-changed_cut true v r = refl
-changed_cut false v r = refl
+changed_cut b v r = grind arith
 
 changed_open : (b : Bool) (v : ℕ) (r : SetRow) → is_cut_or_open (if b then with_volume v r else r) ≡ is_cut_or_open r
-changed_open true v r = refl
-changed_open false v r = refl
+changed_open b v r = grind arith
 
 pub adds : (s : Plan) (n : ℕ) (more : List Asked) (v k : ℕ) (vs : List ℕ) (op : Op) (mark : Mark) (st : State) → IsAsked s (Adds v) op → line_enabled s st 0 op ≡ true → completes_sets (length s.volumes) n more (spot_after (Stands Started) k vs (Adds v)) ≡ true → k ≤ n → IsAt s (Stands Started) k vs st → IsKnown n k st (line s 0 op mark st).1 → LeadsTo s n more st (line s 0 op mark st).1
 adds s n more v k vs op mark st e on leads most h known =

@@ -1,11 +1,10 @@
 -- The lines of the lane that makes the sets: each means what it asks for.
-use Rattle.std.proofs.Common.{◌≡◌, ◌∙◌, ℕ, zero, suc, ◌+◌, ◌<◌, Bool, true, false, List, [], ◌∷◌, ◌++◌, length, map, Some, refl, ap, ap₂, arith, codes, length-append}
-use Rattle.std.specs.Prelude.{nat_lt, if◌then◌else◌, ok_or, Result, Ok}
+use Rattle.std.proofs.Common.{◌≡◌, ◌∙◌, ℕ, zero, suc, ◌+◌, ◌<◌, Bool, true, false, List, [], ◌∷◌, ◌++◌, length, map, Some, refl, ap, arith, codes, length-append}
+use Rattle.std.specs.Prelude.{nat_lt, if◌then◌else◌, ok_or, Ok}
 use Rattle.std.specs.List.{range_with_len}
 use Rattle.std.proofs.lemmas.Bool.Decides.{nat_tests}
 use Rattle.scenario.specs.declared.op.Op.{Op}
-use Rattle.scenario.specs.declared.op.Op.TheVariants.{Begin, Gather, Component, Start, Add, Prepare, Snapshot, Await, Complete, End}
-use Rattle.scenario.specs.declared.reason.Reason.{Reason}
+use Rattle.scenario.specs.declared.op.Op.TheVariants.{Begin, Gather, Start, Add, Prepare, Snapshot, Await, Complete, End}
 use Rattle.scenario.specs.declared.reason.Reason.TheVariants.{UnknownName}
 use Rattle.scenario.specs.Plan.{Plan, LaneLine}
 use Rattle.scenario.specs.Lines.{span_from}
@@ -13,7 +12,7 @@ use Rattle.scenario.specs.Fields.{bytes_of, fields_of, rest_fields}
 use Rattle.scenario.specs.Numbers.{number_in}
 use Rattle.scenario.specs.Words.{word_of}
 use Rattle.scenario.specs.Names.{place_of, volume_named, writer_named}
-use Rattle.scenario.specs.Ops.{◌>>=◌, number_field, volume_field, writer_field, volume_alone, begin_of, component_of, add_of, op_of}
+use Rattle.scenario.specs.Ops.{number_field, volume_field, writer_field, volume_alone, begin_of, component_of, add_of, op_of}
 use Rattle.scenario.specs.SoFar.{SoFar}
 use Rattle.scenario.specs.Entries.{row_of}
 use Rattle.generator_text.specs.Lines.{as_lines}
@@ -21,7 +20,7 @@ use Rattle.generator_text.specs.ScenarioText.{set_lines}
 use Rattle.generated.specs.Asked.{Asked, Begins, Gathers, Awaits, Names, Starts, Adds, Prepares, Snapshots, Completes, Ends, IsAsked, AreAsked, one_set}
 use Rattle.generated.specs.Scenario.{system, database, web}
 use Rattle.generated.proofs.Words.{are_words, spans_at}
-use Rattle.generated.proofs.Reader.{end_of, head_is, tail_is, Then, line_then, same_rest}
+use Rattle.generated.proofs.Reader.{end_of, head_is, Then, line_then, same_rest}
 use Rattle.generated.proofs.Meant.{Declared, IsDeclared, Meaning, Does, NamesMain, IsMeant, AreMeant, Run, IsSaid, with_meant}
 use Rattle.generated.proofs.LaneLines.{Makes, HasSpace, lane_line, lines_then, many_lines}
 
@@ -45,26 +44,11 @@ all_declared = record {
 }
 
 pub volume_found : (v : ℕ) → nat_lt v 8 ≡ true → place_of (volume_name v) all_declared.names ≡ Some v
-volume_found zero l = refl
-volume_found (suc zero) l = refl
-volume_found (suc (suc zero)) l = refl
-volume_found (suc (suc (suc zero))) l = refl
-volume_found (suc (suc (suc (suc zero)))) l = refl
-volume_found (suc (suc (suc (suc (suc zero))))) l = refl
-volume_found (suc (suc (suc (suc (suc (suc zero)))))) l = refl
-volume_found (suc (suc (suc (suc (suc (suc (suc zero))))))) l = refl
 volume_found (suc (suc (suc (suc (suc (suc (suc (suc v)))))))) l = absurd (grind (arith, nat_tests))
-
-writer_found : (w : ℕ) → nat_lt w 3 ≡ true → place_of (writer_name w) all_declared.writers ≡ Some w
-writer_found zero l = refl
-writer_found (suc zero) l = refl
-writer_found (suc (suc zero)) l = refl
-writer_found (suc (suc (suc w))) l = absurd (grind (arith, nat_tests))
+volume_found _ l = refl
 
 writer_words : (w : ℕ) → are_words (codes "component" ∷ writer_name w ∷ codes "main" ∷ []) ≡ true
-writer_words zero = refl
-writer_words (suc zero) = refl
-writer_words (suc (suc w)) = refl
+writer_words w = grind arith
 
 volume_words : (v : ℕ) → nat_lt v 8 ≡ true → are_words (codes "add" ∷ volume_name v ∷ []) ≡ true
 volume_words v l = grind (arith, nat_tests)
@@ -120,40 +104,21 @@ is_known _ = true
 begin_makes : (text : List ℕ) (d : SoFar) (at : ℕ) → map (bytes_of text) (spans_at at (codes "9" ∷ [])) ≡ codes "9" ∷ []
     → Makes text (Does (Begin 9 false)) (begin_of text (fields_of (spans_at at (codes "9" ∷ []))))
 unfolding begin_of number_field number_in
-begin_makes text d at parts = record {
-  op = Begin 9 false;
-  is = ap (λ (bytes : List ℕ). number_in 0 4294967295 bytes >>= (λ n. Ok (Begin n false))) (head_is _ _ _ _ parts);
-  meant = refl;
-}
+begin_makes text d at parts = grind arith
 
 component_makes : (text : List ℕ) (d : SoFar) (w at : ℕ) → IsDeclared text all_declared d → nat_lt w 3 ≡ true → map (bytes_of text) (spans_at at (writer_name w ∷ codes "main" ∷ [])) ≡ writer_name w ∷ codes "main" ∷ []
     → Makes text (NamesMain w) (component_of text d.writers (rest_fields (end_of at (writer_name w ∷ codes "main" ∷ [])) (spans_at at (writer_name w ∷ codes "main" ∷ []))))
 unfolding component_of writer_field writer_named
-component_makes text d w at h known parts =
-    let name = span_from at (at + length (writer_name w)) in
-    let full = span_from (at + length (writer_name w) + 1) (at + length (writer_name w) + 1 + 4) in
-    record {
-      op = Component w full;
-      is = ap (component_of text d.writers) (rest_is at (writer_name w) (codes "main") (omega arith))
-          ∙ ap₂ (λ (bytes : List ℕ) names. ok_or (place_of bytes names) UnknownName >>= (λ n. Ok (Component n full))) (head_is _ _ _ _ parts) h.writers
-          ∙ ap (λ found. ok_or found UnknownName >>= (λ n. Ok (Component n full))) (writer_found w known);
-      meant = record { full = full; is = refl; name = head_is _ _ _ _ (tail_is _ _ _ _ parts) };
-    }
+component_makes text d w at h known parts = grind arith
 
 pub volume_is : (text : List ℕ) (d : SoFar) (v : ℕ) → IsDeclared text all_declared d → nat_lt v 8 ≡ true → (name : List ℕ) → name ≡ volume_name v → ok_or (volume_named text d.volumes name) UnknownName ≡ Ok v
 unfolding volume_named
-volume_is text d v h known name e =
-    ap₂ (λ (bytes : List ℕ) names. ok_or (place_of bytes names) UnknownName) e h.names
-    ∙ ap (λ found. ok_or found UnknownName) (volume_found v known)
+volume_is text d v h known name e = grind (arith, volume_found)
 
 add_makes : (text : List ℕ) (d : SoFar) (v at : ℕ) → IsDeclared text all_declared d → nat_lt v 8 ≡ true → map (bytes_of text) (spans_at at (volume_name v ∷ [])) ≡ volume_name v ∷ []
     → Makes text (Does (Add v)) (add_of text d.volumes (fields_of (spans_at at (volume_name v ∷ []))))
 unfolding volume_alone volume_field
-add_makes text d v at h known parts = record {
-  op = Add v;
-  is = ap (λ (r : Result ℕ Reason). r >>= (λ n. Ok (Add n))) (volume_is text d v h known (bytes_of text (span_from at (at + 2))) (head_is _ _ _ _ parts));
-  meant = refl;
-}
+add_makes text d v at h known parts = grind (arith, volume_is, head_is)
 
 pub asked_line : (text : List ℕ) (a : Asked) (more : List ℕ) (run : Run) → is_known a ≡ true → HasSpace 1 run
     → Then text (line_then (words_of a) more) (IsSaid text all_declared run) → Then text more (IsSaid text all_declared (with_meant (meaning_of a ∷ []) run))
@@ -203,16 +168,7 @@ set_line text rest run space i =
 -- ## what the lines ask for
 
 asked_op : (s : Plan) (a : Asked) (op : Op) → IsMeant s.source (meaning_of a) op → IsAsked s a op
-asked_op s Begins op h = h
-asked_op s Gathers op h = h
-asked_op s Awaits op h = h
-asked_op s (Names w) op h = record { full = h.full; is = h.is; name = h.name }
-asked_op s Starts op h = h
-asked_op s (Adds v) op h = h
-asked_op s Prepares op h = h
-asked_op s Snapshots op h = h
-asked_op s Completes op h = h
-asked_op s Ends op h = h
+asked_op s a op h = grind arith
 
 pub are_asked : (s : Plan) (asked : List Asked) (ls : List LaneLine) → AreMeant s.source (map meaning_of asked) ls → AreAsked s asked ls
 are_asked s [] [] h = tt

@@ -1,11 +1,10 @@
 -- The text of a generated scenario is short.
-use Rattle.std.proofs.Common.{◌≡◌, ℕ, suc, ◌+◌, ◌*◌, ◌<◌, ◌≤◌, Bool, true, false, List, [], ◌∷◌, ◌++◌, length, refl, arith, codes, length-append}
-use Rattle.std.specs.Prelude.{nat_lt, if◌then◌else◌}
+use Rattle.std.proofs.Common.{◌≡◌, ℕ, suc, ◌+◌, ◌*◌, ◌<◌, ◌≤◌, Bool, true, List, [], ◌∷◌, ◌++◌, length, refl, arith, codes, length-append}
+use Rattle.std.specs.Prelude.{nat_lt}
 use Rattle.std.specs.List.{list_all, flat_map, range_with_len}
 use Rattle.std.specs.Fmt.{decimal}
 use Rattle.std.proofs.lemmas.Fmt.{length-decimal-le}
 use Rattle.std.proofs.lemmas.Bool.Decides.{nat_tests}
-use Rattle.generator_text.specs.Draws.{volume_at, block_at, stamp_at}
 use Rattle.generator_text.specs.Lines.{as_lines}
 use Rattle.generator_text.specs.ScenarioText.{declarations, set_lines, acting, drawn_text, writes_text, lane_text, lanes_text, gen_text}
 use Rattle.vss_report.proofs.Joined.{first_of_both, second_of_both}
@@ -26,12 +25,7 @@ line_short v b s lv lb ls =
     omega (arith, all, lv, lb, ls)
 
 drawn_short : (n i k : ℕ) → i < 16 → is_early k ≡ true → length (drawn_text n i k) ≤ 100
-drawn_short n i k l early =
-    let w = drawn_write n i k l early in
-    let volume = w.volume in
-    let block = w.block in
-    line_short (decimal (volume_at n i k)) (decimal (block_at n i k)) (decimal (stamp_at i k))
-    (few_digits (volume_at n i k) (omega (arith, volume))) (few_digits (block_at n i k) (omega (arith, block))) (few_digits (stamp_at i k) w.stamp)
+drawn_short n i k l early = grind (arith, drawn_write, line_short, few_digits)
 
 -- texts of these, each of at most so many bytes
 all_short : (text : ℕ → List ℕ) (good : ℕ → Bool) (most : ℕ) → ((k : ℕ) → good k ≡ true → length (text k) ≤ most) → (ks : List ℕ) → list_all good ks ≡ true → length (flat_map text ks) ≤ most * length ks
@@ -50,13 +44,7 @@ unfolding writes_text
 writes_short n i l = all_short (drawn_text n i) is_early 100 (λ k early. drawn_short n i k l early) (range_with_len 0 200) refl
 
 acting_short : (i : ℕ) → length (acting i) ≤ 7
-acting_short i = by_third (nat_lt i 4) (nat_lt i 7) (nat_lt i 10)
-  where
-    by_third : (a b c : Bool) → length (if a then codes " as web" else if b then codes " as db" else if c then codes " as sys" else []) ≤ 7
-    by_third true b c = omega arith
-    by_third false true c = omega arith
-    by_third false false true = omega arith
-    by_third false false false = omega arith
+acting_short i = grind arith
 
 abbrev is_lane : ℕ → Bool
 is_lane i = nat_lt i 16

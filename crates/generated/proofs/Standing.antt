@@ -6,7 +6,7 @@ use Rattle.vss_names.specs.declared.context.Context.TheVariants.{AppRollback}
 use Rattle.vss_names.specs.declared.vss_result.VssResult.{VssResult}
 use Rattle.requestor.specs.declared.mode.Mode.TheVariants.{Components}
 use Rattle.requestor.specs.declared.stage.Stage.{Stage}
-use Rattle.requestor.specs.declared.stage.Stage.TheVariants.{Opened, Gathered, Started, Prepared, Done, Finished, Failed}
+use Rattle.requestor.specs.declared.stage.Stage.TheVariants.{Started, Prepared}
 use Rattle.requestor.specs.Session.{Session}
 use Rattle.scenario.specs.Plan.{Plan, lines_of}
 use Rattle.vss_model.specs.State.{State, SetRow, is_running}
@@ -30,13 +30,9 @@ pub record IsIn (g : Stage) (session : Option Session) : Type 0 where
 
 -- the set in progress has these volumes
 abbrev pub HasVolumes : Stage → List ℕ → List SetRow → Type 0
-HasVolumes Opened vs rows = Unit {0}
-HasVolumes Gathered vs rows = Unit {0}
 HasVolumes Started vs rows = volumes_of (find (λ r. is_running r.result) rows) ≡ vs
 HasVolumes Prepared vs rows = volumes_of (find (λ r. is_running r.result) rows) ≡ vs
-HasVolumes Done vs rows = Unit {0}
-HasVolumes Finished vs rows = Unit {0}
-HasVolumes Failed vs rows = Unit {0}
+HasVolumes _ vs rows = Unit {0}
 
 -- the session is in this stage, and an agenda runs or not
 pub record IsStage (g : Stage) (vs : List ℕ) (busy : Bool) (session : Option Session) (running : Bool) (rows : List SetRow) : Type 0 where

@@ -1,13 +1,13 @@
 -- What each change leaves of where a state stands.
-use Rattle.std.proofs.Common.{◌≡◌, ℕ, List, [], ◌∷◌, Option, Some, None, refl, Bool, true, false, ap, sym, ◌∙◌, subst, length, inl, inr, find, map}
+use Rattle.std.proofs.Common.{◌≡◌, ℕ, List, [], ◌∷◌, Option, Some, None, refl, Bool, true, false, ap, sym, ◌∙◌, subst, length, inl, inr, find, map, arith}
 use Rattle.std.specs.Prelude.{option_map, is_some, not, if◌then◌else◌}
 use Rattle.vss_names.specs.declared.set_outcome.SetOutcome.{SetOutcome}
-use Rattle.vss_names.specs.declared.set_outcome.SetOutcome.TheVariants.{Running, Complete as CompleteSet, Failed as FailedSet}
+use Rattle.vss_names.specs.declared.set_outcome.SetOutcome.TheVariants.{Running}
 use Rattle.vss_names.specs.declared.vss_result.VssResult.{VssResult}
 use Rattle.set_agenda.specs.Agenda.{Agenda}
 use Rattle.set_agenda.specs.Course.{Course}
 use Rattle.requestor.specs.declared.stage.Stage.{Stage}
-use Rattle.requestor.specs.declared.stage.Stage.TheVariants.{Opened, Gathered, Started, Prepared, Done, Finished, Failed}
+use Rattle.requestor.specs.declared.stage.Stage.TheVariants.{Prepared}
 use Rattle.requestor.specs.Session.{Session, agenda_ended}
 use Rattle.scenario.specs.Plan.{Plan}
 use Rattle.vss_model.specs.State.{State, SetRow, is_running}
@@ -24,32 +24,15 @@ use Rattle.generated.proofs.Courses.{and_first, and_second, and_both, length_map
 
 -- where the course has not failed, an agenda ends well or goes on
 pub ending_ends : (o p : SetOutcome) → has_failed p ≡ false → ending o p true None ≡ AgendaEnds
-ending_ends Running Running e = refl
-ending_ends Running CompleteSet e = refl
-ending_ends Running (FailedSet why) e = absurd cc
-ending_ends CompleteSet Running e = refl
-ending_ends CompleteSet CompleteSet e = refl
-ending_ends CompleteSet (FailedSet why) e = absurd cc
-ending_ends (FailedSet x) Running e = refl
-ending_ends (FailedSet x) CompleteSet e = refl
-ending_ends (FailedSet x) (FailedSet why) e = absurd cc
+ending_ends o p e = grind arith
 
 pub ending_runs : (o p : SetOutcome) (b : Agenda) → has_failed p ≡ false → ending o p true (Some b) ≡ NothingEnds
-ending_runs Running Running b e = refl
-ending_runs Running CompleteSet b e = refl
-ending_runs Running (FailedSet why) b e = absurd cc
-ending_runs CompleteSet Running b e = refl
-ending_runs CompleteSet CompleteSet b e = refl
-ending_runs CompleteSet (FailedSet why) b e = absurd cc
-ending_runs (FailedSet x) Running b e = refl
-ending_runs (FailedSet x) CompleteSet b e = refl
-ending_runs (FailedSet x) (FailedSet why) b e = absurd cc
+ending_runs o p b e = grind arith
 
 -- ## rows
 
 fine_if : (b : Bool) (o : SetOutcome) (r : SetRow) → has_failed o ≡ false → not (has_failed r.result) ≡ true → not (has_failed (if b then record r { result = o } else r).result) ≡ true
-fine_if true o r e h = ap not e
-fine_if false o r e h = h
+fine_if b o r e h = grind arith
 
 fine_settled : (o : SetOutcome) (rows : List SetRow) → has_failed o ≡ false → none_failed rows ≡ true → none_failed (map (row_settled o) rows) ≡ true
 fine_settled o [] e h = refl
@@ -61,43 +44,26 @@ abbrev with_running : SetRow → SetRow
 with_running r = record r { result = Running }
 
 same_volumes : (x : Option SetRow) → volumes_of (option_map with_running x) ≡ volumes_of x
-same_volumes None = refl
-same_volumes (Some r) = refl
+same_volumes x = grind arith
 
 running_volumes : (rows : List SetRow) → volumes_of (find (λ r. is_running r.result) (map (row_settled Running) rows)) ≡ volumes_of (find (λ r. is_running r.result) rows)
 running_volumes rows = ap volumes_of (find-settled_running rows) ∙ same_volumes (find (λ r. is_running r.result) rows)
 
 settled_volumes : (o : SetOutcome) (rows : List SetRow) → o ≡ Running → volumes_of (find (λ r. is_running r.result) (map (row_settled o) rows)) ≡ volumes_of (find (λ r. is_running r.result) rows)
-settled_volumes o rows e = subst (λ x. volumes_of (find (λ r. is_running r.result) (map (row_settled x) rows)) ≡ volumes_of (find (λ r. is_running r.result) rows)) (sym e) (running_volumes rows)
+settled_volumes o rows e = grind (arith, running_volumes)
 
 -- ## an agenda ends well
 
 next_session : (g : Stage) (set : Option ℕ) (last : Option VssResult) → IsIn (stage_next g) (Some (agenda_ended (session_at g set last)))
-next_session Opened set last = record { set = set; last = _; is = refl }
-next_session Gathered set last = record { set = set; last = _; is = refl }
-next_session Started set last = record { set = set; last = _; is = refl }
-next_session Prepared set last = record { set = set; last = _; is = refl }
-next_session Done set last = record { set = set; last = _; is = refl }
-next_session Finished set last = record { set = set; last = _; is = refl }
-next_session Failed set last = record { set = set; last = _; is = refl }
+next_session g set last = grind arith
 
 prepared_runs : (q : Session) (o : SetOutcome) (found : Option SetRow) → q.stage ≡ Prepared → IsOfSession (Some q) o found → o ≡ Running
-prepared_runs q o None e h = absurd (no_set q.stage e h.0)
-  where
-    no_set : (g : Stage) → g ≡ Prepared → Rattle.requestor.specs.Session.makes_set g ≡ false → ⊥
-    no_set g e f = cc
-prepared_runs q o (Some r) e h = h.2
+prepared_runs q o found e h = grind arith
 
 next_volumes : (g : Stage) (vs : List ℕ) (set : Option ℕ) (last : Option VssResult) (o : SetOutcome) (rows : List SetRow) → HasVolumes g vs rows
     → IsOfSession (Some (agenda_ended (session_at g set last))) o (find (λ r. is_running r.result) (map (row_settled o) rows))
     → HasVolumes (stage_next g) (volumes_next g vs) (map (row_settled o) rows)
-next_volumes Opened vs set last o rows h i = tt
-next_volumes Gathered vs set last o rows h i = tt
-next_volumes Started vs set last o rows h i = settled_volumes o rows (prepared_runs (agenda_ended (session_at Started set last)) o _ refl i) ∙ h
-next_volumes Prepared vs set last o rows h i = tt
-next_volumes Done vs set last o rows h i = tt
-next_volumes Finished vs set last o rows h i = tt
-next_volumes Failed vs set last o rows h i = tt
+next_volumes g vs set last o rows h i = grind (arith, settled_volumes, prepared_runs)
 
 ends_well : (s : Plan) (g : Stage) (k : ℕ) (vs : List ℕ) (c : Course) (st : State) → IsSound (length s.writers) c → length st.sets ≡ k → none_failed st.sets ≡ true → IsIn g st.session → HasVolumes g vs st.sets → c.agenda ≡ None
     → IsOrderly (concluded AgendaEnds (record st { course = c })) → IsAt s (Waits g) k vs (concluded AgendaEnds (record st { course = c }))
@@ -134,8 +100,7 @@ goes_on s g k vs c st sound sets fine stage volumes orderly = goes_at s g k vs c
 -- ## volumes
 
 same_volumes_at : (o p : SetOutcome) (a : Option Agenda) (c : Course) (st : State) → has_failed p ≡ false → (concluded (ending o p true a) (record st { course = c })).volumes ≡ st.volumes
-same_volumes_at o p None c st e = ap (λ (x : Ending). (concluded x (record st { course = c })).volumes) (ending_ends o p e)
-same_volumes_at o p (Some b) c st e = ap (λ (x : Ending). (concluded x (record st { course = c })).volumes) (ending_runs o p b e)
+same_volumes_at o p a c st e = grind arith
 
 -- where the course has not failed, no image goes
 pub followed_volumes : (k : ℕ) (c : Course) (st : State) → IsSound k c → (followed true c st).volumes ≡ st.volumes

@@ -18,7 +18,7 @@ use Rattle.writer_calls.specs.declared.answer.Answer.TheVariants.{Ok}
 use Rattle.writer_calls.specs.declared.scripted.Scripted.{Scripted}
 use Rattle.writer_calls.specs.Script.{scripted_answer}
 use Rattle.set_agenda.specs.declared.group.Group.{Group}
-use Rattle.set_agenda.specs.declared.group.Group.TheVariants.{Orders, PreCommit, Flush, Hold, Cut, Commit, Release, PostCommit}
+use Rattle.set_agenda.specs.declared.group.Group.TheVariants.{Cut}
 use Rattle.set_agenda.specs.Agenda.{is_asking, is_working, is_among, open_group}
 use Rattle.set_agenda.specs.Course.{sent, change_at, answered as course_answered, stepped as course_stepped}
 use Rattle.scenario.specs.declared.op.Op.{Op}
@@ -27,16 +27,16 @@ use Rattle.scenario.specs.Plan.{Plan, LaneLine, lines_of, blocks_of}
 use Rattle.scenario.specs.Bounds.{IsOp}
 use Rattle.scenario.specs.Calls.{target_of}
 use Rattle.vss_model.specs.declared.event.Event.{Event}
-use Rattle.vss_model.specs.declared.event.Event.TheVariants.{Line, Answer as AnswerEvent, Provider, Idle as IdleEvent}
+use Rattle.vss_model.specs.declared.event.Event.TheVariants.{Line, Answer as AnswerEvent, Provider}
 use Rattle.vss_model.specs.State.{State, SetRow, in_progress, history_in, history_of, left_now, has_image, is_complete}
 use Rattle.vss_model.specs.Ending.{followed}
-use Rattle.vss_model.specs.Images.{cleared, set_loses_image, with_room_if, put, write}
+use Rattle.vss_model.specs.Images.{cleared, with_room_if, write}
 use Rattle.vss_model.specs.Steps.{cut_if, cut_each, cut_set, step_made, answered, stepped}
 use Rattle.vss_model.specs.Lines.{line}
 use Rattle.vss_model.specs.Acts.{order_of_writer, line_enabled, enabled, happens, after}
 use Rattle.vss_model.specs.Effects.{volumes_losing, evicted_for, evicted_at, evicted}
 use Rattle.vss_model.specs.Trail.{Run, cursor, next_line, line_event, answer_event, script_event, event_of, act_of, event_enabled, none_can_act, may_move}
-use Rattle.generated.specs.Asked.{Asked, Begins, Gathers, Awaits, Names, Starts, Adds, Prepares, Snapshots, Completes, Ends, IsAsked, AreAsked}
+use Rattle.generated.specs.Asked.{Asked, IsAsked, AreAsked}
 use Rattle.generated.specs.Spots.{Spot, spot_after, completes_sets, is_full}
 use Rattle.generated.specs.Smooth.{IsSmooth, is_write}
 use Rattle.generated.proofs.Sound.{IsSound}
@@ -52,10 +52,8 @@ use Rattle.generated.proofs.Ways.{runs_of_order, runs_of_step}
 
 -- what an event does to the images of a state before its course goes on
 abbrev pub made_by : State → Event → State
-made_by st (Line lane op) = st
-made_by st (AnswerEvent w answer) = st
 made_by st Provider = step_made (open_group (left_now st)) st
-made_by st IdleEvent = st
+made_by st _ = st
 
 pub record IsGrown (s : Plan) (st next : State) (event : Event) : Type 0 where
   pub count : length next.volumes ≡ length st.volumes
@@ -120,30 +118,17 @@ images_change w (suc u) zero (h ∷ hs) = refl
 images_change w (suc u) (suc v) (h ∷ hs) = images_change w u v hs
 
 room_volumes : (b : Bool) (st : State) → b ≡ false → (with_room_if b st).volumes ≡ st.volumes
-room_volumes true st e = absurd cc
-room_volumes false st e = refl
+room_volumes b st e = grind arith
 
 write_volumes : (s : Plan) (v : ℕ) (w : Write) (mark : Mark) (st : State) → mark ≡ Clean → (cleared s v w.block st).volumes ≡ st.volumes → (write s v w mark st).1.volumes ≡ change_at v (with_write w) st.volumes
 unfolding write
-write_volumes s v w mark st e same =
-    ap (λ x. (put v w x (with_room_if (set_loses_image (in_progress st) st.volumes (cleared s v w.block st).volumes) (cleared s v w.block st))).volumes) e
-    ∙ ap (change_at v (with_write w)) (room_volumes _ (cleared s v w.block st) (no_set_loses (in_progress st) st.volumes (cleared s v w.block st).volumes same) ∙ same)
+write_volumes s v w mark st e same = grind (arith, room_volumes, no_set_loses)
 
 grown_by : (s : Plan) (st next : State) (lane u : ℕ) (op : Op) (w : Write) → next.volumes ≡ change_at u (with_write w) st.volumes → ((v : ℕ) → puts_to v op ≡ put_if (u == v) w) → evicted s st (Line lane op) ≡ [] → IsGrown s st next (Line lane op)
-grown_by s st next lane u op w e puts none = record {
-  count = ap length e ∙ length_change (with_write w) u st.volumes;
-  writes = λ v l. ap (λ (hs : List History). (history_in (slice_get hs v)).writes) e ∙ writes_change w u v st.volumes l ∙ ap (λ (ws : List Write). (history_of st v).writes ++ ws) (sym (puts v));
-  images = λ v. ap (λ (hs : List History). (history_in (slice_get hs v)).images) e ∙ images_change w u v st.volumes;
-  no_eviction = none;
-}
+grown_by s st next lane u op w e puts none = grind (arith, length_change, writes_change, images_change)
 
 same_grown : (s : Plan) (st next : State) (event : Event) → next.volumes ≡ st.volumes → ((v : ℕ) → puts_of v event ≡ []) → ((v : ℕ) → (history_of st v).images ≡ (history_of (made_by st event) v).images) → evicted s st event ≡ [] → IsGrown s st next event
-same_grown s st next event e none made no_eviction = record {
-  count = ap length e;
-  writes = λ v l. ap (λ (hs : List History). (history_in (slice_get hs v)).writes) e ∙ none_added (history_of st v).writes ∙ ap (λ (ws : List Write). (history_of st v).writes ++ ws) (sym (none v));
-  images = λ v. ap (λ (hs : List History). (history_in (slice_get hs v)).images) e ∙ made v;
-  no_eviction = no_eviction;
-}
+same_grown s st next event e none made no_eviction = grind (arith, none_added)
 
 pub cleared_same : (s : Plan) (n v b k : ℕ) (st : State) → IsSmooth n s → IsReached s st → b < blocks_of s v → k ≤ n → length st.sets ≡ k → (cleared s v b st).volumes ≡ st.volumes
 cleared_same s n v b k st smooth reached l most sets =
@@ -166,16 +151,7 @@ record WritesNone (s : Plan) (st : State) (op : Op) : Type 0 where
   evicts : evicted_at s st (target_of op) ≡ []
 
 writes_none : (s : Plan) (st : State) (a : Asked) (op : Op) → IsAsked s a op → WritesNone s st op
-writes_none s st Begins op e = subst (WritesNone s st) (sym e) (record { puts = λ v. refl; evicts = refl })
-writes_none s st Gathers op e = subst (WritesNone s st) (sym e) (record { puts = λ v. refl; evicts = refl })
-writes_none s st Awaits op e = subst (WritesNone s st) (sym e) (record { puts = λ v. refl; evicts = refl })
-writes_none s st (Names w) op e = subst (WritesNone s st) (sym e.is) (record { puts = λ v. refl; evicts = refl })
-writes_none s st Starts op e = subst (WritesNone s st) (sym e) (record { puts = λ v. refl; evicts = refl })
-writes_none s st (Adds u) op e = subst (WritesNone s st) (sym e) (record { puts = λ v. refl; evicts = refl })
-writes_none s st Prepares op e = subst (WritesNone s st) (sym e) (record { puts = λ v. refl; evicts = refl })
-writes_none s st Snapshots op e = subst (WritesNone s st) (sym e) (record { puts = λ v. refl; evicts = refl })
-writes_none s st Completes op e = subst (WritesNone s st) (sym e) (record { puts = λ v. refl; evicts = refl })
-writes_none s st Ends op e = subst (WritesNone s st) (sym e) (record { puts = λ v. refl; evicts = refl })
+writes_none s st a op e = grind arith
 
 own_grown : (s : Plan) (n : ℕ) (r : Run) (m : Move) (l : LaneLine) (asked : List Asked) → IsBefore s n r → AreAsked s asked (l ∷ drop (suc (cursor r.moves 0)) (lines_of s 0)) → (spot : Spot) → completes_sets (length s.volumes) n asked (Some spot) ≡ true
     → IsAt s spot.place spot.sets spot.volumes r.state → line_enabled s r.state 0 l.op ≡ true → IsGrown s r.state (line s 0 l.op m.mark r.state).1 (Line 0 l.op)
@@ -225,19 +201,11 @@ record KeepsWrites (st made : State) : Type 0 where
   writes : (v : ℕ) → (history_of made v).writes ≡ (history_of st v).writes
 
 cut_keeps : (o : Option SetRow) (st : State) → KeepsWrites st (cut_set o st)
-cut_keeps None st = record { count = refl; writes = λ v. refl }
-cut_keeps (Some r) st = record { count = length_cut r.number r.volumes 0 st.volumes; writes = λ v. writes_cut r.number r.volumes 0 v st.volumes }
+cut_keeps o st = grind (arith, length_cut, writes_cut)
 
 made_keeps : (g : Option Group) (st : State) → KeepsWrites st (step_made g st)
-made_keeps None st = record { count = refl; writes = λ v. refl }
-made_keeps (Some (Orders o)) st = record { count = refl; writes = λ v. refl }
-made_keeps (Some PreCommit) st = record { count = refl; writes = λ v. refl }
-made_keeps (Some Flush) st = record { count = refl; writes = λ v. refl }
-made_keeps (Some Hold) st = record { count = refl; writes = λ v. refl }
 made_keeps (Some Cut) st = cut_keeps (in_progress st) st
-made_keeps (Some Commit) st = record { count = refl; writes = λ v. refl }
-made_keeps (Some Release) st = record { count = refl; writes = λ v. refl }
-made_keeps (Some PostCommit) st = record { count = refl; writes = λ v. refl }
+made_keeps _ st = record { count = refl; writes = λ v. refl }
 
 step_grown : (s : Plan) (k : ℕ) (st : State) → is_working (left_now st) ≡ true → IsSound k st.course → IsGrown s st (stepped Clean st) Provider
 step_grown s k st e sound =

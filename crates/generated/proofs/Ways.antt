@@ -1,19 +1,19 @@
 -- Each move of a legal trail without faults keeps a run on its way.
-use Rattle.std.proofs.Common.{◌≡◌, ℕ, List, [], ◌∷◌, Option, Some, None, refl, Bool, true, false, ap, sym, ◌∙◌, ◌==◌, subst, length, inl, inr, find, map}
-use Rattle.std.specs.Prelude.{option_map, is_some, ◌&&◌, not, if◌then◌else◌}
+use Rattle.std.proofs.Common.{◌≡◌, ℕ, List, [], ◌∷◌, Option, Some, refl, Bool, true, false, ap, sym, ◌∙◌, ◌==◌, subst, length, inl, inr, find, map, arith}
+use Rattle.std.specs.Prelude.{is_some, ◌&&◌, not, if◌then◌else◌}
 use Rattle.vss_names.specs.declared.set_outcome.SetOutcome.{SetOutcome}
 use Rattle.writer_state.specs.declared.said.Said.TheVariants.{Ok as SaidOk}
 use Rattle.write_history.specs.declared.mark.Mark.{Mark}
-use Rattle.write_history.specs.declared.mark.Mark.TheVariants.{Clean, Fault, FaultAfter}
+use Rattle.write_history.specs.declared.mark.Mark.TheVariants.{Clean}
 use Rattle.write_history.specs.History.{Write}
 use Rattle.set_agenda.specs.declared.group.Group.{Group}
-use Rattle.set_agenda.specs.declared.group.Group.TheVariants.{Orders, PreCommit, Flush, Hold, Cut, Commit, Release, PostCommit}
+use Rattle.set_agenda.specs.declared.group.Group.TheVariants.{Cut}
 use Rattle.set_agenda.specs.Agenda.{Agenda, left, open_group, is_asking, is_working, open_order}
 use Rattle.set_agenda.specs.Course.{Course, answered as course_answered, stepped as course_stepped}
 use Rattle.scenario.specs.Plan.{Plan}
 use Rattle.vss_model.specs.State.{State, SetRow, is_running, in_progress, left_now}
 use Rattle.vss_model.specs.Ending.{followed, runs}
-use Rattle.vss_model.specs.Images.{cleared, set_loses_image, with_room_if, put, write}
+use Rattle.vss_model.specs.Images.{cleared, with_room_if, put, write}
 use Rattle.vss_model.specs.Sessions.{volumes_of}
 use Rattle.vss_model.specs.Steps.{with_cut, row_cut, cut_set, step_made, answered, stepped}
 use Rattle.vss_model.specs.Acts.{order_of_writer}
@@ -32,20 +32,14 @@ same_place : (s : Plan) (p : Place) (k : ℕ) (vs : List ℕ) (st : State) (hs :
 same_place s p k vs st hs h = record { sets = h.sets; fine = h.fine; sound = h.sound; place = h.place }
 
 put_at : (s : Plan) (p : Place) (k : ℕ) (vs : List ℕ) (v : ℕ) (w : Write) (mark : Mark) (st : State) → IsAt s p k vs st → IsAt s p k vs (put v w mark st)
-put_at s p k vs v w Clean st h = same_place s p k vs st _ h
-put_at s p k vs v w Fault st h = h
-put_at s p k vs v w (FaultAfter n) st h = h
+put_at s p k vs v w mark st h = grind arith
 
 room_at : (s : Plan) (p : Place) (k : ℕ) (vs : List ℕ) (b : Bool) (st : State) → b ≡ false → IsAt s p k vs st → IsAt s p k vs (with_room_if b st)
-room_at s p k vs true st e h = absurd cc
-room_at s p k vs false st e h = h
+room_at s p k vs b st e h = grind arith
 
 pub write_at : (s : Plan) (p : Place) (k : ℕ) (vs : List ℕ) (v : ℕ) (w : Write) (mark : Mark) (st : State) → (cleared s v w.block st).volumes ≡ st.volumes → IsAt s p k vs st → IsAt s p k vs (write s v w mark st).1
 unfolding write
-write_at s p k vs v w mark st same h =
-    put_at s p k vs v w mark _
-    (room_at s p k vs (set_loses_image (in_progress st) st.volumes (cleared s v w.block st).volumes) (cleared s v w.block st)
-    (no_set_loses (in_progress st) st.volumes (cleared s v w.block st).volumes same) (same_place s p k vs st _ h))
+write_at s p k vs v w mark st same h = grind (arith, put_at, room_at, no_set_loses, same_place)
 
 -- ## answers and steps
 
@@ -60,16 +54,13 @@ busy_at s (Waits g) k vs c st sound ran h o = by_place h.place
 
 -- an agenda runs where a writer is asked, or the provider has a step
 pub runs_of_order : (a : Option Agenda) (w : ℕ) → is_some (open_order (left a) w) ≡ true → is_some a ≡ true
-runs_of_order None w e = absurd cc
-runs_of_order (Some a) w e = refl
+runs_of_order a w e = grind arith
 
 pub runs_of_step : (a : Option Agenda) → is_working (left a) ≡ true → is_some a ≡ true
-runs_of_step None e = absurd cc
-runs_of_step (Some a) e = refl
+runs_of_step a e = grind arith
 
 pub runs_of_asking : (a : Option Agenda) → is_asking (left a) ≡ true → is_some a ≡ true
-runs_of_asking None e = absurd cc
-runs_of_asking (Some a) e = refl
+runs_of_asking a e = grind arith
 
 pub answer_at : (s : Plan) (p : Place) (k : ℕ) (vs : List ℕ) (w : ℕ) (st : State) → is_some (order_of_writer st w) ≡ true → IsAt s p k vs st → IsOrderly (answered w SaidOk st) → IsAt s p k vs (answered w SaidOk st)
 unfolding answered
@@ -92,57 +83,17 @@ fine_cut n now (r ∷ rows) = ap (λ (x : SetOutcome). not (has_failed x) && non
     same false = refl
 
 volumes_cut : (n now : ℕ) (rows : List SetRow) → volumes_of (find (λ r. is_running r.result) (map (row_cut n now) rows)) ≡ volumes_of (find (λ r. is_running r.result) rows)
-volumes_cut n now rows = ap volumes_of (find-map (row_cut n now) (λ r. running r (r.number == n)) rows) ∙ same (find (λ r. is_running r.result) rows)
-  where
-    running : (r : SetRow) (b : Bool) → is_running (if b then with_cut now r else r).result ≡ is_running r.result
-    running r true = refl
-    running r false = refl
-
-    of_row : (r : SetRow) (b : Bool) → (if b then with_cut now r else r).volumes ≡ r.volumes
-    of_row r true = refl
-    of_row r false = refl
-
-    same : (x : Option SetRow) → volumes_of (option_map (row_cut n now) x) ≡ volumes_of x
-    same None = refl
-    same (Some r) = of_row r (r.number == n)
-
-volumes_along : (g : _) (vs : List ℕ) (xs ys : List SetRow) → volumes_of (find (λ r. is_running r.result) ys) ≡ volumes_of (find (λ r. is_running r.result) xs) → Rattle.generated.proofs.Standing.HasVolumes g vs xs → Rattle.generated.proofs.Standing.HasVolumes g vs ys
-volumes_along Rattle.requestor.specs.declared.stage.Stage.TheVariants.Opened vs xs ys e h = tt
-volumes_along Rattle.requestor.specs.declared.stage.Stage.TheVariants.Gathered vs xs ys e h = tt
-volumes_along Rattle.requestor.specs.declared.stage.Stage.TheVariants.Started vs xs ys e h = e ∙ h
-volumes_along Rattle.requestor.specs.declared.stage.Stage.TheVariants.Prepared vs xs ys e h = e ∙ h
-volumes_along Rattle.requestor.specs.declared.stage.Stage.TheVariants.Done vs xs ys e h = tt
-volumes_along Rattle.requestor.specs.declared.stage.Stage.TheVariants.Finished vs xs ys e h = tt
-volumes_along Rattle.requestor.specs.declared.stage.Stage.TheVariants.Failed vs xs ys e h = tt
+volumes_cut n now rows = grind (arith, find-map)
 
 place_along : (p : Place) (vs : List ℕ) (q : Option _) (b : Bool) (xs ys : List SetRow) → volumes_of (find (λ r. is_running r.result) ys) ≡ volumes_of (find (λ r. is_running r.result) xs) → IsPlace p vs q b xs → IsPlace p vs q b ys
-place_along Free vs q b xs ys e h = h
-place_along (Stands g) vs q b xs ys e h = record { stage = h.stage; is_busy = h.is_busy; volumes = volumes_along g vs xs ys e h.volumes }
-place_along (Waits g) vs q b xs ys e (inl h) = inl (record { stage = h.stage; is_busy = h.is_busy; volumes = volumes_along g vs xs ys e h.volumes })
-place_along (Waits g) vs q b xs ys e (inr h) = inr (record { stage = h.stage; is_busy = h.is_busy; volumes = volumes_along _ _ xs ys e h.volumes })
+place_along p vs q b xs ys e h = grind arith
 
 cut_at : (s : Plan) (p : Place) (k : ℕ) (vs : List ℕ) (o : Option SetRow) (st : State) → IsAt s p k vs st → IsMade s p k vs st (cut_set o st)
-cut_at s p k vs None st h = record { at = h; ran = refl }
-cut_at s p k vs (Some r) st h = record {
-  at = record {
-    sets = length_map (row_cut r.number st.clock) st.sets ∙ h.sets;
-    fine = fine_cut r.number st.clock st.sets ∙ h.fine;
-    sound = h.sound;
-    place = place_along p vs st.session (runs st) st.sets (map (row_cut r.number st.clock) st.sets) (volumes_cut r.number st.clock st.sets) h.place;
-  };
-  ran = refl;
-}
+cut_at s p k vs o st h = grind (arith, length_map, fine_cut, place_along, volumes_cut)
 
 made_at : (s : Plan) (p : Place) (k : ℕ) (vs : List ℕ) (g : Option Group) (st : State) → IsAt s p k vs st → IsMade s p k vs st (step_made g st)
-made_at s p k vs None st h = record { at = h; ran = refl }
-made_at s p k vs (Some (Orders o)) st h = record { at = h; ran = refl }
-made_at s p k vs (Some PreCommit) st h = record { at = h; ran = refl }
-made_at s p k vs (Some Flush) st h = record { at = h; ran = refl }
-made_at s p k vs (Some Hold) st h = record { at = h; ran = refl }
 made_at s p k vs (Some Cut) st h = cut_at s p k vs (in_progress st) st h
-made_at s p k vs (Some Commit) st h = record { at = h; ran = refl }
-made_at s p k vs (Some Release) st h = record { at = h; ran = refl }
-made_at s p k vs (Some PostCommit) st h = record { at = h; ran = refl }
+made_at s p k vs _ st h = record { at = h; ran = refl }
 
 pub step_at : (s : Plan) (p : Place) (k : ℕ) (vs : List ℕ) (st : State) → is_working (left_now st) ≡ true → IsAt s p k vs st → IsOrderly (stepped Clean st) → IsAt s p k vs (stepped Clean st)
 unfolding stepped

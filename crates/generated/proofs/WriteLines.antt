@@ -1,23 +1,20 @@
 -- The lanes that write: each line is read as the write that it is, whatever the number of the scenario.
-use Rattle.std.proofs.Common.{◌≡◌, ◌∙◌, ℕ, zero, suc, ◌+◌, ◌-◌, ◌/◌, ◌%◌, ◌<◌, ◌≤◌, Bool, true, List, [], ◌∷◌, ◌++◌, length, map, refl, ap, ap₂, sym, arith, codes, append_assoc}
-use Rattle.std.specs.Prelude.{◌&&◌, nat_lt, nat_le, if◌then◌else◌, slice_get, count_by, Result, Ok, Err}
+use Rattle.std.proofs.Common.{◌≡◌, ◌∙◌, ℕ, zero, suc, ◌+◌, ◌-◌, ◌/◌, ◌%◌, ◌<◌, ◌≤◌, Bool, true, List, [], ◌∷◌, ◌++◌, map, refl, ap, ap₂, sym, arith, codes, append_assoc}
+use Rattle.std.specs.Prelude.{◌&&◌, nat_lt, nat_le, slice_get, count_by, Ok}
 use Rattle.std.specs.List.{list_all, range_with_len, flat_map}
-use Rattle.std.specs.Str.{bytes_eq}
 use Rattle.std.specs.Fmt.{decimal}
 use Rattle.std.proofs.Math.Nat.{mod-lt}
 use Rattle.std.proofs.lemmas.Fmt.{decimal_digit}
 use Rattle.std.proofs.lemmas.Bool.Decides.{nat_tests}
 use Rattle.scenario.specs.declared.op.Op.{Op}
-use Rattle.scenario.specs.declared.op.Op.TheVariants.{WriteFill, WriteStamp}
-use Rattle.scenario.specs.declared.reason.Reason.{Reason}
-use Rattle.scenario.specs.declared.reason.Reason.TheVariants.{UnknownWord}
+use Rattle.scenario.specs.declared.op.Op.TheVariants.{WriteStamp}
 use Rattle.scenario.specs.declared.volume_row.VolumeRow.{VolumeRow}
 use Rattle.scenario.specs.Plan.{LaneLine, blocks_in}
 use Rattle.scenario.specs.Lines.{span_from}
 use Rattle.scenario.specs.Fields.{bytes_of, text_field, fields_of}
 use Rattle.scenario.specs.Numbers.{number_in}
 use Rattle.scenario.specs.Words.{word_of}
-use Rattle.scenario.specs.Ops.{◌>>=◌, number_field, volume_field, block_at as block_value, payload_of, write_of, op_of}
+use Rattle.scenario.specs.Ops.{number_field, volume_field, block_at as block_value, payload_of, write_of, op_of}
 use Rattle.scenario.specs.SoFar.{SoFar}
 use Rattle.scenario.specs.Entries.{row_of}
 use Rattle.generator_text.specs.Draws.{drawn, volume_at, block_at, stamp_at}
@@ -25,7 +22,7 @@ use Rattle.generator_text.specs.ScenarioText.{drawn_text, writes_text}
 use Rattle.generated.specs.Writes.{write_at}
 use Rattle.generated.specs.Scenario.{Shape, shape_of, own_shape}
 use Rattle.vss_report.proofs.Joined.{both}
-use Rattle.generated.proofs.Words.{is_word, are_words, spans_at, number_word, number_reads}
+use Rattle.generated.proofs.Words.{are_words, spans_at, number_word, number_reads}
 use Rattle.generated.proofs.Reader.{head_is, tail_is, Then, line_then, same_rest}
 use Rattle.generated.proofs.Meant.{IsDeclared, Meaning, Does, AreMeant, begins, all_end, Run, IsSaid, with_meant}
 use Rattle.generated.proofs.LaneLines.{Makes, HasSpace, lane_line, lines_then, many_lines}
@@ -49,13 +46,7 @@ known : (v : ℕ) → v < 8 → nat_lt v 8 ≡ true
 known v l = grind (arith, nat_tests)
 
 write_are_words : (v b s : ℕ) → IsWrite v b s → are_words (write_words v b s) ≡ true
-write_are_words v b s w =
-    let volume = w.volume in
-    let block = w.block in
-    let stamp = w.stamp in
-    both (is_word (decimal v)) _ (number_word v (omega (arith, volume)))
-    (both (is_word (decimal b)) _ (number_word b (omega (arith, block)))
-    (both (is_word (decimal s)) true (number_word s (omega (arith, stamp))) refl))
+write_are_words v b s w = grind (arith, both, number_word)
 
 -- each volume has 256 blocks
 blocks_from : (g k v : ℕ) (rows : List VolumeRow) → map shape_of rows ≡ map own_shape (range_with_len g k) → v < k → blocks_in (slice_get rows v) ≡ 256
@@ -77,34 +68,13 @@ block_reads text d v b start end h l m e =
 stamp_reads : (text : List ℕ) (v b s at end start stop : ℕ) → s ≤ 18446744073709551615 → bytes_of text (span_from at end) ≡ codes "stamp" → bytes_of text (span_from start stop) ≡ decimal s
     → payload_of text v b (text_field (span_from at end)) (text_field (span_from start stop)) ≡ Ok (WriteStamp v b s)
 unfolding number_field
-stamp_reads text v b s at end start stop small kind digits =
-    ap₂ (λ (name bytes : List ℕ). if bytes_eq name (codes "fill") then (number_in 0 255 bytes >>= (λ x. Ok (WriteFill v b x)))
-    else (if bytes_eq name (codes "stamp") then (number_in 0 18446744073709551615 bytes >>= (λ n. Ok (WriteStamp v b n))) else Err UnknownWord)) kind digits
-    ∙ ap (λ (r : Result ℕ Reason). r >>= (λ n. Ok (WriteStamp v b n))) (number_reads 0 18446744073709551615 s (omega (arith, small)) (within 0 18446744073709551615 s (omega arith) small))
+stamp_reads text v b s at end start stop small kind digits = grind (arith, number_reads, within)
 
 write_makes : (text : List ℕ) (d : SoFar) (v b s at : ℕ) → IsDeclared text all_declared d → IsWrite v b s
     → map (bytes_of text) (spans_at at ((118 ∷ decimal v) ∷ decimal b ∷ codes "stamp" ∷ decimal s ∷ [])) ≡ (118 ∷ decimal v) ∷ decimal b ∷ codes "stamp" ∷ decimal s ∷ []
     → Makes text (Does (WriteStamp v b s)) (write_of text d.volumes (fields_of (spans_at at ((118 ∷ decimal v) ∷ decimal b ∷ codes "stamp" ∷ decimal s ∷ []))))
 unfolding write_of
-write_makes text d v b s at h w parts =
-    let rest = tail_is _ _ _ _ parts in
-    let more = tail_is _ _ _ _ rest in
-    let last = tail_is _ _ _ _ more in
-    let a = at + length (118 ∷ decimal v) in
-    let b_end = a + 1 + length (decimal b) in
-    let kind_end = b_end + 1 + 5 in
-    let block_at = span_from (a + 1) b_end in
-    let kind = span_from (b_end + 1) kind_end in
-    let stamp = span_from (kind_end + 1) (kind_end + 1 + length (decimal s)) in
-    let volume = volume_reads text d v _ _ h w.volume (head_is _ _ _ _ parts) in
-    let block = block_reads text d v b _ _ h w.volume w.block (head_is _ _ _ _ rest) in
-    record {
-      op = WriteStamp v b s;
-      is = ap (λ (r : Result ℕ Reason). r >>= (λ x. block_value text d.volumes x (text_field block_at) >>= (λ y. payload_of text x y (text_field kind) (text_field stamp)))) volume
-          ∙ ap (λ (r : Result ℕ Reason). r >>= (λ y. payload_of text v y (text_field kind) (text_field stamp))) block
-          ∙ stamp_reads text v b s _ _ _ _ w.stamp (head_is _ _ _ _ more) (head_is _ _ _ _ last);
-      meant = refl;
-    }
+write_makes text d v b s at h w parts = grind (arith, tail_is, volume_reads, head_is, block_reads, stamp_reads)
 
 write_line : (text more : List ℕ) (run : Run) (v b s : ℕ) → IsWrite v b s → HasSpace 1 run
     → Then text (line_then (write_words v b s) more) (IsSaid text all_declared run) → Then text more (IsSaid text all_declared (with_meant (Does (WriteStamp v b s) ∷ []) run))
@@ -132,10 +102,7 @@ abbrev pub is_early : ℕ → Bool
 is_early k = nat_lt k 200
 
 pub drawn_write : (n i k : ℕ) → i < 16 → is_early k ≡ true → IsWrite (volume_at n i k) (block_at n i k) (stamp_at i k)
-drawn_write n i k l early = record { volume = volume_below n i k; block = block_below n i k l; stamp = stamp_below i k l (less k early) }
-  where
-    less : (k : ℕ) → nat_lt k 200 ≡ true → k < 200
-    less k e = grind (arith, nat_tests)
+drawn_write n i k l early = grind (arith, volume_below, block_below, stamp_below)
 
 abbrev drawn_words : ℕ → ℕ → ℕ → List (List ℕ)
 drawn_words n i k = write_words (volume_at n i k) (block_at n i k) (stamp_at i k)

@@ -1,14 +1,12 @@
 -- What the calls on a volume with mirrors are as calls on a volume with images.
-use Rattle.std.proofs.Common.{◌≡◌, ℕ, zero, suc, ◌+◌, ◌≤◌, List, [], ◌∷◌, refl, ap, sym, ◌∙◌, arith, Bool, true, false, Option, Some, None, subst, inl, inr}
+use Rattle.std.proofs.Common.{◌≡◌, ℕ, zero, suc, ◌≤◌, List, [], ◌∷◌, refl, ap, sym, ◌∙◌, arith, Bool, true, Option, Some, None, subst, inl, inr}
 use Rattle.std.specs.Prelude.{slice_get, slice_set, ◌&&◌, map, count_by, is_some, is_none, ◌==◌, OnOk, Result, Ok, Err}
 use Rattle.std.specs.List.{list_all}
 use Rattle.vss_names.specs.Faults.{Rose}
 use Rattle.volume_device.specs.declared.device.Device.{Ghosts}
-use Rattle.write_history.specs.History.{History, Write, written, dropped, cut}
-use Rattle.cow_volume.specs.Calls.{is_among}
+use Rattle.write_history.specs.History.{History, Write, dropped, cut}
 use Rattle.cow_volume.specs.OneVolume.{without_up_to}
 use Rattle.cow_volume.specs.declared.cause.Cause.{Cause}
-use Rattle.cow_volume.specs.declared.cause.Cause.TheVariants.{NoSuchBlock, Volume, Area}
 use Rattle.cow_volume.specs.declared.written.Written.{Written}
 use Rattle.cow_volume.specs.declared.write_fault.WriteFault.{WriteFault}
 use Rattle.cow_volume.specs.declared.image_fault.ImageFault.{ImageFault}
@@ -17,7 +15,7 @@ use Rattle.cow_volume.proofs.Group.{slice_get_map}
 use Rattle.cow_volume.proofs.Writing.{put_tells}
 use Rattle.mirror_volume.specs.declared.mirror.Mirror.{Mirror}
 use Rattle.mirror_volume.specs.Stale.{stale_count}
-use Rattle.mirror_volume.specs.Contract.{IsSame, IsNoLessReady, StandsAfter, IsNow, IsShown}
+use Rattle.mirror_volume.specs.Contract.{IsSame, IsNoLessReady, StandsAfter}
 use Rattle.mirror_volume.specs.Contract as contract
 use Rattle.mirror_volume.specs.Mirrors.{MirrorValue, StandsFor, faults_of, ready_count, tells, is_ready}
 use Rattle.mirror_volume.specs.MirrorCalls.{IsQuiet, IsQuietOn, HasCause, IsWrite, IsWritten, after_write, IsRead, IsImageRead, IsCut, IsDropped}
@@ -28,12 +26,10 @@ use Rattle.mirror_volume.proofs.Ready.{AllLater, AnyRose, all_later, all_rose, l
 use Rattle.mirror_volume.proofs.Ready.{ready_some}
 
 and_first : (s t : Bool) → (s && t) ≡ true → s ≡ true
-and_first true t e = refl
-and_first false t e = e
+and_first s t e = grind arith
 
 and_second : (s t : Bool) → (s && t) ≡ true → t ≡ true
-and_second true t e = e
-and_second false t e = cc
+and_second s t e = grind arith
 
 all_at : {X : Type 0} → (test : X → Bool) (xs : List X) (k : ℕ) (x : X) → list_all test xs ≡ true → slice_get xs k ≡ Some x → test x ≡ true
 all_at test [] k x all at = cc
@@ -44,38 +40,20 @@ all_at test (y ∷ xs) (suc k) x all at = all_at test xs k x (and_second (test y
 
 module _ {D : Type 0} (ghosts : Ghosts D) where
   quiet_later : (old new : MirrorValue D) → IsQuiet ghosts old new → faults_of ghosts.count old ≤ faults_of ghosts.count new
-  quiet_later old new is = all_later (ghosts.count old.primary) (ghosts.count new.primary) (map (λ m. ghosts.count m.device) old.mirrors)
-      (map (λ m. ghosts.count m.device) new.mirrors) is.primary.later
-      (subst (λ (ms : List (Mirror D)). AllLater (map (λ m. ghosts.count m.device) old.mirrors) (map (λ m. ghosts.count m.device) ms)) (sym is.mirrors)
-      (later_itself (map (λ m. ghosts.count m.device) old.mirrors)))
+  quiet_later old new is = grind (arith, all_later, later_itself)
 
   quiet_rose : (old new : MirrorValue D) → IsQuiet ghosts old new → Rose (ghosts.count old.primary) (ghosts.count new.primary) → Rose (faults_of ghosts.count old) (faults_of ghosts.count new)
-  quiet_rose old new is rose = all_rose (ghosts.count old.primary) (ghosts.count new.primary) (map (λ m. ghosts.count m.device) old.mirrors)
-      (map (λ m. ghosts.count m.device) new.mirrors) is.primary.later
-      (subst (λ (ms : List (Mirror D)). AllLater (map (λ m. ghosts.count m.device) old.mirrors) (map (λ m. ghosts.count m.device) ms)) (sym is.mirrors)
-      (later_itself (map (λ m. ghosts.count m.device) old.mirrors))) (inl rose)
+  quiet_rose old new is rose = grind (arith, all_rose, later_itself)
 
   pub quiet_same : (old new : MirrorValue D) → IsQuiet ghosts old new → IsSame (tells ghosts.told) (λ v. ghosts.size v.primary) (λ v. None) (faults_of ghosts.count) old new
-  quiet_same old new is = record {
-    tells_is = ap (λ (t : Option (List (List ℕ))). is_some t && list_all (λ m. is_some (ghosts.told m.device)) new.mirrors) is.primary.told_is
-        ∙ ap (λ (ms : List (Mirror D)). is_some (ghosts.told old.primary) && list_all (λ m. is_some (ghosts.told m.device)) ms) is.mirrors;
-    size_is = is.primary.size_is;
-    slots_is = refl;
-    later = quiet_later old new is;
-  }
+  quiet_same old new is = grind (arith, quiet_later)
 
   pub quiet_ready : (old new : MirrorValue D) → IsQuiet ghosts old new → IsNoLessReady ready_count (faults_of ghosts.count) old new
   quiet_ready old new is = inl (let same = ap (λ (ms : List (Mirror D)). count_by is_ready ms) is.mirrors in omega arith)
 
   -- nothing changed
   pub itself_same : (v new : MirrorValue D) → new ≡ v → IsSame (tells ghosts.told) (λ v. ghosts.size v.primary) (λ v. None) (faults_of ghosts.count) v new
-  itself_same v new same = record {
-    tells_is = ap (tells ghosts.told) same;
-    size_is = ap
-        (λ (x : MirrorValue D). ghosts.size x.primary) same;
-    slots_is = refl;
-    later = (let e = ap (faults_of ghosts.count) same in omega arith);
-  }
+  itself_same v new same = grind arith
 
   pub itself_ready : (v new : MirrorValue D) → new ≡ v → IsNoLessReady ready_count (faults_of ghosts.count) v new
   itself_ready v new same = inl (let e = ap ready_count same in omega arith)
@@ -108,35 +86,20 @@ module _ {D : Type 0} (ghosts : Ghosts D) where
   write_same old new w (Err fault) is = quiet_same old new is.2
 
   pub write_ready : (old new : MirrorValue D) (w : Write) (result : Result Written WriteFault) → IsWrite ghosts old new w result → IsNoLessReady ready_count (faults_of ghosts.count) old new
-  write_ready old new w (Ok done) is = written_ready old new w is.1
-  write_ready old new w (Err fault) is = quiet_ready old new is.2
+  write_ready old new w result is = grind (arith, written_ready, quiet_ready)
 
   block_cause : (old new : MirrorValue D) (b : ℕ) (cause : Cause) → HasCause ghosts.size ghosts.count b old new cause → IsQuiet ghosts old new
       → contract.HasBlockCause (λ v. ghosts.size v.primary) (faults_of ghosts.count) b old new cause
-  block_cause old new b NoSuchBlock is quiet = is.0
-  block_cause old new b Volume is quiet = (is.0, quiet_rose old new quiet is.1)
-  block_cause old new b Area is quiet = absurd is
+  block_cause old new b cause is quiet = grind (arith, quiet_rose)
 
   -- no image of set 0 stands, so none goes
   none_evicted : (v : MirrorValue D) (h : History) (up_to : ℕ) → StandsFor ghosts v h → up_to ≡ 0 → without_up_to up_to h ≡ h
-  none_evicted v h up_to stood none =
-      ap (λ (n : ℕ). without_up_to n h) none
-      ∙ ap (λ is. let g : History = record { writes = h.writes; images = is } in g) (none_gone h.images (λ set among. stood.above_zero set (ap (is_among set) stood.sets ∙ among)))
+  none_evicted v h up_to stood none = grind (arith, none_gone)
 
   pub write_is : (old new : MirrorValue D) (w : Write) (result : Result Written WriteFault) → IsWrite ghosts old new w result
       → ((h : History) → StandsFor ghosts old h → StandsFor ghosts new (after_write w result h))
       → contract.IsWrite (StandsFor ghosts) (λ v. ghosts.size v.primary) (λ v. None) (faults_of ghosts.count) old new w result
-  write_is old new w (Ok done) is stands = record {
-    in_range = is.1.in_range;
-    evicted = λ h stood. is.0;
-    stands_for = λ h stood. subst (λ (g : History). StandsFor ghosts new (written w g)) (sym (none_evicted old h done.evicted_up_to stood is.0)) (stands h stood);
-  }
-  write_is old new w (Err fault) is stands = record {
-    cause = block_cause old new w.block fault.cause is.1 is.2;
-    evicted = λ low h stood. is.0;
-    none = λ past. is.0;
-    stands_for = λ h stood. subst (λ (g : History). StandsFor ghosts new g) (sym (none_evicted old h fault.evicted_up_to stood is.0)) (stands h stood);
-  }
+  write_is old new w result is stands = grind (arith, none_evicted, block_cause)
 
   -- ## reads
 
@@ -146,8 +109,7 @@ module _ {D : Type 0} (ghosts : Ghosts D) where
   read_same old new b bytes (Err cause) is = quiet_same old new is.1
 
   pub read_ready : (old new : MirrorValue D) (b : ℕ) (bytes : List ℕ) (result : Result Unit Cause) → IsRead ghosts old new b bytes result → IsNoLessReady ready_count (faults_of ghosts.count) old new
-  read_ready old new b bytes (Ok done) is = quiet_ready old new is.2
-  read_ready old new b bytes (Err cause) is = quiet_ready old new is.1
+  read_ready old new b bytes result is = grind arith
 
   pub read_is : (old new : MirrorValue D) (b : ℕ) (bytes : List ℕ) (result : Result Unit Cause) → IsRead ghosts old new b bytes result
       → contract.IsRead (StandsFor ghosts) (tells ghosts.told) (λ v. ghosts.size v.primary) (faults_of ghosts.count) old new b bytes result
@@ -197,19 +159,17 @@ module _ {D : Type 0} (ghosts : Ghosts D) where
 
   pub image_same : (old new : MirrorValue D) (set b : ℕ) (bytes : List ℕ) (result : Result Unit ImageFault) → IsImageRead ghosts old new set b bytes result
       → IsSame (tells ghosts.told) (λ v. ghosts.size v.primary) (λ v. None) (faults_of ghosts.count) old new
-  image_same old new set b bytes (Ok done) is = called_same old new is.0.place is.0.mirror is.0.quiet
   image_same old new set b bytes (Err NoSuchImage) is = itself_same old new is.1
   image_same old new set b bytes (Err NoBlock) is = itself_same old new is.2
-  image_same old new set b bytes (Err VolumeFailed) is = called_same old new is.0.place is.0.mirror is.0.quiet
   image_same old new set b bytes (Err AreaFailed) is = absurd is
+  image_same old new set b bytes _ is = called_same old new is.0.place is.0.mirror is.0.quiet
 
   pub image_ready : (old new : MirrorValue D) (set b : ℕ) (bytes : List ℕ) (result : Result Unit ImageFault) → IsImageRead ghosts old new set b bytes result
       → IsNoLessReady ready_count (faults_of ghosts.count) old new
-  image_ready old new set b bytes (Ok done) is = called_ready old new is.0.place is.0.mirror is.0.quiet
   image_ready old new set b bytes (Err NoSuchImage) is = itself_ready old new is.1
   image_ready old new set b bytes (Err NoBlock) is = itself_ready old new is.2
-  image_ready old new set b bytes (Err VolumeFailed) is = called_ready old new is.0.place is.0.mirror is.0.quiet
   image_ready old new set b bytes (Err AreaFailed) is = absurd is
+  image_ready old new set b bytes _ is = called_ready old new is.0.place is.0.mirror is.0.quiet
 
   pub image_is : (old new : MirrorValue D) (set b : ℕ) (bytes : List ℕ) (result : Result Unit ImageFault) → IsImageRead ghosts old new set b bytes result
       → contract.IsImageRead (StandsFor ghosts) (tells ghosts.told) (λ v. ghosts.size v.primary) (λ v. v.images) (faults_of ghosts.count) old new set b bytes result
@@ -233,19 +193,7 @@ module _ {D : Type 0} (ghosts : Ghosts D) where
   moved_same : (old new : MirrorValue D) (k : ℕ) (m next : Mirror D) → new.primary ≡ old.primary → slice_get old.mirrors k ≡ Some m → next.device ≡ m.device
       → new.mirrors ≡ slice_set old.mirrors k next
       → IsSame (tells ghosts.told) (λ v. ghosts.size v.primary) (λ v. None) (faults_of ghosts.count) old new
-  moved_same old new k m next primary was device mirrors = record {
-    tells_is = ap (λ (d : D). is_some (ghosts.told d) && list_all (λ x. is_some (ghosts.told x.device)) new.mirrors) primary
-        ∙ ap (λ (t : Bool). is_some (ghosts.told old.primary) && t)
-        (ap (list_all (λ x. is_some (ghosts.told x.device))) mirrors ∙ tells_set (λ x. is_some (ghosts.told x.device)) old.mirrors k m next was (ap (λ (d : D). is_some (ghosts.told d)) device));
-    size_is = ap ghosts.size primary;
-    slots_is = refl;
-    later = all_later (ghosts.count old.primary) (ghosts.count new.primary) (map (λ x. ghosts.count x.device) old.mirrors) (map (λ x. ghosts.count x.device) new.mirrors)
-        (let same = ap ghosts.count primary in omega arith)
-        (subst (λ (cs : List ℕ). AllLater (map (λ x. ghosts.count x.device) old.mirrors) cs)
-        (sym (ap (map (λ x. ghosts.count x.device)) mirrors ∙ map-slice_set (λ x. ghosts.count x.device) old.mirrors k next))
-        (later_set (map (λ x. ghosts.count x.device) old.mirrors) k (ghosts.count m.device) (ghosts.count next.device) (slice_get_map (λ (x : Mirror D). ghosts.count x.device) old.mirrors k m was)
-        (let same = ap ghosts.count device in omega arith)));
-  }
+  moved_same old new k m next primary was device mirrors = grind (arith, tells_set, all_later, map-slice_set, later_set, slice_get_map)
 
   pub cut_same : {E : Type 0} (old new : MirrorValue D) (set : ℕ) (result : Result Unit E) → IsCut old new set result
       → IsSame (tells ghosts.told) (λ v. ghosts.size v.primary) (λ v. None) (faults_of ghosts.count) old new
@@ -255,13 +203,7 @@ module _ {D : Type 0} (ghosts : Ghosts D) where
 
   pub cut_is : {E : Type 0} (old new : MirrorValue D) (set : ℕ) (result : Result Unit E) → IsCut old new set result → OnOk result (StandsAfter (StandsFor ghosts) old new (cut set))
       → contract.IsCut (StandsFor ghosts) ready_count 1 old new set result
-  cut_is old new set (Ok done) is stands = (
-    ready_some old.mirrors is.place is.split.mirror is.split.was is.split.ready,
-    subst (λ (ms : List (Mirror D)). count_by is_ready old.mirrors ≤ count_by is_ready ms + 1) (sym is.mirrors)
-        (ready_split old.mirrors is.place is.split.mirror (record { device = is.split.mirror.device; holds = Some set; stale = is.split.mirror.stale }) is.split.was),
-    stands,
-  )
-  cut_is old new set (Err refused) is stands = is
+  cut_is old new set result is stands = grind (arith, ready_some, ready_split)
 
   pub drop_same : (old new : MirrorValue D) (set : ℕ) (result : Result Unit ImageFault) → IsDropped old new set result
       → IsSame (tells ghosts.told) (λ v. ghosts.size v.primary) (λ v. None) (faults_of ghosts.count) old new
@@ -278,5 +220,4 @@ module _ {D : Type 0} (ghosts : Ghosts D) where
 
   pub drop_is : (old new : MirrorValue D) (set : ℕ) (result : Result Unit ImageFault) → IsDropped old new set result → OnOk result (StandsAfter (StandsFor ghosts) old new (dropped set))
       → contract.IsDropped (StandsFor ghosts) (λ v. v.images) old new set result
-  drop_is old new set (Ok done) is stands = (is.0, stands)
-  drop_is old new set (Err fault) is stands = is
+  drop_is old new set result is stands = grind arith

@@ -1,13 +1,11 @@
 -- How many blocks are stale, as blocks are marked and unmarked.
-use Rattle.std.proofs.Common.{◌≡◌, ℕ, zero, suc, ◌+◌, ◌-◌, ◌^◌, ◌<◌, ◌≤◌, List, [], ◌∷◌, length, replicate, refl, ap, sym, ◌∙◌, arith, Bool, true, false, Option, Some, None, get_or}
-use Rattle.std.specs.Prelude.{slice_get, slice_set, count_by, ◌==◌, nat_lt, if◌then◌else◌, IsTrue, IsNone, IfSome, ◌↔◌}
-use Rattle.std.proofs.lemmas.Bool.Decides.{nat_tests}
+use Rattle.std.proofs.Common.{◌≡◌, ℕ, zero, suc, ◌+◌, ◌-◌, ◌^◌, ◌<◌, ◌≤◌, List, [], ◌∷◌, length, replicate, refl, ap, sym, ◌∙◌, arith, Bool, true, false, Option, Some, get_or}
+use Rattle.std.specs.Prelude.{slice_get, slice_set, count_by, if◌then◌else◌, IsTrue, IsNone, IfSome, ◌↔◌}
 use Rattle.slot_pool.specs.Slots.{IsTaken, IsLowestFree, free_count}
 use Rattle.std.proofs.lemmas.List.Sums.{count_by-le-length, sum_by-cons}
 use Rattle.std.proofs.lemmas.List.{length-replicate}
-use Rattle.std.proofs.lemmas.Option.{slice_get_within}
 use Rattle.cow_volume.proofs.Group.{slice_get_inside, slice_get-set_same, slice_get-set_other, length-slice_set, same_number, other_number}
-use Rattle.mirror_volume.specs.Stale.{IsInStep, stale_count, IsLowestStale, HoldsStale, KeepsStale}
+use Rattle.mirror_volume.specs.Stale.{IsInStep, stale_count, HoldsStale, KeepsStale}
 
 pub count-cons : {X : Type 0} → (p : X → Bool) (x : X) (xs : List X) → count_by p (x ∷ xs) ≡ (if p x then 1 else 0) + count_by p xs
 count-cons p x xs = sum_by-cons (λ y. if p y then 1 else 0) x xs
@@ -85,25 +83,14 @@ count_few xs i at =
 
 -- the queue of a mirror has all its blocks
 pub keeps_new : (n : ℕ) → n < 2 ^ 32 → KeepsStale (replicate n false) (replicate n true) 0
-keeps_new n low = record {
-  holds = record {
-    long = length-replicate n true ∙ sym (length-replicate n false);
-    queued = λ b at. absurd (none_of_replicate n b at);
-  };
-  is_count = sym (count-none n);
-  narrow = let long = length-replicate n false in omega arith;
-}
+keeps_new n low = grind (arith, length-replicate, none_of_replicate, count-none)
 
 count-all : (n : ℕ) → stale_count (replicate n true) ≡ n
 count-all zero = refl
 count-all (suc n) = let all = count-all n in let more = stale-true (replicate n true) in omega arith
 
 pub keeps_stale : (n : ℕ) → n < 2 ^ 32 → KeepsStale (replicate n true) (replicate n true) n
-keeps_stale n low = record {
-  holds = record { long = refl; queued = λ b at. at };
-  is_count = sym (count-all n);
-  narrow = let long = length-replicate n true in omega arith;
-}
+keeps_stale n low = grind (arith, count-all, length-replicate)
 
 -- all blocks are stale, or none
 pub keeps_of : (stale : Bool) (n : ℕ) → n < 2 ^ 32 → KeepsStale (replicate n stale) (replicate n true) (if stale then n else 0)
@@ -113,73 +100,20 @@ keeps_of false n low = keeps_new n low
 -- a block that stands in the queue already is marked
 pub keeps_marked : (stale queue : List Bool) (count b : ℕ) → KeepsStale stale queue count → slice_get stale b ≡ Some false → slice_get queue b ≡ Some true
     → KeepsStale (slice_set stale b true) queue (count + 1)
-keeps_marked stale queue count b keeps at queued = record {
-  holds = record {
-    long = keeps.holds.long ∙ sym (length-slice_set stale b true);
-    queued = λ c is. by_number c (c == b) refl is;
-  };
-  is_count = ap (λ n. n + 1) keeps.is_count ∙ sym (count-marked stale b at);
-  narrow = let low = keeps.narrow in let long = length-slice_set stale b true in omega arith;
-} where
-  by_number : (c : ℕ) (t : Bool) → (c == b) ≡ t → slice_get (slice_set stale b true) c ≡ Some true → slice_get queue c ≡ Some true
-  by_number c true same is = ap (slice_get queue) (same_number c b same) ∙ queued
-  by_number c false other is = keeps.holds.queued c (sym (slice_get-set_other stale b c true (λ e. other_number c b other (sym e))) ∙ is)
+keeps_marked stale queue count b keeps at queued = grind (arith, length-slice_set, count-marked, same_number, slice_get-set_other, other_number)
 
 -- or it is put there
 pub keeps_queued : (stale queue : List Bool) (count b : ℕ) → KeepsStale stale queue count → slice_get stale b ≡ Some false → slice_get queue b ≡ Some false
     → KeepsStale (slice_set stale b true) (slice_set queue b true) (count + 1)
-keeps_queued stale queue count b keeps at free = record {
-  holds = record {
-    long = length-slice_set queue b true ∙ keeps.holds.long ∙ sym (length-slice_set stale b true);
-    queued = λ c is. by_number c (c == b) refl is;
-  };
-  is_count = ap (λ n. n + 1) keeps.is_count ∙ sym (count-marked stale b at);
-  narrow = let low = keeps.narrow in let long = length-slice_set stale b true in omega arith;
-} where
-  by_number : (c : ℕ) (t : Bool) → (c == b) ≡ t → slice_get (slice_set stale b true) c ≡ Some true → slice_get (slice_set queue b true) c ≡ Some true
-  by_number c true same is = ap (slice_get (slice_set queue b true)) (same_number c b same) ∙ slice_get-set_same queue b false true free
-  by_number c false other is =
-      slice_get-set_other queue b c true (λ e. other_number c b other (sym e)) ∙ keeps.holds.queued c (sym (slice_get-set_other stale b c true (λ e. other_number c b other (sym e))) ∙ is)
+keeps_queued stale queue count b keeps at free = grind (arith, length-slice_set, count-marked, same_number, slice_get-set_same, slice_get-set_other, other_number)
 
 -- a block is unmarked, and may stand in the queue still
 pub keeps_unmarked : (stale queue : List Bool) (count b : ℕ) → KeepsStale stale queue count → slice_get stale b ≡ Some true → KeepsStale (slice_set stale b false) queue (count - 1)
-keeps_unmarked stale queue count b keeps at = record {
-  holds = record {
-    long = keeps.holds.long ∙ sym (length-slice_set stale b false);
-    queued = λ c is. by_number c (c == b) refl is;
-  };
-  is_count = (let fewer = count-unmarked stale b at in let is = keeps.is_count in omega arith);
-  narrow = let low = keeps.narrow in let long = length-slice_set stale b false in omega arith;
-} where
-  by_number : (c : ℕ) (t : Bool) → (c == b) ≡ t → slice_get (slice_set stale b false) c ≡ Some true → slice_get queue c ≡ Some true
-  by_number c true same is =
-      let now = ap (slice_get (slice_set stale b false)) (sym (same_number c b same)) ∙ is in
-      let was = slice_get-set_same stale b true false at in
-      cc
-  by_number c false other is = keeps.holds.queued c (sym (slice_get-set_other stale b c false (λ e. other_number c b other (sym e))) ∙ is)
+keeps_unmarked stale queue count b keeps at = grind (arith, length-slice_set, count-unmarked, same_number, slice_get-set_same, slice_get-set_other, other_number)
 
 -- the lowest of the queue, which is not stale, is taken out
 pub taken_out : (stale queue : List Bool) (b : ℕ) → HoldsStale stale queue → slice_get stale b ≡ Some false → HoldsStale stale (slice_set queue b false)
-taken_out stale queue b holds at = record {
-  long = length-slice_set queue b false ∙ holds.long;
-  queued = λ c is. by_number c (c == b) refl is;
-} where
-  by_number : (c : ℕ) (t : Bool) → (c == b) ≡ t → slice_get stale c ≡ Some true → slice_get (slice_set queue b false) c ≡ Some true
-  by_number c true same is = let now = ap (slice_get stale) (sym (same_number c b same)) ∙ is in cc
-  by_number c false other is = slice_get-set_other queue b c false (λ e. other_number c b other (sym e)) ∙ holds.queued c is
-
--- the lowest of the queue, which is stale, is the lowest stale block
-pub lowest_is : (stale queue : List Bool) (b : ℕ) → HoldsStale stale queue → slice_get stale b ≡ Some true → ((other : ℕ) → other < b → slice_get queue other ≡ Some false) → IsLowestStale stale b
-lowest_is stale queue b holds at lower = record {
-  is_stale = at;
-  lowest = λ other l.
-      let within = slice_get_within stale b true at in
-      let found = slice_get_inside stale other (omega arith) in
-      by_bool other l found.0 found.1;
-} where
-  by_bool : (other : ℕ) → other < b → (x : Bool) → slice_get stale other ≡ Some x → IsInStep stale other
-  by_bool other l true is = let queued = holds.queued other is in let free = lower other l in cc
-  by_bool other l false is = is
+taken_out stale queue b holds at = grind (arith, length-slice_set, same_number, slice_get-set_other, other_number)
 
 -- where the queue is empty, no block is stale
 pub none_left : (stale queue : List Bool) → HoldsStale stale queue → stale_count queue ≡ 0 → stale_count stale ≡ 0
@@ -208,18 +142,4 @@ is_free_of result queue b iff within e = let found = slice_get_inside queue b wi
 pub taken_lowest : (queue new : List Bool) (block : ℕ) (result : Option ℕ) → IsLowestFree queue block → IfSome result (IsLowestFree queue) → IfSome result (λ slot. new ≡ slice_set queue slot false)
     → (IsNone result ↔ (free_count queue ≡ 0))
     → new ≡ slice_set queue block false
-taken_lowest queue new block None lowest also is iff = let some = count_some queue block lowest.free in let none : stale_count queue ≡ 0 = iff.0 refl in absurd (omega arith)
-taken_lowest queue new block (Some slot) lowest also is iff = is ∙ ap (λ (k : ℕ). slice_set queue k false) (by_order (nat_lt slot block) (nat_lt block slot) refl refl) where
-  not_both : (b : ℕ) → slice_get queue b ≡ Some true → slice_get queue b ≡ Some false → ⊥
-  not_both b f g = cc
-
-  below : (m n : ℕ) → nat_lt m n ≡ true → m < n
-  below m n e = grind (arith, nat_tests)
-
-  equal : (m n : ℕ) → nat_lt m n ≡ false → nat_lt n m ≡ false → m ≡ n
-  equal m n e f = grind (arith, nat_tests)
-
-  by_order : (s t : Bool) → nat_lt slot block ≡ s → nat_lt block slot ≡ t → slot ≡ block
-  by_order true t e f = absurd (not_both slot also.free (lowest.lowest slot (below slot block e)))
-  by_order false true e f = absurd (not_both block lowest.free (also.lowest block (below block slot f)))
-  by_order false false e f = equal slot block e f
+taken_lowest queue new block result lowest also is iff = grind (arith, count_some)

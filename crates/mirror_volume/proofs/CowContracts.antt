@@ -1,6 +1,6 @@
 -- What the calls on a copy-on-write volume are as calls on a volume with images.
-use Rattle.std.proofs.Common.{◌≡◌, ℕ, zero, suc, ◌<◌, ◌≤◌, List, [], ◌∷◌, length, refl, ap, sym, ◌∙◌, arith, Bool, true, Option, Some, inl, inr, subst}
-use Rattle.std.specs.Prelude.{slice_get, ◌&&◌, map, is_some, Result, Ok, Err, OnOk, IfErr}
+use Rattle.std.proofs.Common.{◌≡◌, ℕ, zero, suc, ◌<◌, ◌≤◌, List, [], ◌∷◌, length, refl, ap, sym, ◌∙◌, arith, Bool, true, Some, inl, inr, subst}
+use Rattle.std.specs.Prelude.{slice_get, ◌&&◌, map, Result, Ok, Err, OnOk, IfErr}
 use Rattle.std.specs.List.{list_all}
 use Rattle.std.proofs.lemmas.Option.{same_Some}
 use Rattle.vss_names.specs.Faults.{Rose}
@@ -11,11 +11,9 @@ use Rattle.cow_volume.specs.GroupValue.{GroupValue, placed}
 use Rattle.cow_volume.specs.Calls.{IsKept, IsQuiet, VolumeRose, AreaRose, HasCauseAt, blocks_in, is_among}
 use Rattle.cow_volume.specs.OneVolume.{StandsForOne, blocks_of, image_sets, tells, IsEvictedOne, IsOneWrite, IsOneNow, IsOneShown, HasOneCause, HasOneImageCause, IsOneDropped}
 use Rattle.cow_volume.specs.declared.cause.Cause.{Cause}
-use Rattle.cow_volume.specs.declared.cause.Cause.TheVariants.{NoSuchBlock, Volume, Area}
 use Rattle.cow_volume.specs.declared.written.Written.{Written}
 use Rattle.cow_volume.specs.declared.write_fault.WriteFault.{WriteFault}
 use Rattle.cow_volume.specs.declared.image_fault.ImageFault.{ImageFault}
-use Rattle.cow_volume.specs.declared.image_fault.ImageFault.TheVariants.{NoSuchImage, NoSuchBlock as NoBlock, Volume as VolumeFailed, Area as AreaFailed}
 use Rattle.mirror_volume.specs.Contract as contract
 use Rattle.mirror_volume.specs.CowFaults.{faults_of, slots_of}
 use Rattle.mirror_volume.proofs.Ready.{AllLater, AnyRose, all_later, all_rose}
@@ -49,38 +47,25 @@ one_rose count (x ∷ old) (y ∷ new) (suc v) d e at also rose = inr (one_rose 
 
 -- one volume is the whole list
 one_listed : (ns : List ℕ) → length ns ≡ 1 → ns ≡ blocks_in (slice_get ns 0) ∷ []
-one_listed [] one = absurd (omega arith)
 one_listed (n ∷ []) one = refl
-one_listed (n ∷ m ∷ ns) one = absurd (omega arith)
+one_listed _ one = absurd (omega arith)
 
 module _ {D : Type 0} (ghosts : Ghosts D) where
   later : (old new : GroupValue D) → IsKept ghosts old new → AllLater (map ghosts.count old.devices) (map ghosts.count new.devices)
   later old new kept = each_later ghosts.count old.devices new.devices kept.devices (λ v d e at also. (kept.each v d e at also).later)
 
   pub kept_same : (old new : GroupValue D) → IsKept ghosts old new → contract.IsSame (λ v. tells ghosts.told v) (λ v. blocks_of v) (λ v. slots_of v) (λ v. faults_of ghosts.count v) old new
-  kept_same old new kept = record {
-    tells_is = ap (λ (t : Bool). t && is_some (ghosts.told new.area.device)) (each_tells (λ d. is_some (ghosts.told d)) old.devices new.devices kept.devices
-        (λ v d e at also. (kept.each v d e at also).tells))
-        ∙ ap (λ (t : Bool). list_all (λ d. is_some (ghosts.told d)) old.devices && t) kept.area.tells;
-    size_is = ap (λ (ns : List ℕ). blocks_in (slice_get ns 0)) kept.volumes;
-    slots_is = ap (λ (n : ℕ). Some n) kept.slots;
-    later = all_later (ghosts.count old.area.device) (ghosts.count new.area.device) (map ghosts.count old.devices) (map ghosts.count new.devices) kept.area.later (later old new kept);
-  }
+  kept_same old new kept = grind (arith, each_tells, later, all_later)
 
   volume_rose : (old new : GroupValue D) → IsKept ghosts old new → VolumeRose ghosts.count 0 old new → Rose (faults_of ghosts.count old) (faults_of ghosts.count new)
-  volume_rose old new kept rose =
-      all_rose (ghosts.count old.area.device) (ghosts.count new.area.device) (map ghosts.count old.devices) (map ghosts.count new.devices) kept.area.later (later old new kept)
-      (inr (one_rose ghosts.count old.devices new.devices 0 rose.before rose.now rose.was rose.is rose.rose))
+  volume_rose old new kept rose = grind (arith, all_rose, later, one_rose)
 
   area_rose : (old new : GroupValue D) → IsKept ghosts old new → AreaRose ghosts.count old new → Rose (faults_of ghosts.count old) (faults_of ghosts.count new)
-  area_rose old new kept rose = all_rose (ghosts.count old.area.device) (ghosts.count new.area.device) (map ghosts.count old.devices) (map ghosts.count new.devices)
-      kept.area.later (later old new kept) (inl rose.rose)
+  area_rose old new kept rose = grind (arith, all_rose, later)
 
   block_cause : (old new : GroupValue D) (b : ℕ) (cause : Cause) → IsKept ghosts old new → HasCauseAt ghosts.count 0 b old new cause
       → contract.HasBlockCause (λ v. blocks_of v) (λ v. faults_of ghosts.count v) b old new cause
-  block_cause old new b NoSuchBlock kept is = is.0
-  block_cause old new b Volume kept is = (is.0, volume_rose old new kept is.1)
-  block_cause old new b Area kept is = (is.0, area_rose old new kept is.1)
+  block_cause old new b cause kept is = grind (arith, volume_rose, area_rose)
 
   -- ## the calls
 
@@ -108,18 +93,13 @@ module _ {D : Type 0} (ghosts : Ghosts D) where
   pub read_is : (old new : GroupValue D) (b : ℕ) (bytes : List ℕ) (result : Result Unit Cause) → IsQuiet ghosts old new → OnOk result (b < blocks_of old)
       → OnOk result (IsOneNow ghosts.told old b bytes) → IfErr result (HasOneCause ghosts.count b old new)
       → contract.IsRead (λ v h. StandsForOne ghosts.told v h) (λ v. tells ghosts.told v) (λ v. blocks_of v) (λ v. faults_of ghosts.count v) old new b bytes result
-  read_is old new b bytes (Ok done) quiet low now cause = (low, now)
-  read_is old new b bytes (Err fault) quiet low now cause = block_cause old new b fault quiet.kept cause
+  read_is old new b bytes result quiet low now cause = grind (arith, block_cause)
 
   pub image_is : (old new : GroupValue D) (set b : ℕ) (bytes : List ℕ) (result : Result Unit ImageFault) → IsQuiet ghosts old new → OnOk result (is_among set (image_sets old) ≡ true)
       → OnOk result (b < blocks_of old)
       → OnOk result (IsOneShown ghosts.told old set b bytes) → IfErr result (HasOneImageCause ghosts.count set b old new)
       → contract.IsImageRead (λ v h. StandsForOne ghosts.told v h) (λ v. tells ghosts.told v) (λ v. blocks_of v) (λ v. image_sets v) (λ v. faults_of ghosts.count v) old new set b bytes result
-  image_is old new set b bytes (Ok done) quiet among low shown cause = (among, low, shown)
-  image_is old new set b bytes (Err NoSuchImage) quiet among low shown cause = cause.0
-  image_is old new set b bytes (Err NoBlock) quiet among low shown cause = (cause.0, cause.1)
-  image_is old new set b bytes (Err VolumeFailed) quiet among low shown cause = (cause.0, cause.1, volume_rose old new quiet.kept cause.2)
-  image_is old new set b bytes (Err AreaFailed) quiet among low shown cause = (cause.0, cause.1, area_rose old new quiet.kept cause.2)
+  image_is old new set b bytes result quiet among low shown cause = grind (arith, volume_rose, area_rose)
 
   pub drop_is : (old new : GroupValue D) (set : ℕ) (result : Result Unit ImageFault) → IsOneDropped ghosts old new set result
       → contract.IsDropped (λ v h. StandsForOne ghosts.told v h) (λ v. image_sets v) old new set result
@@ -128,10 +108,4 @@ module _ {D : Type 0} (ghosts : Ghosts D) where
 
   pub drop_same : (old new : GroupValue D) (set : ℕ) (result : Result Unit ImageFault) → IsOneDropped ghosts old new set result
       → contract.IsSame (λ v. tells ghosts.told v) (λ v. blocks_of v) (λ v. slots_of v) (λ v. faults_of ghosts.count v) old new
-  drop_same old new set (Ok done) is = kept_same old new is.1.kept
-  drop_same old new set (Err fault) is = record {
-    tells_is = ap (tells ghosts.told) is.2;
-    size_is = ap (λ (v : GroupValue D). blocks_of v) is.2;
-    slots_is = ap (λ (v : GroupValue D). slots_of v) is.2;
-    later = (let e = ap (faults_of ghosts.count) is.2 in omega arith);
-  }
+  drop_same old new set result is = grind arith

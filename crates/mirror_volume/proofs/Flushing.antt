@@ -1,8 +1,7 @@
 -- Mirrors are flushed one after another, and what is kept of a volume whose devices were called so.
-use Rattle.std.proofs.Common.{◌≡◌, ◌<◌, ◌≤◌, ◌+◌, ℕ, suc, List, [], ◌∷◌, length, map, refl, ap, sym, subst, ◌∙◌, arith, Bool, true, false, Option, Some, Vec, inl, inr}
-use Rattle.std.specs.Prelude.{slice_get, slice_set, ◌==◌, Ok, Err}
+use Rattle.std.proofs.Common.{◌≡◌, ◌<◌, ◌≤◌, ◌+◌, ℕ, suc, List, [], ◌∷◌, length, map, refl, ap, sym, subst, ◌∙◌, arith, Bool, true, false, Option, Some, Vec, inr}
+use Rattle.std.specs.Prelude.{slice_get, slice_set, ◌==◌, Err}
 use Rattle.std.specs.declared.alloc.Global.{Global}
-use Rattle.std.proofs.lemmas.Bool.{false≢true}
 use Rattle.std.proofs.lemmas.Option.{same_Some, slice_get_within}
 use Rattle.vss_names.specs.Faults.{HasCause, Rose, all_counted}
 use Rattle.volume_device.specs.declared.device.Device.{Ghosts}
@@ -14,7 +13,7 @@ use Rattle.mirror_volume.specs.Mirrors.{MirrorValue, StandsFor, AreHeld, KeepsMi
 use Rattle.mirror_volume.specs.MirrorCalls.{IsCalled, AreCalled, AreLasting, IsQuietDevice}
 use Rattle.mirror_volume.proofs.Following.{more_at}
 use Rattle.mirror_volume.proofs.Held.{map-slice_set}
-use Rattle.mirror_volume.proofs.Keeping.{quiet_device, keeps_primary}
+use Rattle.mirror_volume.proofs.Keeping.{keeps_primary}
 use Rattle.mirror_volume.proofs.Ready.{all_later, all_rose, later_itself, later_set, rose_set}
 use Rattle.mirror_volume.proofs.Standing.{quiet_stands, same_mirror}
 
@@ -31,21 +30,10 @@ module _ {D : Type 0} (ghosts : Ghosts D) where
   -- ## one after another
 
   called_on : (x y z : Mirror D) → IsCalled ghosts x y → IsCalled ghosts y z → IsCalled ghosts x z
-  called_on x y z a b = record {
-    device = record {
-      told_is = b.device.told_is ∙ a.device.told_is;
-      size_is = b.device.size_is ∙ a.device.size_is;
-      later = (let first = a.device.later in let then = b.device.later in omega arith);
-    };
-    holds = b.holds ∙ a.holds;
-    stale = b.stale ∙ a.stale;
-  }
+  called_on x y z a b = grind arith
 
   pub none_called : (mirrors : List (Mirror D)) → AreCalled ghosts mirrors mirrors
-  none_called mirrors = record {
-    long = refl;
-    each = λ k m n at also. subst (λ (x : Mirror D). IsCalled ghosts m x) (same_Some m n (sym at ∙ also)) (record { device = quiet_device ghosts m.device; holds = refl; stale = refl });
-  }
+  none_called mirrors = grind arith
 
   pub one_called : (old now : List (Mirror D)) (k : ℕ) (m next : Mirror D) → AreCalled ghosts old now → slice_get now k ≡ Some m → IsCalled ghosts m next
       → AreCalled ghosts old (slice_set now k next)
@@ -60,9 +48,6 @@ module _ {D : Type 0} (ghosts : Ghosts D) where
         let other = other_number j k e in
         are.each j x y was (sym (slice_get-set_other now k j next (λ same. other (sym same))) ∙ after)
 
-  pub none_flushed : (mirrors : List (Mirror D)) → HaveFlushed ghosts 0 mirrors mirrors
-  none_flushed mirrors = record { called = none_called mirrors; last = λ j n low at. absurd (omega arith); counts = refl }
-
   pub one_flushed : (k : ℕ) (old now : List (Mirror D)) (m next : Mirror D) → HaveFlushed ghosts k old now → slice_get now k ≡ Some m → IsCalled ghosts m next
       → ghosts.lasting next.device ≡ ghosts.told next.device → count_of next ≡ count_of m → HaveFlushed ghosts (k + 1) old (slice_set now k next)
   one_flushed k old now m next have at is lasts same = record {
@@ -76,12 +61,6 @@ module _ {D : Type 0} (ghosts : Ghosts D) where
   all_last k old new have all j n at = have.last j n (let within = slice_get_within new j n at in omega arith) at
 
   -- ## the counts
-
-  pub cause_ok : {E : Type 0} (own k : ℕ) (old new : List (Mirror D)) → HaveFlushed ghosts k old new
-      → HasCause {T = Unit} {E = E} (counts_from ghosts.count own old) (counts_from ghosts.count own new) (Ok tt)
-  cause_ok own k old new have =
-      let same : counts_from ghosts.count own new ≡ counts_from ghosts.count own old = ap (λ (cs : List ℕ). all_counted own cs) have.counts in
-      record { later = omega arith; rose = λ is. absurd (false≢true is); same = same }
 
   pub cause_err : {E : Type 0} (own k : ℕ) (old now : List (Mirror D)) (m next : Mirror D) (e : E) → HaveFlushed ghosts k old now → slice_get now k ≡ Some m
       → ghosts.count m.device ≤ ghosts.count next.device → Rose (ghosts.count m.device) (ghosts.count next.device)
@@ -100,11 +79,7 @@ module _ {D : Type 0} (ghosts : Ghosts D) where
   -- the primary failed, and no mirror was called
   pub cause_first : {E : Type 0} (a b : ℕ) (mirrors : List (Mirror D)) (e : E) → a ≤ b → Rose a b
       → HasCause {T = Unit} {E = E} (counts_from ghosts.count a mirrors) (counts_from ghosts.count b mirrors) (Err e)
-  cause_first a b mirrors e later rose = record {
-    later = all_later a b (map count_of mirrors) (map count_of mirrors) later (later_itself (map count_of mirrors));
-    rose = λ is. all_rose a b (map count_of mirrors) (map count_of mirrors) later (later_itself (map count_of mirrors)) (inl rose);
-    same = tt;
-  }
+  cause_first a b mirrors e later rose = grind (arith, all_later, later_itself, all_rose)
 
   -- ## the volume
 

@@ -1,5 +1,5 @@
 -- Mirrors follow a write one after another.
-use Rattle.std.proofs.Common.{◌≡◌, ℕ, zero, suc, ◌+◌, ◌<◌, ◌≤◌, List, [], ◌∷◌, length, refl, ap, sym, ◌∙◌, arith, Bool, true, false, Option, Some, None, subst, get_or}
+use Rattle.std.proofs.Common.{◌≡◌, ℕ, zero, suc, ◌+◌, ◌<◌, ◌≤◌, List, [], ◌∷◌, length, refl, ap, sym, ◌∙◌, arith, Bool, true, false, Option, Some, subst, get_or}
 use Rattle.std.specs.Prelude.{slice_get, slice_set, ◌==◌}
 use Rattle.std.proofs.lemmas.Option.{same_Some, slice_get_within}
 use Rattle.volume_device.specs.declared.device.Device.{Ghosts}
@@ -13,9 +13,6 @@ pub record HaveFollowed {D : Type 0} (ghosts : Ghosts D) (b : ℕ) (bytes : List
   pub long : length new ≡ length old
   pub first : (j : ℕ) (m n : Mirror D) → j < k → slice_get old j ≡ Some m → slice_get new j ≡ Some n → IsFollowed ghosts b bytes m n
   pub rest : (j : ℕ) → k ≤ j → slice_get new j ≡ slice_get old j
-
-pub none_followed : {D : Type 0} → (ghosts : Ghosts D) (b : ℕ) (bytes : List ℕ) (mirrors : List (Mirror D)) → HaveFollowed ghosts b bytes 0 mirrors mirrors
-none_followed ghosts b bytes mirrors = record { long = refl; first = λ j m n l at also. absurd (omega arith); rest = λ j l. refl }
 
 pub all_followed : {D : Type 0} → (ghosts : Ghosts D) (b : ℕ) (bytes : List ℕ) (k : ℕ) (old new : List (Mirror D)) → HaveFollowed ghosts b bytes k old new → length new ≤ k
     → AreFollowed ghosts b bytes old new
@@ -52,15 +49,10 @@ at_place (y ∷ xs) (suc k) x l is = at_place xs k x (omega arith) is
 -- what holds of the elements before a place, and of the one there
 pub more_at : {X : Type 0} → (P : X → Type 0) (xs : List X) (n : ℕ) (x : X) → slice_get xs n ≡ Some x → P x → ((k : ℕ) (y : X) → k < n → slice_get xs k ≡ Some y → P y) → (k : ℕ) (y : X) → k < n + 1
     → slice_get xs k ≡ Some y → P y
-more_at P xs n x here is before k y l at = by_number (k == n) refl where
-  by_number : (t : Bool) → (k == n) ≡ t → P y
-  by_number true same = subst P (same_Some x y (sym here ∙ ap (slice_get xs) (sym (same_number k n same)) ∙ at)) is
-  by_number false other = let apart = other_number k n other in before k y (omega arith) at
+more_at x0 xs n x here is before k y l at = grind arith
 
 pub held_is : (set : ℕ) (holds : Option ℕ) → is_held set holds ≡ true → holds ≡ Some set
-held_is set None is = cc
-held_is set (Some held) is = ap Some (same_number held set is)
+held_is set holds is = grind arith
 
 pub held_not : (set : ℕ) (holds : Option ℕ) → is_held set holds ≡ false → holds ≡ Some set → ⊥
-held_not set None is holding = cc
-held_not set (Some held) is holding = other_number held set is (same_Some held set holding)
+held_not set holds is holding = grind arith

@@ -2,17 +2,16 @@
 use Rattle.std.proofs.Common.{◌≡◌, ℕ, ◌+◌, ◌<◌, ◌≤◌, List, [], ◌∷◌, length, ap, sym, arith, Bool, true, false, subst}
 use Rattle.std.specs.Prelude.{All, filter, nat_lt, not, ◌==◌, if◌then◌else◌}
 use Rattle.std.proofs.lemmas.List.{map-append, length-append, length-map}
-use Rattle.std.proofs.lemmas.List.Elements.{All-head, All-tail, All-nil, All-push, All-cons}
+use Rattle.std.proofs.lemmas.List.Elements.{All-head, All-tail, All-push, All-cons}
 use Rattle.write_history.specs.History.{History, Image as Shown, sets_of}
 use Rattle.mirror_volume.specs.declared.command.Command.{Command}
-use Rattle.mirror_volume.specs.declared.command.Command.TheVariants.{Write, Read, Cut, Image, Drop}
+use Rattle.mirror_volume.specs.declared.command.Command.TheVariants.{Write, Cut, Drop}
 use Rattle.mirror_volume.specs.declared.said.Said.{Said}
 use Rattle.mirror_volume.specs.declared.said.Said.TheVariants.{Ok, Wrote, Bytes, NoSuchImage, NoMirror, Fault}
-use Rattle.mirror_volume.specs.Replies.{IsAllowed, AreAllowed, MayBeGiven, after, after_write, after_cut, after_drop}
+use Rattle.mirror_volume.specs.Replies.{AreAllowed, MayBeGiven, after, after_write, after_cut, after_drop}
 
 All-weaken : {X : Type 0} → (P Q : X → Type 0) (xs : List X) → ((x : X) → P x → Q x) → All P xs → All Q xs
-All-weaken P Q [] weaker all = All-nil Q
-All-weaken P Q (x ∷ xs) weaker all = All-cons Q x xs (weaker x (All-head P x xs all)) (All-weaken P Q xs weaker (All-tail P x xs all))
+All-weaken x0 x1 xs weaker all = grind arith
 
 -- sets of fewer images
 record AreFewer (fewer more : List Shown) : Type 0 where
@@ -35,29 +34,16 @@ fewer_itself images = record { all = λ n are. are; long = omega arith }
 write_fewer : (b x : ℕ) (said : Said) (h : History) → AreFewer (after_write b x said h).images h.images
 write_fewer b x (Wrote m) h = fewer_filter (λ i. nat_lt m i.set) h.images
 write_fewer b x (Fault m) h = fewer_filter (λ i. nat_lt m i.set) h.images
-write_fewer b x Ok h = fewer_itself h.images
-write_fewer b x (Bytes d) h = fewer_itself h.images
-write_fewer b x NoSuchImage h = fewer_itself h.images
-write_fewer b x NoMirror h = fewer_itself h.images
+write_fewer b x _ h = fewer_itself h.images
 
 drop_fewer : (set : ℕ) (said : Said) (h : History) → AreFewer (after_drop set said h).images h.images
 drop_fewer set Ok h = fewer_filter (λ i. not (i.set == set)) h.images
-drop_fewer set (Wrote m) h = fewer_itself h.images
-drop_fewer set (Fault m) h = fewer_itself h.images
-drop_fewer set (Bytes d) h = fewer_itself h.images
-drop_fewer set NoSuchImage h = fewer_itself h.images
-drop_fewer set NoMirror h = fewer_itself h.images
+drop_fewer set _ h = fewer_itself h.images
 
 -- after a command that adds no image the rest may be given
 with_fewer : (n newest room : ℕ) (rest : List Command) (now before : List Shown) → AreFewer now before → All (λ s. s ≤ newest) (sets_of before) → length (sets_of before) + room ≤ 512
     → AreAllowed n newest room rest → MayBeGiven n (sets_of now) rest
-with_fewer n newest room rest now before fewer most few allowed = record {
-  newest = newest;
-  room = room;
-  at_most = fewer.all newest most;
-  few = let long = fewer.long in let a = length-map now (λ (i : Shown). i.set) in let b = length-map before (λ (i : Shown). i.set) in omega arith;
-  allowed = allowed;
-}
+with_fewer n newest room rest now before fewer most few allowed = grind (arith, length-map)
 
 cut_given : (n newest room left set : ℕ) (rest : List Command) (said : Said) (h : History) → All (λ s. s ≤ newest) (sets_of h.images) → length (sets_of h.images) + room ≤ 512 → room ≡ left + 1
     → newest < set → AreAllowed n set left rest
@@ -90,19 +76,6 @@ cut_given n newest room left set rest said h most few one less allowed = by_said
 -- the rest of commands may be given once the first was
 pub given_rest : (n : ℕ) (c : Command) (rest : List Command) (said : Said) (h : History) → MayBeGiven n (sets_of h.images) (c ∷ rest) → MayBeGiven n (sets_of (after h c said).images) rest
 given_rest n (Write b x) rest said h may = with_fewer n may.newest may.room rest (after_write b x said h).images h.images (write_fewer b x said h) may.at_most may.few may.allowed.1
-given_rest n (Read b) rest said h may = with_fewer n may.newest may.room rest h.images h.images (fewer_itself h.images) may.at_most may.few may.allowed.1
 given_rest n (Cut set) rest said h may = cut_given n may.newest may.room may.allowed.0 set rest said h may.at_most may.few may.allowed.1 may.allowed.2 may.allowed.3
-given_rest n (Image set b) rest said h may = with_fewer n may.newest may.room rest h.images h.images (fewer_itself h.images) may.at_most may.few may.allowed.1
 given_rest n (Drop set) rest said h may = with_fewer n may.newest may.room rest (after_drop set said h).images h.images (drop_fewer set said h) may.at_most may.few may.allowed
-
--- the first command may be given
-pub given_first : (n : ℕ) (c : Command) (rest : List Command) (sets : List ℕ) → MayBeGiven n sets (c ∷ rest) → IsAllowed n sets c
-given_first n (Write b x) rest sets may = may.allowed.0
-given_first n (Read b) rest sets may = may.allowed.0
-given_first n (Cut set) rest sets may =
-    let one = may.allowed.1 in
-    let less = may.allowed.2 in
-    let few = may.few in
-    (omega arith, omega arith, All-weaken (λ s. s ≤ may.newest) (λ s. s < set) sets (λ s l. omega arith) may.at_most)
-given_first n (Image set b) rest sets may = may.allowed.0
-given_first n (Drop set) rest sets may = tt
+given_rest n _ rest said h may = with_fewer n may.newest may.room rest h.images h.images (fewer_itself h.images) may.at_most may.few may.allowed.1

@@ -1,13 +1,13 @@
 -- What a volume with images has said to the first commands of a list.
-use Rattle.std.proofs.Common.{◌≡◌, ℕ, zero, suc, ◌+◌, ◌<◌, ◌≤◌, List, [], ◌∷◌, ◌++◌, length, take, drop, refl, ap, sym, ◌∙◌, arith, Bool, Option, Some, subst, get_or}
+use Rattle.std.proofs.Common.{◌≡◌, ℕ, zero, suc, ◌+◌, ◌<◌, List, [], ◌∷◌, ◌++◌, length, take, drop, refl, ap, sym, ◌∙◌, arith, Bool, Option, Some, subst, get_or}
 use Rattle.std.specs.Prelude.{slice_get}
-use Rattle.std.proofs.lemmas.List.{take_all, length-append}
+use Rattle.std.proofs.lemmas.List.{length-append}
 use Rattle.write_history.specs.History.{History, sets_of}
 use Rattle.mirror_volume.specs.declared.command.Command.{Command}
 use Rattle.mirror_volume.specs.declared.said.Said.{Said}
-use Rattle.mirror_volume.specs.Replies.{Kind, kind_of, IsAllowed, MayBeGiven, after, after_all, IsRun, IsStep}
+use Rattle.mirror_volume.specs.Replies.{Kind, kind_of, MayBeGiven, after, after_all, IsRun, IsStep}
 use Rattle.mirror_volume.proofs.Runs.{after_all-more, run-more}
-use Rattle.mirror_volume.proofs.Giving.{given_first, given_rest}
+use Rattle.mirror_volume.proofs.Giving.{given_rest}
 
 take_suc : {X : Type 0} → (xs : List X) (k : ℕ) (x : X) → slice_get xs k ≡ Some x → take (suc k) xs ≡ take k xs ++ x ∷ []
 take_suc [] k x at = cc
@@ -48,23 +48,6 @@ pub record HaveSaid {V : Type 0} (stands : V → History → Type 0) (tells : V 
   pub allowed : MayBeGiven (size first) (sets now) (drop k commands)
 
 module _ {V : Type 0} (stands : V → History → Type 0) (tells : V → Bool) (size : V → ℕ) (slots : V → Option ℕ) (ready count : V → ℕ) (sets : V → List ℕ) (per : ℕ) where
-  pub none_said : (first : V) (commands : List Command) → MayBeGiven (size first) (sets first) commands → HaveSaid stands tells size slots ready count sets per first first commands 0 []
-  none_said first commands may = record {
-    long = refl;
-    tells_is = refl;
-    size_is = refl;
-    slots_is = refl;
-    run = λ h stood. (refl, refl);
-    stands_now = λ h stood. stood;
-    allowed = may;
-  }
-
-  pub may_give : (first now : V) (commands : List Command) (k : ℕ) (said : List Said) (c : Command) → HaveSaid stands tells size slots ready count sets per first now commands k said
-      → slice_get commands k ≡ Some c → IsAllowed (size now) (sets now) c
-  may_give first now commands k said c have at =
-      subst (λ (n : ℕ). IsAllowed n (sets now) c) (sym have.size_is)
-      (given_first (size first) c (drop (k + 1) commands) (sets now) (subst (λ (cs : List Command). MayBeGiven (size first) (sets now) cs) (drop_one commands k c at) have.allowed))
-
   pub one_said : (first now next : V) (commands : List Command) (k : ℕ) (said : List Said) (c : Command) (s : Said) (h0 : History) → stands first h0
       → ((v : V) (h : History) → stands v h → sets v ≡ sets_of h.images)
       → HaveSaid stands tells size slots ready count sets per first now commands k said → slice_get commands k ≡ Some c
@@ -95,15 +78,6 @@ module _ {V : Type 0} (stands : V → History → Type 0) (tells : V → Bool) (
             (subst (λ (ss : List ℕ). MayBeGiven (size first) ss (c ∷ drop (k + 1) commands)) (are now history before)
             (subst (λ (cs : List Command). MayBeGiven (size first) (sets now) cs) (drop_one commands k c at) have.allowed)));
       }
-
-  pub all_said : (first now : V) (commands : List Command) (k : ℕ) (said : List Said) → HaveSaid stands tells size slots ready count sets per first now commands k said → length commands ≤ k
-      → ((h : History) → stands first h → IsRun (kind_of size slots per first) (tells first) h (ready first) (count first) commands said (ready now) (count now))
-  all_said first now commands k said have all = λ h is. subst (λ (cs : List Command). IsRun (kind_of size slots per first) (tells first) h (ready first) (count first) cs said (ready now) (count now))
-      (take_all k commands all) (have.run h is)
-
-  pub all_stands : (first now : V) (commands : List Command) (k : ℕ) (said : List Said) → HaveSaid stands tells size slots ready count sets per first now commands k said → length commands ≤ k
-      → ((h : History) → stands first h → stands now (after_all h commands said))
-  all_stands first now commands k said have all = λ h is. subst (λ (cs : List Command). stands now (after_all h cs said)) (take_all k commands all) (have.stands_now h is)
 
 -- the element at a place
 pub get_at : {X : Type 0} → (xs : List X) (k : ℕ) (d : X) → k < length xs → slice_get xs k ≡ Some (get_or xs k d)

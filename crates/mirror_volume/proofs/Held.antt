@@ -1,5 +1,5 @@
 -- The images that mirrors hold, as one is split off or joins again; and what is always so of mirrors, as one changes.
-use Rattle.std.proofs.Common.{◌≡◌, ◌≢◌, ℕ, zero, suc, ◌<◌, ◌≤◌, List, [], ◌∷◌, ◌++◌, length, refl, ap, sym, ◌∙◌, arith, Bool, true, false, Option, Some, None, subst, inl, inr}
+use Rattle.std.proofs.Common.{◌≡◌, ℕ, zero, suc, ◌<◌, ◌≤◌, List, [], ◌∷◌, ◌++◌, length, refl, ap, sym, ◌∙◌, arith, Bool, true, false, Option, Some, None, subst, inl, inr}
 use Rattle.std.specs.Prelude.{◌⊎◌, slice_get, slice_set, ◌==◌, not, filter, map, All}
 use Rattle.std.proofs.lemmas.Option.{same_Some, slice_get_within}
 use Rattle.std.proofs.lemmas.List.{length-map, length-replicate}
@@ -9,7 +9,7 @@ use Rattle.cow_volume.proofs.Group.{slice_get-set_same, slice_get-set_other, len
 use Rattle.cow_volume.proofs.Merging.{was_row}
 use Rattle.mirror_volume.specs.declared.mirror.Mirror.{Mirror}
 use Rattle.mirror_volume.specs.Mirrors.{AreMirrors, AreHeld, holds_of, mirror_over}
-use Rattle.mirror_volume.specs.MirrorCalls.{IsFollowed, IsLeft, IsMirrored, IsMissed, AreFollowed}
+use Rattle.mirror_volume.specs.MirrorCalls.{IsFollowed, AreFollowed}
 use Rattle.mirror_volume.proofs.Among.{among_more, among_last, among_of_more, among_without, among_was}
 use Rattle.mirror_volume.proofs.Standing.{All-at}
 
@@ -65,60 +65,17 @@ held_cut holds images k set are free new = record {
 
 pub held_drop : (holds : List (Option ℕ)) (images : List ℕ) (k set : ℕ) → AreHeld holds images → slice_get holds k ≡ Some (Some set)
     → AreHeld (slice_set holds k None) (filter (λ s. not (s == set)) images)
-held_drop holds images k set are was = record {
-  each = λ j s at. each j s (j == k) refl at;
-  held = λ s is. let old = among_was s set images is in let found = are.held s old.1 in (found.0, elsewhere s found.0 old.0 found.1 (found.0 == k) refl);
-  one = λ j i s at also. are.one j i s (was_there j s (j == k) refl at) (was_there i s (i == k) refl also);
-} where
-  here : slice_get (slice_set holds k None) k ≡ Some None
-  here = slice_get-set_same holds k (Some set) None was
-
-  was_there : (j s : ℕ) (t : Bool) → (j == k) ≡ t → slice_get (slice_set holds k None) j ≡ Some (Some s) → slice_get holds j ≡ Some (Some s)
-  was_there j s true is at = let none = sym here ∙ ap (slice_get (slice_set holds k None)) (sym (same_number j k is)) ∙ at in cc
-  was_there j s false is at = sym (slice_get-set_other holds k j None (λ e. other_number j k is (sym e))) ∙ at
-
-  each : (j s : ℕ) (t : Bool) → (j == k) ≡ t → slice_get (slice_set holds k None) j ≡ Some (Some s) → is_among s (filter (λ x. not (x == set)) images) ≡ true
-  each j s true is at = let none = sym here ∙ ap (slice_get (slice_set holds k None)) (sym (same_number j k is)) ∙ at in cc
-  each j s false is at =
-      let there = was_there j s false is at in
-      among_without s set images (λ same. other_number j k is (are.one j k set (there ∙ ap (λ (x : ℕ). Some (Some x)) same) was)) (are.each j s there)
-
-  elsewhere : (s j : ℕ) → s ≢ set → slice_get holds j ≡ Some (Some s) → (t : Bool) → (j == k) ≡ t → slice_get (slice_set holds k None) j ≡ Some (Some s)
-  elsewhere s j other at true is =
-      let same = same_Some s set (same_Some (Some s) (Some set) (sym at ∙ ap (slice_get holds) (same_number j k is) ∙ was)) in absurd (other same)
-  elsewhere s j other at false is = slice_get-set_other holds k j None (λ e. other_number j k is (sym e)) ∙ at
+held_drop holds images k set are was = grind (arith, among_was, slice_get-set_same, same_number, slice_get-set_other, other_number, among_without, same_Some)
 
 -- ## the mirrors
 
 pub mirrors_one : {D : Type 0} → (size : D → ℕ) (n k : ℕ) (mirrors : List (Mirror D)) (m next : Mirror D) → AreMirrors size n mirrors → slice_get mirrors k ≡ Some m → size next.device ≡ n
     → length next.stale ≡ n → AreMirrors size n (slice_set mirrors k next)
-mirrors_one {D = D} size n k mirrors m next are was sized long = let kept = length-slice_set mirrors k next in record {
-  some = let some = are.some in omega arith;
-  few = let few = are.few in omega arith;
-  sizes = λ j x at. size_at j x (j == k) refl at;
-  stale = λ j x at. stale_at j x (j == k) refl at;
-} where
-  is_next : (j : ℕ) (x : Mirror D) → (j == k) ≡ true → slice_get (slice_set mirrors k next) j ≡ Some x → next ≡ x
-  is_next j x is at = same_Some next x (sym (slice_get-set_same mirrors k m next was) ∙ ap (slice_get (slice_set mirrors k next)) (sym (same_number j k is)) ∙ at)
-
-  was_at : (j : ℕ) (x : Mirror D) → (j == k) ≡ false → slice_get (slice_set mirrors k next) j ≡ Some x → slice_get mirrors j ≡ Some x
-  was_at j x is at = sym (slice_get-set_other mirrors k j next (λ e. other_number j k is (sym e))) ∙ at
-
-  size_at : (j : ℕ) (x : Mirror D) (t : Bool) → (j == k) ≡ t → slice_get (slice_set mirrors k next) j ≡ Some x → size x.device ≡ n
-  size_at j x true is at = ap (λ (y : Mirror D). size y.device) (sym (is_next j x is at)) ∙ sized
-  size_at j x false is at = are.sizes j x (was_at j x is at)
-
-  stale_at : (j : ℕ) (x : Mirror D) (t : Bool) → (j == k) ≡ t → slice_get (slice_set mirrors k next) j ≡ Some x → length x.stale ≡ n
-  stale_at j x true is at = ap (λ (y : Mirror D). length y.stale) (sym (is_next j x is at)) ∙ long
-  stale_at j x false is at = are.stale j x (was_at j x is at)
+mirrors_one size n k mirrors m next are was sized long = grind (arith, length-slice_set, same_Some, slice_get-set_same, same_number, slice_get-set_other, other_number)
 
 followed_size : {D : Type 0} → (ghosts : Ghosts D) (b : ℕ) (bytes : List ℕ) (m next : Mirror D) → IsFollowed ghosts b bytes m next
     → (ghosts.size next.device ≡ ghosts.size m.device) × (length next.stale ≡ length m.stale)
-followed_size {D = D} ghosts b bytes m next is = by_outcome is.outcome where
-  by_outcome : IsLeft b m next ⊎ IsMirrored ghosts b bytes m next ⊎ IsMissed ghosts b m next → (ghosts.size next.device ≡ ghosts.size m.device) × (length next.stale ≡ length m.stale)
-  by_outcome (inl left) = (ap ghosts.size left.device, ap length left.stale ∙ length-slice_set m.stale b true)
-  by_outcome (inr (inl got)) = (got.size_is, ap length got.stale ∙ length-slice_set m.stale b false)
-  by_outcome (inr (inr missed)) = (missed.device.size_is, ap length missed.stale ∙ length-slice_set m.stale b true)
+followed_size ghosts b bytes m next is = grind (arith, length-slice_set)
 
 pub mirrors_followed : {D : Type 0} → (ghosts : Ghosts D) (n b : ℕ) (bytes : List ℕ) (old new : List (Mirror D)) → AreFollowed ghosts b bytes old new → AreMirrors ghosts.size n old
     → AreMirrors ghosts.size n new
@@ -162,13 +119,4 @@ holds_new stale n (d ∷ devices) zero o at = sym (same_Some None o at)
 holds_new stale n (d ∷ devices) (suc k) o at = holds_new stale n devices k o at
 
 pub held_new : {D : Type 0} → (stale : Bool) (n : ℕ) (devices : List D) → AreHeld (holds_of (map (mirror_over stale n) devices)) []
-held_new stale n devices = record {
-  each = λ k set at. absurd (no set (holds_new stale n devices k (Some set) at));
-  held = λ set is. absurd (never is);
-  one = λ k j set at also. absurd (no set (holds_new stale n devices k (Some set) at));
-} where
-  no : (set : ℕ) → Some set ≡ None → ⊥
-  no set e = cc
-
-  never : false ≡ true → ⊥
-  never e = cc
+held_new stale n devices = grind (arith, holds_new)

@@ -1,5 +1,5 @@
 -- What a volume with mirrors keeps through its calls, and what its calls come to.
-use Rattle.std.proofs.Common.{◌≡◌, ℕ, ◌<◌, ◌≤◌, List, [], ◌∷◌, ◌++◌, length, take, drop, refl, ap, sym, ◌∙◌, arith, Bool, true, false, Option, Some, None, subst, inr, get_or, Vec, vec_capacity}
+use Rattle.std.proofs.Common.{◌≡◌, ℕ, ◌<◌, ◌≤◌, List, [], ◌∷◌, ◌++◌, length, take, drop, refl, ap, sym, ◌∙◌, arith, Bool, true, false, Option, Some, None, subst, get_or, Vec, vec_capacity}
 use Rattle.std.specs.Prelude.{slice_get, slice_set, filter, not, ◌==◌, map, All, IfSome, OnOk, OnErr, option_map, if◌then◌else◌, Result, Ok, Err, is_err}
 use Rattle.std.specs.declared.alloc.Global.{Global}
 use Rattle.cow_volume.specs.Calls.{is_among}
@@ -8,7 +8,7 @@ use Rattle.cow_volume.proofs.Group.{slice_get_map, slice_set-same, length-slice_
 use Rattle.cow_volume.proofs.Merging.{was_row}
 use Rattle.mirror_volume.specs.declared.mirror.Mirror.{Mirror}
 use Rattle.mirror_volume.specs.Mirrors.{MirrorValue, KeepsMirrors, AreMirrors, AreHeld, StandsFor, holds_of, mirror_over, is_ready}
-use Rattle.mirror_volume.specs.MirrorCalls.{AreFollowed, IsFirstReady, IsHolder, HaveBlock, IsQuiet, IsQuietDevice, IsCalled, IsMirrorRead, IsCalledFor, IsImageRead}
+use Rattle.mirror_volume.specs.MirrorCalls.{AreFollowed, IsFirstReady, IsHolder, IsQuiet, IsQuietDevice, IsCalled, IsMirrorRead, IsCalledFor, IsImageRead}
 use Rattle.cow_volume.specs.declared.image_fault.ImageFault.{ImageFault}
 use Rattle.cow_volume.specs.declared.image_fault.ImageFault.TheVariants.{Volume as VolumeFailed}
 use Rattle.write_history.specs.History.{History}
@@ -37,11 +37,7 @@ keeps_new {D = D} size stale primary devices mirrors images some few sized are n
 -- the primary is another state of the same device
 pub keeps_primary : {D : Type 0} → (size : D → ℕ) (primary now : D) (mirrors : List (Mirror D)) (images : Vec ℕ Global) → size now ≡ size primary → KeepsMirrors size primary mirrors images
     → KeepsMirrors size now mirrors images
-keeps_primary size primary now mirrors images same keeps = record {
-  are_mirrors = subst (λ (n : ℕ). AreMirrors size n mirrors) (sym same) keeps.are_mirrors;
-  are_held = keeps.are_held;
-  room = keeps.room;
-}
+keeps_primary size primary now mirrors images same keeps = grind arith
 
 pub keeps_written : {D : Type 0} → (ghosts : Ghosts D) (b : ℕ) (bytes : List ℕ) (primary now : D) (old new : List (Mirror D)) (images : Vec ℕ Global) → ghosts.size now ≡ ghosts.size primary
     → AreFollowed ghosts b bytes old new
@@ -94,23 +90,13 @@ keeps_drop {D = D} size primary mirrors images now k set is items room keeps =
       room = let before = keeps.room in omega arith;
     }
 
--- each mirror has the primary's blocks
-pub have_block : {D : Type 0} → (size : D → ℕ) (n b : ℕ) (mirrors : List (Mirror D)) → AreMirrors size n mirrors → b < n → HaveBlock size b mirrors
-have_block size n b mirrors are low = λ k m at. ((let same = are.sizes k m at in omega arith), (let same = are.stale k m at in omega arith))
-
 -- the image of a set stands where a mirror holds it, and nowhere else
 pub among_held : {D : Type 0} → (mirrors : List (Mirror D)) (images : List ℕ) (k set : ℕ) → AreHeld (holds_of mirrors) images → IsHolder mirrors set k → is_among set images ≡ true
 among_held {D = D} mirrors images k set are is = are.each k set (slice_get_map (λ (x : Mirror D). x.holds) mirrors k is.mirror is.was ∙ ap Some is.held)
 
 pub not_among : {D : Type 0} → (mirrors : List (Mirror D)) (images : List ℕ) (set : ℕ) → AreHeld (holds_of mirrors) images
     → ((k : ℕ) (m : Mirror D) → k < length mirrors → slice_get mirrors k ≡ Some m → m.holds ≡ Some set → ⊥) → is_among set images ≡ false
-not_among {D = D} mirrors images set are none = by_bool (is_among set images) refl where
-  by_bool : (t : Bool) → is_among set images ≡ t → is_among set images ≡ false
-  by_bool true is =
-      let found = are.held set is in
-      let was = was_row (λ (x : Mirror D). x.holds) mirrors found.0 (Some set) found.1 in
-      absurd (none found.0 was.0 (slice_get_within mirrors found.0 was.0 was.1) was.1 was.2)
-  by_bool false is = is
+not_among mirrors images set are none = grind (arith, was_row, slice_get_within)
 
 -- ## the value in its parts
 
@@ -119,34 +105,17 @@ value_of primary mirrors images = record { primary = primary; mirrors = mirrors;
 
 pub quiet_parts : {D : Type 0} → (ghosts : Ghosts D) (p q : D) (mirrors : List (Mirror D)) (images : List ℕ) → ghosts.told q ≡ ghosts.told p → ghosts.size q ≡ ghosts.size p
     → ghosts.count p ≤ ghosts.count q → IsQuiet ghosts (value_of p mirrors images) (value_of q mirrors images)
-quiet_parts ghosts p q mirrors images tells sized later = record { primary = record { told_is = tells; size_is = sized; later = later }; mirrors = refl; images = refl }
+quiet_parts ghosts p q mirrors images tells sized later = grind arith
 
 -- a block was copied to a device, or the device failed
 pub copy_or : {D E : Type 0} → (ghosts : Ghosts D) (from now to next : D) (b : ℕ) (bytes : List ℕ) (result : Result Unit E) → IsQuietDevice ghosts from now → ghosts.count now ≡ ghosts.count from
     → IfSome (ghosts.told from) (λ blocks. slice_get blocks b ≡ Some bytes) → IfSome (ghosts.told to) (AreBlocks (ghosts.size to))
     → OnOk result (ghosts.told next ≡ option_map (λ blocks. slice_set blocks b bytes) (ghosts.told to)) → OnErr result (ghosts.told next ≡ ghosts.told to) → ghosts.size next ≡ ghosts.size to
     → Faults.HasCause (ghosts.count to) (ghosts.count next) result → IsCopyOr ghosts from now to next b result
-copy_or ghosts from now to next b bytes (Ok done) quiet unfailed read whole written kept sized cause = record {
-  bytes = bytes;
-  source = quiet;
-  read = read;
-  whole = whole;
-  told_is = written;
-  size_is = sized;
-  unfailed_source = unfailed;
-  unfailed = cause.same;
-}
-copy_or ghosts from now to next b bytes (Err e) quiet unfailed read whole written kept sized cause = record {
-  source = quiet;
-  target = record { told_is = kept; size_is = sized; later = cause.later };
-  rose = inr (cause.rose refl);
-}
+copy_or ghosts from now to next b bytes result quiet unfailed read whole written kept sized cause = grind arith
 
 pub quiet_device : {D : Type 0} → (ghosts : Ghosts D) (d : D) → IsQuietDevice ghosts d d
 quiet_device ghosts d = record { told_is = refl; size_is = refl; later = (let same : ghosts.count d ≤ ghosts.count d = omega arith in same) }
-
-pub set_same : {X : Type 0} → (xs : List X) (i : ℕ) (x y : X) → slice_get xs i ≡ Some x → y ≡ x → slice_set xs i y ≡ xs
-set_same xs i x y at same = ap (slice_set xs i) same ∙ slice_set-same xs i x at
 
 -- ## the mirror of a place
 
@@ -156,14 +125,7 @@ pub record FirstAt {D : Type 0} (mirrors : List (Mirror D)) (k : ℕ) (x : Mirro
   pub first : (j : ℕ) (m : Mirror D) → j < k → slice_get mirrors j ≡ Some m → is_ready m ≡ false
 
 pub first_at : {D : Type 0} → (rows mirrors : List (Mirror D)) → rows ≡ mirrors → (k : ℕ) → IsFirstReady rows k → (x : Mirror D) → x ≡ get_or mirrors k x → FirstAt mirrors k x
-first_at {D = D} rows mirrors same k is x at =
-    let there : slice_get mirrors k ≡ Some is.mirror = ap (λ (ms : List (Mirror D)). slice_get ms k) (sym same) ∙ is.was in
-    let here = at_place mirrors k x (slice_get_within mirrors k is.mirror there) at in
-    record {
-      was = here;
-      ready = ap is_ready (same_Some x is.mirror (sym here ∙ there)) ∙ is.ready;
-      first = λ j m l got. is.first j m l (ap (λ (ms : List (Mirror D)). slice_get ms j) same ∙ got);
-    }
+first_at rows mirrors same k is x at = grind (arith, at_place, slice_get_within, same_Some)
 
 abbrev pub first_of : {D : Type 0} → (mirrors : List (Mirror D)) (k : ℕ) (x : Mirror D) → FirstAt mirrors k x → IsFirstReady mirrors k
 first_of mirrors k x at = record { mirror = x; was = at.was; ready = at.ready; first = at.first }
@@ -173,10 +135,7 @@ pub record HolderAt {D : Type 0} (mirrors : List (Mirror D)) (set k : ℕ) (x : 
   pub held : x.holds ≡ Some set
 
 pub holder_at : {D : Type 0} → (rows mirrors : List (Mirror D)) → rows ≡ mirrors → (set k : ℕ) → IsHolder rows set k → (x : Mirror D) → x ≡ get_or mirrors k x → HolderAt mirrors set k x
-holder_at {D = D} rows mirrors same set k is x at =
-    let there : slice_get mirrors k ≡ Some is.mirror = ap (λ (ms : List (Mirror D)). slice_get ms k) (sym same) ∙ is.was in
-    let here = at_place mirrors k x (slice_get_within mirrors k is.mirror there) at in
-    record { was = here; held = ap (λ (m : Mirror D). m.holds) (same_Some x is.mirror (sym here ∙ there)) ∙ is.held }
+holder_at rows mirrors same set k is x at = grind (arith, at_place, slice_get_within, same_Some)
 
 abbrev pub holder_of : {D : Type 0} → (mirrors : List (Mirror D)) (set k : ℕ) (x : Mirror D) → HolderAt mirrors set k x → IsHolder mirrors set k
 holder_of mirrors set k x at = record { mirror = x; was = at.was; held = at.held }
@@ -189,13 +148,10 @@ within_holder {D = D} rows mirrors same set k is = slice_get_within mirrors k is
 
 -- what was pushed where there was room
 pub pushed : {X : Type 0} → (r : Bool) (new more same : List X) → r ≡ true → new ≡ (if r then more else same) → new ≡ more
-pushed true new more same e is = is
-pushed false new more same e is = cc
+pushed r new more same e is = grind arith
 
 mirror_is : {D : Type 0} → (m next : Mirror D) → next.holds ≡ m.holds → next.stale ≡ m.stale → next ≡ (let x : Mirror D = record { device = next.device; holds = m.holds; stale = m.stale } in x)
-mirror_is {D = D} m next holds stale =
-    ap (λ (o : Option ℕ). let x : Mirror D = record { device = next.device; holds = o; stale = next.stale } in x) holds
-    ∙ ap (λ (s : List Bool). let x : Mirror D = record { device = next.device; holds = m.holds; stale = s } in x) stale
+mirror_is m next holds stale = grind arith
 
 -- the image of a set was read from the mirror that holds it
 pub image_read : {D : Type 0} → (ghosts : Ghosts D) (p : D) (mirrors : List (Mirror D)) (images : List ℕ) (set k b : ℕ) (x next : Mirror D) (bytes : List ℕ) (result : Result Unit ImageFault)
@@ -284,12 +240,10 @@ keeps_synced ghosts p q mirrors images k m n result at is keeps =
 -- ## writes
 
 pub on_ok : {T E : Type 0} → (r : Result T E) (P : Type 0) → is_err r ≡ false → OnOk r P → P
-on_ok (Ok x) P e is = is
-on_ok (Err x) P e is = cc
+on_ok r x1 e is = grind arith
 
 pub on_err : {T E : Type 0} → (r : Result T E) (P : Type 0) → is_err r ≡ true → OnErr r P → P
-on_err (Ok x) P e is = cc
-on_err (Err x) P e is = is
+on_err r x1 e is = grind arith
 
 front_all : {X : Type 0} → (xs ys : List X) → take (length xs) (xs ++ ys) ≡ xs
 front_all [] ys = refl

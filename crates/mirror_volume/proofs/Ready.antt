@@ -1,51 +1,27 @@
 -- How many mirrors are ready, and how the counts of the devices add up, as mirrors follow and one changes.
-use Rattle.std.proofs.Common.{◌≡◌, ℕ, zero, suc, ◌+◌, ◌<◌, ◌≤◌, List, [], ◌∷◌, refl, ap, sym, ◌∙◌, arith, Bool, true, false, Option, Some, None, subst, inl, inr}
-use Rattle.std.specs.Prelude.{◌⊎◌, slice_get, slice_set, ◌==◌, ◌&&◌, if◌then◌else◌, map, count_by, is_some, is_none, nat_le}
+use Rattle.std.proofs.Common.{◌≡◌, ℕ, zero, suc, ◌+◌, ◌<◌, ◌≤◌, List, [], ◌∷◌, refl, ap, sym, ◌∙◌, arith, Bool, true, false, Option, Some, subst, inl, inr}
+use Rattle.std.specs.Prelude.{◌⊎◌, slice_get, slice_set, ◌==◌, ◌&&◌, if◌then◌else◌, map, count_by, is_some, is_none}
 use Rattle.std.specs.List.{list_all}
 use Rattle.std.proofs.lemmas.Bool.Decides.{nat_tests}
 use Rattle.std.proofs.lemmas.Option.{same_Some}
-use Rattle.vss_names.specs.Faults.{counted, all_counted, Rose, most}
+use Rattle.vss_names.specs.Faults.{counted, all_counted, Rose}
 use Rattle.volume_device.specs.declared.device.Device.{Ghosts}
 use Rattle.cow_volume.proofs.Group.{same_number}
 use Rattle.cow_volume.proofs.Merging.{and_left, and_right}
-use Rattle.cow_volume.proofs.Writing.{put_tells}
 use Rattle.mirror_volume.specs.declared.mirror.Mirror.{Mirror}
-use Rattle.mirror_volume.specs.Stale.{stale_count}
 use Rattle.mirror_volume.specs.Mirrors.{is_ready}
-use Rattle.mirror_volume.specs.MirrorCalls.{IsFollowed, IsLeft, IsMirrored, IsMissed, AreFollowed}
+use Rattle.mirror_volume.specs.MirrorCalls.{IsFollowed, AreFollowed}
 use Rattle.mirror_volume.proofs.Held.{followed_rest}
 use Rattle.mirror_volume.proofs.Counts.{count-cons, fewer_stale}
 
 -- ## counts that are added up
 
-counted-cases : (a b : ℕ) (t : Bool) → nat_le (a + b) 18446744073709551615 ≡ t → (counted a b ≡ a + b) ⊎ (counted a b ≡ most)
-counted-cases a b true e = let l : a + b ≤ 18446744073709551615 = grind (arith, nat_tests) in inl (omega arith)
-counted-cases a b false e = let l : 18446744073709551615 < a + b = grind (arith, nat_tests) in inr (omega arith)
-
-counted-more : (a b : ℕ) → (counted a b ≡ a + b) ⊎ (counted a b ≡ most)
-counted-more a b = counted-cases a b (nat_le (a + b) 18446744073709551615) refl
-
-counted_low : (a b : ℕ) → counted a b ≤ a + b
-counted_low a b = omega arith
-
-counted_most : (a b : ℕ) → counted a b ≤ most
-counted_most a b = omega arith
-
 pub counted_later : (a b c d : ℕ) → a ≤ b → c ≤ d → counted a c ≤ counted b d
-counted_later a b c d l m = elim (counted-more b d) [
-  | inl e ↦ (let low = counted_low a c in omega arith)
-  | inr e ↦ (let low = counted_most a c in omega arith)
-]
+counted_later a b c d l m = grind arith
 
 -- the sum rose where one of the two did
 counted_rose : (a b c d : ℕ) → a ≤ b → c ≤ d → Rose a b ⊎ Rose c d → Rose (counted a c) (counted b d)
-counted_rose a b c d l m rose = by_sum rose (counted-more b d) where
-  by_sum : Rose a b ⊎ Rose c d → (counted b d ≡ b + d) ⊎ (counted b d ≡ most) → Rose (counted a c) (counted b d)
-  by_sum rose (inr e) = inr e
-  by_sum (inl (inl less)) (inl e) = inl (let low = counted_low a c in omega arith)
-  by_sum (inl (inr top)) (inl e) = inr (let at_most = counted_most b d in omega arith)
-  by_sum (inr (inl less)) (inl e) = inl (let low = counted_low a c in omega arith)
-  by_sum (inr (inr top)) (inl e) = inr (let at_most = counted_most b d in omega arith)
+counted_rose a b c d l m rose = grind arith
 
 -- counts, one by one: none fell
 abbrev pub AllLater : List ℕ → List ℕ → Type 0
@@ -92,11 +68,7 @@ rose_set (x ∷ cs) (suc k) c d at rose = inr (rose_set cs k c d at rose)
 -- ## mirrors that follow
 
 later_followed : {D : Type 0} → (ghosts : Ghosts D) (b : ℕ) (bytes : List ℕ) (m next : Mirror D) → IsFollowed ghosts b bytes m next → ghosts.count m.device ≤ ghosts.count next.device
-later_followed {D = D} ghosts b bytes m next is = by_outcome is.outcome where
-  by_outcome : IsLeft b m next ⊎ IsMirrored ghosts b bytes m next ⊎ IsMissed ghosts b m next → ghosts.count m.device ≤ ghosts.count next.device
-  by_outcome (inl left) = let same = ap ghosts.count left.device in omega arith
-  by_outcome (inr (inl got)) = let same = got.unfailed in omega arith
-  by_outcome (inr (inr missed)) = missed.device.later
+later_followed ghosts b bytes m next is = grind arith
 
 pub all_later_followed : {D : Type 0} → (ghosts : Ghosts D) (b : ℕ) (bytes : List ℕ) (old new : List (Mirror D)) → AreFollowed ghosts b bytes old new
     → AllLater (map (λ m. ghosts.count m.device) old) (map (λ m. ghosts.count m.device) new)
@@ -107,11 +79,7 @@ all_later_followed ghosts b bytes (m ∷ old) (n ∷ new) are =
     (later_followed ghosts b bytes m n (are.each 0 m n refl refl), all_later_followed ghosts b bytes old new (followed_rest ghosts b bytes m n old new are))
 
 tells_one : {D : Type 0} → (ghosts : Ghosts D) (b : ℕ) (bytes : List ℕ) (m next : Mirror D) → IsFollowed ghosts b bytes m next → is_some (ghosts.told next.device) ≡ is_some (ghosts.told m.device)
-tells_one {D = D} ghosts b bytes m next is = by_outcome is.outcome where
-  by_outcome : IsLeft b m next ⊎ IsMirrored ghosts b bytes m next ⊎ IsMissed ghosts b m next → is_some (ghosts.told next.device) ≡ is_some (ghosts.told m.device)
-  by_outcome (inl left) = ap (λ (d : D). is_some (ghosts.told d)) left.device
-  by_outcome (inr (inl got)) = ap (λ (t : Option (List (List ℕ))). is_some t) got.told_is ∙ put_tells (ghosts.told m.device) b bytes
-  by_outcome (inr (inr missed)) = ap (λ (t : Option (List (List ℕ))). is_some t) missed.device.told_is
+tells_one ghosts b bytes m next is = grind arith
 
 pub tells_followed : {D : Type 0} → (ghosts : Ghosts D) (b : ℕ) (bytes : List ℕ) (old new : List (Mirror D)) → AreFollowed ghosts b bytes old new
     → list_all (λ m. is_some (ghosts.told m.device)) new ≡ list_all (λ m. is_some (ghosts.told m.device)) old
@@ -130,8 +98,7 @@ tells_set test (y ∷ xs) (suc k) x next at same = ap (λ (t : Bool). test y && 
 -- ## mirrors that are ready
 
 not_none : (o : Option ℕ) → is_some o ≡ true → is_none o ≡ true → ⊥
-not_none None e f = cc
-not_none (Some x) e f = cc
+not_none o e f = grind arith
 
 zero_is : (n : ℕ) → n ≤ 0 → (n == 0) ≡ true
 zero_is n l = grind (arith, nat_tests)
@@ -139,32 +106,13 @@ zero_is n l = grind (arith, nat_tests)
 -- a mirror that was ready is so still, or its device failed
 still_ready : {D : Type 0} → (ghosts : Ghosts D) (b : ℕ) (bytes : List ℕ) (m next : Mirror D) → IsFollowed ghosts b bytes m next → is_ready m ≡ true
     → (is_ready next ≡ true) ⊎ Rose (ghosts.count m.device) (ghosts.count next.device)
-still_ready {D = D} ghosts b bytes m next is ready = by_outcome is.outcome where
-  none : is_none m.holds ≡ true
-  none = and_left (is_none m.holds) (stale_count m.stale == 0) ready
-
-  count_is : stale_count m.stale ≡ 0
-  count_is = same_number (stale_count m.stale) 0 (and_right (is_none m.holds) (stale_count m.stale == 0) ready)
-
-  by_outcome : IsLeft b m next ⊎ IsMirrored ghosts b bytes m next ⊎ IsMissed ghosts b m next → (is_ready next ≡ true) ⊎ Rose (ghosts.count m.device) (ghosts.count next.device)
-  by_outcome (inl left) = absurd (not_none m.holds left.holds_image none)
-  by_outcome (inr (inl got)) =
-      let few = fewer_stale m.stale b in
-      let is_few = ap stale_count got.stale in let zero_count = count_is in
-      let low : stale_count next.stale ≤ 0 = omega arith in
-      inl (ap (λ (t : Bool). t && (stale_count next.stale == 0)) (ap is_none is.holds ∙ none) ∙ zero_is (stale_count next.stale) low)
-  by_outcome (inr (inr missed)) = inr missed.rose
+still_ready ghosts b bytes m next is ready = grind (arith, and_left, same_number, and_right, not_none, fewer_stale, zero_is)
 
 same_le : (n : ℕ) → n ≤ n
 same_le n = omega arith
 
 count_two : (s t : Bool) (m n : ℕ) → (s ≡ true → t ≡ true) → m ≤ n → (if s then 1 else 0) + m ≤ (if t then 1 else 0) + n
-count_two true true m n more l = omega arith
-count_two true false m n more l = let never = more refl in absurd (false_not_true never) where
-  false_not_true : false ≡ true → ⊥
-  false_not_true e = cc
-count_two false true m n more l = omega arith
-count_two false false m n more l = omega arith
+count_two s t m n more l = grind arith
 
 pub ready_followed : {D : Type 0} → (ghosts : Ghosts D) (b : ℕ) (bytes : List ℕ) (old new : List (Mirror D)) → AreFollowed ghosts b bytes old new
     → (count_by is_ready old ≤ count_by is_ready new) ⊎ AnyRose (map (λ m. ghosts.count m.device) old) (map (λ m. ghosts.count m.device) new)
@@ -228,12 +176,10 @@ ready_split (x ∷ mirrors) (suc k) m next at =
     omega arith
 
 one_counts : (t : Bool) (m n : ℕ) → t ≡ true → m ≡ (if t then 1 else 0) + n → 0 < m
-one_counts true m n e is = omega arith
-one_counts false m n e is = cc
+one_counts t m n e is = grind arith
 
 none_counts : (t : Bool) (m n : ℕ) → t ≡ false → m ≡ (if t then 1 else 0) + n → n ≡ 0 → m ≡ 0
-none_counts true m n e is none = cc
-none_counts false m n e is none = omega arith
+none_counts t m n e is none = grind arith
 
 -- some are ready where one is, and none where none is
 pub ready_some : {D : Type 0} → (mirrors : List (Mirror D)) (k : ℕ) (m : Mirror D) → slice_get mirrors k ≡ Some m → is_ready m ≡ true → 0 < count_by is_ready mirrors

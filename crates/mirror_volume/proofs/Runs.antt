@@ -1,15 +1,11 @@
 -- Runs of commands: one command more, the definition's replies, and why a cut is refused.
-use Rattle.std.proofs.Common.{◌≡◌, ℕ, ◌+◌, ◌≤◌, List, [], ◌∷◌, ◌++◌, length, refl, ap, ◌∙◌, arith, Bool, true, false, Option, Some, None, subst, inl, inr}
-use Rattle.std.specs.Prelude.{◌⊎◌, ◌==◌, ◌&&◌}
+use Rattle.std.proofs.Common.{◌≡◌, ℕ, ◌+◌, ◌≤◌, List, [], ◌∷◌, ◌++◌, length, refl, ap, ◌∙◌, arith, Bool, true, subst, inl, inr}
+use Rattle.std.specs.Prelude.{◌⊎◌, ◌&&◌}
 use Rattle.vss_names.specs.Faults.{Rose}
-use Rattle.block_data.specs.Digest.{sha256}
-use Rattle.write_history.specs.History.{History, content, point_in}
-use Rattle.cow_volume.proofs.Group.{same_number, other_number}
+use Rattle.write_history.specs.History.{History}
 use Rattle.mirror_volume.specs.declared.command.Command.{Command}
-use Rattle.mirror_volume.specs.declared.command.Command.TheVariants.{Write, Read, Cut, Image, Drop}
 use Rattle.mirror_volume.specs.declared.said.Said.{Said}
-use Rattle.mirror_volume.specs.declared.said.Said.TheVariants.{Ok, Wrote, Bytes, NoSuchImage, NoMirror, Fault}
-use Rattle.mirror_volume.specs.Replies.{Kind, after, after_all, IsWriteReply, IsReadReply, IsCutReply, IsImageReply, IsDropReply, IsReply, used_up, IsStep, IsRun, image_reply, drop_reply, reply_of}
+use Rattle.mirror_volume.specs.Replies.{Kind, after, after_all, IsReply, used_up, IsStep, IsRun, reply_of}
 use Rattle.mirror_volume.specs.Replies.{replies_of, is_plain, are_plain, used_by_all, AreUsedUp, IsRefused}
 
 -- ## one command more
@@ -35,52 +31,14 @@ run-more kind tells h ready count mid_ready mid_count now_ready now_count (d ∷
 
 -- ## the definition's replies
 
-write_plain : (kind : Kind) (h : History) (b : ℕ) (rose : Type 0) (s : Said) → IsWriteReply kind h b rose s → is_plain s ≡ true → s ≡ Wrote 0
-write_plain kind h b rose (Wrote m) is plain = ap Wrote (same_number m 0 plain)
-write_plain kind h b rose (Fault m) is plain = cc
-write_plain kind h b rose Ok is plain = absurd is
-write_plain kind h b rose (Bytes d) is plain = absurd is
-write_plain kind h b rose NoSuchImage is plain = absurd is
-write_plain kind h b rose NoMirror is plain = absurd is
-
-read_plain : (bytes : List ℕ) (rose : Type 0) (s : Said) → IsReadReply true bytes rose s → is_plain s ≡ true → s ≡ Bytes (sha256 bytes)
-read_plain bytes rose (Bytes d) is plain = ap Bytes (is refl)
-read_plain bytes rose (Fault m) is plain = cc
-read_plain bytes rose (Wrote m) is plain = absurd is
-read_plain bytes rose Ok is plain = absurd is
-read_plain bytes rose NoSuchImage is plain = absurd is
-read_plain bytes rose NoMirror is plain = absurd is
-
-cut_plain : (ready : ℕ) (s : Said) → IsCutReply ready s → is_plain s ≡ true → s ≡ Ok
-cut_plain ready Ok is plain = refl
-cut_plain ready NoMirror is plain = cc
-cut_plain ready (Fault m) is plain = absurd is
-cut_plain ready (Wrote m) is plain = absurd is
-cut_plain ready (Bytes d) is plain = absurd is
-cut_plain ready NoSuchImage is plain = absurd is
-
-image_plain : (h : History) (b : ℕ) (at : Option ℕ) (rose : Type 0) (s : Said) → IsImageReply true h b at rose s → is_plain s ≡ true → s ≡ image_reply h b at
-image_plain h b (Some p) rose s is plain = read_plain (content h.writes p b) rose s is plain
-image_plain h b None rose s is plain = is
-
-drop_plain : (at : Option ℕ) (s : Said) → IsDropReply at s → s ≡ drop_reply at
-drop_plain (Some p) s is = is
-drop_plain None s is = is
-
 reply_plain : (kind : Kind) (h : History) (ready : ℕ) (rose : Type 0) (c : Command) (s : Said) → IsReply kind true h ready rose c s → is_plain s ≡ true → s ≡ reply_of h c
-reply_plain kind h ready rose (Write b x) s is plain = write_plain kind h b rose s is plain
-reply_plain kind h ready rose (Read b) s is plain = read_plain (content h.writes (length h.writes) b) rose s is plain
-reply_plain kind h ready rose (Cut set) s is plain = cut_plain ready s is plain
-reply_plain kind h ready rose (Image set b) s is plain = image_plain h b (point_in set h.images) rose s is plain
-reply_plain kind h ready rose (Drop set) s is plain = drop_plain (point_in set h.images) s is
+reply_plain kind h ready rose c s is plain = grind arith
 
 and_first : (s t : Bool) → (s && t) ≡ true → s ≡ true
-and_first true t e = refl
-and_first false t e = e
+and_first s t e = grind arith
 
 and_second : (s t : Bool) → (s && t) ≡ true → t ≡ true
-and_second true t e = e
-and_second false t e = cc
+and_second s t e = grind arith
 
 -- where no device failed, no image was evicted and no cut refused, each reply is the definition's
 pub plain_replies : (kind : Kind) (h : History) (ready count now_ready now_count : ℕ) (commands : List Command) (said : List Said) → IsRun kind true h ready count commands said now_ready now_count
@@ -96,11 +54,7 @@ plain_replies kind h ready count now_ready now_count (c ∷ commands) (s ∷ sai
 -- ## cuts that are used up
 
 later_rose : (a b c : ℕ) → a ≤ b → Rose a b → b ≤ c → Rose a c
-later_rose a b c m (inl less) l = inl (omega arith)
-later_rose a b c m (inr top) l = by_test (c == b) refl where
-  by_test : (t : Bool) → (c == b) ≡ t → Rose a c
-  by_test true e = inr (same_number c b e ∙ top)
-  by_test false e = let other = other_number c b e in inl (omega arith)
+later_rose a b c m x4 l = grind arith
 
 pub run_later : (kind : Kind) (tells : Bool) (h : History) (ready count now_ready now_count : ℕ) (commands : List Command) (said : List Said)
     → IsRun kind tells h ready count commands said now_ready now_count → count ≤ now_count
@@ -144,14 +98,4 @@ run_split kind tells h ready count now_ready now_count (c ∷ commands) later (s
 -- the cause stands in the commands before
 pub refused_before : (kind : Kind) (tells : Bool) (h : History) (ready count : ℕ) (commands : List Command) (said : List Said) → IsRefused kind tells h ready count commands said
     → AreUsedUp kind tells h ready count commands said
-refused_before kind tells h ready count commands said is =
-    let split = run_split kind tells h ready count is.now_ready is.now_count commands (Cut is.set ∷ is.later) said (NoMirror ∷ is.more) is.long is.run in
-    let none : split.0 ≡ 0 = split.3.2.reply in
-    let first : IsRun kind tells h ready count commands said 0 split.1 = subst (λ (k : ℕ). IsRun kind tells h ready count commands said k split.1) none split.2 in (
-      split.1,
-      first,
-      elim (spent kind tells h ready count 0 split.1 commands said first) [
-        | inl few ↦ inl (omega arith)
-        | inr rose ↦ inr rose
-      ],
-    )
+refused_before kind tells h ready count commands said is = grind (arith, run_split, spent)

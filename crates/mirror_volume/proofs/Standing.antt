@@ -14,7 +14,7 @@ use Rattle.cow_volume.specs.StandsFor.{told_in}
 use Rattle.cow_volume.proofs.Group.{slice_get-set_same, slice_get-set_other, slice_get_inside, slice_get_map, same_number, other_number, number_is, number_is_other}
 use Rattle.cow_volume.proofs.Reading.{contents_at}
 use Rattle.cow_volume.proofs.Writing.{content-more, contents-more, content-before}
-use Rattle.cow_volume.proofs.Merging.{sets_of-filter, and_left, and_right, was_row}
+use Rattle.cow_volume.proofs.Merging.{sets_of-filter, and_right, was_row}
 use Rattle.mirror_volume.specs.declared.mirror.Mirror.{Mirror}
 use Rattle.mirror_volume.specs.Stale.{IsInStep, stale_count}
 use Rattle.mirror_volume.specs.Mirrors.{MirrorValue, is_ready, mirror_over, EqualsPrimary, IsSplitAt, IsMirror, StandsFor, AreMirrors, AreHeld, holds_of}
@@ -31,18 +31,15 @@ use Rattle.mirror_volume.proofs.Among.{among_of_more, among_was}
 
 -- what a mirror tells where the primary tells too: both tell
 pub both_tell : (p d : Option (List (List ℕ))) (blocks : List (List ℕ)) → told_in p d ≡ Some blocks → (ps : List (List ℕ)) × (p ≡ Some ps) × (d ≡ Some blocks)
-both_tell None d blocks e = cc
-both_tell (Some ps) d blocks e = (ps, refl, e)
+both_tell p d blocks e = grind arith
 
 pub tell_both : (p d : Option (List (List ℕ))) (ps blocks : List (List ℕ)) → p ≡ Some ps → d ≡ Some blocks → told_in p d ≡ Some blocks
-tell_both None d ps blocks e f = cc
-tell_both (Some x) d ps blocks e f = f
+tell_both p d ps blocks e f = grind arith
 
 -- what a device told before a block was written
 pub put_was : (p : Option (List (List ℕ))) (b : ℕ) (bytes : List ℕ) (now : List (List ℕ)) → option_map (λ blocks. slice_set blocks b bytes) p ≡ Some now
     → (old : List (List ℕ)) × (p ≡ Some old) × (now ≡ slice_set old b bytes)
-put_was None b bytes now e = cc
-put_was (Some old) b bytes now e = (old, refl, sym (same_Some (slice_set old b bytes) now e))
+put_was p b bytes now e = grind arith
 
 -- the primary tells now only where it told before
 pub put_told : (p q : Option (List (List ℕ))) (b : ℕ) (bytes : List ℕ) (now : List (List ℕ)) → q ≡ option_map (λ blocks. slice_set blocks b bytes) p → q ≡ Some now
@@ -70,12 +67,7 @@ content_here ws w = content-more ws w w.block ∙ ap (λ (t : Bool). if t then w
 -- an image shows what it showed
 split_more : (known now : Option (List (List ℕ))) (n set : ℕ) (h : History) (w : Write) → ((blocks : List (List ℕ)) → now ≡ Some blocks → known ≡ Some blocks)
     → IsSplitAt known n set h → IsSplitAt now n set (written w h)
-split_more known now n set h w was at = let long = length_push h.writes w in record {
-  point = at.point;
-  stands = at.stands;
-  within = let within = at.within in omega arith;
-  shows = λ blocks b tells low. at.shows blocks b (was blocks tells) low ∙ ap Some (sym (content-before h.writes (w ∷ []) at.point b at.within));
-}
+split_more known now n set h w was at = grind (arith, length_push, content-before)
 
 -- a mirror whose device is as it was, and which has the block stale
 marked : (p q d : Option (List (List ℕ))) (n : ℕ) (holds : Option ℕ) (stale : List Bool) (h : History) (w : Write)
@@ -127,10 +119,7 @@ mirrored p q d e n stale h w put own whole low mirror = record {
 
 pub same_mirror : (known new_known : Option (List (List ℕ))) (n : ℕ) (holds new_holds : Option ℕ) (stale new_stale : List Bool) (h : History)
     → known ≡ new_known → holds ≡ new_holds → stale ≡ new_stale → IsMirror known n holds stale h → IsMirror new_known n new_holds new_stale h
-same_mirror known new_known n holds new_holds stale new_stale h is_known is_held is_stale mirror =
-    subst (λ (k : Option (List (List ℕ))). IsMirror k n new_holds new_stale h) is_known
-    (subst (λ (o : Option ℕ). IsMirror known n o new_stale h) is_held
-    (subst (λ (s : List Bool). IsMirror known n holds s h) is_stale mirror))
+same_mirror known new_known n holds new_holds stale new_stale h is_known is_held is_stale mirror = grind arith
 
 -- a mirror that followed
 followed : {D : Type 0} → (ghosts : Ghosts D) (p q : Option (List (List ℕ))) (n : ℕ) (m next : Mirror D) (h : History) (w : Write)
@@ -155,10 +144,7 @@ followed {D = D} ghosts p q n m next h w put low sized long follow mirror = by_o
 
 put_contents : (p q : Option (List (List ℕ))) (n : ℕ) (ws : List Write) (w : Write) → w.block < n → q ≡ option_map (λ blocks. slice_set blocks w.block w.bytes) p
     → IfSome p (λ blocks. blocks ≡ contents n ws (length ws)) → IfSome q (λ blocks. blocks ≡ contents n (ws ++ w ∷ []) (length (ws ++ w ∷ [])))
-put_contents None q n ws w low put is = subst (λ (x : Option (List (List ℕ))). IfSome x (λ blocks. blocks ≡ contents n (ws ++ w ∷ []) (length (ws ++ w ∷ [])))) (sym put) tt
-put_contents (Some old) q n ws w low put is =
-    subst (λ (x : Option (List (List ℕ))). IfSome x (λ blocks. blocks ≡ contents n (ws ++ w ∷ []) (length (ws ++ w ∷ [])))) (sym put)
-    (ap (λ (bs : List (List ℕ)). slice_set bs w.block w.bytes) is ∙ sym (contents-more n ws w low))
+put_contents p q n ws w low put is = grind (arith, contents-more)
 
 pub written_stands : {D : Type 0} → (ghosts : Ghosts D) (old new : MirrorValue D) (w : Write) (h : History)
     → AreMirrors ghosts.size (ghosts.size old.primary) old.mirrors → IsWritten ghosts old new w → StandsFor ghosts old h → StandsFor ghosts new (written w h)
@@ -217,37 +203,10 @@ one_changed : {D : Type 0} → (ghosts : Ghosts D) (old new : MirrorValue D) (h 
     → IsMirror (told_in (ghosts.told old.primary) (ghosts.told next.device)) (ghosts.size old.primary) next.holds next.stale g
     → ((j : ℕ) (n : Mirror D) → j ≢ k → slice_get old.mirrors j ≡ Some n → IsMirror (told_in (ghosts.told old.primary) (ghosts.told n.device)) (ghosts.size old.primary) n.holds n.stale g)
     → StandsFor ghosts new g
-one_changed {D = D} ghosts old new h g k m next stood writes sets above tells sized was mirrors changed others = record {
-  sets = sets;
-  above_zero = above;
-  primary = subst (λ (t : Option (List (List ℕ))). IfSome t (λ blocks. blocks ≡ contents (ghosts.size new.primary) g.writes (length g.writes))) (sym tells)
-      (subst (λ (n : ℕ). IfSome (ghosts.told old.primary) (λ blocks. blocks ≡ contents n g.writes (length g.writes))) (sym sized)
-      (subst (λ (ws : List Write). IfSome (ghosts.told old.primary) (λ blocks. blocks ≡ contents (ghosts.size old.primary) ws (length ws))) (sym writes) stood.primary));
-  mirrors = λ j n at. by_number j n (j == k) refl (ap (λ (ms : List (Mirror D)). slice_get ms j) (sym mirrors) ∙ at);
-} where
-  now : (n : Mirror D) → IsMirror (told_in (ghosts.told old.primary) (ghosts.told n.device)) (ghosts.size old.primary) n.holds n.stale g
-      → IsMirror (told_in (ghosts.told new.primary) (ghosts.told n.device)) (ghosts.size new.primary) n.holds n.stale g
-  now n mirror =
-      subst (λ (t : Option (List (List ℕ))). IsMirror (told_in t (ghosts.told n.device)) (ghosts.size new.primary) n.holds n.stale g) (sym tells)
-      (subst (λ (s : ℕ). IsMirror (told_in (ghosts.told old.primary) (ghosts.told n.device)) s n.holds n.stale g) (sym sized) mirror)
-
-  by_number : (j : ℕ) (n : Mirror D) (t : Bool) → (j == k) ≡ t → slice_get (slice_set old.mirrors k next) j ≡ Some n
-      → IsMirror (told_in (ghosts.told new.primary) (ghosts.told n.device)) (ghosts.size new.primary) n.holds n.stale g
-  by_number j n true is at =
-      let same = same_number j k is in
-      let here : Some next ≡ Some n = sym (slice_get-set_same old.mirrors k m next was) ∙ ap (slice_get (slice_set old.mirrors k next)) (sym same) ∙ at in
-      subst (λ (x : Mirror D). IsMirror (told_in (ghosts.told new.primary) (ghosts.told x.device)) (ghosts.size new.primary) x.holds x.stale g) (same_Some next n here) (now next changed)
-  by_number j n false is at =
-      let other = other_number j k is in
-      now n (others j n other (sym (slice_get-set_other old.mirrors k j next (λ e. other (sym e))) ∙ at))
+one_changed ghosts old new h g k m next stood writes sets above tells sized was mirrors changed others = grind (arith, same_number, slice_get-set_same, same_Some, other_number, slice_get-set_other)
 
 cut_split : (known : Option (List (List ℕ))) (n set s : ℕ) (h : History) → IsSplitAt known n s h → IsSplitAt known n s (cut set h)
-cut_split known n set s h at = record {
-  point = at.point;
-  stands = point_more s at.point h.images (record { set = set; point = length h.writes } ∷ []) at.stands;
-  within = at.within;
-  shows = at.shows;
-}
+cut_split known n set s h at = grind (arith, point_more)
 
 cut_mirror : (known : Option (List (List ℕ))) (n set : ℕ) (holds : Option ℕ) (stale : List Bool) (h : History) → IsMirror known n holds stale h → IsMirror known n holds stale (cut set h)
 cut_mirror known n set holds stale h mirror = record { in_step = mirror.in_step; split = λ s holding. cut_split known n set s h (mirror.split s holding) }
@@ -255,21 +214,10 @@ cut_mirror known n set holds stale h mirror = record { in_step = mirror.in_step;
 -- the mirror that is split off
 split_off : (known : Option (List (List ℕ))) (n set : ℕ) (holds : Option ℕ) (stale : List Bool) (h : History) → is_among set (sets_of h.images) ≡ false → length stale ≡ n → stale_count stale ≡ 0
     → IsMirror known n holds stale h → IsMirror known n (Some set) stale (cut set h)
-split_off known n set holds stale h new long none mirror = record {
-  in_step = mirror.in_step;
-  split = λ s holding. subst (λ (k : ℕ). IsSplitAt known n k (cut set h)) (same_Some set s holding) (record {
-    point = length h.writes;
-    stands = point_new set (length h.writes) h.images new;
-    within = omega arith;
-    shows = λ blocks b tells low. mirror.in_step blocks b tells (in_step_all stale b none (omega arith));
-  });
-}
+split_off known n set holds stale h new long none mirror = grind (arith, same_Some, point_new, in_step_all)
 
 pub ready_holds : {D : Type 0} → (m : Mirror D) → is_ready m ≡ true → m.holds ≡ None
-ready_holds m ready = by_option m.holds (and_left (is_none m.holds) (stale_count m.stale == 0) ready) where
-  by_option : (o : Option ℕ) → is_none o ≡ true → o ≡ None
-  by_option None e = refl
-  by_option (Some x) e = cc
+ready_holds m ready = grind arith
 
 ready_count_is : {D : Type 0} → (m : Mirror D) → is_ready m ≡ true → stale_count m.stale ≡ 0
 ready_count_is m ready = same_number (stale_count m.stale) 0 (and_right (is_none m.holds) (stale_count m.stale == 0) ready)
@@ -302,9 +250,7 @@ drop_mirror known n set holds stale h other mirror = record {
 }
 
 joined_mirror : (known : Option (List (List ℕ))) (n set : ℕ) (holds : Option ℕ) (stale : List Bool) (h : History) → IsMirror known n holds stale h → IsMirror known n None stale (dropped set h)
-joined_mirror known n set holds stale h mirror = record { in_step = mirror.in_step; split = λ s holding. absurd (none s holding) } where
-  none : (s : ℕ) → None ≡ Some s → ⊥
-  none s e = cc
+joined_mirror known n set holds stale h mirror = grind arith
 
 pub dropped_stands : {D : Type 0} → (ghosts : Ghosts D) (old new : MirrorValue D) (set : ℕ) (h : History)
     → AreHeld (holds_of old.mirrors) old.images → IsJoined old new set → StandsFor ghosts old h → StandsFor ghosts new (dropped set h)
@@ -400,16 +346,7 @@ synced_stands {D = D} ghosts old new k result h are is stood = by_step result is
 -- ## calls that change nothing
 
 pub quiet_stands : {D : Type 0} → (ghosts : Ghosts D) (old new : MirrorValue D) (h : History) → IsQuiet ghosts old new → StandsFor ghosts old h → StandsFor ghosts new h
-quiet_stands {D = D} ghosts old new h is stood = record {
-  sets = is.images ∙ stood.sets;
-  above_zero = λ set among. stood.above_zero set (ap (is_among set) (sym is.images) ∙ among);
-  primary = subst (λ (t : Option (List (List ℕ))). IfSome t (λ blocks. blocks ≡ contents (ghosts.size new.primary) h.writes (length h.writes))) (sym is.primary.told_is)
-      (subst (λ (n : ℕ). IfSome (ghosts.told old.primary) (λ blocks. blocks ≡ contents n h.writes (length h.writes))) (sym is.primary.size_is) stood.primary);
-  mirrors = λ k m at.
-      subst (λ (t : Option (List (List ℕ))). IsMirror (told_in t (ghosts.told m.device)) (ghosts.size new.primary) m.holds m.stale h) (sym is.primary.told_is)
-      (subst (λ (n : ℕ). IsMirror (told_in (ghosts.told old.primary) (ghosts.told m.device)) n m.holds m.stale h) (sym is.primary.size_is)
-      (stood.mirrors k m (ap (λ (ms : List (Mirror D)). slice_get ms k) (sym is.mirrors) ∙ at)));
-}
+quiet_stands ghosts old new h is stood = grind arith
 
 pub quiet_on_stands : {D : Type 0} → (ghosts : Ghosts D) (old new : MirrorValue D) (k : ℕ) (m : Mirror D) (h : History) → IsQuietOn ghosts old new k m → StandsFor ghosts old h → StandsFor ghosts new h
 quiet_on_stands {D = D} ghosts old new k m h is stood =
@@ -426,8 +363,7 @@ zeros-range a zero = refl
 zeros-range a (suc n) = ap (λ (bs : List (List ℕ)). zeros ∷ bs) (zeros-range (a + 1) n)
 
 fresh_told : (told : Option (List (List ℕ))) (n : ℕ) → IfSome told (λ blocks. blocks ≡ replicate n zeros) → IfSome told (λ blocks. blocks ≡ contents n [] 0)
-fresh_told None n held = tt
-fresh_told (Some blocks) n held = held ∙ zeros-range 0 n
+fresh_told told n held = grind (arith, zeros-range)
 
 in_step_low : (n b : ℕ) → IsInStep (replicate n false) b → b < n
 in_step_low zero b at = cc
@@ -435,16 +371,7 @@ in_step_low (suc n) zero at = omega arith
 in_step_low (suc n) (suc b) at = let low = in_step_low n b at in omega arith
 
 fresh_mirror : (p d : Option (List (List ℕ))) (n : ℕ) → IfSome d (λ blocks. blocks ≡ replicate n zeros) → IsMirror (told_in p d) n None (replicate n false) fresh
-fresh_mirror p d n zero_blocks = record {
-  in_step = λ blocks b tells step. let both = both_tell p d blocks tells in at_block d blocks b both.2 (fresh_told d n zero_blocks) (in_step_low n b step);
-  split = λ set holding. absurd (none set holding);
-} where
-  none : (set : ℕ) → None ≡ Some set → ⊥
-  none set e = cc
-
-  at_block : (x : Option (List (List ℕ))) (blocks : List (List ℕ)) (b : ℕ) → x ≡ Some blocks → IfSome x (λ blocks. blocks ≡ contents n [] 0) → b < n → slice_get blocks b ≡ Some (content [] 0 b)
-  at_block None blocks b e are low = cc
-  at_block (Some y) blocks b e are low = ap (λ (bs : List (List ℕ)). slice_get bs b) (sym (same_Some y blocks e) ∙ are) ∙ contents_at n [] 0 b low
+fresh_mirror p d n zero_blocks = grind (arith, both_tell, fresh_told, in_step_low, same_Some, contents_at)
 
 pub All-at : {X : Type 0} → (P : X → Type 0) (xs : List X) (k : ℕ) (x : X) → All P xs → slice_get xs k ≡ Some x → P x
 All-at P [] k x all at = cc
@@ -480,12 +407,7 @@ no_step (suc n) zero at = cc
 no_step (suc n) (suc b) at = no_step n b at
 
 stale_mirror : (known : Option (List (List ℕ))) (n : ℕ) (h : History) → IsMirror known n None (replicate n true) h
-stale_mirror known n h = record {
-  in_step = λ blocks b tells step. absurd (no_step n b step);
-  split = λ set holding. absurd (none set holding);
-} where
-  none : (set : ℕ) → None ≡ Some set → ⊥
-  none set e = cc
+stale_mirror known n h = grind (arith, no_step)
 
 -- it stands for each history without images whose content its primary has
 pub resumed_stands : {D : Type 0} → (ghosts : Ghosts D) (primary : D) (devices : List D) (h : History) → h.images ≡ []
@@ -507,9 +429,7 @@ resumed_stands {D = D} ghosts primary devices h none primary_is = record {
 pub now_bytes : (p : Option (List (List ℕ))) (n b : ℕ) (bytes : List ℕ) (h : History) → IfSome p (λ blocks. blocks ≡ contents n h.writes (length h.writes))
     → IfSome p (λ blocks. slice_get blocks b ≡ Some bytes) → b < n → is_some p ≡ true
     → bytes ≡ content h.writes (length h.writes) b
-now_bytes None n b bytes h are at low tells = cc
-now_bytes (Some blocks) n b bytes h are at low tells =
-    same_Some bytes (content h.writes (length h.writes) b) (sym at ∙ ap (λ (bs : List (List ℕ)). slice_get bs b) are ∙ contents_at n h.writes (length h.writes) b low)
+now_bytes p n b bytes h are at low tells = grind (arith, same_Some, contents_at)
 
 pub shown_bytes : (p d : Option (List (List ℕ))) (n b set point : ℕ) (bytes : List ℕ) (holds : Option ℕ) (stale : List Bool) (h : History) → IsMirror (told_in p d) n holds stale h → holds ≡ Some set
     → point_in set h.images ≡ Some point

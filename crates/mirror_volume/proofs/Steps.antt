@@ -9,9 +9,7 @@ use Rattle.cow_volume.specs.declared.image_fault.ImageFault.TheVariants.{NoSuchI
 use Rattle.mirror_volume.specs.declared.mirror.Mirror.{Mirror}
 use Rattle.mirror_volume.specs.MirrorCalls.{IsCalled, IsQuietOn}
 use Rattle.mirror_volume.specs.declared.synced.Synced.{Synced}
-use Rattle.mirror_volume.specs.declared.synced.Synced.TheVariants.{Copied, InStep}
 use Rattle.mirror_volume.specs.declared.sync_fault.SyncFault.{SyncFault}
-use Rattle.mirror_volume.specs.declared.sync_fault.SyncFault.TheVariants.{HoldsImage, Volume}
 use Rattle.mirror_volume.specs.Stale.{stale_count}
 use Rattle.mirror_volume.specs.Mirrors.{MirrorValue}
 use Rattle.mirror_volume.specs.Resync.{IsStep, IsSynced, Call, IsCall, AreCalls, Step, Read, ImageRead, Cut, Drop, Flush, MirrorFlush, Sync, copied_by, copied_on, stale_in, stale_at}
@@ -20,18 +18,11 @@ use Rattle.mirror_volume.proofs.Counts.{count-unmarked}
 step_fewer : {D : Type 0} → (ghosts : Ghosts D) (primary now : D) (old new : Mirror D) (result : Result Synced SyncFault)
     → IsStep ghosts primary now old new result
     → stale_count new.stale + copied_by result ≡ stale_count old.stale
-step_fewer ghosts primary now old new (Ok (Copied b)) step = let fewer = count-unmarked old.stale b step.lowest.is_stale in let same = ap stale_count step.stale in omega arith
-step_fewer ghosts primary now old new (Ok InStep) step = let same = ap (λ (m : Mirror _). stale_count m.stale) step.mirror_is in omega arith
-step_fewer ghosts primary now old new (Err (HoldsImage set)) step = let same = ap (λ (m : Mirror _). stale_count m.stale) step.mirror_is in omega arith
-step_fewer ghosts primary now old new (Err Volume) step = let same = ap stale_count step.stale in omega arith
+step_fewer ghosts primary now old new result step = grind (arith, count-unmarked)
 
 one_fewer : {D : Type 0} → (ghosts : Ghosts D) (old new : MirrorValue D) (k : ℕ) (result : Result Synced SyncFault) → IsSynced ghosts old new k result
     → stale_at new k + copied_by result ≡ stale_at old k
-one_fewer ghosts old new k result is =
-    let before = ap stale_in is.was in
-    let after = ap stale_in (ap (λ (ms : List (Mirror _)). slice_get ms k) is.mirrors ∙ slice_get-set_same old.mirrors k is.before is.after is.was) in
-    let step = step_fewer ghosts old.primary new.primary is.before is.after result is.step in
-    omega arith
+one_fewer ghosts old new k result is = grind (arith, slice_get-set_same, step_fewer)
 
 -- ## calls between
 
@@ -64,9 +55,7 @@ module _ {D : Type 0} (ghosts : Ghosts D) (k : ℕ) where
   nothing old new same = unchanged old new (ap (λ (v : MirrorValue D). v.mirrors) same)
 
   quiet_on : (old new : MirrorValue D) (j : ℕ) (m : Mirror D) → IsQuietOn ghosts old new j m → stale_at new k + 0 ≡ stale_at old k
-  quiet_on old new j m is =
-      let now : Mirror D = record { device = is.after; holds = m.holds; stale = m.stale } in
-      by_mirrors old new (slice_set old.mirrors j now) is.mirrors (as_stale old.mirrors j k m now is.was refl)
+  quiet_on old new j m is = grind (arith, by_mirrors, as_stale)
 
   -- a call leaves fewer stale blocks by those that it copied
   call_fewer : (old new : MirrorValue D) (call : Call) → IsCall ghosts old call new → stale_at new k + copied_on k call ≡ stale_at old k

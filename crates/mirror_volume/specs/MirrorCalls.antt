@@ -19,12 +19,6 @@ use Rattle.mirror_volume.specs.Mirrors.{MirrorValue, faults_of, is_ready, ready_
 
 -- ## one device
 
--- a device keeps its size and whether it tells, and its count does not fall
-pub record IsKeptDevice {D : Type 0} (ghosts : Ghosts D) (old new : D) : Type 0 where
-  pub tells : is_some (ghosts.told new) ≡ is_some (ghosts.told old)
-  pub size_is : ghosts.size new ≡ ghosts.size old
-  pub later : ghosts.count old ≤ ghosts.count new
-
 -- it tells what it told
 pub record IsQuietDevice {D : Type 0} (ghosts : Ghosts D) (old new : D) : Type 0 where
   pub told_is : ghosts.told new ≡ ghosts.told old

@@ -1,6 +1,5 @@
 -- What one line more changes: the lines of the last lane, a writer's script, and the counts of both.
-use Rattle.std.proofs.Common.{◌≡◌, ℕ, zero, suc, ◌+◌, ◌<◌, Bool, true, false, cond, List, [], ◌∷◌, ◌++◌, length, map, set, get_or, All, refl, ap, sym, ◌∙◌, arith, length-append}
-use Rattle.std.specs.Prelude.{if◌then◌else◌}
+use Rattle.std.proofs.Common.{◌≡◌, ℕ, zero, suc, ◌+◌, ◌<◌, cond, List, [], ◌∷◌, ◌++◌, length, map, set, get_or, All, refl, ap, sym, ◌∙◌, arith, length-append}
 use Rattle.std.proofs.lemmas.List.{length-map, map-set, get_or-map}
 use Rattle.std.proofs.lemmas.List.Sums.{sum-map, sum_by-cons, sum_by_push}
 use Rattle.std.proofs.lemmas.List.Elements.{All-nil, All-cons, All-head, All-tail}
@@ -63,22 +62,18 @@ agendas_more_by line (lane ∷ next ∷ lanes) h =
     omega (arith, agendas_cons lane (with_line line (next ∷ lanes)), agendas_cons lane (next ∷ lanes), agendas_more_by line (next ∷ lanes) (omega arith))
 
 agendas_with_is : (n : ℕ) (op : Op) → n + cond (begins_agenda op) 1 0 ≡ agendas_with n op
-agendas_with_is n op =
-    let on : (t : Bool) → n + cond t 1 0 ≡ (if t then n + 1 else n) = λ t. elim t as (λ v. n + cond v 1 0 ≡ (if v then n + 1 else n)) [ true ↦ refl | false ↦ omega arith ] in
-    on (begins_agenda op)
+agendas_with_is n op = grind arith
 
 pub agendas_more : (line : LaneLine) (lanes : List LanePlan) → 0 < length lanes → agenda_count (with_line line lanes) ≡ agendas_with (agenda_count lanes) line.op
 agendas_more line lanes h = agendas_more_by line lanes h ∙ agendas_with_is (agenda_count lanes) line.op
 
 pub lane_names_stay : (text : List ℕ) (line : LaneLine) (lanes : List LanePlan) → lane_names text (with_line line lanes) ≡ lane_names text lanes
-lane_names_stay text line [] = refl
-lane_names_stay text line (lane ∷ []) = refl
 lane_names_stay text line (lane ∷ next ∷ lanes) = ap (λ (xs : List (List ℕ)). bytes_of text lane.name ∷ xs) (lane_names_stay text line (next ∷ lanes))
+lane_names_stay text line _ = refl
 
 pub lane_count_stays : (line : LaneLine) (lanes : List LanePlan) → length (with_line line lanes) ≡ length lanes
-lane_count_stays line [] = refl
-lane_count_stays line (lane ∷ []) = refl
 lane_count_stays line (lane ∷ next ∷ lanes) = ap (λ (n : ℕ). suc n) (lane_count_stays line (next ∷ lanes))
+lane_count_stays line _ = refl
 
 -- what holds of each lane, and of the last with its line more, holds of each
 pub lanes_more : (P : LanePlan → Type 0) (line : LaneLine) (lanes : List LanePlan) → ((l : LanePlan) → P l → P (one_more line l)) → All P lanes → All P (with_line line lanes)

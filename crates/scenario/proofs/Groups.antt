@@ -7,7 +7,6 @@ use Rattle.scenario.specs.declared.area_row.AreaRow.{AreaRow}
 use Rattle.scenario.specs.declared.volume_row.VolumeRow.{VolumeRow}
 use Rattle.scenario.specs.Plan.{GroupPlan}
 use Rattle.scenario.specs.Bounds.{IsInGroup, groups_from}
-use Rattle.scenario.specs.SoFar.{area_group}
 use Rattle.scenario.specs.Drafts.{IsAreaRow}
 
 -- ## what stands at a place
@@ -35,9 +34,7 @@ set_same (y ∷ xs) (suc i) x h = ap (λ zs. y ∷ zs) (set_same xs i x h)
 
 by_tests : (a b : Bool) (m : ℕ) (new x y u v : Option ℕ) → (x ≡ Some m → u ≡ new) → (y ≡ Some m → v ≡ new)
     → (if a then x else (if b then y else None)) ≡ Some m → (if a then u else (if b then v else None)) ≡ new
-by_tests true b m new x y u v f g h = f h
-by_tests false true m new x y u v f g h = g h
-by_tests false false m new x y u v f g h = cc h
+by_tests a b m new x y u v f g h = grind arith
 
 pub numbered_new : (n m : ℕ) (rows : List VolumeRow) (row : VolumeRow) → groups_from n rows ≡ Some m → row.group ≡ m → groups_from n (rows ++ row ∷ []) ≡ Some (m + 1)
 numbered_new n m [] row h e =
@@ -80,9 +77,7 @@ pub in_old_group : (groups : List GroupPlan) (g : GroupPlan) (r : VolumeRow) →
 in_old_group groups g r within e s = record { in_range = within; slots = rw e s }
 
 group_stays : (groups : List GroupPlan) (g : GroupPlan) (own : GroupPlan) (o : Option ℕ) → IfSome o (λ i. slice_get groups i ≡ Some own) → IfSome o (λ i. slice_get (groups ++ g ∷ []) i ≡ Some own)
-group_stays groups g own None h = tt
-group_stays groups g own (Some i) h = get_some_left groups (g ∷ []) i own h
+group_stays groups g own o h = grind (arith, get_some_left)
 
 pub areas_with_more_groups : (n : ℕ) (groups : List GroupPlan) (g : GroupPlan) (areas : List AreaRow) → All (IsAreaRow n groups) areas → All (IsAreaRow n (groups ++ g ∷ [])) areas
-areas_with_more_groups n groups g areas h =
-    All-weaker (IsAreaRow n groups) (IsAreaRow n (groups ++ g ∷ [])) (λ a k. record { declared = k.declared; group = group_stays groups g (area_group a) a.group k.group }) areas h
+areas_with_more_groups n groups g areas h = grind (arith, group_stays)

@@ -1,11 +1,10 @@
 -- A builder goes on: what holds of its draft holds with whatever is appended to its source, also after one more call.
-use Rattle.std.proofs.Common.{◌≡◌, ◌∙◌, ℕ, ◌+◌, ◌-◌, ◌<◌, ◌≤◌, true, false, List, [], ◌∷◌, ◌++◌, length, Option, Some, None, refl, ap, sym, subst, arith, length-append, take, drop}
-use Rattle.std.specs.Prelude.{is_some, nat_lt, Result, Ok, Err}
+use Rattle.std.proofs.Common.{◌≡◌, ◌∙◌, ℕ, ◌+◌, ◌-◌, ◌<◌, ◌≤◌, true, false, List, [], ◌∷◌, ◌++◌, length, Option, Some, None, ap, sym, subst, arith, length-append}
+use Rattle.std.specs.Prelude.{is_some, Result, Ok, Err}
 use Rattle.std.proofs.lemmas.List.{take-append-le, drop-append-le, length-drop, append_assoc, append-nil}
-use Rattle.std.proofs.lemmas.List.Elements.{All-nil}
 use Rattle.scenario.specs.declared.span.Span.{Span}
 use Rattle.scenario.specs.declared.op.Op.{Op}
-use Rattle.scenario.specs.declared.op.Op.TheVariants.{WriteFill, WriteStamp, Read, ImageDigest, ImageBlock, Query, Properties, Revert, DeleteSet, DeleteImage, Tick, Begin, Disable, Gather, Component, Document, Start, Add, Prepare, Snapshot, Await, Status, Complete, Abort, End}
+use Rattle.scenario.specs.declared.op.Op.TheVariants.{Component}
 use Rattle.scenario.specs.declared.volume_row.VolumeRow.{VolumeRow}
 use Rattle.scenario.specs.declared.entry.Entry.{Entry}
 use Rattle.scenario.specs.declared.entry.Entry.TheVariants as entry
@@ -20,30 +19,25 @@ use Rattle.scenario.specs.declared.fields.Fields.TheVariants.{One, Two, Three, F
 use Rattle.scenario.specs.declared.value.Value.{Value}
 use Rattle.scenario.specs.declared.value.Value.TheVariants as value
 use Rattle.scenario.specs.declared.reason.Reason.{Reason}
-use Rattle.scenario.specs.declared.reason.Reason.TheVariants.{Misplaced, TooMany}
+use Rattle.scenario.specs.declared.reason.Reason.TheVariants.{Misplaced}
 use Rattle.writer_calls.specs.declared.scripted.Scripted.{Scripted}
 use Rattle.scenario.specs.Fields.{bytes_of, IsPart}
 use Rattle.vss_names.specs.Names.{is_name}
 use Rattle.scenario.specs.Names.{place_of, volume_named, writer_named, lane_named}
 use Rattle.scenario.specs.Named.{IsNamed, HasNames}
-use Rattle.scenario.specs.SoFar.{SoFar, Saying, plan_in, after, line_count, agenda_count, answer_count}
+use Rattle.scenario.specs.SoFar.{SoFar, Saying, plan_in}
 use Rattle.scenario.specs.SoFar as saying
-use Rattle.scenario.specs.Declarations.{new_writer, nth_field}
-use Rattle.scenario.specs.Entries.{has_lane, has_line_room, may_stand}
-use Rattle.scenario.specs.Ops.{writer_at}
+use Rattle.scenario.specs.Entries.{has_lane, may_stand}
 use Rattle.scenario.specs.Bounds.{IsShortPart, IsRanged}
-use Rattle.scenario.specs.Drafts.{DraftValue, new_draft, IsDraft, IsEntry, IsNewVolume, IsNewName, AreNames, with_entry, saying_in, names_after}
-use Rattle.scenario.specs.Built.{IsGrowing, IsNewlyNamed, if_placed, op_in, line_said, op_said, writer_said, answer_said, value_said}
+use Rattle.scenario.specs.Drafts.{DraftValue, IsDraft, IsEntry, IsNewVolume, IsNewName, AreNames, with_entry, saying_in, names_after}
+use Rattle.scenario.specs.Built.{IsGrowing, IsNewlyNamed, if_placed, line_said, op_said, writer_said, answer_said, value_said}
 use Rattle.scenario.proofs.Kept.{kept}
 use Rattle.scenario.proofs.Named.{IsSaid, IsGood, named_after, plan_named, on_bind, on_either, new_name, writer_new, word_said}
 
 -- ## parts of a source
 
 pub bytes_more : (text more : List ℕ) (span : Span) → IsPart (length text) span → bytes_of (text ++ more) span ≡ bytes_of text span
-bytes_more text more span h =
-    let start : span.start ≤ length text = omega (arith, h.ordered, h.within) in
-    let inside : span.end - span.start ≤ length (drop span.start text) = omega (arith, h.ordered, h.within, length-drop span.start text) in
-    ap (λ (xs : List ℕ). take (span.end - span.start) xs) (drop-append-le span.start text more start) ∙ take-append-le (span.end - span.start) (drop span.start text) more inside
+bytes_more text more span h = grind (arith, length-drop, drop-append-le, take-append-le)
 
 part_more : (text more : List ℕ) (span : Span) → IsPart (length text) span → IsPart (length (text ++ more)) span
 part_more text more span h = record { ordered = h.ordered; within = omega (arith, h.within, length-append text more) }
@@ -69,30 +63,7 @@ name_more text more names name h = record { short = short_more text more name h.
 
 ranged_more : (text more : List ℕ) (rows : List VolumeRow) (writers : ℕ) (op : Op) → IsRanged (length text) rows writers op → IsRanged (length (text ++ more)) rows writers op
 ranged_more text more rows writers (Component w full) h = (h.0, part_more text more full h.1)
-ranged_more text more rows writers (WriteFill v b x) h = h
-ranged_more text more rows writers (WriteStamp v b n) h = h
-ranged_more text more rows writers (Read v b) h = h
-ranged_more text more rows writers (ImageDigest s v) h = h
-ranged_more text more rows writers (ImageBlock s v b) h = h
-ranged_more text more rows writers (Query v) h = h
-ranged_more text more rows writers (Properties s v) h = h
-ranged_more text more rows writers (Revert s v) h = h
-ranged_more text more rows writers (DeleteSet s) h = h
-ranged_more text more rows writers (DeleteImage s v) h = h
-ranged_more text more rows writers (Tick n) h = h
-ranged_more text more rows writers (Begin c all) h = h
-ranged_more text more rows writers (Disable w) h = h
-ranged_more text more rows writers Gather h = h
-ranged_more text more rows writers Document h = h
-ranged_more text more rows writers Start h = h
-ranged_more text more rows writers (Add v) h = h
-ranged_more text more rows writers Prepare h = h
-ranged_more text more rows writers Snapshot h = h
-ranged_more text more rows writers Await h = h
-ranged_more text more rows writers Status h = h
-ranged_more text more rows writers Complete h = h
-ranged_more text more rows writers Abort h = h
-ranged_more text more rows writers End h = h
+ranged_more text more rows writers _ h = h
 
 entry_more : (text more : List ℕ) (d : DraftValue) (e : Entry) → IsEntry text d e → IsEntry (text ++ more) d e
 entry_more text more d entry.Skipped h = tt
@@ -114,15 +85,7 @@ entry_more text more d (entry.Line line) h =
 
 -- the names are the same
 names_more : (text more : List ℕ) (d : DraftValue) (e : Entry) → IsEntry text d e → names_after (text ++ more) d.names (saying_in e) ≡ names_after text d.names (saying_in e)
-names_more text more d entry.Skipped h = refl
-names_more text more d entry.Opening h = refl
-names_more text more d (entry.Area area) h = ap (λ (name : List ℕ). record d.names { areas = d.names.areas ++ name ∷ [] }) (bytes_more text more area.name h.limits.name.part)
-names_more text more d (entry.OwnVolume row) h = ap (λ (name : List ℕ). record d.names { volumes = d.names.volumes ++ name ∷ [] }) (bytes_more text more row.name h.0.limits.name.part)
-names_more text more d (entry.SharedVolume row a area) h = ap (λ (name : List ℕ). record d.names { volumes = d.names.volumes ++ name ∷ [] }) (bytes_more text more row.name h.0.limits.name.part)
-names_more text more d (entry.Writer name metadata) h = ap (λ (n : List ℕ). record d.names { writers = d.names.writers ++ n ∷ [] }) (bytes_more text more name h.0.short.part)
-names_more text more d (entry.Answer w row) h = refl
-names_more text more d (entry.Lane name whom) h = ap (λ (n : List ℕ). record d.names { lanes = d.names.lanes ++ n ∷ [] }) (bytes_more text more name h.0.short.part)
-names_more text more d (entry.Line line) h = refl
+names_more text more d e h = grind (arith, bytes_more)
 
 same_entry : (text more : List ℕ) (d : DraftValue) (e : Entry) → IsEntry text d e → with_entry (text ++ more) d e ≡ with_entry text d e
 same_entry text more d e h = ap (λ n. record (with_entry text d e) { names = n }) (names_more text more d e h)
@@ -172,37 +135,6 @@ as_is source k d h = subst (λ text. IsDraft text d) (append-nil source) (h.draf
 pub plan_has_names : (source : List ℕ) (k : ℕ) (d : DraftValue) → IsGrowing source k d → HasNames (plan_in source d.said)
 plan_has_names source k d h = plan_named source k d.said (subst (λ text. IsNamed text k d.said) (append-nil source) (h.named [])) h.some h.few
 
-pub begun : IsGrowing [] 2 (new_draft true)
-begun =
-    record {
-      drafts = λ more. record {
-        within = record {
-          areas = All-nil _;
-          few_areas = omega arith;
-          volumes = All-nil _;
-          few_volumes = omega arith;
-          groups = All-nil _;
-          few_groups = omega arith;
-          in_groups = All-nil _;
-          numbered = refl;
-          small = omega arith;
-          writers = All-nil _;
-          few_writers = omega arith;
-          few_answers = omega arith;
-          lanes = All-nil _;
-          few_lanes = omega arith;
-          few_lines = omega arith;
-          few_agendas = omega arith;
-        };
-        names = record { areas = refl; volumes = refl; writers = refl; lanes = refl };
-        counts = record { lines = refl; agenda_lines = refl; answers = refl };
-      };
-      named = λ more. record { volumes = tt; writers = tt; lanes = tt; volumes_apart = tt; writers_apart = tt; lanes_apart = tt; lines = tt };
-      some = omega arith;
-      few = omega arith;
-      short = omega arith;
-    }
-
 pub appended : (source bytes : List ℕ) (k : ℕ) (d : DraftValue) → IsGrowing source k d → length source + length bytes + 1 ≤ 4000000000 → IsGrowing (source ++ bytes ++ 10 ∷ []) k d
 appended source bytes k d h room =
     let many : length (source ++ bytes ++ 10 ∷ []) ≡ length source + length bytes + 1 = omega (arith, length-append (source ++ bytes) (10 ∷ []), length-append source bytes) in
@@ -219,15 +151,7 @@ appended source bytes k d h room =
 -- ## what a call says has new names
 
 newly : (text : List ℕ) (k : ℕ) (d : SoFar) (e : Entry) → IsSaid text d k (saying_in e) → IsNewlyNamed text k e
-newly text k d entry.Skipped h = tt
-newly text k d entry.Opening h = tt
-newly text k d (entry.Area area) h = tt
-newly text k d (entry.OwnVolume row) h = h.0
-newly text k d (entry.SharedVolume row a area) h = h.0
-newly text k d (entry.Writer name metadata) h = h.0
-newly text k d (entry.Answer w row) h = tt
-newly text k d (entry.Lane name whom) h = h.0
-newly text k d (entry.Line line) h = h
+newly text k d e h = grind arith
 
 good_is : (P : Saying → Type 0) (r : Result Saying Reason) (s : Saying) → r ≡ Ok s → IsGood P r → P s
 good_is P r s e h = subst (IsGood P) e h
@@ -239,23 +163,14 @@ line_good : (text : List ℕ) (d : SoFar) (k : ℕ) (w : Word) (fields : Fields)
 line_good text d k w fields = placed text d k w _ (word_said text d k w fields)
 
 op_good : (text : List ℕ) (d : SoFar) (k : ℕ) (what : Op) → IsGood (IsSaid text d k) (op_said text d k what)
-op_good text d k what =
-    let P = IsSaid text d k in
-    on_either P (has_lane d.lanes) _ (Err Misplaced) (on_bind P (op_in text d.volumes d.writers what) _
-    (λ o e. on_either P (has_line_room (line_count d.lanes) (agenda_count d.lanes) o) (Ok (saying.Line (record { number = k; op = o }))) (Err TooMany) refl tt)) tt
+op_good text d k what = grind arith
 
 writer_good : (text : List ℕ) (d : SoFar) (k : ℕ) (name : Span) (meta : Meta) → IsGood (IsSaid text d k) (writer_said text d name meta)
-writer_good text d k name meta =
-    let P = IsSaid text d k in
-    on_bind P (new_writer text d name) _
-    (λ n e. on_either P (nat_lt (length d.writers) 64) (Ok (saying.Writer (record { name = n; meta = meta; script = [] }))) (Err TooMany) (writer_new text d name n (new_name text _ name n e)) tt)
+writer_good text d k name meta = grind (arith, on_bind, on_either, writer_new, new_name)
 
 answer_good : (text : List ℕ) (d : SoFar) (k w : ℕ) (row : Scripted) → IsGood (IsSaid text d k) (answer_said text d w row)
 unfolding answer_said
-answer_good text d k w row =
-    let P = IsSaid text d k in
-    on_bind P (writer_at text d.writers (Number w)) _ (λ i e. on_bind P (nth_field text d.writers i row.order (Number row.nth)) _
-    (λ n f. on_either P (nat_lt (answer_count d.writers) 10000) _ (Err TooMany) tt tt))
+answer_good text d k w row = grind arith
 
 value_good : (text : List ℕ) (d : SoFar) (k : ℕ) (name : Span) (v : Value) → IsGood (IsSaid text d k) (value_said text d k name v)
 value_good text d k name (value.Writer metadata) = placed text d k word.Writer _ (writer_good text d k name (meta_of metadata))

@@ -1,6 +1,6 @@
 -- What one line says keeps what is read within the limits of the language.
-use Rattle.std.proofs.Common.{◌≡◌, ℕ, ◌+◌, ◌<◌, ◌≤◌, Bool, true, false, List, [], ◌∷◌, ◌++◌, length, map, set, All, Option, Some, None, refl, ap, sym, subst, ◌∙◌, arith, length-append}
-use Rattle.std.specs.Prelude.{slice_get, option_map, if◌then◌else◌}
+use Rattle.std.proofs.Common.{◌≡◌, ℕ, ◌+◌, ◌<◌, ◌≤◌, true, List, [], ◌∷◌, ◌++◌, length, set, All, Option, Some, None, refl, ap, subst, ◌∙◌, arith, length-append}
+use Rattle.std.specs.Prelude.{slice_get}
 use Rattle.std.proofs.lemmas.List.{length-set, map_push, map-set}
 use Rattle.std.proofs.lemmas.List.Elements.{All-nil, All-push, All-same, All-set}
 use Rattle.std.proofs.lemmas.Option.{slice_get_within, slice_get-map, get_or_from_slice_get}
@@ -13,9 +13,8 @@ use Rattle.scenario.specs.declared.entry.Entry.{Entry}
 use Rattle.scenario.specs.declared.entry.Entry.TheVariants as entry
 use Rattle.scenario.specs.Plan.{GroupPlan, WriterPlan, LaneLine, LanePlan}
 use Rattle.scenario.specs.Bounds.{IsInGroup, begins_agenda, IsGroupRow, IsRow, IsNth, IsWriterRow, IsRanged}
-use Rattle.scenario.specs.Fields.{bytes_of}
 use Rattle.scenario.specs.Names.{area_names}
-use Rattle.scenario.specs.SoFar.{SoFar, Saying, after, new_area, own_group, area_group, with_answer, with_line, line_count, agenda_count, answer_count}
+use Rattle.scenario.specs.SoFar.{SoFar, after, new_area, own_group, with_answer, line_count, agenda_count, answer_count}
 use Rattle.scenario.specs.SoFar as saying
 use Rattle.scenario.specs.Drafts.{DraftValue, with_entry, saying_in, names_after, counts_after, agendas_with, IsAreaRow, IsLaneRow, IsWithin, AreNames, AreCounts, IsDraft, IsEntry}
 use Rattle.scenario.proofs.Changes.{lines_more, agendas_more, lane_names_stay, lane_count_stays, lanes_more, lines_in_new, agendas_in_new, answers_more, writer_names_stay, writer_count_stays, writers_more, answers_in_new}
@@ -27,10 +26,7 @@ no_lanes : (P : LanePlan → Type 0) (lanes : List LanePlan) → lanes ≡ [] �
 no_lanes P lanes e = All-same P lanes [] e (All-nil P)
 
 few_agendas_more : (n : ℕ) (op : Op) → n ≤ 2000 → (begins_agenda op ≡ true → n < 2000) → agendas_with n op ≤ 2000
-few_agendas_more n op few less =
-    let on : (t : Bool) → (t ≡ true → n < 2000) → (if t then n + 1 else n) ≤ 2000 =
-    λ t. elim t as (λ v. (v ≡ true → n < 2000) → (if v then n + 1 else n) ≤ 2000) [ true ↦ λ f. (let below : n < 2000 = f refl in omega arith) | false ↦ λ f. few ] in
-    on (begins_agenda op) less
+few_agendas_more n op few less = grind arith
 
 one_volume_more : (rows : List VolumeRow) (row : VolumeRow) → length rows < 128 → length (rows ++ row ∷ []) ≤ 128
 one_volume_more rows row few = omega (arith, length-append rows (row ∷ []))
@@ -238,82 +234,15 @@ within_after text d (entry.Line line) h g =
 -- ## the names
 
 area_names_stay : (text : List ℕ) (areas : List AreaRow) (a : ℕ) (area : AreaRow) (g : ℕ) → slice_get areas a ≡ Some area → area_names text (set areas a (record area { group = Some g })) ≡ area_names text areas
-area_names_stay text areas a area g found =
-    let name : AreaRow → List ℕ = λ (x : AreaRow). bytes_of text x.name in
-    map-set name areas a (record area { group = Some g }) ∙ set_same (map name areas) a (bytes_of text area.name) (slice_get-map name areas a ∙ ap (λ (o : Option AreaRow). option_map name o) found)
+area_names_stay text areas a area g found = grind (arith, map-set, set_same, slice_get-map)
 
 pub names_stay : (text : List ℕ) (d : DraftValue) (e : Entry) → AreNames text d.said d.names → IsEntry text d e → AreNames text (after d.said (saying_in e)) (names_after text d.names (saying_in e))
-names_stay text d entry.Skipped h g = h
-names_stay text d entry.Opening h g = record { areas = h.areas; volumes = h.volumes; writers = h.writers; lanes = h.lanes }
-names_stay text d (entry.Area area) h g =
-    record {
-      areas = ap (λ xs. xs ++ bytes_of text area.name ∷ []) h.areas ∙ sym (map_push (λ (a : AreaRow). bytes_of text a.name) d.said.areas (new_area area));
-      volumes = h.volumes;
-      writers = h.writers;
-      lanes = h.lanes;
-    }
-names_stay text d (entry.OwnVolume row) h g =
-    record {
-      areas = h.areas;
-      volumes = ap (λ xs. xs ++ bytes_of text row.name ∷ []) h.volumes ∙ sym (map_push (λ (r : VolumeRow). bytes_of text r.name) d.said.volumes row);
-      writers = h.writers;
-      lanes = h.lanes;
-    }
-names_stay text d (entry.SharedVolume row a area) h g =
-    record {
-      areas = h.areas ∙ sym (area_names_stay text d.said.areas a area row.group g.1.found);
-      volumes = ap (λ xs. xs ++ bytes_of text row.name ∷ []) h.volumes ∙ sym (map_push (λ (r : VolumeRow). bytes_of text r.name) d.said.volumes row);
-      writers = h.writers;
-      lanes = h.lanes;
-    }
-names_stay text d (entry.Writer name metadata) h g =
-    record {
-      areas = h.areas;
-      volumes = h.volumes;
-      writers = ap (λ xs. xs ++ bytes_of text name ∷ []) h.writers ∙ sym (map_push (λ (w : WriterPlan). bytes_of text w.name) d.said.writers (record { name = name; meta = meta_of metadata; script = [] }));
-      lanes = h.lanes;
-    }
-names_stay text d (entry.Answer w row) h g =
-    record { areas = h.areas; volumes = h.volumes; writers = h.writers ∙ sym (writer_names_stay text w row d.said.writers); lanes = h.lanes }
-names_stay text d (entry.Lane name whom) h g =
-    record {
-      areas = h.areas;
-      volumes = h.volumes;
-      writers = h.writers;
-      lanes = ap (λ xs. xs ++ bytes_of text name ∷ []) h.lanes ∙ sym (map_push (λ (l : LanePlan). bytes_of text l.name) d.said.lanes (record { name = name; acts_as = whom; lines = [] }));
-    }
-names_stay text d (entry.Line line) h g =
-    record { areas = h.areas; volumes = h.volumes; writers = h.writers; lanes = h.lanes ∙ sym (lane_names_stay text line d.said.lanes) }
+names_stay text d e h g = grind (arith, map_push, area_names_stay, writer_names_stay, lane_names_stay)
 
 -- ## the counts
 
 pub counts_stay : (text : List ℕ) (d : DraftValue) (e : Entry) → AreCounts d.said d.counts → IsEntry text d e → AreCounts (after d.said (saying_in e)) (counts_after d.counts (saying_in e))
-counts_stay text d entry.Skipped h g = h
-counts_stay text d entry.Opening h g = record { lines = h.lines; agenda_lines = h.agenda_lines; answers = h.answers }
-counts_stay text d (entry.Area area) h g = record { lines = h.lines; agenda_lines = h.agenda_lines; answers = h.answers }
-counts_stay text d (entry.OwnVolume row) h g = record { lines = h.lines; agenda_lines = h.agenda_lines; answers = h.answers }
-counts_stay text d (entry.SharedVolume row a area) h g = record { lines = h.lines; agenda_lines = h.agenda_lines; answers = h.answers }
-counts_stay text d (entry.Writer name metadata) h g =
-    record {
-      lines = h.lines;
-      agenda_lines = h.agenda_lines;
-      answers = h.answers ∙ sym (answers_in_new d.said.writers (record { name = name; meta = meta_of metadata; script = [] }) refl);
-    }
-counts_stay text d (entry.Answer w row) h g =
-    record { lines = h.lines; agenda_lines = h.agenda_lines; answers = ap (λ n. n + 1) h.answers ∙ sym (answers_more w row d.said.writers g.known) }
-counts_stay text d (entry.Lane name whom) h g =
-    let lane : LanePlan = record { name = name; acts_as = whom; lines = [] } in
-    record {
-      lines = h.lines ∙ sym (lines_in_new d.said.lanes lane refl);
-      agenda_lines = h.agenda_lines ∙ sym (agendas_in_new d.said.lanes lane refl);
-      answers = h.answers;
-    }
-counts_stay text d (entry.Line line) h g =
-    record {
-      lines = ap (λ n. n + 1) h.lines ∙ sym (lines_more line d.said.lanes g.in_lane);
-      agenda_lines = ap (λ n. agendas_with n line.op) h.agenda_lines ∙ sym (agendas_more line d.said.lanes g.in_lane);
-      answers = h.answers;
-    }
+counts_stay text d e h g = grind (arith, answers_in_new, answers_more, lines_in_new, agendas_in_new, lines_more, agendas_more)
 
 -- ## all of it
 

@@ -1,63 +1,53 @@
 -- Each scenario that is read has names by the grammar, those of volumes, of writers and of lanes apart, and its lines are numbered by
 -- the lines of its text.
-use Rattle.std.proofs.Common.{◌≡◌, ◌∙◌, ℕ, zero, suc, ◌+◌, ◌<◌, ◌≤◌, Bool, true, false, List, [], ◌∷◌, ◌++◌, length, map, Option, Some, None, Result, Ok, Err, refl, ap, sym, subst, arith, cond}
-use Rattle.std.specs.Prelude.{◌==◌, ◌&&◌, nat_lt, is_some, if◌then◌else◌, codes}
-use Rattle.std.specs.List.{list_all, position_from}
+use Rattle.std.proofs.Common.{◌≡◌, ◌∙◌, ℕ, zero, suc, ◌+◌, ◌<◌, ◌≤◌, Bool, true, false, List, [], ◌∷◌, ◌++◌, length, map, Option, Some, Result, Ok, Err, refl, ap, sym, subst, arith, cond}
+use Rattle.std.specs.Prelude.{◌==◌, is_some, if◌then◌else◌}
+use Rattle.std.specs.List.{position_from}
 use Rattle.std.specs.Str.{bytes_eq}
 use Rattle.std.proofs.lemmas.Iterator.Adapters.{position_from-zero}
 use Rattle.std.proofs.lemmas.Slice.Eq.{bytes_eq-Decides}
-use Rattle.writer_calls.specs.declared.answer.Answer.{Answer as Answered}
-use Rattle.writer_calls.specs.declared.answer.Answer.TheVariants.{Veto}
-use Rattle.scenario.specs.declared.asked.Asked.{Asked}
 use Rattle.writer_calls.specs.declared.scripted.Scripted.{Scripted}
 use Rattle.scenario.specs.declared.reason.Reason.{Reason}
-use Rattle.scenario.specs.declared.reason.Reason.TheVariants.{Empty, BadName, DoubleName, TooMany, UnknownWord, BadByte, NoNewline, Misplaced}
+use Rattle.scenario.specs.declared.reason.Reason.TheVariants.{Empty, TooMany}
 use Rattle.scenario.specs.declared.span.Span.{Span}
 use Rattle.scenario.specs.declared.text_line.TextLine.{TextLine}
 use Rattle.scenario.specs.declared.volume_row.VolumeRow.{VolumeRow}
 use Rattle.scenario.specs.declared.field.Field.{Field}
 use Rattle.scenario.specs.declared.fields.Fields.{Fields}
-use Rattle.scenario.specs.declared.fields.Fields.TheVariants.{One, Two, Three, Four, Five}
+use Rattle.scenario.specs.declared.fields.Fields.TheVariants.{One, Three, Four}
 use Rattle.scenario.specs.declared.word.Word.{Word}
 use Rattle.scenario.specs.declared.word.Word.TheVariants as word
 use Rattle.scenario.specs.Plan.{Plan, WriterPlan, LanePlan, LaneLine}
-use Rattle.scenario.specs.Bounds.{ends_sessions}
 use Rattle.vss_names.specs.Names.{is_name}
 use Rattle.scenario.specs.Names.{volume_names, writer_names, lane_names, volume_named, writer_named, lane_named}
 use Rattle.scenario.specs.Lines.{span_from, lines_from, lines_in}
-use Rattle.scenario.specs.Fields.{bytes_of, span_of, words_at, fields_for}
-use Rattle.scenario.specs.Words.{word_of}
-use Rattle.scenario.specs.Ops.{◌>>=◌, op_of, number_at, writer_at, is_word}
-use Rattle.scenario.specs.SoFar.{SoFar, Saying, Skipped, Opening, Area, OwnVolume, SharedVolume, Writer, Answer, Lane, Line, nothing, after, with_answer, with_line, implied_end, closed, closed_lane, plan_in, line_count, agenda_count, answer_count}
-use Rattle.scenario.specs.Declarations.{name_field, opening_of, new_area, area_of, has_space, has_volume_room, new_volume, own_row, own_volume_of, area_field, shared_row, shared_volume_of, volume_of, document_field, new_writer, writer_of, code_field, asked_of, answer_if, row_for, answer_of, new_lane, free_lane_of, acting_lane_of, lane_of}
-use Rattle.scenario.specs.Entries.{is_printable, is_skipped, has_lane, may_stand, has_line_room, line_of, row_of, placed_row_of, said_of, saying_of}
+use Rattle.scenario.specs.Fields.{bytes_of, span_of}
+use Rattle.scenario.specs.Ops.{◌>>=◌, op_of}
+use Rattle.scenario.specs.SoFar.{SoFar, Saying, Skipped, Opening, Area, OwnVolume, SharedVolume, Writer, Answer, Lane, Line, nothing, after, with_answer, with_line, closed, closed_lane, plan_in, line_count, agenda_count}
+use Rattle.scenario.specs.Declarations.{name_field, opening_of, area_of, own_volume_of, shared_volume_of, volume_of, writer_of, answer_of, free_lane_of, acting_lane_of, lane_of}
+use Rattle.scenario.specs.Entries.{has_line_room, line_of, row_of, placed_row_of, said_of, saying_of}
 use Rattle.scenario.specs.Grammar.{IsScenario, IsBad, goes_on, read_from, reading_of}
 use Rattle.scenario.specs.Named.{AllNamed, Differ, Distinct, volume_spans, writer_spans, lane_spans, Numbered, AllNumbered, IsNamed, HasNames}
 
 -- ## what one line says
 
 abbrev pub IsSaid : List ℕ → SoFar → ℕ → Saying → Type 0
-IsSaid text d number Skipped = Unit {0}
-IsSaid text d number Opening = Unit {0}
-IsSaid text d number (Area area) = Unit {0}
 IsSaid text d number (OwnVolume row) = (is_name (bytes_of text row.name) ≡ true) × (is_some (volume_named text d.volumes (bytes_of text row.name)) ≡ false)
 IsSaid text d number (SharedVolume row a area) = (is_name (bytes_of text row.name) ≡ true) × (is_some (volume_named text d.volumes (bytes_of text row.name)) ≡ false)
 IsSaid text d number (Writer w) = (is_name (bytes_of text w.name) ≡ true) × (is_some (writer_named text d.writers (bytes_of text w.name)) ≡ false)
-IsSaid text d number (Answer w row) = Unit {0}
 IsSaid text d number (Lane name whom) = (is_name (bytes_of text name) ≡ true) × (is_some (lane_named text d.lanes (bytes_of text name)) ≡ false)
 IsSaid text d number (Line l) = l.number ≡ number
+IsSaid text d number _ = Unit {0}
 
 abbrev pub IsGood : (Saying → Type 0) → Result Saying Reason → Type 0
 IsGood P (Ok saying) = P saying
 IsGood P (Err why) = Unit {0}
 
 pub on_bind : {A : Type 0} (P : Saying → Type 0) (r : Result A Reason) (f : A → Result Saying Reason) → ((x : A) → r ≡ Ok x → IsGood P (f x)) → IsGood P (r >>= f)
-on_bind P (Ok x) f h = h x refl
-on_bind P (Err why) f h = tt
+on_bind x0 r f h = grind arith
 
 pub on_either : (P : Saying → Type 0) (b : Bool) (x y : Result Saying Reason) → IsGood P x → IsGood P y → IsGood P (if b then x else y)
-on_either P true x y h k = h
-on_either P false x y h k = k
+on_either x0 b x y h k = grind arith
 
 pub record IsNewName (text : List ℕ) (taken : Bool) (span x : Span) : Type 0 where
   pub name : is_name (bytes_of text x) ≡ true
@@ -66,25 +56,17 @@ pub record IsNewName (text : List ℕ) (taken : Bool) (span x : Span) : Type 0 w
 
 pub new_name : (text : List ℕ) (taken : Bool) (span x : Span) → name_field text taken span ≡ Ok x → IsNewName text taken span x
 unfolding name_field
-new_name text taken span x e = by_tests (is_name (bytes_of text span)) taken refl e
-  where
-    by_tests : (a b : Bool) → is_name (bytes_of text span) ≡ a → (if a then (if b then Err DoubleName else Ok span) else Err BadName) ≡ Ok x → IsNewName text b span x
-    by_tests true true f g = absurd cc
-    by_tests true false f g = let same : span ≡ x = cc in record { name = subst (λ y. is_name (bytes_of text y) ≡ true) same f; same = sym same; free = refl }
-    by_tests false b f g = absurd cc
+new_name text taken span x e = grind arith
 
 -- ## each kind of line
 
 opening_said : (text : List ℕ) (d : SoFar) (number : ℕ) (fields : Fields) → IsGood (IsSaid text d number) (opening_of text fields)
 unfolding opening_of
-opening_said text d number (One version) = on_bind (IsSaid text d number) (number_at text 1 1 version) _ (λ n e. tt)
-opening_said text d number _ = tt
+opening_said text d number fields = grind arith
 
 area_said : (text : List ℕ) (d : SoFar) (number : ℕ) (fields : Fields) → IsGood (IsSaid text d number) (area_of text d fields)
 unfolding area_of
-area_said text d number (Two name slots) =
-    on_bind (IsSaid text d number) (new_area text d (span_of name)) _ (λ n e. on_bind (IsSaid text d number) (number_at text 0 65536 slots) _ (λ s f. on_either (IsSaid text d number) (nat_lt (length d.areas) 128 && has_space d s) (Ok (Area (record { name = n; slots = s }))) (Err TooMany) tt tt))
-area_said text d number _ = tt
+area_said text d number fields = grind arith
 
 pub volume_new : (text : List ℕ) (d : SoFar) (name n : Span) → IsNewName text (is_some (volume_named text d.volumes (bytes_of text name))) name n
     → (is_name (bytes_of text n) ≡ true) × (is_some (volume_named text d.volumes (bytes_of text n)) ≡ false)
@@ -92,15 +74,11 @@ volume_new text d name n h = (h.name, subst (λ x. is_some (volume_named text d.
 
 own_said : (text : List ℕ) (d : SoFar) (number : ℕ) (name : Span) (blocks slots : Field) → IsGood (IsSaid text d number) (own_volume_of text d name blocks slots)
 unfolding own_volume_of
-own_said text d number name blocks slots =
-    on_bind (IsSaid text d number) (new_volume text d name) _ (λ n e. on_bind (IsSaid text d number) (number_at text 1 65536 blocks) _ (λ b f. on_bind (IsSaid text d number) (number_at text 0 65536 slots) _
-    (λ s g. on_either (IsSaid text d number) (has_volume_room d (b + s)) (Ok (OwnVolume (own_row d n b s))) (Err TooMany) (volume_new text d name n (new_name text _ name n e)) tt)))
+own_said text d number name blocks slots = grind (arith, on_bind, on_either, volume_new, new_name)
 
 shared_said : (text : List ℕ) (d : SoFar) (number : ℕ) (name : Span) (blocks kind area : Field) → IsGood (IsSaid text d number) (shared_volume_of text d name blocks kind area)
 unfolding shared_volume_of
-shared_said text d number name blocks kind area =
-    on_bind (IsSaid text d number) (new_volume text d name) _ (λ n e. on_bind (IsSaid text d number) (number_at text 1 65536 blocks) _ (λ b f. on_either (IsSaid text d number) (is_word text kind (codes "in")) _ (Err UnknownWord)
-    (on_bind (IsSaid text d number) (area_field text d.areas area) _ (λ p g. on_either (IsSaid text d number) (has_volume_room d b) (Ok (SharedVolume (shared_row d n b p.1) p.0 p.1)) (Err TooMany) (volume_new text d name n (new_name text _ name n e)) tt)) tt))
+shared_said text d number name blocks kind area = grind (arith, on_bind, on_either, volume_new, new_name)
 
 volume_said : (text : List ℕ) (d : SoFar) (number : ℕ) (fields : Fields) → IsGood (IsSaid text d number) (volume_of text d fields)
 volume_said text d number (Three name blocks slots) = own_said text d number (span_of name) blocks slots
@@ -117,34 +95,19 @@ lane_new text d name n h = (h.name, subst (λ x. is_some (lane_named text d.lane
 
 pub writer_said : (text : List ℕ) (d : SoFar) (number : ℕ) (fields : Fields) → IsGood (IsSaid text d number) (writer_of text d fields)
 unfolding writer_of
-writer_said text d number (Two name document) =
-    on_bind (IsSaid text d number) (new_writer text d (span_of name)) _ (λ n e. on_bind (IsSaid text d number) (document_field text (span_of document)) _
-    (λ meta f. on_either (IsSaid text d number) (nat_lt (length d.writers) 64) (Ok (Writer (record { name = n; meta = meta; script = [] }))) (Err TooMany) (writer_new text d (span_of name) n (new_name text _ (span_of name) n e)) tt))
-writer_said text d number _ = tt
-
-row_said : (text : List ℕ) (d : SoFar) (number : ℕ) (asked : Asked) (answer : Option Answered) → IsGood (IsSaid text d number) (answer_if d asked answer)
-row_said text d number asked answer = on_either (IsSaid text d number) (nat_lt (answer_count d.writers) 10000) (Ok (Answer asked.writer (row_for asked answer))) (Err TooMany) tt tt
+writer_said text d number fields = grind (arith, on_bind, on_either, writer_new, new_name)
 
 answer_said : (text : List ℕ) (d : SoFar) (number : ℕ) (fields : Fields) → IsGood (IsSaid text d number) (answer_of text d fields)
 unfolding answer_of
-answer_said text d number (Four writer order nth kind) =
-    on_bind (IsSaid text d number) (asked_of text d.writers writer order nth) _
-    (λ asked e. on_either (IsSaid text d number) (is_word text kind (codes "lost")) (answer_if d asked None) (Err UnknownWord) (row_said text d number asked None) tt)
-answer_said text d number (Five writer order nth kind code) =
-    on_bind (IsSaid text d number) (asked_of text d.writers writer order nth) _
-    (λ asked e. on_either (IsSaid text d number) (is_word text kind (codes "veto")) _ (Err UnknownWord) (on_bind (IsSaid text d number) (code_field text (span_of code)) _ (λ error h. row_said text d number asked (Some (Veto error)))) tt)
-answer_said text d number _ = tt
+answer_said text d number fields = grind arith
 
 free_said : (text : List ℕ) (d : SoFar) (number : ℕ) (name : Span) → IsGood (IsSaid text d number) (free_lane_of text d name)
 unfolding free_lane_of
-free_said text d number name =
-    on_bind (IsSaid text d number) (new_lane text d name) _ (λ n e. on_either (IsSaid text d number) (nat_lt (length d.lanes) 64) (Ok (Lane n None)) (Err TooMany) (lane_new text d name n (new_name text _ name n e)) tt)
+free_said text d number name = grind (arith, on_bind, on_either, lane_new, new_name)
 
 acting_said : (text : List ℕ) (d : SoFar) (number : ℕ) (name : Span) (kind writer : Field) → IsGood (IsSaid text d number) (acting_lane_of text d name kind writer)
 unfolding acting_lane_of
-acting_said text d number name kind writer =
-    on_bind (IsSaid text d number) (new_lane text d name) _ (λ n e. on_either (IsSaid text d number) (is_word text kind (codes "as")) _ (Err UnknownWord)
-    (on_bind (IsSaid text d number) (writer_at text d.writers writer) _ (λ w f. on_either (IsSaid text d number) (nat_lt (length d.lanes) 64) (Ok (Lane n (Some w))) (Err TooMany) (lane_new text d name n (new_name text _ name n e)) tt)) tt)
+acting_said text d number name kind writer = grind (arith, on_bind, on_either, lane_new, new_name)
 
 lane_said : (text : List ℕ) (d : SoFar) (number : ℕ) (fields : Fields) → IsGood (IsSaid text d number) (lane_of text d fields)
 lane_said text d number (One name) = free_said text d number (span_of name)
@@ -167,19 +130,14 @@ word_said text d number word.Lane fields = lane_said text d number fields
 word_said text d number w fields = line_said text d number w fields
 
 placed_said : (text : List ℕ) (d : SoFar) (number end : ℕ) (w : Option Word) (words : List Span) → IsGood (IsSaid text d number) (placed_row_of text d number end w words)
-placed_said text d number end None words = tt
-placed_said text d number end (Some w) words = on_either (IsSaid text d number) (may_stand d.opened (has_lane d.lanes) w) _ (Err Misplaced) (word_said text d number w (fields_for w end words)) tt
+placed_said text d number end w words = grind (arith, on_either, word_said)
 
 words_said : (text : List ℕ) (d : SoFar) (number end : ℕ) (words : List Span) → IsGood (IsSaid text d number) (said_of text d number end words)
-words_said text d number end [] = tt
-words_said text d number end (first ∷ rest) = placed_said text d number end (word_of (bytes_of text first)) rest
+words_said text d number end words = grind (arith, placed_said)
 
 is_said : (text : List ℕ) (d : SoFar) (number : ℕ) (line : TextLine) → IsGood (IsSaid text d number) (saying_of text d number line)
 unfolding saying_of
-is_said text d number line =
-    on_either (IsSaid text d number) (list_all is_printable (bytes_of text line.span)) _ (Err BadByte)
-    (on_either (IsSaid text d number) line.ended _ (Err NoNewline)
-    (on_either (IsSaid text d number) (is_skipped (bytes_of text line.span)) (Ok Skipped) _ tt (words_said text d number line.span.end (words_at text line.span.start line.span.end))) tt) tt
+is_said text d number line = grind (arith, on_either, words_said)
 
 -- ## names one after another
 
@@ -201,14 +159,7 @@ distinct_more text [] span h absent = (tt, tt)
 distinct_more text (x ∷ spans) span h absent = (differ_more text x spans span h.0 absent.0, distinct_more text spans span h.1 absent.1)
 
 swapped : (a b : List ℕ) → bytes_eq a b ≡ false → bytes_eq b a ≡ false
-swapped a b e = by_answer (bytes_eq b a) refl
-  where
-    both_ways : (t : Bool) → t ≡ true → t ≡ false → ⊥
-    both_ways t f g = cc
-
-    by_answer : (t : Bool) → bytes_eq b a ≡ t → t ≡ false
-    by_answer true f = absurd (both_ways (bytes_eq a b) ((bytes_eq-Decides a b).1 (sym ((bytes_eq-Decides b a).0 f))) e)
-    by_answer false f = refl
+swapped a b e = grind (arith, bytes_eq-Decides)
 
 absent_from : {X : Type 0} (text name : List ℕ) (f : X → Span) (n : ℕ) (xs : List X) → is_some (position_from (λ other. bytes_eq name other) n (map (λ x. bytes_of text (f x)) xs)) ≡ false → Absent text name (map f xs)
 absent_from text name f n [] e = tt
@@ -262,9 +213,8 @@ spans_more f [] x = refl
 spans_more f (y ∷ xs) x = ap (λ s. f y ∷ s) (spans_more f xs x)
 
 spans_line : (l : LaneLine) (lanes : List LanePlan) → lane_spans (with_line l lanes) ≡ lane_spans lanes
-spans_line l [] = refl
-spans_line l (x ∷ []) = refl
 spans_line l (x ∷ y ∷ lanes) = ap (λ s. x.name ∷ s) (spans_line l (y ∷ lanes))
+spans_line l _ = refl
 
 spans_answer : (w : ℕ) (row : Scripted) (ws : List WriterPlan) → writer_spans (with_answer w row ws) ≡ writer_spans ws
 spans_answer w row [] = refl
@@ -351,8 +301,7 @@ record IsRead (text : List ℕ) (k : ℕ) (s : Plan) : Type 0 where
   pub named : IsNamed text k all
 
 whole_read : (text : List ℕ) (k : ℕ) (d : SoFar) (s : Plan) (b : Bool) → IsNamed text k d → (if b then IsScenario (plan_in text d) else IsBad k Empty) ≡ IsScenario s → IsRead text k s
-whole_read text k d s true h e = record { all = d; is = cc; named = h }
-whole_read text k d s false h e = absurd cc
+whole_read text k d s b h e = grind arith
 
 read_on : (text : List ℕ) (k : ℕ) (d : SoFar) (lines : List TextLine) (s : Plan) → IsNamed text k d → read_from text k d lines ≡ IsScenario s → IsRead text (k + length lines) s
 read_on text k d [] s h e = subst (λ n. IsRead text n s) (omega arith) (whole_read text k d s d.opened h e)
@@ -365,12 +314,10 @@ read_on text k d (line ∷ lines) s h e =
     by_saying (Err why) said f later = absurd cc
 
 few_if : (b : Bool) (line : TextLine) (xs ys : List TextLine) (n : ℕ) → length xs ≤ n → length ys ≤ n + 1 → length (if b then line ∷ xs else ys) ≤ n + 1
-few_if true line xs ys n h k = omega (arith, h)
-few_if false line xs ys n h k = k
+few_if b line xs ys n h k = grind arith
 
 few_last : (b : Bool) (line : TextLine) → length (if b then [] else line ∷ []) ≤ 1
-few_last true line = omega arith
-few_last false line = omega arith
+few_last b line = grind arith
 
 few_lines : (start at : ℕ) (text : List ℕ) → length (lines_from start at text) ≤ length text + 1
 few_lines start at [] = few_last (start == at) (record { span = span_from start at; ended = false })
@@ -387,11 +334,7 @@ few_lines start at (byte ∷ text) =
 -- ## the plan
 
 numbered_closed : (k : ℕ) (lines : List LaneLine) → Numbered k lines → 0 < k → Numbered k (closed lines)
-numbered_closed k lines h some = by_end (ends_sessions lines)
-  where
-    by_end : (b : Bool) → Numbered k (if b then lines else lines ++ implied_end ∷ [])
-    by_end true = h
-    by_end false = numbered_more k lines implied_end h some
+numbered_closed k lines h some = grind (arith, numbered_more)
 
 all_numbered_closed : (k : ℕ) (lanes : List LanePlan) → AllNumbered k lanes → 0 < k → AllNumbered k (map closed_lane lanes)
 all_numbered_closed k [] h some = tt
@@ -406,17 +349,7 @@ all_numbered_up k m [] l h = tt
 all_numbered_up k m (x ∷ lanes) l h = (numbered_up k m x.lines l h.0, all_numbered_up k m lanes l h.1)
 
 pub plan_named : (text : List ℕ) (k : ℕ) (d : SoFar) → IsNamed text k d → 0 < k → k ≤ length text + 2 → HasNames (plan_in text d)
-plan_named text k d h some few =
-    let same = spans_closed d.lanes in
-    record {
-      volumes = h.volumes;
-      volumes_apart = h.volumes_apart;
-      writers = h.writers;
-      lanes = subst (AllNamed text) (sym same) h.lanes;
-      writers_apart = h.writers_apart;
-      lanes_apart = subst (Distinct text) (sym same) h.lanes_apart;
-      lines = all_numbered_up k (length text + 2) (map closed_lane d.lanes) few (all_numbered_closed k d.lanes h.lines some);
-    }
+plan_named text k d h some few = grind (arith, spans_closed, all_numbered_up, all_numbered_closed)
 
 pub has_names : (text : List ℕ) (s : Plan) → reading_of text ≡ IsScenario s → HasNames s
 unfolding reading_of

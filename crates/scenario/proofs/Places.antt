@@ -1,16 +1,15 @@
 -- Where a volume is within its group: the volumes before it are counted.
-use Rattle.std.proofs.Common.{◌≡◌, ℕ, zero, suc, ◌+◌, ◌<◌, ◌≤◌, ◌==◌, List, [], ◌∷◌, ◌++◌, length, get_or, refl, ap, sym, ◌∙◌, subst, arith, Bool, true, false, Some, None, slice_get, length-append}
+use Rattle.std.proofs.Common.{◌≡◌, ℕ, zero, suc, ◌+◌, ◌<◌, ◌≤◌, ◌==◌, List, [], ◌∷◌, length, get_or, refl, ap, sym, ◌∙◌, subst, arith, Bool, true, false, Some, None, slice_get}
 use Rattle.std.specs.Prelude.{◌&&◌, nat_lt}
 use Rattle.std.specs.List.{position, position_or_len}
 use Rattle.std.proofs.lemmas.Grind.{common_steps}
 use Rattle.std.proofs.lemmas.List.Quantifiers.{position-Some}
 use Rattle.std.proofs.lemmas.List.Sums.{fails_before_first}
-use Rattle.std.proofs.lemmas.Option.{slice_get_within, slice_get-get_or}
+use Rattle.std.proofs.lemmas.Option.{slice_get-get_or}
 use Rattle.std.proofs.lemmas.Bool.Decides.{nat_tests}
 use Rattle.scenario.specs.declared.place.Place.{Place}
 use Rattle.scenario.specs.declared.volume_row.VolumeRow.{VolumeRow}
 use Rattle.scenario.specs.Places.{count_if, place_in, volume_after, volume_in, is_place, IsPlaceIn, ArePlaces}
-use Rattle.scenario.proofs.Groups.{get_left, get_last}
 
 pub number_is : (a b : ℕ) → (a == b) ≡ true → a ≡ b
 number_is a b e = grind (arith, nat_tests)
@@ -19,19 +18,12 @@ pub same_number : (a b : ℕ) → a ≡ b → (a == b) ≡ true
 same_number a b e = grind (arith, nat_tests)
 
 pub other_number : (a b : ℕ) → (a ≡ b → ⊥) → (a == b) ≡ false
-other_number a b e = by_test (a == b) refl
-  where
-    by_test : (t : Bool) → (a == b) ≡ t → (a == b) ≡ false
-    by_test true f = absurd (e (number_is a b f))
-    by_test false f = f
+other_number a b e = grind arith
 
 -- ## one volume is counted after the other
 
 place_if : (b c : Bool) (n m : ℕ) → m ≡ count_if c n → count_if b m ≡ count_if c (count_if b n)
-place_if true true n m e = ap (λ k. suc k) e
-place_if true false n m e = ap (λ k. suc k) e
-place_if false true n m e = e
-place_if false false n m e = e
+place_if b c n m e = grind arith
 
 -- one volume more is passed
 place_more : (g : ℕ) (rows : List VolumeRow) (v : ℕ) (r : VolumeRow) → slice_get rows v ≡ Some r → place_in g rows (suc v) ≡ count_if (r.group == g) (place_in g rows v)
@@ -44,20 +36,14 @@ place_more g (q ∷ rows) (suc v) r e = place_if (q.group == g) (r.group == g) (
 abbrev pub IsCounted : ℕ → List VolumeRow → ℕ → ℕ → Type 0
 IsCounted g rows v n = (n ≡ place_in g rows v) × (n ≤ v)
 
-pub counted_none : (g : ℕ) (rows : List VolumeRow) → IsCounted g rows 0 0
-counted_none g [] = (refl, omega arith)
-counted_none g (r ∷ rows) = (refl, omega arith)
-
 pub counted_is : (g : ℕ) (rows : List VolumeRow) (v n m : ℕ) → n ≡ m → IsCounted g rows v m → IsCounted g rows v n
 counted_is g rows v n m same h = subst (λ (k : ℕ). IsCounted g rows v k) (sym same) h
 
 count_yes : (b : Bool) (n : ℕ) → b ≡ true → count_if b n ≡ suc n
-count_yes true n e = refl
-count_yes false n e = cc
+count_yes b n e = grind arith
 
 count_no : (b : Bool) (n : ℕ) → b ≡ false → count_if b n ≡ n
-count_no true n e = cc
-count_no false n e = refl
+count_no b n e = grind arith
 
 next_is : (n : ℕ) → suc n ≡ n + 1
 next_is n = omega arith
@@ -76,42 +62,13 @@ passed_one g rows v n r e is h = (
 
 -- ## one place after the other is listed
 
-pub places_none : (rows : List VolumeRow) → ArePlaces rows 0 []
-places_none rows = record { number = refl; each = λ v p at. cc }
-
-pub places_more : (rows : List VolumeRow) (n : ℕ) (places : List Place) (p : Place) → IsPlaceIn rows n p.group p.volume → ArePlaces rows n places → ArePlaces rows (n + 1) (places ++ p ∷ [])
-places_more rows n places p is h =
-    let long = length-append places (p ∷ []) in
-    let before = h.number in
-    record {
-      number = omega (arith, long, before);
-      each = λ v q at. by_test v q at (v == n) refl;
-    }
-  where
-    by_test : (v : ℕ) (q : Place) → slice_get (places ++ p ∷ []) v ≡ Some q → (t : Bool) → (v == n) ≡ t → IsPlaceIn rows v q.group q.volume
-    by_test v q at true t =
-        let same : v ≡ length places = number_is v n t ∙ sym h.number in
-        let one : Some p ≡ Some q = sym (get_last places p) ∙ ap (slice_get (places ++ p ∷ [])) (sym same) ∙ at in
-        let last : p ≡ q = cc in
-        subst (λ (z : Place). IsPlaceIn rows v z.group z.volume) last (subst (λ (k : ℕ). IsPlaceIn rows k p.group p.volume) (sym (number_is v n t)) is)
-    by_test v q at false t =
-        let within = slice_get_within (places ++ p ∷ []) v q at in
-        let long = length-append places (p ∷ []) in
-        let many = h.number in
-        h.each v q (sym (get_left places (p ∷ []) v (less v n t (omega (arith, within, long, many)) many)) ∙ at)
-      where
-        less : (v n : ℕ) → (v == n) ≡ false → v < n + 1 → length places ≡ n → v < length places
-        less v n t low many = grind (arith, nat_tests)
-
 -- ## the volume at a place
 
 after_first : (b : Bool) (later : ℕ → ℕ) → b ≡ true → volume_after b later 0 ≡ 0
-after_first true later e = refl
-after_first false later e = cc
+after_first b later e = grind arith
 
 after_more : (b : Bool) (later : ℕ → ℕ) (n : ℕ) → volume_after b later (count_if b n) ≡ suc (later n)
-after_more true later n = refl
-after_more false later n = refl
+after_more b later n = grind arith
 
 volume_back : (rows : List VolumeRow) (v : ℕ) (r : VolumeRow) → slice_get rows v ≡ Some r → volume_in r.group rows (place_in r.group rows v) ≡ v
 volume_back [] v r e = cc
@@ -120,16 +77,10 @@ volume_back (q ∷ rows) (suc v) r e = after_more (q.group == r.group) (volume_i
 
 -- a volume is the one at its place
 pub volume_is : (rows : List VolumeRow) (v g u : ℕ) → IsPlaceIn rows v g u → volume_in g rows u ≡ v
-volume_is rows v g u p =
-    ap (λ (k : ℕ). volume_in k rows u) p.group_is ∙ ap (volume_in p.row.group rows) p.within_is ∙ volume_back rows v p.row p.is_row
+volume_is rows v g u p = grind (arith, volume_back)
 
 place_behind : (q : VolumeRow) (rows : List VolumeRow) (v g u : ℕ) → IsPlaceIn rows v g u → IsPlaceIn (q ∷ rows) (suc v) g (count_if (q.group == g) u)
-place_behind q rows v g u p = record {
-  row = p.row;
-  is_row = p.is_row;
-  group_is = p.group_is;
-  within_is = ap (λ (k : ℕ). count_if (q.group == k) u) p.group_is ∙ ap (count_if (q.group == p.row.group)) p.within_is;
-}
+place_behind q rows v g u p = grind arith
 
 -- where there is a volume at a place, it is one of these
 place_found : (g u : ℕ) (rows : List VolumeRow) → volume_in g rows u < length rows → IsPlaceIn rows (volume_in g rows u) g u
@@ -147,16 +98,10 @@ place_found g u (q ∷ rows) low = by_test (q.group == g) refl u low (λ w l. pl
 
 -- a volume has one place
 pub one_place : (rows : List VolumeRow) (v g u k w : ℕ) → IsPlaceIn rows v g u → IsPlaceIn rows v k w → (k ≡ g) × (w ≡ u)
-one_place rows v g u k w a b =
-    let found : Some b.row ≡ Some a.row = sym b.is_row ∙ a.is_row in
-    let same : b.row ≡ a.row = cc in (
-      b.group_is ∙ ap (λ (r : VolumeRow). r.group) same ∙ sym a.group_is,
-      b.within_is ∙ ap (λ (r : VolumeRow). place_in r.group rows v) same ∙ sym a.within_is,
-    )
+one_place rows v g u k w a b = grind arith
 
 both : (a b : Bool) → (a && b) ≡ true → (a ≡ true) × (b ≡ true)
-both true b e = (refl, e)
-both false b e = cc
+both a b e = grind arith
 
 pub found_place : (rows : List VolumeRow) (places : List Place) (p : Place) (v : ℕ) → ArePlaces rows (length rows) places → position (is_place p) places ≡ Some v → v ≡ volume_in p.group rows p.volume
 found_place rows places p v are is =

@@ -1,7 +1,6 @@
 -- A part of a text, one byte on.
-use Rattle.std.proofs.Common.{◌≡◌, ℕ, ◌+◌, ◌-◌, ◌<◌, ◌≤◌, ◌==◌, Bool, true, false, List, [], ◌∷◌, length, get_or, refl, suc, arith}
+use Rattle.std.proofs.Common.{◌≡◌, ℕ, ◌+◌, ◌<◌, ◌≤◌, ◌==◌, Bool, true, false, List, [], ◌∷◌, length, get_or, refl, arith}
 use Rattle.std.specs.Prelude.{slice_range, if◌then◌else◌}
-use Rattle.std.proofs.lemmas.Bool.Decides.{nat_tests}
 use Rattle.std.proofs.lemmas.List.{drop_more}
 use Rattle.scenario.specs.declared.span.Span.{Span}
 use Rattle.scenario.specs.declared.fields.Fields.TheVariants.{Many}
@@ -9,10 +8,7 @@ use Rattle.scenario.specs.Lines.{span_from}
 use Rattle.scenario.specs.Fields.{words_from, words_after, fields_of}
 
 pub range_more : (text : List ℕ) (at end : ℕ) → at < end → end ≤ length text → slice_range text at end ≡ get_or text at 0 ∷ slice_range text (at + 1) end
-range_more text at end below within =
-    let one : end - at ≡ suc (end - (at + 1)) = omega arith in
-    let inside : at < length text = omega arith in
-    rw (one, drop_more text at 0 inside) refl
+range_more text at end below within = grind (arith, drop_more)
 
 -- a byte that is no space belongs to the word at hand
 pub words_more : (text : List ℕ) (start at end : ℕ) → at < end → end ≤ length text → (get_or text at 0 == 32) ≡ false →
@@ -31,6 +27,4 @@ fields_many a b c d e (byte ∷ text) start at =
 -- a space ends the word at hand
 pub words_end : (text : List ℕ) (start at end : ℕ) → at < end → end ≤ length text → (get_or text at 0 == 32) ≡ true →
     words_from start at (slice_range text at end) ≡ span_from start at ∷ words_after text at end
-words_end text start at end below within space =
-    let apart : (at == end) ≡ false = grind (arith, nat_tests) in
-    rw (range_more text at end below within, space, apart) refl
+words_end text start at end below within space = grind (arith, range_more)

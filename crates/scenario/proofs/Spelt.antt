@@ -3,12 +3,8 @@ use Rattle.std.proofs.Common.{◌≡◌, ℕ, ◌<◌, ◌≤◌, List, [], ◌�
 
 pub four : (xs : List ℕ) (a b c d : ℕ) → 4 ≤ length xs → length xs < 5
     → slice_index_or xs 0 0 ≡ a → slice_index_or xs 1 0 ≡ b → slice_index_or xs 2 0 ≡ c → slice_index_or xs 3 0 ≡ d → a ∷ b ∷ c ∷ d ∷ [] ≡ xs
-four [] a b c d least most e f g h = absurd (omega arith)
-four (v ∷ []) a b c d least most e f g h = absurd (omega arith)
-four (v ∷ w ∷ []) a b c d least most e f g h = absurd (omega arith)
-four (v ∷ w ∷ x ∷ []) a b c d least most e f g h = absurd (omega arith)
 four (v ∷ w ∷ x ∷ y ∷ []) a b c d least most e f g h = rw (e, f, g, h) refl
-four (v ∷ w ∷ x ∷ y ∷ z ∷ xs) a b c d least most e f g h = absurd (omega arith)
+four _ a b c d least most e f g h = absurd (omega arith)
 
 pub five : (xs : List ℕ) (a b c d i : ℕ) → 5 ≤ length xs → length xs < 6
     → slice_index_or xs 0 0 ≡ a → slice_index_or xs 1 0 ≡ b → slice_index_or xs 2 0 ≡ c → slice_index_or xs 3 0 ≡ d → slice_index_or xs 4 0 ≡ i → a ∷ b ∷ c ∷ d ∷ i ∷ [] ≡ xs

@@ -1,6 +1,6 @@
 -- A lane as it is stored: its lines are those of the plan, and there are few.
-use Rattle.std.proofs.Common.{◌≡◌, ℕ, ◌<◌, ◌≤◌, List, length, get_or, map, All, Some, ap, sym, subst, ◌∙◌, arith}
-use Rattle.std.specs.Prelude.{option_map, slice_get}
+use Rattle.std.proofs.Common.{◌≡◌, ℕ, ◌<◌, ◌≤◌, List, length, get_or, map, All, ap, sym, subst, ◌∙◌, arith}
+use Rattle.std.specs.Prelude.{slice_get}
 use Rattle.std.proofs.lemmas.List.{length-map, get_or-map}
 use Rattle.std.proofs.lemmas.Option.{slice_get-map, slice_get-get_or}
 use Rattle.scenario.specs.declared.lane.Lane.{Lane}
@@ -9,8 +9,7 @@ use Rattle.scenario.specs.Rows.{lane_plan}
 use Rattle.scenario.specs.Bounds.{IsLane}
 
 pub lines_at : (lanes : List Lane) (i : ℕ) (x : Lane) → i < length lanes → x ≡ get_or lanes i x → lines_in (slice_get (map lane_plan lanes) i) ≡ x.lines.items
-lines_at lanes i x inside at =
-    ap lines_in (slice_get-map lane_plan lanes i ∙ ap (option_map lane_plan) (slice_get-get_or lanes i x inside ∙ ap (λ (l : Lane). Some l) (sym at)))
+lines_at lanes i x inside at = grind (arith, slice_get-map, slice_get-get_or)
 
 pub few_at : (s : Plan) (lanes : List Lane) (i : ℕ) (x : Lane) → All (IsLane s) (map lane_plan lanes) → i < length lanes → x ≡ get_or lanes i x → length x.lines.items ≤ 100001
 few_at s lanes i x all inside at =

@@ -1,19 +1,16 @@
 -- The names that are taken: as many as there are of their kind, and a new one is none of them.
-use Rattle.std.proofs.Common.{◌≡◌, ℕ, ◌+◌, Bool, true, false, cond, List, [], ◌∷◌, ◌++◌, length, map, Vec, Global, Some, None, refl, ap, sym, ◌∙◌}
+use Rattle.std.proofs.Common.{◌≡◌, ℕ, ◌+◌, Bool, false, cond, List, [], ◌∷◌, ◌++◌, length, map, Vec, Global, Some, None, refl, ap, sym, ◌∙◌, arith}
 use Rattle.std.specs.Prelude.{position, if◌then◌else◌, is_some, ok_or}
 use Rattle.std.specs.List.{position_from, list_any}
 use Rattle.std.specs.Str.{bytes_eq}
 use Rattle.std.proofs.lemmas.List.{length-map, map-append}
 use Rattle.std.proofs.lemmas.Iterator.Adapters.{position_from-zero}
 use Rattle.indexmap.specs.IndexSet.{insert_key}
-use Rattle.scenario.specs.declared.area_row.AreaRow.{AreaRow}
-use Rattle.scenario.specs.declared.volume_row.VolumeRow.{VolumeRow}
 use Rattle.scenario.specs.declared.span.Span.{Span}
 use Rattle.scenario.specs.declared.field.Field.TheVariants.{Text}
 use Rattle.scenario.specs.declared.name_kind.NameKind.{NameKind}
 use Rattle.scenario.specs.declared.name_kind.NameKind.TheVariants as kind
 use Rattle.scenario.specs.declared.reason.Reason.TheVariants.{UnknownName}
-use Rattle.scenario.specs.Plan.{WriterPlan, LanePlan}
 use Rattle.scenario.specs.Fields.{bytes_of}
 use Rattle.scenario.specs.Names.{place_of, area_named, volume_named, writer_named, lane_named}
 use Rattle.scenario.specs.Ops.{volume_field, writer_field}
@@ -22,26 +19,17 @@ use Rattle.scenario.specs.Declarations.{name_field, new_name, count_of, declared
 use Rattle.scenario.specs.Drafts.{Names, names_of, AreNames}
 
 pub count_names : (text : List ℕ) (d : SoFar) (names : Names) (k : NameKind) → AreNames text d names → length (names_of names k) ≡ count_of d k
-count_names text d names kind.Area h = rw h.areas (length-map d.areas (λ (a : AreaRow). bytes_of text a.name))
-count_names text d names kind.Volume h = rw h.volumes (length-map d.volumes (λ (r : VolumeRow). bytes_of text r.name))
-count_names text d names kind.Writer h = rw h.writers (length-map d.writers (λ (w : WriterPlan). bytes_of text w.name))
-count_names text d names kind.Lane h = rw h.lanes (length-map d.lanes (λ (l : LanePlan). bytes_of text l.name))
+count_names text d names k h = grind (arith, length-map)
 
 pub new_name_is : (text : List ℕ) (d : SoFar) (names : Names) (k : NameKind) (name : Span) → AreNames text d names
     → new_name text d k name ≡ name_field text (is_some (place_of (bytes_of text name) (names_of names k))) name
 unfolding area_named volume_named writer_named lane_named
-new_name_is text d names kind.Area name h = rw h.areas refl
-new_name_is text d names kind.Volume name h = rw h.volumes refl
-new_name_is text d names kind.Writer name h = rw h.writers refl
-new_name_is text d names kind.Lane name h = rw h.lanes refl
+new_name_is text d names k name h = grind arith
 
 pub declared_text : (text : List ℕ) (d : SoFar) (names : Names) (k : NameKind) (name : Span) → AreNames text d names
     → declared_at text d k (Text name) ≡ ok_or (place_of (bytes_of text name) (names_of names k)) UnknownName
 unfolding area_named volume_named writer_named lane_named volume_field writer_field
-declared_text text d names kind.Area name h = rw h.areas refl
-declared_text text d names kind.Volume name h = rw h.volumes refl
-declared_text text d names kind.Writer name h = rw h.writers refl
-declared_text text d names kind.Lane name h = rw h.lanes refl
+declared_text text d names k name h = grind arith
 
 -- ## a table of names
 
@@ -56,13 +44,11 @@ place-from name i [] = refl
 place-from name i (k ∷ ks) = ap (cond (bytes_eq name k.items) (Some i)) (place-from name (i + 1) ks)
 
 pub place_is : (name : List ℕ) (ks : List Key) → position (λ (k : Key). bytes_eq name k.items) ks ≡ place_of name (map items_of ks)
-place_is name ks =
-    position_from-zero (λ (k : Key). bytes_eq name k.items) ks ∙ place-from name 0 ks ∙ sym (position_from-zero (λ other. bytes_eq name other) (map items_of ks))
+place_is name ks = grind (arith, position_from-zero, place-from)
 
 absent-at : (eq : Key → Key → Bool) (k e : Key) (i : ℕ) (ks : List Key) (b : Bool) → eq k e ≡ b → cond b (Some i) (position_from (λ other. bytes_eq k.items other) (i + 1) (map items_of ks)) ≡ None
     → (position_from (λ other. bytes_eq k.items other) (i + 1) (map items_of ks) ≡ None → list_any (eq k) ks ≡ false) → list_any (eq k) (e ∷ ks) ≡ false
-absent-at eq k e i ks true h n f = cc
-absent-at eq k e i ks false h n f = rw (h, f n) refl
+absent-at eq k e i ks b h n f = grind arith
 
 absent-from : (eq : Key → Key → Bool) (k : Key) (i : ℕ) (ks : List Key) → ((x : Key) → eq k x ≡ bytes_eq k.items x.items) → position_from (λ other. bytes_eq k.items other) i (map items_of ks) ≡ None
     → list_any (eq k) ks ≡ false

@@ -27,5 +27,4 @@ capped_alike digits low high n =
 -- one more digit
 pub digit_more : (digits : List ℕ) (low high n i : ℕ) → i < length digits → is_digit (get_or digits i 0) ≡ true →
     in_range low high (value_from n (drop i digits)) ≡ in_range low high (value_from (capped high (n * 10 + (get_or digits i 0 - 48))) (drop (i + 1) digits))
-digit_more digits low high n i inside digit =
-    rw (drop_more digits i 0 inside, digit) (capped_alike (drop (i + 1) digits) low high (n * 10 + (get_or digits i 0 - 48)))
+digit_more digits low high n i inside digit = grind (arith, drop_more, capped_alike)

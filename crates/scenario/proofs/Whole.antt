@@ -1,10 +1,10 @@
 -- The scenario of a whole text keeps to the limits.
-use Rattle.std.proofs.Common.{◌≡◌, ℕ, ◌+◌, ◌<◌, ◌≤◌, true, cond, List, [], ◌∷◌, length, map, All, arith, length-append}
+use Rattle.std.proofs.Common.{◌≡◌, ℕ, ◌+◌, ◌<◌, ◌≤◌, true, List, [], ◌∷◌, length, map, All, arith, length-append}
 use Rattle.std.proofs.lemmas.List.{length-map}
 use Rattle.std.proofs.lemmas.List.Sums.{sum_by_push}
 use Rattle.std.proofs.lemmas.List.Elements.{All-nil, All-cons, All-head, All-tail, All-push}
 use Rattle.scenario.specs.Plan.{Plan, LaneLine, LanePlan}
-use Rattle.scenario.specs.Bounds.{IsOp, IsLane, IsPlan, begins_agenda, agenda_lines, ends_sessions}
+use Rattle.scenario.specs.Bounds.{IsOp, IsLane, IsPlan, agenda_lines, ends_sessions}
 use Rattle.scenario.specs.SoFar.{SoFar, plan_in, closed, closed_lane, implied_end, line_count, agenda_count}
 use Rattle.scenario.specs.Drafts.{IsLaneRow, IsWithin}
 use Rattle.scenario.proofs.Sessions.{closed_keeps, ends_closed}
@@ -17,8 +17,7 @@ closed_few lines =
     closed_keeps (λ ls. length ls ≤ length lines + 1) lines (λ _. omega arith) (omega (arith, length-append lines (implied_end ∷ [])))
 
 closed_agendas : (lines : List LaneLine) → agenda_lines (closed lines) ≤ agenda_lines lines
-closed_agendas lines =
-    closed_keeps (λ ls. agenda_lines ls ≤ agenda_lines lines) lines (λ _. omega arith) (omega (arith, sum_by_push (λ (l : LaneLine). cond (begins_agenda l.op) 1 0) lines implied_end))
+closed_agendas lines = grind (arith, closed_keeps, sum_by_push)
 
 closed_ends : (lines : List LaneLine) → ends_sessions (closed lines) ≡ true
 closed_ends lines = closed_keeps (λ ls. ends_sessions ls ≡ true) lines (λ e. e) (ends_closed lines)

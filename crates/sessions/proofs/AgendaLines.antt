@@ -1,9 +1,9 @@
 -- The session lines that begin an agenda.
-use Rattle.sessions.proofs.Words.{list_any, OutOfMemory, BadState, AsyncPending, row_gathered, Member, Course, begun, gathered, Held, Registered, class_at, are_equal, is_disabled as is_disabled_kept}
+use Rattle.sessions.proofs.Words.{list_any, OutOfMemory, BadState, AsyncPending, Course, gathered, Held, Registered, class_at, are_equal, is_disabled as is_disabled_kept}
 use Rattle.sessions.proofs.Words.{writer_count, members-agree, Op, Plan, WriterPlan, class_of, class_in, Coded, State, SetRow, in_progress, runs, followed, SessionMove, SessionsValue, Keeps, IsOf}
 use Rattle.sessions.proofs.Words.{classes_registered, classes_of, IsAt, CameTo, ComesTo, HasBegun, IsAtOver, told_alone, cond-false, cond-true, Goes, after}
-use Rattle.std.proofs.Common.{◌≡◌, ℕ, zero, suc, ◌+◌, ◌<◌, ◌==◌, List, [], ◌∷◌, length, refl, ap, sym, ◌∙◌, arith, Bool, true, false, Option, Some, None, map, slice_get, subst}
-use Rattle.std.specs.Prelude.{All, not, ◌||◌, IfOk, Result, Ok, Err}
+use Rattle.std.proofs.Common.{◌≡◌, ℕ, zero, suc, ◌<◌, ◌==◌, List, [], ◌∷◌, length, refl, ap, sym, ◌∙◌, arith, Bool, true, false, Option, Some, slice_get, subst}
+use Rattle.std.specs.Prelude.{All, ◌||◌, IfOk, Result}
 use Rattle.set_agenda.specs.declared.kind.Kind.TheVariants as kind
 use Rattle.requestor.specs.declared.session_call.SessionCall.TheVariants as call
 use Rattle.scenario.specs.declared.op.Op.TheVariants as op
@@ -28,8 +28,7 @@ pends {st = st} c does came = record {
 -- ## complete and snapshot
 
 pub volume_test : (o : Option SetRow) (vs : List ℕ) → vs ≡ volumes_of o → (length vs == 0) ≡ has_no_volume o
-volume_test None vs e = ap (λ (xs : List ℕ). length xs == 0) e
-volume_test (Some r) vs e = ap (λ (xs : List ℕ). length xs == 0) e
+volume_test o vs e = grind arith
 
 pub completes : {s : Plan} {lane : ℕ} {st : State} {old new : SessionsValue} {m : SessionMove} (h : Held) → Goes st.session (runs st) call.Complete → IsAt old s st
     → HasBegun kind.Complete h [] old new m → ComesTo s lane op.Complete st new m
@@ -74,13 +73,7 @@ is_disabled_same x s st w kept of l = disabled_same x s of st.course.disabled w 
 
 gathered_same : (x : SessionsValue) (s : Plan) (st : State) → Keeps x st → IsOf x s
     → gathered (is_disabled_kept x.coordinator.writers st.course.disabled) st.clock st.course ≡ gathered (is_disabled s st) st.clock st.course
-gathered_same x s st kept of =
-    ap (λ (ms : List Member). begun kind.Gather ms [] st.clock (record st.course { rows = map row_gathered st.course.rows }))
-    (members-agree (λ w. not (is_disabled_kept x.coordinator.writers st.course.disabled w)) (λ w. not (is_disabled s st w)) 0 st.course.rows
-    (λ w _ l. ap not (is_disabled_same x s st w kept of (in_rows w l))))
-  where
-    in_rows : (w : ℕ) → w < 0 + length st.course.rows → w < writer_count x.coordinator
-    in_rows w l = let same : writer_count x.coordinator ≡ length st.course.rows = ap length kept.course.follows.rows in omega (arith, l, same)
+gathered_same x s st kept of = grind (arith, members-agree, is_disabled_same)
 
 pub gathers : {s : Plan} {lane : ℕ} {st : State} {old new : SessionsValue} {m : SessionMove} (h : Held) → Goes st.session (runs st) call.Gather → IsAt old s st → HasBegun kind.Gather h [] old new m
     → ComesTo s lane op.Gather st new m
@@ -89,5 +82,4 @@ gathers {s = s} {lane = lane} {st = st} {old = old} h owner at has = pends _ (li
 -- ## an answer that is Ok
 
 pub then_ok : {P Q : SessionMove → Type 0} (r : Result SessionMove OutOfMemory) → ((m : SessionMove) → P m → Q m) → IfOk r P → IfOk r Q
-then_ok (Ok m) f h = f m h
-then_ok (Err e) f h = tt
+then_ok r f h = grind arith

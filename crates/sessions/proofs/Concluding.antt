@@ -1,7 +1,7 @@
 -- What follows from a step of the course: an agenda ends, or the set in progress fails.
-use Rattle.sessions.proofs.Words.{length-map, Order, VssResult, SetOutcome, Running, Complete, Failed, History, Agenda, Session, after_agenda, ended, Effects, CoordinatorState, KeepsWriters, Stands}
+use Rattle.sessions.proofs.Words.{length-map, Order, VssResult, SetOutcome, Running, Complete, Failed, History, Session, after_agenda, ended, Effects, CoordinatorState, KeepsWriters, Stands}
 use Rattle.sessions.proofs.Words.{IsOnTime, failed_if_running, writer_count, Tells, outcome_told, Told, State, SetRow, is_running, in_progress, ended_of, EndsAs, IsOfSession, NumberedFrom, has_failed}
-use Rattle.sessions.proofs.Words.{found_above, is_over_row, none_ends, none_over, settled_row, settled_running, Ended, SessionMove, bare, current_of, running_in, SessionsValue, Keeps, IsInOrder}
+use Rattle.sessions.proofs.Words.{found_above, is_over_row, none_ends, none_over, settled_row, Ended, SessionMove, bare, current_of, running_in, SessionsValue, Keeps, IsInOrder}
 use Rattle.sessions.proofs.Words.{ended_so, ends_as, failed_set, nothing_ends, told_alone, told_of, without_images, CameTo, Concludes, HasCome, outcome_in, IsSameRow, find-map}
 use Rattle.std.proofs.Common.{◌≡◌, ℕ, ◌<◌, List, [], ◌∷◌, refl, ap, sym, ◌∙◌, subst, arith, Bool, true, false, Option, Some, None, map}
 use Rattle.std.specs.Prelude.{All, ◌&&◌, ◌||◌, not, is_some, find, option_map}
@@ -9,7 +9,7 @@ use Rattle.set_agenda.specs.WriterSet.{writers, writers_of}
 use Rattle.set_agenda.specs.Course.{Course, failed as course_failed}
 use Rattle.vss_model.specs.declared.told.Told.TheVariants as told
 use Rattle.vss_model.specs.Ending.{Ending, AgendaEnds, NothingEnds, SetFails, ending, row_settled, followed, concluded, failed_in, images_dropped}
-use Rattle.sessions.proofs.Newest.{changed_none, current_bare, settled_bare, unchanged}
+use Rattle.sessions.proofs.Newest.{changed_none, current_bare, settled_bare}
 use Rattle.sessions.proofs.Keeping.{keeps_course, keeps_rows}
 use Rattle.sessions.proofs.Disabled.{disabled_failed}
 
@@ -24,10 +24,7 @@ current_kept x st kept = ap current_of kept.sets ∙ current_bare st.sets
 
 -- a set is in progress only where the course's outcome is Running
 over_stage : (q : Option Session) (o : SetOutcome) (found : Option SetRow) → is_running o ≡ false → IsOfSession q o found → found ≡ None
-over_stage None o None e h = refl
-over_stage None o (Some r) e h = absurd h
-over_stage (Some q) o None e h = refl
-over_stage (Some q) o (Some r) e h = let is : o ≡ Running = h.2 in cc
+over_stage q o found e h = grind arith
 
 rows_as_told : (before after : SetOutcome) (rows : List SetRow) → (is_running before ≡ false → find (λ r. is_running r.result) rows ≡ None)
     → map (row_settled (outcome_told before after)) rows ≡ map (row_settled after) rows
@@ -36,13 +33,8 @@ rows_as_told _ after rows h = changed_none (λ (r : SetRow). record r { result =
 
 -- ## which set ends
 
-result_is : (o : SetOutcome) → is_running o ≡ true → o ≡ Running
-result_is Running e = refl
-result_is _ e = cc
-
 same_if : (b : Bool) (r : SetRow) → is_running r.result ≡ b → row_settled Running r ≡ r
-same_if true r e = settled_running Running r e ∙ ap (λ (o : SetOutcome). record r { result = o }) (sym (result_is r.result e))
-same_if false r e = unchanged (λ (x : SetRow). record x { result = Running }) r e
+same_if b r e = grind arith
 
 settled_same : (rows : List SetRow) → map (row_settled Running) rows ≡ rows
 settled_same [] = refl
@@ -76,13 +68,10 @@ abbrev volumes_after : Ended → List History → List History
 volumes_after e hs = without_images (failed_set e.result e.set) hs
 
 volumes_failed : (found : Option SetRow) (why : VssResult) (hs : List History) → images_dropped found hs ≡ volumes_after (ends_as (option_map (λ (r : SetRow). r.number) found) (Failed why)) hs
-volumes_failed None why hs = refl
-volumes_failed (Some r) why hs = refl
+volumes_failed found why hs = grind arith
 
 volumes_kept : (found : Option SetRow) (o : SetOutcome) (hs : List History) → has_failed o ≡ false → hs ≡ volumes_after (ends_as (option_map (λ (r : SetRow). r.number) found) o) hs
-volumes_kept None o hs e = refl
-volumes_kept (Some r) (Failed why) hs e = cc
-volumes_kept (Some r) _ hs e = refl
+volumes_kept found o hs e = grind arith
 
 -- ## the set or the agenda ends
 
@@ -91,12 +80,6 @@ abbrev ending_told : SetOutcome → Bool → Ending
 ending_told (Failed why) over = SetFails why
 ending_told _ true = AgendaEnds
 ending_told _ false = NothingEnds
-
-ending_is : (before after : SetOutcome) (ran : Bool) (a : Option Agenda) → ending before after ran a ≡ ending_told (outcome_told before after) (ran && not (is_some a))
-ending_is Running (Failed why) ran a = refl
-ending_is _ _ true None = refl
-ending_is _ _ true (Some a) = refl
-ending_is _ _ false a = refl
 
 module _ (old : SessionsValue) (st : State) (c : Course) (order : IsInOrder st) (kept : Keeps old (record st { course = c })) where
   -- the session, the row of the set in progress and the images come to this outcome
@@ -118,12 +101,10 @@ module _ (old : SessionsValue) (st : State) (c : Course) (order : IsInOrder st) 
   -- these effects tell of the course
   module _ (t : Told) (e : Effects) (ran : Bool) (outcome : e.outcome ≡ outcome_told st.course.outcome c.outcome) (over : e.agenda_ended ≡ (ran && not (is_some c.agenda))) where
     ending_now : ending_told e.outcome e.agenda_ended ≡ ending st.course.outcome c.outcome ran c.agenda
-    ending_now = ap (λ (o : SetOutcome). ending_told o e.agenda_ended) outcome ∙ ap (ending_told (outcome_told st.course.outcome c.outcome)) over
-        ∙ sym (ending_is st.course.outcome c.outcome ran c.agenda)
+    ending_now = grind arith
 
     rows_now : map (row_settled e.outcome) st.sets ≡ map (row_settled c.outcome) st.sets
-    rows_now = ap (λ (o : SetOutcome). map (row_settled o) st.sets) outcome
-        ∙ rows_as_told st.course.outcome c.outcome st.sets (λ f. over_stage st.session st.course.outcome (in_progress st) f order.session)
+    rows_now = grind (arith, rows_as_told, over_stage)
 
     abbrev Ends : SetOutcome → Ending → Type 0
     Ends o x = HasCome t (writers_of e.lost) e.lost_order (in_progress st) st.volumes (concluded x (record st { course = c })) (ended_so o old)
@@ -140,25 +121,16 @@ module _ (old : SessionsValue) (st : State) (c : Course) (order : IsInOrder st) 
         by_told Complete true f rows = settles Complete _ _ t e.lost e.lost_order refl rows (volumes_kept (in_progress st) Complete st.volumes refl)
         by_told _ false f rows = cc
 
-    abbrev GoesOn : Ending → Type 0
-    GoesOn x = HasCome t (writers_of e.lost) e.lost_order (in_progress st) st.volumes (concluded x (record st { course = c })) old (told_of t e.lost e.lost_order nothing_ends)
-
     then_goes_on : (has_failed e.outcome || e.agenda_ended) ≡ false
         → HasCome t (writers_of e.lost) e.lost_order (in_progress st) st.volumes (followed ran c st) old (told_of t e.lost e.lost_order nothing_ends)
     unfolding followed
-    then_goes_on h = subst (λ (x : Ending). GoesOn x) ending_now (by_told e.outcome e.agenda_ended h)
-      where
-        by_told : (o : SetOutcome) (b : Bool) → (has_failed o || b) ≡ false → GoesOn (ending_told o b)
-        by_told (Failed why) b f = cc
-        by_told _ true f = cc
-        by_told _ false f = record { told = refl; lost = refl; order = refl; ends = no_end st order; volumes = refl; keeps = kept }
+    then_goes_on h = grind (arith, ending_now, no_end)
 
 -- with the names that the effects have for what was lost
 lost_as : (t : Told) (e : Effects) (ran : Bool) (gone : List ℕ) (at : Option Order) (c d : Course) (found : Option SetRow) (hs : List History) (after : State) (new : SessionsValue) (m : SessionMove)
     → Tells e ran gone at c d
     → HasCome t (writers_of e.lost) e.lost_order found hs after new m → HasCome t gone at found hs after new m
-lost_as t e ran gone at c d found hs after new m tells h =
-    record { told = h.told; lost = h.lost ∙ tells.lost; order = h.order ∙ tells.lost_order; ends = h.ends; volumes = h.volumes; keeps = h.keeps }
+lost_as t e ran gone at c d found hs after new m tells h = grind arith
 
 pub concluded_then : (old new : SessionsValue) (t : Told) (e : Effects) (current : Option ℕ) (m : SessionMove) → (has_failed e.outcome || e.agenda_ended) ≡ true → new ≡ ended_so e.outcome old
     → current ≡ current_of old.sets → m ≡ told_of t e.lost e.lost_order (ends_as current e.outcome) → Concludes t e old new m
@@ -179,8 +151,7 @@ concluded_else old t e m h moved st c ran gone order_of order kept tells =
 -- ## the set in progress fails
 
 pub no_row : (o : Option SetRow) → None ≡ option_map (λ (r : SetRow). r.number) o → o ≡ None
-no_row None e = refl
-no_row (Some r) e = cc
+no_row o e = grind arith
 
 outcome_failed : (why : VssResult) (c : Course) → (course_failed why c).outcome ≡ Failed why
 unfolding course_failed
@@ -212,6 +183,4 @@ fails_so old new k st why n m order kept current stands writers times is moved =
 -- no set is in progress
 pub fails_not : (x : SessionsValue) (st : State) (why : VssResult) (m : SessionMove) → IsInOrder st → Keeps x st → None ≡ current_of x.sets → m ≡ told_alone told.Ok
     → CameTo told.Ok st (failed_in (in_progress st) why st) x m
-fails_not x st why m order kept current is =
-    subst (λ (o : Option SetRow). CameTo told.Ok st (failed_in o why st) x m) (sym (no_row (in_progress st) (current ∙ current_kept x st kept)))
-    (subst (λ (y : SessionMove). CameTo told.Ok st st x y) (sym is) (record { told = refl; lost = nobody; order = refl; ends = no_end st order; volumes = refl; keeps = kept }))
+fails_not x st why m order kept current is = grind (arith, no_row, current_kept, nobody, no_end)

@@ -2,18 +2,18 @@
 -- agenda that begins, or time that goes by.
 use Rattle.sessions.proofs.Words.{length-map, Order, SetOutcome, Mark, Standing, said_of, Group, left, open_order, open_group, next_volume, is_working, is_asking, order_now, Session, Effects}
 use Rattle.sessions.proofs.Words.{HasTicked}
-use Rattle.sessions.proofs.Words.{CoordinatorState, IsOnTime, KeepsWriters, Stands, writer_count, Tells, lost_order_if as lost_order_kept, ticks_if, standing_in, number_in, by-later, Plan, Tick, Line}
+use Rattle.sessions.proofs.Words.{CoordinatorState, IsOnTime, KeepsWriters, Stands, writer_count, Tells, lost_order_if as lost_order_kept, ticks_if, standing_in, number_in, Plan, Tick, Line}
 use Rattle.sessions.proofs.Words.{Answer as AnswerEvent, Provider, Idle, Told, Fine, Answered, Stepped, Idled, State, SetRow, in_progress, left_now, is_cut_group, runs, followed, answer_reply}
-use Rattle.sessions.proofs.Words.{step_reply, flush_allows, idle_now, after, IsOfSession, EndsAs, mark_if, IsSameRow, numbered-map, newest-map, find-map, same_changed, SessionMove, bare}
+use Rattle.sessions.proofs.Words.{step_reply, flush_allows, idle_now, after, IsOfSession, mark_if, IsSameRow, numbered-map, newest-map, find-map, same_changed, SessionMove, bare}
 use Rattle.sessions.proofs.Words.{running_changed, SessionsValue, Keeps, IsInOrder, CameTo, Concludes, HasCome, stepped_volumes}
-use Rattle.std.proofs.Common.{◌≡◌, ℕ, ◌+◌, ◌<◌, List, [], ◌∷◌, refl, ap, sym, ◌∙◌, subst, arith, Bool, true, false, Option, Some, None, map}
+use Rattle.std.proofs.Common.{◌≡◌, ℕ, ◌+◌, ◌<◌, List, [], refl, ap, sym, ◌∙◌, subst, arith, Bool, true, false, Option, Some, None, map}
 use Rattle.std.specs.Prelude.{All, is_some, option_map}
 use Rattle.writer_calls.specs.declared.answer.Answer.{Answer}
 use Rattle.set_agenda.specs.declared.group.Group.TheVariants as group
 use Rattle.set_agenda.specs.Course.{Course, sent, lost_writers, answered as course_answered, stepped as course_stepped, timed as course_timed}
 use Rattle.vss_model.specs.declared.told.Told.TheVariants as told
 use Rattle.vss_model.specs.Steps.{answered, stepped, stepped_as, step_made, cut_set, row_cut, with_cut, is_flush, is_failed_step, later, ticked}
-use Rattle.vss_model.specs.Effects.{ended_of, lost_after, lost_order_if}
+use Rattle.vss_model.specs.Effects.{ended_of}
 use Rattle.sessions.proofs.Keeping.{keeps_course, keeps_rows}
 use Rattle.sessions.proofs.Moving.{Happens}
 use Rattle.sessions.proofs.Newest.{changed_bare, changed_by_number, changed_none}
@@ -35,8 +35,7 @@ goes_on x new k st to gone at now ran t e m tick order kept stands writers times
 -- ## a writer answers
 
 order_if_some : (c : Course) (w : ℕ) (o : Option Order) (s : Standing) → Some s ≡ option_map (λ (x : Order). record { number = number_in c.opened w; order = x; nth = sent c w x }) o → o ≡ Some s.order
-order_if_some c w None s e = cc
-order_if_some c w (Some x) s e = let same : s ≡ record { number = number_in c.opened w; order = x; nth = sent c w x } = cc in ap (λ (y : Standing). Some y.order) (sym same)
+order_if_some c w o s e = grind arith
 
 pub answer_happens : (s : Plan) (new : SessionsValue) (w : ℕ) (a : Answer) (o : Standing) (m : SessionMove) (st : State) → Some o ≡ standing_in st.course w
     → CameTo (told.Answered o.order a) st (followed (runs st) (course_answered w (said_of a) st.clock st.course) st) new m → Happens s st (AnswerEvent w a) new m
@@ -63,9 +62,7 @@ cut_same n now = same_changed n (with_cut now) (λ r. refl) (λ r. refl)
 
 of_session : (q : Option Session) (o : SetOutcome) (f : SetRow → SetRow) (found : Option SetRow) → ((r : SetRow) → (f r).number ≡ r.number) → IsOfSession q o found
     → IsOfSession q o (option_map f found)
-of_session q o f None same h = h
-of_session None o f (Some r) same h = absurd h
-of_session (Some q) o f (Some r) same h = (h.0, h.1 ∙ ap Some (sym (same r)), h.2)
+of_session q o f found same h = grind arith
 
 -- whatever a step does beside its entry, it keeps the course, the clock and the session, and which set is in progress
 pub record IsBesides (st x : State) : Type 0 where
@@ -75,24 +72,10 @@ pub record IsBesides (st x : State) : Type 0 where
   pub ended : (rows : List SetRow) → ended_of (in_progress x) rows ≡ ended_of (in_progress st) rows
 
 besides_cut : (st : State) (o : Option SetRow) → in_progress st ≡ o → IsInOrder st → IsBesides st (cut_set o st)
-besides_cut st None e order = record { course = refl; clock = refl; order = order; ended = λ rows. refl }
-besides_cut st (Some r) e order =
-    let same = cut_same r.number st.clock in
-    let found = find-map (row_cut r.number st.clock) same.running st.sets in
-    record {
-      course = refl;
-      clock = refl;
-      order = record {
-        numbered = numbered-map (row_cut r.number st.clock) same.number 1 st.sets order.numbered;
-        newest = newest-map (row_cut r.number st.clock) same st.sets order.newest;
-        session = subst (IsOfSession st.session st.course.outcome) (sym found) (of_session st.session st.course.outcome (row_cut r.number st.clock) (in_progress st) same.number order.session);
-      };
-      ended = ended_mapped (row_cut r.number st.clock) same st.sets;
-    }
+besides_cut st o e order = grind (arith, cut_same, find-map, numbered-map, newest-map, of_session, ended_mapped)
 
 besides : (st : State) (g : Group) → IsInOrder st → IsBesides st (step_made (Some g) st)
-besides st group.Cut order = besides_cut st (in_progress st) refl order
-besides st _ order = record { course = refl; clock = refl; order = order; ended = λ rows. refl }
+besides st g order = grind (arith, besides_cut)
 
 set_in : (x : SessionsValue) (st : State) (o : Option SetRow) (now : ℕ) → in_progress st ≡ o → now ≡ st.clock → IsInOrder st → Keeps x st
     → Keeps (record x { sets = map (running_changed (with_cut now)) x.sets }) (cut_set o st)
@@ -105,8 +88,7 @@ set_in x st (Some r) now e clock order kept = keeps_rows x st x.requestor st.ses
 
 pub is_cut_now : (x : SessionsValue) (st : State) (g : Group) (now : ℕ) → is_cut_group (Some g) ≡ true → now ≡ x.clock → IsInOrder st → Keeps x st
     → Keeps (record x { sets = map (running_changed (with_cut now)) x.sets }) (step_made (Some g) st)
-is_cut_now x st group.Cut now e clock order kept = set_in x st (in_progress st) now refl (clock ∙ kept.clock) order kept
-is_cut_now x st _ now e clock order kept = cc
+is_cut_now x st g now e clock order kept = grind (arith, set_in)
 
 -- ## a step of the provider
 
@@ -114,32 +96,17 @@ is_cut_now x st _ now e clock order kept = cc
 pub step_goes : (st : State) (g : Group) (v : Option ℕ) (new : SessionsValue) (m : SessionMove) → IsInOrder st
     → ((x : State) → x ≡ step_made (Some g) st → IsInOrder x → HasCome (told.Step g v false) [] None (in_progress x) x.volumes (followed (runs x) (course_stepped true x.clock x.course) x) new m)
     → HasCome (told.Step g v false) [] None (in_progress st) (stepped_volumes false g st) (stepped_as false (Some g) st) new m
-step_goes st g v new m order comes =
-    let x = step_made (Some g) st in
-    let h = besides st g order in
-    let came = subst (λ (n : ℕ). HasCome (told.Step g v false) [] None (in_progress x) x.volumes (followed (runs st) (course_stepped true n st.course) x) new m) h.clock
-    (subst (λ (c : Course). HasCome (told.Step g v false) [] None (in_progress x) x.volumes (followed (is_some c.agenda) (course_stepped true x.clock c) x) new m) h.course
-    (comes x refl h.order)) in
-    record {
-      told = came.told;
-      lost = came.lost;
-      order = came.order;
-      volumes = came.volumes;
-      keeps = came.keeps;
-      ends = subst (λ (o : Option SetRow). EndsAs o m.outcome.set m.outcome.result) (h.ended (stepped_as false (Some g) st).sets) came.ends;
-    }
+step_goes st g v new m order comes = grind (arith, besides)
 
 stepped_is : (mark : Mark) (st : State) → stepped mark st ≡ stepped_as (is_failed_step (is_flush (open_group (left_now st))) mark) (open_group (left_now st)) st
 unfolding stepped
 stepped_is mark st = refl
 
 failed_if : (b fails : Bool) → (fails ≡ true → b ≡ true) → is_failed_step b (mark_if fails) ≡ fails
-failed_if b true h = h refl
-failed_if b false h = refl
+failed_if b fails h = grind arith
 
 allowed_if : (b fails : Bool) → (fails ≡ true → b ≡ true) → flush_allows b (mark_if fails) ≡ true
-allowed_if b true h = h refl
-allowed_if b false h = refl
+allowed_if b fails h = grind arith
 
 pub step_happens : (s : Plan) (new : SessionsValue) (st : State) (g : Group) (v : Option ℕ) (fails : Bool) (m : SessionMove) → is_working (left_now st) ≡ true → open_group (left_now st) ≡ Some g
     → next_volume (left_now st) ≡ v
@@ -167,29 +134,14 @@ pub later_order : (n : ℕ) (st : State) → IsInOrder st → IsInOrder (later n
 later_order n st h = record { numbered = h.numbered; newest = h.newest; session = h.session }
 
 pub later_keeps : (x : SessionsValue) (st : State) (n clock : ℕ) → clock ≡ x.clock + n → Keeps x st → Keeps (record x { clock = clock }) (later n st)
-later_keeps x st n clock e kept = record {
-  session = kept.session;
-  made = kept.made;
-  course = kept.course;
-  sets = kept.sets;
-  explicit = kept.explicit;
-  over = kept.over;
-  disabled = kept.disabled;
-  clock = e ∙ ap (λ (k : ℕ). k + n) kept.clock;
-  on_time = subst (λ (k : ℕ). IsOnTime k x.coordinator) (sym e) (by-later x.clock (x.clock + n) x.coordinator.kept.running (omega arith) kept.on_time);
-}
-
-same_order : (ws : List ℕ) (o : Option Order) → lost_order_kept ws o ≡ lost_order_if ws o
-same_order [] o = refl
-same_order (w ∷ ws) o = refl
+later_keeps x st n clock e kept = grind arith
 
 pub time_goes : (new : SessionsValue) (st : State) (t : Told) (n : ℕ) (m : SessionMove)
     → HasCome t (lost_writers (st.clock + n) st.course) (lost_order_kept (lost_writers (st.clock + n) st.course) (order_now (left st.course.agenda))) (in_progress st) st.volumes
     (followed (runs st) (course_timed (st.clock + n) st.course) (later n st)) new m
     → HasTicked t n st new m
 unfolding ticked
-time_goes new st t n m came = subst (λ (o : Option Order). HasCome t (lost_after (Some n) st) o (in_progress st) st.volumes (ticked n st) new m)
-    (same_order (lost_after (Some n) st) (order_now (left_now st))) came
+time_goes new st t n m came = grind arith
 
 pub tick_happens : (s : Plan) (new : SessionsValue) (st : State) (lane n : ℕ) (m : SessionMove)
     → HasTicked told.Ok n st new m
@@ -213,5 +165,4 @@ idle_happens s new st n m asks is came = record {
 }
 
 pub ticks_are : (b : Bool) (n m : ℕ) → Some n ≡ ticks_if b m → n ≡ m
-ticks_are true n m e = cc
-ticks_are false n m e = cc
+ticks_are b n m e = grind arith

@@ -1,7 +1,6 @@
 -- Who is disabled stays, whatever is said or begins.
 use Rattle.sessions.proofs.Words.{VssResult, Said, Kind, Member, Held, Registered, begun_as, IsKeptInCourse, course_answered, course_begun, course_stepped, course_timed}
-use Rattle.std.proofs.Common.{◌≡◌, ℕ, List, [], refl, Bool}
-use Rattle.set_agenda.specs.declared.kind.Kind.TheVariants.{Gather, Prepare, Snapshot, Complete}
+use Rattle.std.proofs.Common.{◌≡◌, ℕ, List, refl, Bool, arith}
 use Rattle.set_agenda.specs.Course.{Course, posted, begun, told, worked, answered, stepped, timed, failed}
 
 still : (ds : List ℕ) → IsKeptInCourse (λ (c : Course). c.disabled ≡ ds)
@@ -24,7 +23,4 @@ disabled_begun : (k : Kind) (ms : List Member) (vs : List ℕ) (now : ℕ) (c : 
 disabled_begun k ms vs now c = course_begun (λ (d : Course). d.disabled ≡ c.disabled) (still c.disabled) k ms vs now c refl
 
 pub disabled_begun_as : (k : Kind) (ws : List Registered) (h : Held) (vs : List ℕ) (now : ℕ) (c : Course) → (begun_as k ws h vs now c).disabled ≡ c.disabled
-disabled_begun_as Gather ws h vs now c = disabled_begun Gather _ [] now _
-disabled_begun_as Prepare ws h vs now c = disabled_begun Prepare _ [] now _
-disabled_begun_as Snapshot ws h vs now c = disabled_begun Snapshot c.members vs now c
-disabled_begun_as Complete ws h vs now c = disabled_begun Complete _ [] now c
+disabled_begun_as k ws h vs now c = grind (arith, disabled_begun)

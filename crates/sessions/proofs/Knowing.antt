@@ -1,16 +1,15 @@
 -- Whom the session knows, and what it takes: from what is kept, as the definitions say.
-use Rattle.sessions.proofs.Words.{list_all, list_any, range_with_len, BadState, ObjectNotFound, ObjectAlreadyExists, sha256, Clean, Span, AddFault, document_text, Told, Reply, Fine, Coded}
+use Rattle.sessions.proofs.Words.{range_with_len, BadState, ObjectNotFound, ObjectAlreadyExists, sha256, Clean, Span, AddFault, document_text, Told, Reply, Fine, Coded}
 use Rattle.sessions.proofs.Words.{NotSelectable, DocumentOf, HasLists, Fits, mark_of, WriterRow, Meta, IsAllowed, prepared, Mode, Session, Held, all_have_few, pairs_of, is_named, Naming, Names}
-use Rattle.sessions.proofs.Words.{naming, Selected, Named, AllOf, all_of, is_taker, takers, AreAllowed, IsSelectedOver, meta_at, names_selectable, is_ascending, begun_as, enabled}
+use Rattle.sessions.proofs.Words.{naming, Selected, Named, all_of, is_taker, takers, AreAllowed, IsSelectedOver, meta_at, begun_as, enabled}
 use Rattle.sessions.proofs.Words.{is_disabled as is_disabled_kept, writer_count, named, Plan, WriterPlan, token, IsWriter, State, in_progress, runs, has_no_volume, SessionMove, SessionsValue, Keeps}
-use Rattle.sessions.proofs.Words.{IsOf, IsAt, ComesTo, HasBegun, IsDocumentIn, is_all, takes_all_of, IsAtOver, told_alone, told_named, and_from, and_parts, cond-false, cond-true, le-leb, Goes}
+use Rattle.sessions.proofs.Words.{IsOf, IsAt, ComesTo, HasBegun, IsDocumentIn, is_all, takes_all_of, IsAtOver, told_alone, told_named, and_parts, cond-false, cond-true, Goes}
 use Rattle.sessions.proofs.Words.{all_known, known_at, named_known}
 use Rattle.std.proofs.Common.{◌≡◌, ℕ, zero, suc, ◌+◌, ◌<◌, ◌==◌, List, [], ◌∷◌, ◌++◌, drop, length, refl, ap, sym, ◌∙◌, subst, arith, append_assoc, add-one, Bool, true, false, Option, Some, slice_get}
-use Rattle.std.specs.Prelude.{All, filter, nat_le, is_some, option_map, not, ◌&&◌, if◌then◌else◌, Result, Ok, Err, OnOk, OnErr, IfErr}
+use Rattle.std.specs.Prelude.{All, filter, is_some, option_map, not, ◌&&◌, if◌then◌else◌, Result, Ok, Err, OnOk, OnErr, IfErr}
 use Rattle.component_doc.specs.declared.add_fault.AddFault.TheVariants as fault
 use Rattle.component_doc.specs.Refusal.{Tells}
 use Rattle.set_agenda.specs.declared.kind.Kind.TheVariants as kind
-use Rattle.requestor.specs.declared.mode.Mode.TheVariants.{Components, All as AllMode}
 use Rattle.requestor.specs.declared.session_call.SessionCall.TheVariants as call
 use Rattle.scenario.specs.declared.op.Op.TheVariants as op
 use Rattle.vss_model.specs.declared.told.Told.TheVariants as told
@@ -27,9 +26,7 @@ unknown_is s st w b e f = ap (λ (d : Bool). not d && not (has_failed_identify (
 
 pub known_is : (s : Plan) (st : State) (w : ℕ) (b : Bool) (r : WriterRow) → b ≡ is_disabled s st w → b ≡ false → Some r ≡ slice_get st.course.rows w
     → not (is_identify_failure r.state) ≡ is_known s st w
-known_is s st w b r e f row =
-    ap (λ (o : Option WriterRow). not (has_failed_identify o)) row
-    ∙ ap (λ (d : Bool). not d && not (has_failed_identify (slice_get st.course.rows w))) (sym f ∙ e)
+known_is s st w b r e f row = grind arith
 
 record IsNext (ps : List WriterPlan) (w : ℕ) (m : Meta) : Type 0 where
   writer : WriterPlan
@@ -63,8 +60,7 @@ within s st k (p ∷ ps) zero h = omega arith
 within s st k (p ∷ ps) (suc j) h = let rest = within s st (k + 1) ps j h in omega (arith, rest)
 
 taker_known : (ms : List (Option Meta)) (sel : Selected) (w : ℕ) → IsSelectedOver ms sel → is_taker sel w ≡ true → is_some (meta_at (slice_get ms w)) ≡ true
-taker_known ms (Named ps) w over e = named_known ms ps w (and_parts (list_all (names_selectable ms) ps) (is_ascending ps) over).0 e
-taker_known ms (AllOf ws) w over e = all_known ms 0 w w (omega arith) (ap (λ (xs : List ℕ). list_any (λ x. x == w) xs) (sym over) ∙ e)
+taker_known ms sel w over e = grind (arith, named_known, and_parts, all_known)
 
 filter_same : (p q : ℕ → Bool) (xs : List ℕ) → ((w : ℕ) → q w ≡ true → p w ≡ true) → filter p (filter q xs) ≡ filter q xs
 filter_same p q [] h = refl
@@ -86,12 +82,10 @@ enabled_takers x s st sel n kept of over = filter_same (λ w. not (is_disabled_k
 -- ## prepare
 
 pub takes_named : (m : Mode) (s : Plan) (st : State) → is_all m ≡ false → selected_in m s st ≡ Named st.explicit
-takes_named Components s st e = refl
-takes_named AllMode s st e = cc
+takes_named m s st e = grind arith
 
 pub takes_known : (m : Mode) (s : Plan) (st : State) → is_all m ≡ true → selected_in m s st ≡ all_of (known_metas s st)
-takes_known Components s st e = cc
-takes_known AllMode s st e = refl
+takes_known m s st e = grind arith
 
 pub mode_at : (x : SessionsValue) (st : State) (q : Session) (b c : Bool) → Keeps x st → st.session ≡ Some q → b ≡ takes_all_of x.requestor.session → b ≡ c → is_all q.mode ≡ c
 mode_at x st q b c kept is e f = ap takes_all_of (sym (kept.session ∙ is)) ∙ sym e ∙ f
@@ -118,8 +112,7 @@ prepares_not {s = s} {lane = lane} {st = st} vs owner at none is =
 -- ## what is known is as its format allows
 
 allowed_if : (b : Bool) (m : Meta) (ms : List (Option Meta)) → IsAllowed m → AreAllowed ms → AreAllowed (meta_if b m ∷ ms)
-allowed_if true m ms h rest = (h, rest)
-allowed_if false m ms h rest = rest
+allowed_if b m ms h rest = grind arith
 
 pub known_allowed : (s : Plan) (st : State) (k : ℕ) (ps : List WriterPlan) → All (IsWriter s) ps → AreAllowed (known_from s st k ps)
 known_allowed s st k [] h = tt
@@ -127,8 +120,7 @@ known_allowed s st k (p ∷ ps) h = allowed_if (is_known s st k) p.meta (known_f
     (known_allowed s st (k + 1) ps (λ i d l. h (suc i) d (omega (arith, l))))
 
 few_if : (b : Bool) (m : Meta) (ms : List (Option Meta)) → IsAllowed m → all_have_few ms ≡ true → all_have_few (meta_if b m ∷ ms) ≡ true
-few_if true m ms h rest = and_from (nat_le (length m.parts) 1024) (all_have_few ms) (le-leb _ _ h.few) rest
-few_if false m ms h rest = rest
+few_if b m ms h rest = grind arith
 
 pub known_few : (s : Plan) (st : State) (k : ℕ) (ps : List WriterPlan) → All (IsWriter s) ps → all_have_few (known_from s st k ps) ≡ true
 known_few s st k [] h = refl
@@ -137,12 +129,10 @@ known_few s st k (p ∷ ps) h = few_if (is_known s st k) p.meta (known_from s st
 -- ## component
 
 all_refused : (m : Mode) (s : Plan) (w : ℕ) (name : List ℕ) (st : State) → is_all m ≡ true → component_in m s w name st ≡ (Coded BadState, st)
-all_refused Components s w name st e = cc
-all_refused AllMode s w name st e = refl
+all_refused m s w name st e = grind arith
 
 named_in : (m : Mode) (s : Plan) (w : ℕ) (name : List ℕ) (st : State) → is_all m ≡ false → component_in m s w name st ≡ named_as (naming (known_metas s st) w name st.explicit) st
-named_in Components s w name st e = refl
-named_in AllMode s w name st e = cc
+named_in m s w name st e = grind arith
 
 pub names_not : {s : Plan} {lane w : ℕ} {full : Span} {st : State} {x : SessionsValue} {m : SessionMove} (b : Bool) → Goes st.session (runs st) call.Component → IsAt x s st
     → b ≡ takes_all_of x.requestor.session → b ≡ true
@@ -151,8 +141,7 @@ names_not {s = s} {lane = lane} {w = w} {full = full} {st = st} {x = x} b owner 
     refuses BadState is (line_of s lane (op.Component w full) st owner.own owner.is ∙ all_refused owner.own.mode s w (token s full) st (mode_at x st owner.own b true at.keeps owner.is takes all)) at
 
 named_pairs : (x : Selected) → is_named x ≡ true → x ≡ Named (pairs_of x)
-named_pairs (Named ps) e = refl
-named_pairs (AllOf ws) e = cc
+named_pairs x e = grind arith
 
 pub names_component : {s : Plan} {lane w : ℕ} {full : Span} {st : State} {x : SessionsValue} {m : SessionMove} (h : Held) (t : Told) (b : Bool) (added : Result (Unit {0}) AddFault)
     (ms : List (Option Meta)) (name : List ℕ)

@@ -1,10 +1,10 @@
 -- The session lines that the checks let go: what each comes to.
-use Rattle.sessions.proofs.Words.{All-push, Context, Backup, AppRollback, NasRollback, SetOutcome, Running, Failed, VssResult, BadState, AsyncCancelled, UnsupportedContext, Clean, History, WriterRow}
-use Rattle.sessions.proofs.Words.{released, Verdict, Go, Session, context_of, opened, started, makes_set, applied, ended as ended_session, check_begin, check_other, check_owner, owner_only}
-use Rattle.sessions.proofs.Words.{begin_verdict, CoordinatorState, KeepsWriters, Stands, IsOnTime, writer_count, named, Op, Plan, Told, Reply, Fine, Coded, Numbered, StatusOf, State, SetRow}
+use Rattle.sessions.proofs.Words.{All-push, Context, SetOutcome, Running, VssResult, BadState, AsyncCancelled, UnsupportedContext, Clean, History, WriterRow}
+use Rattle.sessions.proofs.Words.{released, Go, Session, context_of, opened, started, makes_set, applied, ended as ended_session, check_begin, check_other}
+use Rattle.sessions.proofs.Words.{CoordinatorState, KeepsWriters, Stands, IsOnTime, writer_count, named, Op, Plan, Told, Reply, Fine, Coded, Numbered, StatusOf, State, SetRow}
 use Rattle.sessions.proofs.Words.{in_progress, ended_of, IsOfSession, HasLists, EndsAs, Fits, mark_of, Goes, SessionMove, bare, SessionsValue, Keeps, IsAt, IsInOrder, nothing_named_in, failed_set}
 use Rattle.sessions.proofs.Words.{released_by, told_alone, without_images, CameTo, ComesTo}
-use Rattle.std.proofs.Common.{◌≡◌, ℕ, ◌+◌, ◌<◌, ◌==◌, List, [], ◌∷◌, ◌++◌, length, refl, ap, sym, ◌∙◌, subst, arith, Bool, true, false, Option, Some, None, map}
+use Rattle.std.proofs.Common.{◌≡◌, ℕ, ◌+◌, ◌<◌, List, [], ◌∷◌, ◌++◌, length, refl, ap, sym, ◌∙◌, subst, arith, Bool, true, false, Option, Some, None, map}
 use Rattle.std.specs.Prelude.{is_some, option_map, option_and_then, unwrap_or}
 use Rattle.requestor.specs.declared.session_call.SessionCall.TheVariants as call
 use Rattle.scenario.specs.declared.op.Op.TheVariants as op
@@ -25,16 +25,7 @@ pub alone : {s : Plan} {lane : ℕ} {op : Op} {st : State} {new : SessionsValue}
     → line_in s lane op st.session st ≡ (reply, after)
     → ((tells : List Bool) → Fits tells reply t) → ((listed : List ℕ) (rows : List WriterRow) → rows ≡ after.course.rows → HasLists reply listed rows) → mark_of t ≡ Clean
     → EndsAs (ended_of (in_progress st) after.sets) 0 Running → after.volumes ≡ st.volumes → Keeps new after → ComesTo s lane op st new m
-alone {st = st} {new = new} t reply after is does fits lists clean ends volumes keeps = record {
-  told = t;
-  reply = reply;
-  after = after;
-  does = does;
-  fits = fits;
-  lists = lists;
-  clean = clean;
-  came = subst (λ (x : SessionMove). CameTo t st after new x) (sym is) (record { told = refl; lost = nobody; order = refl; ends = ends; volumes = volumes; keeps = keeps });
-}
+alone t reply after is does fits lists clean ends volumes keeps = grind (arith, nobody)
 
 -- a refusal of the call's own
 pub refuses : {s : Plan} {lane : ℕ} {op : Op} {st : State} {x : SessionsValue} {m : SessionMove} (why : VssResult) → m ≡ told_alone (told.Result why)
@@ -43,19 +34,10 @@ refuses {st = st} why is does at = alone (told.Result why) (Coded why) st is doe
 
 -- ## begin
 
-no_session : (q : Option Session) (lane : ℕ) → check_begin q lane ≡ Go → q ≡ None
-no_session None lane e = refl
-no_session (Some q) lane e = absurd (waits (q.owner == lane) e)
-  where
-    waits : (b : Bool) → begin_verdict b ≡ Go → ⊥
-    waits true e = cc
-    waits false e = cc
-
 -- by the context of its number
 begin_line : (s : Plan) (lane n : ℕ) (all : Bool) (o : Option Context) (x : SessionsValue) (st : State) → Keeps x st → check_begin x.requestor.session lane ≡ Go → context_of n all ≡ o
     → line_in s lane (op.Begin n all) st.session st ≡ begin_in lane all o st
-begin_line s lane n all o x st kept goes is = ap (λ (q : Option Session). line_in s lane (op.Begin n all) q st) (sym kept.session ∙ no_session x.requestor.session lane goes)
-    ∙ ap (λ (c : Option Context). begin_in lane all c st) is
+begin_line s lane n all o x st kept goes is = grind arith
 
 pub begins_not : {s : Plan} {lane n : ℕ} {all : Bool} {st : State} {x : SessionsValue} {m : SessionMove} → check_begin x.requestor.session lane ≡ Go → is_some (context_of n all) ≡ false
     → m ≡ told_alone (told.Result UnsupportedContext) → IsAt x s st
@@ -83,13 +65,10 @@ begins {s = s} {lane = lane} {n = n} {all = all} {st = st} {x = x} {m = m} goes 
 -- ## start
 
 pub not_started : (q : Session) (o : SetOutcome) (found : Option SetRow) → makes_set q.stage ≡ false → IsOfSession (Some q) o found → found ≡ None
-not_started q o None e h = refl
-not_started q o (Some r) e h = absurd (let is = h.0 in cc)
+not_started q o found e h = grind arith
 
 pub at_rest : (st : State) → Goes st.session (runs st) call.Start → IsInOrder st → in_progress st ≡ None
-at_rest st owner order =
-    not_started owner.own st.course.outcome (in_progress st) (owner.free refl)
-    (subst (λ (x : Option Session). IsOfSession x st.course.outcome (in_progress st)) owner.is order.session)
+at_rest st owner order = grind arith
 
 length_more : (rows : List SetRow) (r : SetRow) → length (rows ++ r ∷ []) ≡ length rows + 1
 length_more [] r = refl
@@ -115,8 +94,7 @@ starts {s = s} {lane = lane} {st = st} {x = x} {y = y} {m = m} number context ow
 -- ## await, status, disable
 
 last_told : (last : Option VssResult) (st : State) → await_last last st ≡ (Coded (unwrap_or last BadState), st)
-last_told None st = refl
-last_told (Some why) st = refl
+last_told last st = grind arith
 
 pub awaits : {s : Plan} {lane : ℕ} {st : State} {x : SessionsValue} {m : SessionMove} (last : Option VssResult) (why : VssResult) → Goes st.session (runs st) call.Await → IsAt x s st
     → last ≡ option_and_then (λ (q : Session). q.last) x.requestor.session → why ≡ unwrap_or last BadState → m ≡ told_alone (told.Result why) → ComesTo s lane op.Await st x m
@@ -153,13 +131,7 @@ aborts {s = s} {lane = lane} {st = st} owner came = record {
 -- an owner may end its session at any time
 pub may_end : (q p : Option Session) (running : Bool) (lane : ℕ) → check_other q running lane call.End ≡ Go → option_map (λ (z : Session). z.owner) p ≡ option_map (λ (z : Session). z.owner) q
     → check_other p false lane call.End ≡ Go
-may_end None p running lane e same = absurd cc
-may_end (Some q) None running lane e same = cc
-may_end (Some q) (Some p) running lane e same = let o : p.owner ≡ q.owner = cc in ap (λ (n : ℕ). owner_only (n == lane) Go) o ∙ by_owner (q.owner == lane) (check_owner q running call.End) e
-  where
-    by_owner : (b : Bool) (v : Verdict) → owner_only b v ≡ Go → owner_only b Go ≡ Go
-    by_owner true v e = refl
-    by_owner false v e = cc
+may_end q p running lane e same = grind arith
 
 closed_is : (q : Session) (st : State)
     → closed q st ≡ record { session = None; explicit = []; sets = st.sets; course = released st.course; volumes = images_released q.context q.set st.volumes; clock = st.clock }
@@ -167,10 +139,7 @@ unfolding closed
 closed_is q st = refl
 
 released_is : (c : Context) (set : Option ℕ) (hs : List History) → images_released c set hs ≡ without_images (released_by (Some c) set) hs
-released_is Backup None hs = refl
-released_is Backup (Some n) hs = refl
-released_is AppRollback set hs = refl
-released_is NasRollback set hs = refl
+released_is c set hs = grind arith
 
 pub ends : {s : Plan} {lane : ℕ} {st : State} {x mid y : SessionsValue} (moved : SessionMove) (set : Option ℕ) → Goes st.session (runs st) call.End → Keeps x st
     → CameTo told.Ok st (failed AsyncCancelled st) mid moved → moved.released ≡ None
@@ -211,6 +180,4 @@ ends {s = s} {lane = lane} {st = st} {y = y} moved set owner kept came none is c
     }
 
 pub owner_kept : (o : SetOutcome) (q : Option Session) → option_map (λ (z : Session). z.owner) (option_map (ended_session o) q) ≡ option_map (λ (z : Session). z.owner) q
-owner_kept o None = refl
-owner_kept (Failed why) (Some q) = refl
-owner_kept _ (Some q) = refl
+owner_kept o q = grind arith

@@ -1,16 +1,16 @@
 -- From what an event comes to at a state, what is promised of it.
-use Rattle.sessions.proofs.Words.{Mark, Clean, WriterRow, VssResult, is_working, order_now, Verdict, Go, Blocked, Refused, SessionCall, check, check_other, left-is, runs-is, Op, Calls, Plan, Event}
-use Rattle.sessions.proofs.Words.{Line, Told, Reply, Coded, State, in_progress, left_now, runs, Replied, judged, Fits, mark_of, HasLists, EndsAs, IsOutcome, told_act, Goes, other_goes, SessionMove}
+use Rattle.sessions.proofs.Words.{Mark, Clean, WriterRow, VssResult, is_working, order_now, Verdict, Go, Blocked, Refused, SessionCall, check, check_other, left-is, runs-is, Op, Plan, Event}
+use Rattle.sessions.proofs.Words.{Line, Told, Reply, Coded, State, in_progress, left_now, runs, Replied, judged, Fits, mark_of, HasLists, IsOutcome, told_act, Goes, other_goes, SessionMove}
 use Rattle.sessions.proofs.Words.{told_alone, SessionsValue, Keeps, IsInOrder, IsMove, CameTo, ComesTo, HasCome, after_move, event_volumes, images_after, after_enabled}
-use Rattle.std.proofs.Common.{◌≡◌, ◌⊎◌, inl, inr, ℕ, List, [], refl, ap, sym, ◌∙◌, subst, Bool, true, false, Option, Some, None}
+use Rattle.std.proofs.Common.{◌≡◌, ◌⊎◌, ℕ, List, [], refl, ap, sym, ◌∙◌, subst, Bool, true, false, Option, Some, None, arith}
 use Rattle.std.specs.Prelude.{not}
 use Rattle.coordinator.specs.Coordinator.{CoordinatorState, Stands, runs as runs_kept, works}
 use Rattle.scenario.specs.declared.line.Line.{Line as Does}
-use Rattle.scenario.specs.Calls.{call_in, call_of, line_of, target_in, target_of}
+use Rattle.scenario.specs.Calls.{call_in, call_of, line_of, target_of}
 use Rattle.vss_model.specs.declared.told.Told.TheVariants as told
 use Rattle.vss_model.specs.Lines.{called, does, line}
-use Rattle.vss_model.specs.Acts.{enabled, event_allows, happens, after, line_enabled, line_allows, may_call, may_do, is_blocked}
-use Rattle.vss_model.specs.Effects.{evicted, evicted_at, line_ticks, ticks_by, lost, lost_after, lost_order, lost_order_if, ended_of}
+use Rattle.vss_model.specs.Acts.{enabled, event_allows, happens, after, line_enabled, line_allows, may_call, is_blocked}
+use Rattle.vss_model.specs.Effects.{evicted, evicted_at, line_ticks, lost, lost_after, lost_order, lost_order_if}
 use Rattle.sessions.proofs.Concluding.{no_end, nobody}
 
 -- ## an event
@@ -36,16 +36,7 @@ module _ (s : Plan) (st : State) (event : Event) (new : SessionsValue) (m : Sess
   after_is = after_enabled s st (told_act event m.outcome.told) h.on ∙ ap (λ (z : Replied). z.1) does_so
 
   outcome_is : (tells : List Bool) (listed : List ℕ) (rows : List WriterRow) → rows ≡ (after_move s st event m).course.rows → IsOutcome tells s st event m.outcome listed [] rows
-  outcome_is tells listed rows e =
-      let replied : (happens s event (mark_of m.outcome.told) st).0 ≡ h.reply = ap (λ (z : Replied). z.0) does_so in
-      record {
-        fits = subst (λ (r : Reply). Fits tells r m.outcome.told) (sym replied) (subst (Fits tells h.reply) (sym h.came.told) (h.fits tells));
-        lists = subst (λ (r : Reply). HasLists r listed rows) (sym replied) (h.lists listed rows (e ∙ ap (λ (z : State). z.course.rows) after_is));
-        evicts = h.evicts;
-        loses = h.came.lost;
-        order = h.came.order;
-        ends = subst (λ (z : State). EndsAs (ended_of (in_progress st) z.sets) m.outcome.set m.outcome.result) (sym after_is) h.came.ends;
-      }
+  outcome_is tells listed rows e = grind (arith, does_so, after_is)
 
 pub happens_moves : (P : State → Type 0) (s : Plan) (new : SessionsValue) (event : Event) (m : SessionMove) → ((st : State) → P st → Happens s st event new m) → IsMove P s new event m
 happens_moves P s new event m all = record {
@@ -67,13 +58,11 @@ pub works_same : (x : CoordinatorState) (st : State) → Stands x st.course → 
 works_same x st h = ap is_working (left-is x.kept st.course h.follows)
 
 pub checked_same : (x : SessionsValue) (st : State) (lane : ℕ) (c : SessionCall) → Keeps x st → check x.requestor.session (runs_kept x.coordinator) lane c ≡ check st.session (runs st) lane c
-checked_same x st lane c h = ap (λ q. check q (runs_kept x.coordinator) lane c) h.session ∙ ap (λ b. check st.session b lane c) (runs_same x.coordinator st h.course)
+checked_same x st lane c h = grind arith
 
 -- the call is the owner's
 pub owner_at : {x : SessionsValue} {st : State} {c : SessionCall} (lane : ℕ) → Keeps x st → check_other x.requestor.session (runs_kept x.coordinator) lane c ≡ Go → Goes st.session (runs st) c
-owner_at {x = x} {st = st} {c = c} lane kept goes =
-    other_goes st.session (runs st) lane c
-    (sym (ap (λ q. check_other q (runs_kept x.coordinator) lane c) kept.session ∙ ap (λ b. check_other st.session b lane c) (runs_same x.coordinator st kept.course)) ∙ goes)
+owner_at lane kept goes = grind (arith, other_goes, runs_same)
 
 -- ## a line that is a session call
 
@@ -85,16 +74,7 @@ record IsCallLine (op : Op) (c : SessionCall) : Type 0 where
   ticks : line_ticks op ≡ None
 
 call_line_by : (op : Op) (l : Does) (c : SessionCall) → line_of op ≡ l → call_in l ≡ Some c → IsCallLine op c
-call_line_by op (Calls d) c is e =
-    let same : d ≡ c = cc in
-    subst (IsCallLine op) same
-    (record {
-      goes = λ s st lane. ap (may_do s st lane) is;
-      does = λ s st lane mark. ap (λ l. does s lane op l mark st) is;
-      target = ap target_in is;
-      ticks = ap ticks_by is;
-    })
-call_line_by op _ c is e = absurd cc
+call_line_by op l c is e = grind arith
 
 call_line : (op : Op) (c : SessionCall) → call_of op ≡ Some c → IsCallLine op c
 call_line op c e = call_line_by op (line_of op) c refl e
@@ -140,5 +120,4 @@ refused_happens s st lane op c is x why verdict order kept =
     (came_to_itself x st (told.Result why) order kept)
 
 pub not_blocked : (v : Verdict) → (v ≡ Go) ⊎ ((x : VssResult) × (v ≡ Refused x)) → not (is_blocked v) ≡ true
-not_blocked v (inl e) = ap (λ v. not (is_blocked v)) e
-not_blocked v (inr h) = ap (λ v. not (is_blocked v)) h.1
+not_blocked v x1 = grind arith

@@ -1,5 +1,5 @@
 -- Lists of sets, numbered from 1 on, of which the newest alone may be in progress.
-use Rattle.sessions.proofs.Words.{length-map, SetOutcome, SetRow, is_running, is_complete, row_changed, NumberedFrom, OverButNewest, has_failed, row_settled, numbered-map, newest-map, cond_both}
+use Rattle.sessions.proofs.Words.{length-map, SetOutcome, SetRow, is_running, is_complete, row_changed, NumberedFrom, OverButNewest, row_settled, numbered-map, newest-map, cond_both}
 use Rattle.sessions.proofs.Words.{none_head, none_tail}
 use Rattle.sessions.proofs.Words.{numbered-settled, newest-settled, numbered-append, newest-append, newest_number, SetFacts, AreSets, bare, current_of, facts_of, is_complete_in, running_in}
 use Rattle.sessions.proofs.Words.{running_changed, and_left, cond-false, cond-true, eq-eqb, eqb-true, ne_eqb, or_from, apart}
@@ -46,12 +46,10 @@ pub record IsHead (q r : SetRow) : Type 0 where
   pub running : is_running q.result ≡ true
 
 pub head_found : (b : Bool) (q r : SetRow) → is_running q.result ≡ b → (if b then Some q else None) ≡ Some r → IsHead q r
-head_found true q r e f = record { same = cc; running = e }
-head_found false q r e f = absurd cc
+head_found b q r e f = grind arith
 
 pub rest_found : (b : Bool) (q r : SetRow) (found : Option SetRow) → b ≡ false → (if b then Some q else found) ≡ Some r → found ≡ Some r
-rest_found true q r found e f = cc
-rest_found false q r found e f = f
+rest_found b q r found e f = grind arith
 
 -- the set in progress is changed, whether it is found by its number or by being in progress
 pub changed_by_number : (f : SetRow → SetRow) (m : ℕ) (rows : List SetRow) (r : SetRow) → NumberedFrom m rows → OverButNewest rows → running_in rows ≡ Some r
@@ -73,13 +71,7 @@ changed_by_number f m (q ∷ p ∷ rows) r n h e =
 
 pub sets_changed : (f : SetRow → SetRow) (rows : List SetRow) → ((r : SetRow) → (f r).number ≡ r.number) → ((r : SetRow) → (f r).result ≡ r.result) → AreSets rows
     → AreSets (map (running_changed f) rows)
-sets_changed f rows number result h =
-    let same_number = λ (r : SetRow). cond_both (is_running r.result) (f r) r (λ (q : SetRow). q.number ≡ r.number) (λ e. number r) (λ e. refl) in
-    let same_result = λ (r : SetRow). cond_both (is_running r.result) (f r) r (λ (q : SetRow). q.result ≡ r.result) (λ e. result r) (λ e. refl) in
-    record {
-      numbered = numbered-map (running_changed f) same_number 1 rows h.numbered;
-      newest = newest-map (running_changed f) (record { number = same_number; running = λ r. ap is_running (same_result r); failed = λ r. ap has_failed (same_result r) }) rows h.newest;
-    }
+sets_changed f rows number result h = grind (arith, cond_both, numbered-map, newest-map)
 
 pub sets_settled : (o : SetOutcome) (rows : List SetRow) → AreSets rows → AreSets (map (row_settled o) rows)
 sets_settled o rows h = record { numbered = numbered-settled o 1 rows h.numbered; newest = newest-settled o rows h.newest }
@@ -133,17 +125,12 @@ complete_found m (r ∷ rows) n h = by_number (complete_found (m + 1) rows n h.1
 
 pub complete_by_facts : (rows : List SetRow) (n : ℕ) (o : Option SetFacts) → AreSets rows → o ≡ option_map facts_of (find (λ (r : SetRow). r.number == n) rows)
     → is_complete_in rows n ≡ is_complete_told o
-complete_by_facts rows n o h e = complete_found 1 rows n h.numbered ∙ told (find (λ (r : SetRow). r.number == n) rows) ∙ ap is_complete_told (sym e)
-  where
-    told : (x : Option SetRow) → complete_of x ≡ is_complete_told (option_map facts_of x)
-    told None = refl
-    told (Some r) = refl
+complete_by_facts rows n o h e = grind (arith, complete_found)
 
 -- ## rows without volumes
 
 if_bare : (b : Bool) (f : SetRow → SetRow) (r : SetRow) → f (bare r) ≡ bare (f r) → (if b then f (bare r) else bare r) ≡ bare (if b then f r else r)
-if_bare true f r e = e
-if_bare false f r e = refl
+if_bare b f r e = grind arith
 
 -- a change that does not look at the volumes
 pub changed_bare : (f : SetRow → SetRow) → ((r : SetRow) → f (bare r) ≡ bare (f r)) → (rows : List SetRow) → map (running_changed f) (map bare rows) ≡ map bare (map (running_changed f) rows)
@@ -166,18 +153,10 @@ found_bare p same (r ∷ rows) =
     by_test false o = refl
 
 pub current_bare : (rows : List SetRow) → current_of (map bare rows) ≡ current_of rows
-current_bare rows = ap (option_map (λ (r : SetRow). r.number)) (found_bare (λ (r : SetRow). is_running r.result) (λ r. refl) rows) ∙ by_found (running_in rows)
-  where
-    by_found : (o : Option SetRow) → option_map (λ (r : SetRow). r.number) (option_map bare o) ≡ option_map (λ (r : SetRow). r.number) o
-    by_found None = refl
-    by_found (Some r) = refl
+current_bare rows = grind (arith, found_bare)
 
 pub facts_bare : (n : ℕ) (rows : List SetRow) → option_map facts_of (find (λ (r : SetRow). r.number == n) (map bare rows)) ≡ option_map facts_of (find (λ (r : SetRow). r.number == n) rows)
-facts_bare n rows = ap (option_map facts_of) (found_bare (λ (r : SetRow). r.number == n) (λ r. refl) rows) ∙ by_found (find (λ (r : SetRow). r.number == n) rows)
-  where
-    by_found : (o : Option SetRow) → option_map facts_of (option_map bare o) ≡ option_map facts_of o
-    by_found None = refl
-    by_found (Some r) = refl
+facts_bare n rows = grind (arith, found_bare)
 
 pub complete_bare : (rows : List SetRow) (n : ℕ) → is_complete_in (map bare rows) n ≡ is_complete_in rows n
 complete_bare [] n = refl

@@ -1,16 +1,14 @@
 -- The groups left of an agenda that begins.
-use Rattle.std.proofs.Common.{◌≡◌, ℕ, List, [], ◌∷◌, ◌++◌, Option, Some, None, refl, Bool, true, false, cond, ap, sym, ◌∙◌, subst, filter, map, arith, drop}
+use Rattle.std.proofs.Common.{◌≡◌, ℕ, List, [], ◌∷◌, ◌++◌, Option, None, refl, Bool, true, false, cond, ap, sym, ◌∙◌, filter, map, arith, drop}
 use Rattle.std.specs.Prelude.{◌&&◌, ◌||◌, not, ◌==◌}
 use Rattle.std.specs.List.{list_any, flat_map, range_with_len}
 use Rattle.std.proofs.lemmas.Bool.Decides.{nat_tests}
 use Rattle.std.proofs.lemmas.Bool.{and_parts}
 use Rattle.vss_names.specs.declared.level.Level.{Level}
-use Rattle.vss_names.specs.declared.level.Level.TheVariants.{System, BackEnd, FrontEnd}
 use Rattle.vss_names.specs.declared.order.Order.TheVariants.{Identify, PrepareBackup, PrepareSnapshot, Freeze, Thaw, PostSnapshot, BackupComplete}
 use Rattle.set_agenda.specs.declared.group.Group.{Group}
-use Rattle.set_agenda.specs.declared.group.Group.TheVariants.{Orders, PreCommit, Flush, Hold, Cut, Commit, Release, PostCommit}
+use Rattle.set_agenda.specs.declared.group.Group.TheVariants.{Orders}
 use Rattle.set_agenda.specs.declared.kind.Kind.{Kind}
-use Rattle.set_agenda.specs.declared.kind.Kind.TheVariants.{Gather, Prepare, Snapshot, Complete}
 use Rattle.set_agenda.specs.declared.member.Member.{Member}
 use Rattle.set_agenda.specs.declared.place.Place.{Place}
 use Rattle.set_agenda.specs.declared.rows.Rows.{Rows}
@@ -29,7 +27,7 @@ abbrev has_member : Option Level → List Member → ℕ → Bool
 has_member l ms w = list_any (λ (m : Member). is_at l m.level && (m.writer == w)) ms
 
 row-more : (l : Option Level) (ms : List Member) (m : Member) (b : Bool) → is_at l m.level ≡ b → (w : ℕ) → (has_member l ms w || (b && (m.writer == w))) ≡ has_member l (ms ++ m ∷ []) w
-row-more l ms m b e w = ap (λ c. has_member l ms w || (c && (m.writer == w))) (sym e) ∙ ap (λ c. has_member l ms w || c) (sym (or-false (is_at l m.level && (m.writer == w)))) ∙ sym (any-append (λ (x : Member). is_at l x.level && (x.writer == w)) ms (m ∷ []))
+row-more l ms m b e w = grind (arith, or-false, any-append)
 
 -- a member of the row's level enters it
 pub row-in : (l : Option Level) (ms : List Member) (m : Member) (old new : List ℕ) → is_at l m.level ≡ true → old ≡ row_of l ms
@@ -42,11 +40,7 @@ pub row-out : (l : Option Level) (ms : List Member) (m : Member) (old : List ℕ
 row-out l ms m old e h = h ∙ writers-agree _ (has_member l (ms ++ m ∷ [])) (λ w b. sym (or-false (has_member l ms w)) ∙ row-more l ms m false e w)
 
 pub rows-empty : (r : Rows) → r.all ≡ [] → r.system ≡ [] → r.back_end ≡ [] → r.front_end ≡ [] → r.unfailed ≡ [] → HasRows r []
-rows-empty r a s b f u = record {
-  all = a ∙ sym writers-none;
-  unfailed = u ∙ sym writers-none;
-  levels = record { system = s ∙ sym writers-none; back_end = b ∙ sym writers-none; front_end = f ∙ sym writers-none };
-}
+rows-empty r a s b f u = grind (arith, writers-none)
 
 -- ## the members in the order of their writers
 
@@ -73,18 +67,14 @@ same_from : (a w : ℕ) → (a == w) ≡ true → a ≡ w
 same_from a w e = grind (arith, nat_tests)
 
 found : (l : Option Level) (m : Member) (w : ℕ) → m.writer ≡ w → writers_at (m ∷ []) l ≡ cond ((is_at l m.level && true) || false) (w ∷ []) []
-found l m w e = elim (is_at l m.level) as (λ b. map (λ (x : Member). x.writer) (cond b (m ∷ []) []) ≡ cond ((b && true) || false) (w ∷ []) []) [ true ↦ ap (λ x. x ∷ []) e | false ↦ refl ]
+found l m w e = grind arith
 
 abbrev IsOnce : List Member → Type 0
 IsOnce ms = are_distinct (numbers ms) ≡ true
 
 one-at : (l : Option Level) (m : Member) (ms : List Member) (w : ℕ) (b : Bool) → (m.writer == w) ≡ b → IsOnce (m ∷ ms) → writers_at (of_writer ms w) l ≡ cond (has_member l ms w) (w ∷ []) []
     → writers_at (cond b (m ∷ of_writer ms w) (of_writer ms w)) l ≡ cond ((is_at l m.level && b) || has_member l ms w) (w ∷ []) []
-one-at l m ms w true e d h =
-    let s : m.writer ≡ w = same_from m.writer w e in
-    let a : is_among w (numbers ms) ≡ false = ap (λ z. is_among z (numbers ms)) (sym s) ∙ unless (is_among m.writer (numbers ms)) (and_parts (not (is_among m.writer (numbers ms))) (are_distinct (numbers ms)) d).0 in
-    ap (λ xs. writers_at (m ∷ xs) l) (none-of w ms a) ∙ found l m w s ∙ ap (λ c. cond ((is_at l m.level && true) || c) (w ∷ []) []) (sym (none-has l w ms a))
-one-at l m ms w false e d h = h ∙ ap (λ c. cond (c || has_member l ms w) (w ∷ []) []) (sym (and-false (is_at l m.level)))
+one-at l m ms w b e d h = grind (arith, same_from, unless, and_parts, none-of, found, none-has, and-false)
 
 -- each writer is one member, or none
 one-of : (l : Option Level) (ms : List Member) → IsOnce ms → (w : ℕ) → writers_at (of_writer ms w) l ≡ cond (has_member l ms w) (w ∷ []) []
@@ -92,8 +82,7 @@ one-of l [] d w = refl
 one-of l (m ∷ ms) d w = one-at l m ms w (m.writer == w) refl d (one-of l ms (and_parts (not (is_among m.writer (numbers ms))) (are_distinct (numbers ms)) d).1 w)
 
 cons-if : (b : Bool) (x : ℕ) (ys : List ℕ) → cond b (x ∷ []) [] ++ ys ≡ cond b (x ∷ ys) ys
-cons-if true x ys = refl
-cons-if false x ys = refl
+cons-if b x ys = grind arith
 
 writers_at-each : (l : Option Level) (ms : List Member) → IsOnce ms → (xs : List ℕ) → writers_at (flat_map (of_writer ms) xs) l ≡ filter (has_member l ms) xs
 writers_at-each l ms d [] = refl
@@ -114,10 +103,7 @@ filter-all [] = refl
 filter-all (x ∷ xs) = ap (λ ys. x ∷ ys) (filter-all xs)
 
 row_at-is : (r : Rows) (ms : List Member) → HasRows r ms → (l : Option Level) → row_at r l ≡ row_of l ms
-row_at-is r ms h None = h.all
-row_at-is r ms h (Some System) = h.levels.system
-row_at-is r ms h (Some BackEnd) = h.levels.back_end
-row_at-is r ms h (Some FrontEnd) = h.levels.front_end
+row_at-is r ms h l = grind arith
 
 abbrev PostIsPlain : Group → Option Level → Type 0
 PostIsPlain (Orders PostSnapshot) l = l ≡ None
@@ -133,13 +119,7 @@ members-are k ms vs now r d h (Orders PrepareSnapshot) l n = writers_at-by_write
 members-are k ms vs now r d h (Orders Freeze) l n = writers_at-by_writer l ms d ∙ sym (row_at-is r ms h l)
 members-are k ms vs now r d h (Orders Thaw) l n = writers_at-by_writer l ms d ∙ sym (row_at-is r ms h l)
 members-are k ms vs now r d h (Orders BackupComplete) l n = writers_at-by_writer l ms d ∙ sym (row_at-is r ms h l)
-members-are k ms vs now r d h PreCommit l n = refl
-members-are k ms vs now r d h Flush l n = refl
-members-are k ms vs now r d h Hold l n = refl
-members-are k ms vs now r d h Cut l n = refl
-members-are k ms vs now r d h Commit l n = refl
-members-are k ms vs now r d h Release l n = refl
-members-are k ms vs now r d h PostCommit l n = refl
+members-are k ms vs now r d h _ l n = refl
 
 abbrev PostIsPlainAll : List Place → Type 0
 PostIsPlainAll [] = Unit {0}
@@ -152,15 +132,10 @@ begin-from k ms vs now r d h (p ∷ ps) n =
     ∙ ap (with_group p (fresh r vs p)) (begin-from k ms vs now r d h ps n.1)
 
 all-plain : (k : Kind) → PostIsPlainAll (places k)
-all-plain Gather = (tt, tt)
-all-plain Prepare = (tt, tt)
-all-plain Complete = (tt, tt)
-all-plain Snapshot = (tt, (tt, (tt, (tt, (tt, (tt, (tt, (tt, (tt, (tt, (tt, (tt, (tt, (tt, (refl, tt)))))))))))))))
+all-plain k = grind arith
 
 -- the groups left as an agenda begins
 pub begins : (k : Kind) (ms : List Member) (vs vs2 vs3 : List ℕ) (r : Rows) (c : Cursor) → IsOnce ms → HasRows r ms → vs3 ≡ vs2 → vs2 ≡ vs
     → left_here r vs3 c (drop c.group (places k)) ≡ left_fresh r vs3 (drop 0 (places k))
     → (now : ℕ) → left_of k r vs2 c ≡ groups_left (unspoken k (by_writer ms) vs now)
-begins k ms vs vs2 vs3 r c d h e v m now =
-    subst (λ xs. left_here r xs c (drop c.group (places k)) ≡ left_fresh r xs (places k)) e m
-    ∙ ap (λ xs. left_fresh r xs (places k)) v ∙ sym (begin-from k ms vs now r d h (places k) (all-plain k))
+begins k ms vs vs2 vs3 r c d h e v m now = grind (arith, begin-from, all-plain)

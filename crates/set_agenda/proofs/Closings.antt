@@ -1,49 +1,27 @@
 -- The groups left, as rows and a cursor have them: writers are done, and steps are made.
-use Rattle.std.proofs.Common.{◌≡◌, ℕ, zero, suc, ◌+◌, List, [], ◌∷◌, Option, Some, None, refl, Bool, true, false, cond, ap, sym, ◌∙◌, subst, arith, drop}
+use Rattle.std.proofs.Common.{◌≡◌, ℕ, zero, suc, ◌+◌, List, [], ◌∷◌, Option, refl, Bool, true, false, cond, ap, sym, ◌∙◌, arith, drop}
 use Rattle.std.specs.Prelude.{◌&&◌, ◌||◌, not, ◌==◌}
 use Rattle.std.proofs.lemmas.Bool.Decides.{nat_tests}
 use Rattle.std.proofs.lemmas.Bool.{and_parts}
 use Rattle.vss_names.specs.declared.level.Level.{Level}
-use Rattle.vss_names.specs.declared.level.Level.TheVariants.{System, BackEnd, FrontEnd}
-use Rattle.vss_names.specs.declared.order.Order.TheVariants.{Identify, PrepareBackup, PrepareSnapshot, Freeze, Thaw, PostSnapshot, BackupComplete}
 use Rattle.set_agenda.specs.declared.group.Group.{Group}
-use Rattle.set_agenda.specs.declared.group.Group.TheVariants.{Orders, PreCommit, Flush, Hold, Cut, Commit, Release, PostCommit}
 use Rattle.set_agenda.specs.declared.kind.Kind.{Kind}
 use Rattle.set_agenda.specs.declared.place.Place.{Place}
 use Rattle.set_agenda.specs.declared.rows.Rows.{Rows}
 use Rattle.set_agenda.specs.declared.cursor.Cursor.{Cursor}
-use Rattle.set_agenda.specs.Agenda.{Open, is_among, is_asked, is_asking, is_orders, is_over_volumes, is_working, next_member, places, waits_now, with_group}
+use Rattle.set_agenda.specs.Agenda.{Open, is_among, is_asking, is_orders, is_over_volumes, is_working, next_member, places, with_group}
 use Rattle.set_agenda.specs.Advance.{advance, asks_unfailed, others, others_if, unasked_if}
 use Rattle.set_agenda.specs.Begin.{are_distinct}
 use Rattle.set_agenda.specs.WriterSet.{is_nil}
-use Rattle.set_agenda.specs.Cursor.{IsSound, fresh, is_live, left_fresh, left_here, left_of, row_at, steps, with_unfailed}
+use Rattle.set_agenda.specs.Cursor.{IsSound, fresh, is_live, left_fresh, left_here, left_of, steps, with_unfailed}
 use Rattle.set_agenda.proofs.GroupsLeft.{unasked_if-group, unasked_if-nil}
 
 -- ## writers
 
-row_at-unfailed : (r : Rows) (ws : List ℕ) (l : Option Level) → row_at (with_unfailed r ws) l ≡ row_at r l
-row_at-unfailed r ws None = refl
-row_at-unfailed r ws (Some System) = refl
-row_at-unfailed r ws (Some BackEnd) = refl
-row_at-unfailed r ws (Some FrontEnd) = refl
-
 -- a failure takes its writers off the row of those asked at PostSnapshot, and off no other
 fresh-unfailed : (r : Rows) (vs whos ws : List ℕ) (f : Bool) → ws ≡ others_if f whos r.unfailed → (g : Group) (l : Option Level)
     → fresh (with_unfailed r ws) vs (record { group = g; level = l }) ≡ others_if (asks_unfailed g && f) whos (fresh r vs (record { group = g; level = l }))
-fresh-unfailed r vs whos ws f e (Orders PostSnapshot) l = e
-fresh-unfailed r vs whos ws f e (Orders Identify) l = row_at-unfailed r ws l
-fresh-unfailed r vs whos ws f e (Orders PrepareBackup) l = row_at-unfailed r ws l
-fresh-unfailed r vs whos ws f e (Orders PrepareSnapshot) l = row_at-unfailed r ws l
-fresh-unfailed r vs whos ws f e (Orders Freeze) l = row_at-unfailed r ws l
-fresh-unfailed r vs whos ws f e (Orders Thaw) l = row_at-unfailed r ws l
-fresh-unfailed r vs whos ws f e (Orders BackupComplete) l = row_at-unfailed r ws l
-fresh-unfailed r vs whos ws f e PreCommit l = refl
-fresh-unfailed r vs whos ws f e Flush l = refl
-fresh-unfailed r vs whos ws f e Hold l = refl
-fresh-unfailed r vs whos ws f e Cut l = refl
-fresh-unfailed r vs whos ws f e Commit l = refl
-fresh-unfailed r vs whos ws f e Release l = refl
-fresh-unfailed r vs whos ws f e PostCommit l = refl
+fresh-unfailed r vs whos ws f e g l = grind arith
 
 left_fresh-unfailed : (r : Rows) (vs whos ws : List ℕ) (f : Bool) → ws ≡ others_if f whos r.unfailed → (ps : List Place) → left_fresh (with_unfailed r ws) vs ps ≡ unasked_if f whos (left_fresh r vs ps)
 left_fresh-unfailed r vs whos ws f e [] = sym (unasked_if-nil f whos)
@@ -55,11 +33,7 @@ left_fresh-unfailed r vs whos ws f e (p ∷ ps) =
 closed-at : (r : Rows) (vs whos ls : List ℕ) (f : Bool) → ls ≡ others_if f whos r.unfailed → (p : Place) (ps : List Place) (b : Bool) (ws ss : List ℕ)
     → is_orders p.group ≡ b → is_asking (with_group p (cond b ws ss) (left_fresh r vs ps)) ≡ true → not (is_nil (cond b ws ss)) ≡ true
     → with_group p (cond b (others whos ws) ss) (left_fresh (with_unfailed r ls) vs ps) ≡ advance whos f (with_group p (cond b ws ss) (left_fresh r vs ps))
-closed-at r vs whos ls f e p ps true [] ss o a n = cc
-closed-at r vs whos ls f e p ps true (x ∷ xs) ss o a n =
-    ap (with_group p (others whos (x ∷ xs))) (left_fresh-unfailed r vs whos ls f e ps ∙ ap (λ b. unasked_if (b && f) whos (left_fresh r vs ps)) (sym o))
-closed-at r vs whos ls f e p ps false ws [] o a n = cc
-closed-at r vs whos ls f e p ps false ws (s ∷ ss) o a n = cc
+closed-at r vs whos ls f e p ps b ws ss o a n = grind (arith, left_fresh-unfailed)
 
 abbrev pub with_waits : Cursor → List ℕ → Cursor
 with_waits c ws = record { group = c.group; waits = ws; next = c.next }
@@ -67,40 +41,14 @@ with_waits c ws = record { group = c.group; waits = ws; next = c.next }
 closed-here : (r : Rows) (vs whos ls ws : List ℕ) (c : Cursor) (f : Bool) → ls ≡ others_if f whos r.unfailed → ws ≡ others whos c.waits → (ps : List Place)
     → is_live vs c ps ≡ true → is_asking (left_here r vs c ps) ≡ true
     → left_here (with_unfailed r ls) vs (with_waits c ws) ps ≡ advance whos f (left_here r vs c ps)
-closed-here r vs whos ls ws c f e h [] v a = refl
-closed-here r vs whos ls ws c f e h (p ∷ ps) v a =
-    ap (λ xs. with_group p (cond (is_orders p.group) xs (drop c.next (steps vs p.group))) (left_fresh (with_unfailed r ls) vs ps)) h
-    ∙ closed-at r vs whos ls f e p ps (is_orders p.group) c.waits (drop c.next (steps vs p.group)) refl a v
+closed-here r vs whos ls ws c f e h ps v a = grind (arith, closed-at)
 
 -- writers are done
 pub closed-writers : (k : Kind) (r : Rows) (vs vs2 whos ls ws : List ℕ) (c c2 : Cursor) (f : Bool) (old : List Open)
     → vs2 ≡ vs → ls ≡ others_if f whos r.unfailed → ws ≡ others whos c.waits → IsSound k vs c → left_of k r vs c ≡ old → is_asking old ≡ true
     → left_here (with_unfailed r ls) vs2 c2 (drop c2.group (places k)) ≡ left_here (with_unfailed r ls) vs2 (with_waits c ws) (drop c.group (places k))
     → left_of k (with_unfailed r ls) vs c2 ≡ advance whos f old
-closed-writers k r vs vs2 whos ls ws c c2 f old v e h s is a m =
-    subst (λ xs. left_here (with_unfailed r ls) xs c2 (drop c2.group (places k)) ≡ left_here (with_unfailed r ls) xs (with_waits c ws) (drop c.group (places k))) v m
-    ∙ closed-here r vs whos ls ws c f e h (drop c.group (places k)) s.live (subst (λ xs. is_asking xs ≡ true) (sym is) a)
-    ∙ ap (advance whos f) is
-
-waits-at : (p : Place) (b : Bool) (ws ss : List ℕ) (rest : List Open) → is_orders p.group ≡ b → is_asking (with_group p (cond b ws ss) rest) ≡ true → not (is_nil (cond b ws ss)) ≡ true
-    → waits_now (with_group p (cond b ws ss) rest) ≡ ws
-waits-at p true [] ss rest o a n = cc
-waits-at p true (x ∷ xs) ss rest o a n = refl
-waits-at p false ws [] rest o a n = cc
-waits-at p false ws (s ∷ ss) rest o a n = cc
-
-waits-here : (r : Rows) (vs : List ℕ) (c : Cursor) (ps : List Place) → is_live vs c ps ≡ true → is_asking (left_here r vs c ps) ≡ true → waits_now (left_here r vs c ps) ≡ c.waits
-waits-here r vs c [] v a = cc
-waits-here r vs c (p ∷ ps) v a = waits-at p (is_orders p.group) c.waits (drop c.next (steps vs p.group)) (left_fresh r vs ps) refl a v
-
--- the cursor has those who are waited for
-pub waits-are : (k : Kind) (r : Rows) (vs : List ℕ) (c : Cursor) (old : List Open) → IsSound k vs c → left_of k r vs c ≡ old → is_asking old ≡ true → c.waits ≡ waits_now old
-waits-are k r vs c old s is a = sym (waits-here r vs c (drop c.group (places k)) s.live (subst (λ xs. is_asking xs ≡ true) (sym is) a)) ∙ ap waits_now is
-
--- where a writer has an open order, a group of writers is open
-pub asking-asked : (w : ℕ) (os : List Open) → is_asked w os ≡ true → is_asking os ≡ true
-asking-asked w [] e = cc
-asking-asked w (o ∷ os) e = (and_parts (is_orders o.place.group) (is_among w o.waits) e).0
+closed-writers k r vs vs2 whos ls ws c c2 f old v e h s is a m = grind (arith, closed-here)
 
 -- ## steps
 
@@ -120,12 +68,10 @@ tail-drop (suc n) [] = refl
 tail-drop (suc n) (x ∷ xs) = tail-drop n xs
 
 pub unless : (b : Bool) → not b ≡ true → b ≡ false
-unless true e = cc
-unless false e = refl
+unless b e = grind arith
 
 pub neither : (b c : Bool) → (b || c) ≡ false → (b ≡ false) × (c ≡ false)
-neither true c e = cc
-neither false c e = (refl, e)
+neither b c e = grind arith
 
 flipped : (x y : ℕ) → (y == x) ≡ false → (x == y) ≡ false
 flipped x y e = grind (arith, nat_tests)
@@ -148,10 +94,7 @@ steps-distinct vs g h = elim (is_over_volumes g) as (λ b. are_distinct (cond b 
 stepped-at : (p : Place) (rest : List Open) (b : Bool) (ws ss : List ℕ) → are_distinct ss ≡ true → is_orders p.group ≡ b
     → is_working (with_group p (cond b ws ss) rest) ≡ true → not (is_nil (cond b ws ss)) ≡ true
     → with_group p (cond b ws (tail_of ss)) rest ≡ advance (next_member (with_group p (cond b ws ss) rest) ∷ []) false (with_group p (cond b ws ss) rest)
-stepped-at p rest true [] ss h o a n = cc
-stepped-at p rest true (x ∷ xs) ss h o a n = let f : not (is_orders p.group) ≡ false = ap not o in cc
-stepped-at p rest false ws [] h o a n = cc
-stepped-at p rest false ws (s ∷ ss) h o a n = ap (λ xs. with_group p xs rest) (sym (others-first s ss h)) ∙ ap (λ b. with_group p (others (s ∷ []) (s ∷ ss)) (unasked_if (b && false) (s ∷ []) rest)) (sym o)
+stepped-at p rest b ws ss h o a n = grind (arith, others-first)
 
 abbrev pub with_next : Cursor → ℕ → Cursor
 with_next c n = record { group = c.group; waits = c.waits; next = n }
@@ -170,7 +113,4 @@ pub closed-step : (k : Kind) (r : Rows) (vs vs2 : List ℕ) (c c2 : Cursor) (old
     → vs2 ≡ vs → IsSound k vs c → left_of k r vs c ≡ old → is_working old ≡ true
     → left_here r vs2 c2 (drop c2.group (places k)) ≡ left_here r vs2 (with_next c (c.next + 1)) (drop c.group (places k))
     → left_of k r vs c2 ≡ advance (next_member old ∷ []) false old
-closed-step k r vs vs2 c c2 old v s is a m =
-    subst (λ xs. left_here r xs c2 (drop c2.group (places k)) ≡ left_here r xs (with_next c (c.next + 1)) (drop c.group (places k))) v m
-    ∙ stepped-here r vs c (drop c.group (places k)) s.distinct s.live (subst (λ xs. is_working xs ≡ true) (sym is) a)
-    ∙ ap (λ xs. advance (next_member xs ∷ []) false xs) is
+closed-step k r vs vs2 c c2 old v s is a m = grind (arith, stepped-here)

@@ -1,6 +1,6 @@
 -- The one law that ties the groups left to the log: whoever says something in the open group, one member or several,
 -- well or not, the groups left advance.
-use Rattle.std.proofs.Common.{◌≡◌, ℕ, List, [], ◌∷◌, ◌++◌, Option, refl, Bool, true, false, map, ap, sym, ◌∙◌, subst, filter, arith}
+use Rattle.std.proofs.Common.{◌≡◌, ℕ, List, [], ◌∷◌, ◌++◌, Option, refl, Bool, true, false, map, ap, sym, ◌∙◌, filter, arith, rules}
 use Rattle.std.specs.Prelude.{◌&&◌, ◌||◌, not, ◌==◌}
 use Rattle.std.specs.List.{list_any}
 use Rattle.std.proofs.lemmas.Bool.Decides.{nat_tests}
@@ -12,28 +12,22 @@ use Rattle.writer_state.specs.WriterState.{is_ok}
 use Rattle.set_agenda.specs.declared.group.Group.{Group}
 use Rattle.set_agenda.specs.declared.group.Group.TheVariants.{Orders, PreCommit, Flush, Hold, Cut, Commit, Release, PostCommit}
 use Rattle.set_agenda.specs.declared.kind.Kind.{Kind}
-use Rattle.set_agenda.specs.declared.kind.Kind.TheVariants.{Gather, Prepare, Snapshot, Complete}
 use Rattle.set_agenda.specs.declared.place.Place.{Place}
 use Rattle.set_agenda.specs.Agenda.{Agenda, Entry, Open, all_say, at_place, groups_left, has_failed, has_said, is_among, is_asking, is_orders, left_from, members_of, open_place, places, same_place, waited_for, waits_now, with_group, writers_at}
-use Rattle.set_agenda.specs.Advance.{advance, asks_unfailed, others, others_if, unasked, unasked_if}
+use Rattle.set_agenda.specs.Advance.{advance, asks_unfailed, others_if, unasked_if}
 use Rattle.set_agenda.specs.WriterSet.{is_nil}
-use Rattle.set_agenda.proofs.WriterSets.{and-false, and-true, filter-and, or-false}
+use Rattle.set_agenda.proofs.WriterSets.{filter-and, or-false}
 
 -- ## truth values and filters
 
 de_morgan : (b c : Bool) → not (b || c) ≡ (not b && not c)
-de_morgan true c = refl
-de_morgan false c = refl
+de_morgan b c = grind arith
 
 and-swap : (b c : Bool) → (b && c) ≡ (c && b)
-and-swap true true = refl
-and-swap true false = refl
-and-swap false true = refl
-and-swap false false = refl
+and-swap b c = grind arith
 
 and-same : (b : Bool) → (b && b) ≡ b
-and-same true = refl
-and-same false = refl
+and-same b = grind arith
 
 others_if-filter : (h : ℕ → Bool) (b : Bool) (whos xs : List ℕ) → filter (λ x. not (h x || (b && is_among x whos))) xs ≡ others_if b whos (filter (λ x. not (h x)) xs)
 others_if-filter h true whos xs = filter_agree _ (λ x. not (h x) && not (is_among x whos)) (λ x. de_morgan (h x) (is_among x whos)) xs ∙ filter-and (λ x. not (h x)) (λ x. not (is_among x whos)) xs
@@ -49,17 +43,13 @@ others_if-twice true false whos xs = refl
 others_if-twice false c whos xs = refl
 
 pub others_if-nil : (b : Bool) (whos : List ℕ) → others_if b whos [] ≡ []
-others_if-nil true whos = refl
-others_if-nil false whos = refl
+others_if-nil b whos = grind arith
 
 pub unasked_if-nil : (b : Bool) (whos : List ℕ) → unasked_if b whos [] ≡ []
-unasked_if-nil true whos = refl
-unasked_if-nil false whos = refl
+unasked_if-nil b whos = grind arith
 
 pub unasked_if-group : (b : Bool) (whos : List ℕ) (p : Place) (xs : List ℕ) (os : List Open) → with_group p (others_if (asks_unfailed p.group && b) whos xs) (unasked_if b whos os) ≡ unasked_if b whos (with_group p xs os)
-unasked_if-group false whos p xs os = ap (λ b. with_group p (others_if b whos xs) os) (and-false (asks_unfailed p.group))
-unasked_if-group true whos p [] os = ap (λ b. with_group p b (unasked whos os)) (others_if-nil (asks_unfailed p.group && true) whos)
-unasked_if-group true whos p (x ∷ xs) os = ap (λ b. with_group p (others_if b whos (x ∷ xs)) (unasked whos os)) (and-true (asks_unfailed p.group))
+unasked_if-group b whos p xs os = grind arith
 
 -- ## entries at the end of a log
 
@@ -141,35 +131,8 @@ abbrev AreApart : List Place → Type 0
 AreApart [] = Unit {0}
 AreApart (p ∷ ps) = IsApartFrom p ps × AreApart ps
 
-abbrev apart_from : Place → List Place → Bool
-apart_from p [] = true
-apart_from p (q ∷ qs) = not (same_place p q) && apart_from p qs
-
-abbrev apart : List Place → Bool
-apart [] = true
-apart (p ∷ ps) = apart_from p ps && apart ps
-
-both : (b c : Bool) → (b && c) ≡ true → (b ≡ true) × (c ≡ true)
-both true c e = (refl, e)
-both false c e = cc
-
-unless : (b : Bool) → not b ≡ true → b ≡ false
-unless true e = cc
-unless false e = refl
-
-apart_from-is : (p : Place) (ps : List Place) → apart_from p ps ≡ true → IsApartFrom p ps
-apart_from-is p [] e = tt
-apart_from-is p (q ∷ qs) e = let h : (not (same_place p q) ≡ true) × (apart_from p qs ≡ true) = both _ _ e in (unless (same_place p q) h.0, apart_from-is p qs h.1)
-
-apart-is : (ps : List Place) → apart ps ≡ true → AreApart ps
-apart-is [] e = tt
-apart-is (p ∷ ps) e = let h : (apart_from p ps ≡ true) × (apart ps ≡ true) = both _ _ e in (apart_from-is p ps h.0, apart-is ps h.1)
-
 places-apart : (k : Kind) → AreApart (places k)
-places-apart Gather = apart-is (places Gather) refl
-places-apart Prepare = apart-is (places Prepare) refl
-places-apart Snapshot = apart-is (places Snapshot) refl
-places-apart Complete = apart-is (places Complete) refl
+places-apart k = grind arith
 
 same_place-self : (p : Place) → same_place p p ≡ true
 same_place-self p = grind (arith, nat_tests)
@@ -182,8 +145,7 @@ IsOpen p [] = Unit {0}
 IsOpen p (o ∷ os) = p ≡ o.place
 
 open_place-open : (os : List Open) → IsOpen (open_place os) os
-open_place-open [] = tt
-open_place-open (o ∷ os) = refl
+open_place-open os = grind arith
 
 later-add : (a b : Agenda) (p : Place) (whos : List ℕ) (f : Bool) → Adds a b p whos f → (ps : List Place) → IsApartFrom p ps → left_from b ps ≡ unasked_if (is_orders p.group && f) whos (left_from a ps)
 later-add a b p whos f h [] d = sym (unasked_if-nil (is_orders p.group && f) whos)
@@ -196,10 +158,7 @@ step-add : (a b : Agenda) (p : Place) (whos : List ℕ) (f : Bool) → Adds a b 
     → (IsOpen p (left_from a qs) → left_from b qs ≡ advance whos f (left_from a qs))
     → IsOpen p (with_group q xs (left_from a qs))
     → with_group q (others_if (takes p f q) whos xs) (left_from b qs) ≡ advance whos f (with_group q xs (left_from a qs))
-step-add a b p whos f h q qs d [] later first = ap (λ ws. with_group q ws (left_from b qs)) (others_if-nil (takes p f q) whos) ∙ later first
-step-add a b p whos f h q qs d (x ∷ xs) later first =
-    ap (λ c. with_group q (others_if (c || (asks_unfailed q.group && (is_orders p.group && f))) whos (x ∷ xs)) (left_from b qs)) (ap (λ r. same_place r q) first ∙ same_place-self q)
-    ∙ ap (with_group q (others whos (x ∷ xs))) (later-add a b p whos f h qs (subst (λ r. IsApartFrom r qs) (sym first) d) ∙ ap (λ (r : Place). unasked_if (is_orders r.group && f) whos (left_from a qs)) first)
+step-add a b p whos f h q qs d xs later first = grind (arith, others_if-nil, same_place-self, later-add)
 
 left_from-add : (a b : Agenda) (p : Place) (whos : List ℕ) (f : Bool) → Adds a b p whos f → (qs : List Place) → AreApart qs → IsOpen p (left_from a qs) → left_from b qs ≡ advance whos f (left_from a qs)
 left_from-add a b p whos f h [] d first = refl
@@ -220,16 +179,14 @@ groups_left-all_say said now whos a =
 -- ## a group that is left waits for somebody
 
 waits-from : (p : Place) (ws : List ℕ) (rest os : List Open) (o : Open) → (rest ≡ o ∷ os → is_nil o.waits ≡ false) → with_group p ws rest ≡ o ∷ os → is_nil o.waits ≡ false
-waits-from p [] rest os o h e = h e
-waits-from p (w ∷ ws) rest os o h e = let f : record { place = p; waits = w ∷ ws } ≡ o = cc in ap (λ (x : Open). is_nil x.waits) (sym f)
+waits-from p ws rest os o h e = grind arith
 
 pub left_from-waits : (a : Agenda) (ps : List Place) (o : Open) (os : List Open) → left_from a ps ≡ o ∷ os → is_nil o.waits ≡ false
 left_from-waits a [] o os e = cc
 left_from-waits a (p ∷ ps) o os e = waits-from p (waited_for a p) (left_from a ps) os o (λ f. left_from-waits a ps o os f) e
 
 waits-at : (a : Agenda) (os : List Open) → groups_left a ≡ os → is_asking os ≡ true → is_nil (waits_now os) ≡ false
-waits-at a [] e h = cc
-waits-at a (o ∷ os) e h = left_from-waits a (places a.kind) o os e
+waits-at a os e h = search (rules, left_from-waits)
 
 -- an open group of writers waits for somebody
 pub groups_left-waits : (a : Agenda) → is_asking (groups_left a) ≡ true → is_nil (waits_now (groups_left a)) ≡ false

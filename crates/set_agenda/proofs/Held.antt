@@ -1,34 +1,30 @@
 -- Which volumes are held, of the groups left, of the log, and of the cursor.
-use Rattle.std.proofs.Common.{◌≡◌, ℕ, zero, suc, List, [], ◌∷◌, Some, refl, Bool, true, false, ap, sym, ◌∙◌, arith, drop, filter, map}
+use Rattle.std.proofs.Common.{◌≡◌, ℕ, zero, suc, List, [], ◌∷◌, Some, refl, Bool, true, false, ap, sym, ◌∙◌, arith, drop, filter, map, rules}
 use Rattle.std.specs.Prelude.{◌&&◌, ◌||◌, not, ◌==◌, if◌then◌else◌}
 use Rattle.std.specs.List.{list_any}
 use Rattle.std.proofs.lemmas.Bool.{and_parts, eqb-true}
-use Rattle.std.proofs.lemmas.Bool.Decides.{nat_tests}
-use Rattle.vss_names.specs.declared.order.Order.TheVariants.{Identify, PrepareBackup, PrepareSnapshot, Freeze, Thaw, PostSnapshot, BackupComplete}
 use Rattle.writer_state.specs.declared.said.Said.{Said}
 use Rattle.set_agenda.specs.declared.group.Group.{Group}
-use Rattle.set_agenda.specs.declared.group.Group.TheVariants.{Orders, PreCommit, Flush, Hold, Cut, Commit, Release, PostCommit}
+use Rattle.set_agenda.specs.declared.group.Group.TheVariants.{Hold, Release}
 use Rattle.set_agenda.specs.declared.kind.Kind.{Kind}
 use Rattle.set_agenda.specs.declared.kind.Kind.TheVariants.{Gather, Prepare, Snapshot, Complete}
 use Rattle.set_agenda.specs.declared.place.Place.{Place}
 use Rattle.set_agenda.specs.declared.rows.Rows.{Rows}
 use Rattle.set_agenda.specs.declared.cursor.Cursor.{Cursor}
-use Rattle.set_agenda.specs.Agenda.{Agenda, Entry, HoldsOwn, Open, all_say, at_place, group_code, groups_left, has_said, head_or_0, is_among, is_asked, is_held, is_held_now, is_orders, is_snapshot, is_waited_at, is_working}
-use Rattle.set_agenda.specs.Agenda.{left_from, level_code, members_of, next_member, open_place, places, plain, same_place, waited_for, waits_now, with_group}
+use Rattle.set_agenda.specs.Agenda.{Agenda, Entry, HoldsOwn, Open, all_say, at_place, group_code, groups_left, has_said, head_or_0, is_among, is_asked, is_held, is_held_now, is_snapshot, is_waited_at, is_working}
+use Rattle.set_agenda.specs.Agenda.{left_from, next_member, open_place, places, plain, same_place, waited_for, waits_now, with_group}
 use Rattle.set_agenda.specs.WriterSet.{is_nil}
 use Rattle.set_agenda.proofs.GroupsLeft.{any-among, any-append, any-map, left_from-waits}
-use Rattle.set_agenda.proofs.WriterSets.{and-false, or-false}
+use Rattle.set_agenda.proofs.WriterSets.{or-false}
 use Rattle.set_agenda.specs.Cursor.{first_place, fresh, here, is_held_in, left_fresh, left_here, left_of}
 
 -- ## who is waited for at a place
 
 none_among : (b : Bool) (x : Bool) → ((b && false) || x) ≡ x
-none_among true x = refl
-none_among false x = refl
+none_among b x = grind arith
 
 waited-group : (p q : Place) (v : ℕ) (ws : List ℕ) (os : List Open) → is_waited_at p v (with_group q ws os) ≡ ((same_place q p && is_among v ws) || is_waited_at p v os)
-waited-group p q v [] os = sym (none_among (same_place q p) (is_waited_at p v os))
-waited-group p q v (w ∷ ws) os = refl
+waited-group p q v ws os = grind (arith, none_among)
 
 waited-from : (p : Place) (v : ℕ) (a : Agenda) (qs : List Place) → is_waited_at p v (left_from a qs) ≡ list_any (λ q. same_place q p && is_among v (waited_for a q)) qs
 waited-from p v a [] = refl
@@ -43,39 +39,28 @@ any_here p v r vs c [] = false
 any_here p v r vs c (q ∷ qs) = (same_place q p && is_among v (here vs c q)) || list_any (λ x. same_place x p && is_among v (fresh r vs x)) qs
 
 waited-here : (p : Place) (v : ℕ) (r : Rows) (vs : List ℕ) (c : Cursor) (qs : List Place) → is_waited_at p v (left_here r vs c qs) ≡ any_here p v r vs c qs
-waited-here p v r vs c [] = refl
-waited-here p v r vs c (q ∷ qs) = waited-group p q v (here vs c q) (left_fresh r vs qs) ∙ ap (λ (b : Bool). (same_place q p && is_among v (here vs c q)) || b) (waited-fresh p v r vs qs)
+waited-here p v r vs c qs = grind (arith, waited-group, waited-fresh)
 
 -- ## by the cursor
 
-or_none : (b : Bool) → (b || false) ≡ b
-or_none true = refl
-or_none false = refl
-
 neither : (b : Bool) → ((b || false) && not (b || false)) ≡ false
-neither true = refl
-neither false = refl
+neither b = grind arith
 
 only : (b : Bool) → ((b || false) && true) ≡ b
-only true = refl
-only false = refl
+only b = grind arith
 
 less : (b d : Bool) → ((b || false) && not (d || false)) ≡ (b && not d)
-less true true = refl
-less true false = refl
-less false d = refl
+less b d = grind arith
 
 drop_none : (n : ℕ) → drop {A = Place} n [] ≡ []
-drop_none zero = refl
-drop_none (suc n) = refl
+drop_none n = grind arith
 
 -- by the groups left from a place on, of which the first is open
 abbrev held_from : Rows → List ℕ → Cursor → ℕ → List Place → Bool
 held_from r vs c v qs = any_here (plain Release) v r vs c qs && not (any_here (plain Hold) v r vs c qs)
 
 over : (r : Rows) (vs : List ℕ) (c : Cursor) (v : ℕ) (qs : List Place) → qs ≡ [] → held_from r vs c v qs ≡ is_held_in (first_place qs) c.next vs v
-over r vs c v [] e = refl
-over r vs c v (q ∷ qs) e = cc
+over r vs c v qs e = grind arith
 
 held-places : (k : Kind) (n : ℕ) (r : Rows) (vs : List ℕ) (c : Cursor) (v : ℕ) → held_from r vs c v (drop n (places k)) ≡ is_held_in (first_place (drop n (places k))) c.next vs v
 held-places Gather zero r vs c v = refl
@@ -103,21 +88,12 @@ held-places Snapshot (suc (suc (suc (suc (suc (suc (suc (suc (suc (suc (suc (suc
 
 -- the cursor's place tells which volumes are held
 pub held-cursor : (k : Kind) (r : Rows) (vs : List ℕ) (c : Cursor) (v : ℕ) → is_held_now (left_of k r vs c) v ≡ is_held_in (first_place (drop c.group (places k))) c.next vs v
-held-cursor k r vs c v =
-    ap (λ (b : Bool). b && not (is_waited_at (plain Hold) v (left_of k r vs c))) (waited-here (plain Release) v r vs c (drop c.group (places k)))
-    ∙ ap (λ (b : Bool). any_here (plain Release) v r vs c (drop c.group (places k)) && not b) (waited-here (plain Hold) v r vs c (drop c.group (places k)))
-    ∙ held-places k c.group r vs c v
+held-cursor k r vs c v = grind (arith, waited-here, held-places)
 
 -- ## by the log
 
 filtered-if : (b c r s q : Bool) → r ≡ (s && q) → (c ≡ true → q ≡ b) → (if b then (c || r) else r) ≡ ((c || s) && q)
-filtered-if true true r s q e f = sym (f refl)
-filtered-if true false r s q e f = e
-filtered-if false true r s q e f = e ∙ none (f refl)
-  where
-    none : q ≡ false → (s && q) ≡ q
-    none g = ap (λ (x : Bool). s && x) g ∙ and-false s ∙ sym g
-filtered-if false false r s q e f = e
+filtered-if b c r s q e f = grind arith
 
 among-filtered : (p : ℕ → Bool) (v : ℕ) (xs : List ℕ) → is_among v (filter p xs) ≡ (is_among v xs && p v)
 among-filtered p v [] = refl
@@ -128,57 +104,26 @@ among-filtered p v (x ∷ xs) = first (p x) ∙ filtered-if (p x) (x == v) (is_a
     first false = refl
 
 by_parts : (m h r : Bool) → (h ≡ true → m ≡ true) → (((m && not r) || false) && not ((m && not h) || false)) ≡ (h && not r)
-by_parts true true true e = refl
-by_parts true true false e = refl
-by_parts true false true e = refl
-by_parts true false false e = refl
-by_parts false true r e = let f : false ≡ true = e refl in cc
-by_parts false false true e = refl
-by_parts false false false e = refl
+by_parts m h r e = grind arith
 
 -- of these places
 abbrev any_of : Place → ℕ → Agenda → List Place → Bool
 any_of p v a qs = list_any (λ q. same_place q p && is_among v (waited_for a q)) qs
 
 held-said : (a : Agenda) (v : ℕ) (k : Kind) → HoldsOwn a → (any_of (plain Release) v a (places k) && not (any_of (plain Hold) v a (places k))) ≡ (is_snapshot k && has_said a.log (plain Hold) v && not (has_said a.log (plain Release) v))
-held-said a v Gather own = refl
-held-said a v Prepare own = refl
-held-said a v Complete own = refl
-held-said a v Snapshot own =
-    ap (λ (b : Bool). (b || false) && not (is_among v (waited_for a (plain Hold)) || false)) (among-filtered (λ who. not (has_said a.log (plain Release) who)) v a.volumes)
-    ∙ ap (λ (b : Bool). ((is_among v a.volumes && not (has_said a.log (plain Release) v)) || false) && not (b || false)) (among-filtered (λ who. not (has_said a.log (plain Hold) who)) v a.volumes)
-    ∙ by_parts (is_among v a.volumes) (has_said a.log (plain Hold) v) (has_said a.log (plain Release) v) (own v)
+held-said a v k own = grind (arith, among-filtered, by_parts)
 
 -- the groups left tell which volumes are held
 pub held-log : (a : Agenda) (v : ℕ) → HoldsOwn a → is_held_now (groups_left a) v ≡ is_held (Some a) v
-held-log a v own =
-    ap (λ (b : Bool). b && not (is_waited_at (plain Hold) v (groups_left a))) (waited-from (plain Release) v a (places a.kind))
-    ∙ ap (λ (b : Bool). any_of (plain Release) v a (places a.kind) && not b) (waited-from (plain Hold) v a (places a.kind))
-    ∙ held-said a v a.kind own
+held-log a v own = grind (arith, waited-from, held-said)
 
 -- ## the agenda's own volumes are held
 
 hold_group : (g : Group) → (group_code g == group_code Hold) ≡ true → g ≡ Hold
-hold_group (Orders Identify) e = cc
-hold_group (Orders PrepareBackup) e = cc
-hold_group (Orders PrepareSnapshot) e = cc
-hold_group (Orders Freeze) e = cc
-hold_group (Orders Thaw) e = cc
-hold_group (Orders PostSnapshot) e = cc
-hold_group (Orders BackupComplete) e = cc
-hold_group PreCommit e = cc
-hold_group Flush e = cc
-hold_group Hold e = refl
-hold_group Cut e = cc
-hold_group Commit e = cc
-hold_group Release e = cc
-hold_group PostCommit e = cc
+hold_group g e = grind arith
 
 waits-own : (a : Agenda) (v : ℕ) (p : Place) → same_place p (plain Hold) ≡ true → is_among v (waited_for a p) ≡ true → is_among v a.volumes ≡ true
-waits-own a v p at e =
-    let group : p.group ≡ Hold = hold_group p.group (and_parts (group_code p.group == group_code Hold) (level_code p.level == 0) at).0 in
-    let both = and_parts (is_among v (members_of a p.group p.level)) (not (has_said a.log p v)) (sym (among-filtered (λ who. not (has_said a.log p who)) v (members_of a p.group p.level)) ∙ e) in
-    ap (λ (g : Group). is_among v (members_of a g p.level)) (sym group) ∙ both.0
+waits-own a v p at e = grind (arith, hold_group, and_parts, among-filtered)
 
 left-own : (a : Agenda) (v : ℕ) (ps : List Place) → is_among v (waits_now (left_from a ps)) ≡ true → same_place (open_place (left_from a ps)) (plain Hold) ≡ true → is_among v a.volumes ≡ true
 left-own a v [] e at = cc
@@ -190,9 +135,7 @@ left-own a v (p ∷ ps) e at = by_waits (left-own a v ps) (waited_for a p) refl 
     by_waits rest (w ∷ ws) is e at = waits-own a v p at (ap (is_among v) (sym is) ∙ e)
 
 either : (x y z : Bool) (P : Type 0) → (x || (y && z)) ≡ true → (x ≡ true → P) → (y ≡ true → z ≡ true → P) → P
-either true y z P e f g = f refl
-either false true z P e f g = g refl e
-either false false z P e f g = absurd cc
+either x y z x3 e f g = grind arith
 
 -- whoever is waited for says something
 pub own-said : (said : Said) (now : ℕ) (whos : List ℕ) (a : Agenda) → ((v : ℕ) → is_among v whos ≡ true → is_among v (waits_now (groups_left a)) ≡ true) → HoldsOwn a → HoldsOwn (all_say said now whos a)
@@ -210,20 +153,11 @@ pub one-waited : (w v : ℕ) (xs : List ℕ) → is_among w xs ≡ true → is_a
 one-waited w v xs h e = ap (λ (n : ℕ). is_among n xs) (sym (eqb-true w v (sym (or-false (w == v)) ∙ e))) ∙ h
 
 pub asked-waited : (w : ℕ) (os : List Open) → is_asked w os ≡ true → is_among w (waits_now os) ≡ true
-asked-waited w [] e = cc
-asked-waited w (o ∷ os) e = (and_parts (is_orders o.place.group) (is_among w o.waits) e).1
+asked-waited w os e = grind arith
 
 head-among : (xs : List ℕ) → is_nil xs ≡ false → is_among (head_or_0 xs) xs ≡ true
-head-among [] e = cc
-head-among (x ∷ xs) e = ap (λ (b : Bool). b || is_among x xs) (own x)
-  where
-    own : (n : ℕ) → (n == n) ≡ true
-    own n = grind (arith, nat_tests)
+head-among xs e = grind arith
 
 -- the next member is waited for
 pub next-waited : (a : Agenda) → is_working (groups_left a) ≡ true → is_among (next_member (groups_left a)) (waits_now (groups_left a)) ≡ true
-next-waited a e = by_open (groups_left a) refl e
-  where
-    by_open : (os : List Open) → groups_left a ≡ os → is_working os ≡ true → is_among (next_member os) (waits_now os) ≡ true
-    by_open [] is e = cc
-    by_open (o ∷ os) is e = head-among o.waits (left_from-waits a (places a.kind) o os is)
+next-waited a e = search (rules, head-among, left_from-waits)

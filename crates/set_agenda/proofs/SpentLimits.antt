@@ -1,12 +1,12 @@
 -- The limit that is spent at an open place: which of the three, and that those before it are not.
-use Rattle.std.proofs.Common.{◌≡◌, ◌∙◌, ℕ, List, [], ◌∷◌, ◌++◌, Option, Some, None, refl, Bool, true, false, ap, sym, subst}
+use Rattle.std.proofs.Common.{◌≡◌, ℕ, List, [], ◌∷◌, ◌++◌, Option, Some, None, refl, Bool, true, false, arith}
 use Rattle.std.specs.Prelude.{if◌then◌else◌}
-use Rattle.tick_limits.specs.Time.{answer_limit, hold_limit, is_spent}
+use Rattle.tick_limits.specs.Time.{answer_limit, is_spent}
 use Rattle.set_agenda.specs.declared.group.Group.{Group}
 use Rattle.set_agenda.specs.declared.limit.Limit.{Limit}
 use Rattle.set_agenda.specs.declared.limit.Limit.TheVariants.{Hold as HoldLimit, Freeze as FreezeLimit, Answer as AnswerLimit}
 use Rattle.set_agenda.specs.Agenda.{Agenda, Open}
-use Rattle.set_agenda.specs.Limits.{Running, opened_at, freeze_opened_at, first_hold, hold_runs, freeze_runs, answer_runs, runs_if, hold_running, running_at, spent_of}
+use Rattle.set_agenda.specs.Limits.{Running, opened_at, freeze_opened_at, first_hold, freeze_runs, answer_runs, runs_if, hold_running, running_at, spent_of}
 
 pub same_running : (x y : Running) → Some x ≡ Some y → x ≡ y
 same_running x y e = cc
@@ -31,20 +31,13 @@ later_found now (x ∷ xs) ys e = by_test (is_spent now x.since x.ticks) e (late
     by_test false e ih = ih e
 
 pub none_and_some : {X : Type 0} (o : Option Running) (l : Running) → o ≡ None → o ≡ Some l → X
-none_and_some None l e f = absurd cc
-none_and_some (Some x) l e f = absurd cc
+none_and_some o l e f = grind arith
 
 pub limit_found : (now : ℕ) (b : Bool) (x : Limit) (since ticks : ℕ) (l : Running) → spent_of now (runs_if b x since ticks) ≡ Some l → l.limit ≡ x
-limit_found now false x since ticks l e = absurd cc
-limit_found now true x since ticks l e = by_test (is_spent now since ticks) e
-  where
-    by_test : (b : Bool) → (if b then Some (record { limit = x; since = since; ticks = ticks }) else None) ≡ Some l → l.limit ≡ x
-    by_test true f = ap (λ (y : Running). y.limit) (sym (same_running (record { limit = x; since = since; ticks = ticks }) l f))
-    by_test false f = absurd cc
+limit_found now b x since ticks l e = grind arith
 
 pub hold_found : (now : ℕ) (g : Group) (o : Option ℕ) (l : Running) → spent_of now (hold_running g o) ≡ Some l → l.limit ≡ HoldLimit
-hold_found now g None l e = absurd cc
-hold_found now g (Some since) l e = limit_found now (hold_runs g) HoldLimit since hold_limit l e
+hold_found now g o l e = grind arith
 
 abbrev pub held_here : Agenda → Open → List Running
 held_here a o = hold_running o.place.group (first_hold a.log)
@@ -61,20 +54,4 @@ IsSpentHere now f a o l FreezeLimit = (spent_of now (held_here a o) ≡ None) ×
 IsSpentHere now f a o l AnswerLimit = (spent_of now (held_here a o) ≡ None) × (spent_of now (frozen_here f a o) ≡ None) × (spent_of now (asked_here a o) ≡ Some l)
 
 pub spent_here : (now f : ℕ) (a : Agenda) (o : Open) (os : List Open) (l : Running) → spent_of now (running_at f a (o ∷ os)) ≡ Some l → IsSpentHere now f a o l l.limit
-spent_here now f a o os l e = by_found (spent_of now (held_here a o)) (spent_of now (frozen_here f a o)) refl refl
-  where
-    by_name : (x : Limit) → l.limit ≡ x → IsSpentHere now f a o l x → IsSpentHere now f a o l l.limit
-    by_name x i h = subst (λ y. IsSpentHere now f a o l y) (sym i) h
-
-    by_found : (h g : Option Running) → spent_of now (held_here a o) ≡ h → spent_of now (frozen_here f a o) ≡ g → IsSpentHere now f a o l l.limit
-    by_found (Some m) g i j =
-        let all = first_found now (held_here a o ++ frozen_here f a o) (asked_here a o) m (first_found now (held_here a o) (frozen_here f a o) m i) in
-        let is = i ∙ ap Some (same_running m l (sym all ∙ e)) in
-        by_name HoldLimit (hold_found now o.place.group (first_hold a.log) l is) is
-    by_found None (Some m) i j =
-        let all = first_found now (held_here a o ++ frozen_here f a o) (asked_here a o) m (later_found now (held_here a o) (frozen_here f a o) i ∙ j) in
-        let is = j ∙ ap Some (same_running m l (sym all ∙ e)) in
-        by_name FreezeLimit (limit_found now (freeze_runs o.place.group) FreezeLimit (freeze_opened_at a) f l is) (i, is)
-    by_found None None i j =
-        let is = sym (later_found now (held_here a o ++ frozen_here f a o) (asked_here a o) (later_found now (held_here a o) (frozen_here f a o) i ∙ j)) ∙ e in
-        by_name AnswerLimit (limit_found now (answer_runs o.place.group) AnswerLimit (opened_at a o) answer_limit l is) (i, j, is)
+spent_here now f a o os l e = grind arith

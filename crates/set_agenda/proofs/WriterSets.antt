@@ -12,28 +12,16 @@ use Rattle.set_agenda.specs.WriterSet.{has_bit, is_nil, writers, writers_of}
 -- ## truth values
 
 pub or-false : (b : Bool) → (b || false) ≡ b
-or-false true = refl
-or-false false = refl
+or-false b = grind arith
 
 pub and-false : (b : Bool) → (b && false) ≡ false
-and-false true = refl
-and-false false = refl
+and-false b = grind arith
 
 pub and-true : (b : Bool) → (b && true) ≡ b
-and-true true = refl
-and-true false = refl
+and-true b = grind arith
 
 and_false : (b c : Bool) → c ≡ false → (b && c) ≡ false
-and_false true c e = e
-and_false false c e = refl
-
-and_true-or : (b : Bool) → ((b && true) || false) ≡ b
-and_true-or true = refl
-and_true-or false = refl
-
-and_false-or : (b d : Bool) → ((b && false) || d) ≡ d
-and_false-or true d = refl
-and_false-or false d = refl
+and_false b c e = grind arith
 
 same_from : (a w : ℕ) → (a == w) ≡ true → a ≡ w
 same_from a w e = grind (arith, nat_tests)
@@ -60,8 +48,7 @@ filter-none [] = refl
 filter-none (x ∷ xs) = filter-none xs
 
 among-cond : (b : Bool) (x w : ℕ) (ys : List ℕ) → is_among w (cond b (x ∷ ys) ys) ≡ ((b && (x == w)) || is_among w ys)
-among-cond true x w ys = refl
-among-cond false x w ys = refl
+among-cond b x w ys = grind arith
 
 among-below : (p : ℕ → Bool) (a n w : ℕ) → w < a → is_among w (filter p (range_with_len a n)) ≡ false
 among-below p a zero w h = refl
@@ -70,8 +57,7 @@ among-below p a (suc n) w h =
     among-cond (p a) a w _ ∙ ap (λ b. b || is_among w (filter p (range_with_len (a + 1) n))) (and_false (p a) (a == w) e) ∙ among-below p (a + 1) n w (omega arith)
 
 among-step : (p : ℕ → Bool) (a w : ℕ) (d c : Bool) → (a == w) ≡ c → ((a == w) ≡ true → d ≡ false) → ((a == w) ≡ false → d ≡ p w) → ((p a && c) || d) ≡ p w
-among-step p a w d true e f g = rw (f e) (and_true-or (p a) ∙ ap p (same_from a w e))
-among-step p a w d false e f g = and_false-or (p a) d ∙ g e
+among-step p a w d c e f g = grind arith
 
 -- a number of a range is among those that pass where it passes
 among-filter : (p : ℕ → Bool) (a n w : ℕ) → a ≤ w → w < a + n → is_among w (filter p (range_with_len a n)) ≡ p w
@@ -88,8 +74,7 @@ filter-above a zero w h = refl
 filter-above a (suc n) w h = let e : (w == a) ≡ false = grind (arith, nat_tests) in rw e (filter-above (a + 1) n w (omega arith))
 
 one-step : (a n w : ℕ) (c : Bool) → (w == a) ≡ c → w < a + suc n → ((w == a) ≡ false → filter (λ i. w == i) (range_with_len (a + 1) n) ≡ w ∷ []) → cond c (a ∷ filter (λ i. w == i) (range_with_len (a + 1) n)) (filter (λ i. w == i) (range_with_len (a + 1) n)) ≡ w ∷ []
-one-step a n w true e h f = let s : w ≡ a = same_from w a e in ap (λ ys. a ∷ ys) (filter-above (a + 1) n w (omega (arith, s))) ∙ ap (λ x. x ∷ []) (sym s)
-one-step a n w false e h f = f e
+one-step a n w c e h f = grind (arith, same_from, filter-above)
 
 filter-one : (a n w : ℕ) → a ≤ w → w < a + n → filter (λ i. w == i) (range_with_len a n) ≡ w ∷ []
 filter-one a zero w h l = absurd (omega arith)
@@ -137,16 +122,13 @@ same-bits a b h k e = same_from_bits_below 64 a b h k (λ i l.
     digit-at (bit_at a i) (bit_at b i) (bit_at-lt a i) (bit_at-lt b i) (sym (among-writers (has_bit a) i l) ∙ ap (is_among i) e ∙ among-writers (has_bit b) i l))
 
 empty-at : (bits : ℕ) (xs : List ℕ) → bits < 2 ^ 64 → writers_of bits ≡ xs → nat_eq bits 0 ≡ is_nil xs
-empty-at bits [] h e = ap (λ b. nat_eq b 0) (none-set bits h e)
-empty-at zero (x ∷ xs) h e = cc (sym e ∙ new-is)
-empty-at (suc bits) (x ∷ xs) h e = grind (arith, nat_tests)
+empty-at bits xs h e = grind (arith, none-set, new-is)
 
 pub empty-is : (bits : ℕ) → bits < 2 ^ 64 → nat_eq bits 0 ≡ is_nil (writers_of bits)
 empty-is bits h = empty-at bits (writers_of bits) h refl
 
 or_true : (b : Bool) → (b || true) ≡ true
-or_true true = refl
-or_true false = refl
+or_true b = grind arith
 
 set-at : (bits w i : ℕ) (c : Bool) → w < 64 → (w == i) ≡ c → has_bit (bit_or bits (1 * 2 ^ w % 18446744073709551616)) i ≡ (has_bit bits i || c)
 set-at bits w i true h e = subst (λ k. has_bit (bit_or bits (1 * 2 ^ w % 18446744073709551616)) k ≡ (has_bit bits k || true)) (same_from w i e)
@@ -155,15 +137,10 @@ set-at bits w i false h e = ap (λ b. b == 1) (bit_at_set_other w64 bits w h i (
 
 -- the bit of w put in
 pub insert-is : (bits w : ℕ) → w < 64 → writers_of (bit_or bits (1 * 2 ^ w % 18446744073709551616)) ≡ writers (λ i. is_among i (writers_of bits) || (w == i))
-insert-is bits w h = writers-agree _ (λ i. is_among i (writers_of bits) || (w == i)) (λ i l. set-at bits w i (w == i) h refl ∙ ap (λ b. b || (w == i)) (sym (among-writers (has_bit bits) i l)))
+insert-is bits w h = grind (arith, writers-agree, set-at, among-writers)
 
 minus_bit : (x y : ℕ) → x < 2 → y < 2 → (min x (1 - y) == 1) ≡ ((x == 1) && not (y == 1))
-minus_bit zero zero a b = refl
-minus_bit (suc zero) zero a b = refl
-minus_bit zero (suc zero) a b = refl
-minus_bit (suc zero) (suc zero) a b = refl
-minus_bit (suc (suc x)) y a b = absurd (omega arith)
-minus_bit x (suc (suc y)) a b = absurd (omega arith)
+minus_bit x y a b = grind arith
 
 minus-at : (a b i : ℕ) → b < 2 ^ 64 → i < 64 → has_bit (bit_and a (18446744073709551615 - b)) i ≡ (has_bit a i && not (is_among i (writers_of b)))
 minus-at a b i l h =
@@ -175,18 +152,10 @@ pub minus-is : (a b : ℕ) → b < 2 ^ 64 → writers_of (bit_and a (18446744073
 minus-is a b l = writers-agree _ (λ i. has_bit a i && not (is_among i (writers_of b))) (λ i h. minus-at a b i l h) ∙ sym (others-writers (writers_of b) (has_bit a))
 
 or_bit : (x y : ℕ) → x < 2 → y < 2 → (max x y == 1) ≡ ((x == 1) || (y == 1))
-or_bit zero zero a b = refl
-or_bit (suc zero) zero a b = refl
-or_bit zero (suc zero) a b = refl
-or_bit (suc zero) (suc zero) a b = refl
-or_bit (suc (suc x)) y a b = absurd (omega arith)
-or_bit x (suc (suc y)) a b = absurd (omega arith)
+or_bit x y a b = grind arith
 
 either-at : (a b i : ℕ) → i < 64 → has_bit (bit_or a b) i ≡ (is_among i (writers_of a) || is_among i (writers_of b))
-either-at a b i h =
-    ap (λ n. n == 1) (bit_at_or a b i) ∙ or_bit (bit_at a i) (bit_at b i) (bit_at-lt a i) (bit_at-lt b i)
-    ∙ ap (λ c. c || has_bit b i) (sym (among-writers (has_bit a) i h))
-    ∙ ap (λ c. is_among i (writers_of a) || c) (sym (among-writers (has_bit b) i h))
+either-at a b i h = grind (arith, bit_at_or, or_bit, bit_at-lt, among-writers)
 
 pub with-is : (a b : ℕ) → writers_of (bit_or a b) ≡ writers (λ w. is_among w (writers_of a) || is_among w (writers_of b))
 with-is a b = writers-agree _ (λ w. is_among w (writers_of a) || is_among w (writers_of b)) (λ i h. either-at a b i h)

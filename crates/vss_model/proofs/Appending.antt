@@ -1,5 +1,5 @@
 -- What one more move adds to the state, the acts, the legality and the faults of a trail.
-use Rattle.std.proofs.Common.{◌≡◌, ◌+◌, List, [], ◌∷◌, ◌++◌, Option, Some, None, refl, Bool, true, false, ap, sym, ◌∙◌, fold, cond}
+use Rattle.std.proofs.Common.{◌≡◌, ◌+◌, List, [], ◌∷◌, ◌++◌, Option, refl, Bool, ap, sym, ◌∙◌, fold, cond, arith}
 use Rattle.std.specs.Prelude.{◌&&◌}
 use Rattle.std.proofs.lemmas.List.{append_assoc}
 use Rattle.std.proofs.lemmas.List.Sums.{fold-append, sum_by-append}
@@ -32,8 +32,7 @@ moves-run s trail = moves-run_from s (begin s) trail
 
 -- the state of a run is that after its acts
 after-acts_if : (s : Plan) (st : State) (event : Option Event) (mark : Mark) → fold (after s) st (acts_if event mark) ≡ after_event s st event mark
-after-acts_if s st None mark = refl
-after-acts_if s st (Some event) mark = refl
+after-acts_if s st event mark = grind arith
 
 fold-acts_from : (s : Plan) (r : Run) (ms : List Move) → fold (after s) r.state (acts_from s r ms) ≡ (run_from s r ms).state
 fold-acts_from s r [] = refl
@@ -62,8 +61,7 @@ acts-append s trail m = acts_from-append s (begin s) trail m
 -- the legality of one more move
 
 and_assoc : (a b c : Bool) → (a && (b && c)) ≡ (a && b && c)
-and_assoc true b c = refl
-and_assoc false b c = refl
+and_assoc a b c = grind arith
 
 is_legal_from-append : (s : Plan) (r : Run) (ms : List Move) (m : Move) → is_legal_from s r (ms ++ m ∷ []) ≡ (is_legal_from s r ms && is_legal_move s (run_from s r ms) m)
 is_legal_from-append s r [] m = and-true (is_legal_move s r m)

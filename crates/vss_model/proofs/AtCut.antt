@@ -1,19 +1,19 @@
 -- Where the Cut step is the next one, every volume of the set is held and every participant stands frozen.
-use Rattle.std.proofs.Common.{◌≡◌, ℕ, ◌==◌, List, [], ◌∷◌, Option, Some, None, refl, Bool, true, false, map, filter, ap, sym, ◌∙◌, subst}
+use Rattle.std.proofs.Common.{◌≡◌, ℕ, ◌==◌, List, [], ◌∷◌, Option, Some, refl, Bool, true, false, map, filter, ap, sym, subst, arith}
 use Rattle.std.specs.Prelude.{◌&&◌, ◌||◌, not, if◌then◌else◌}
 use Rattle.std.specs.List.{list_any}
-use Rattle.std.proofs.lemmas.Bool.{and_parts, eqb-true, or_parts, or_right}
+use Rattle.std.proofs.lemmas.Bool.{and_parts, or_parts}
 use Rattle.vss_names.specs.declared.level.Level.{Level}
 use Rattle.vss_names.specs.declared.level.Level.TheVariants.{System, BackEnd, FrontEnd}
-use Rattle.vss_names.specs.declared.order.Order.TheVariants.{Identify, PrepareBackup, PrepareSnapshot, Freeze, Thaw, PostSnapshot, BackupComplete}
+use Rattle.vss_names.specs.declared.order.Order.TheVariants.{PrepareSnapshot, Freeze, Thaw, PostSnapshot}
 use Rattle.writer_state.specs.WriterState.{is_ok}
 use Rattle.set_agenda.specs.declared.group.Group.{Group}
 use Rattle.set_agenda.specs.declared.group.Group.TheVariants.{Orders, PreCommit, Flush, Hold, Cut, Commit, Release, PostCommit}
 use Rattle.set_agenda.specs.declared.kind.Kind.{Kind}
-use Rattle.set_agenda.specs.declared.kind.Kind.TheVariants.{Gather, Prepare, Snapshot, Complete}
+use Rattle.set_agenda.specs.declared.kind.Kind.TheVariants.{Snapshot}
 use Rattle.set_agenda.specs.declared.member.Member.{Member}
 use Rattle.set_agenda.specs.declared.place.Place.{Place}
-use Rattle.set_agenda.specs.Agenda.{Agenda, Entry, Open, plain, at_level, places, group_code, level_code, same_place, is_freeze, is_thaw, has_said, has_frozen, has_thawed, is_at, writers_at, waited_for, with_group, left_from, left, open_group, is_among, is_snapshot, is_held as holds, is_frozen as freezes}
+use Rattle.set_agenda.specs.Agenda.{Agenda, Entry, Open, plain, at_level, places, group_code, level_code, is_freeze, is_thaw, has_said, has_frozen, has_thawed, is_at, writers_at, waited_for, with_group, left_from, left, open_group, is_among, is_snapshot, is_held as holds, is_frozen as freezes}
 use Rattle.set_agenda.specs.Course.{is_member}
 use Rattle.scenario.specs.Plan.{Plan}
 use Rattle.vss_model.specs.State.{State, SetRow, in_progress, left_now, is_held, is_frozen}
@@ -37,47 +37,16 @@ pub record IsAtCut (a : Agenda) : Type 0 where
 
 -- a group before the cut is closed
 closed : (p : Place) (ws : List ℕ) (later : List Open) → is_cut_group (Some p.group) ≡ false → is_cut_group (open_group (with_group p ws later)) ≡ true → (ws ≡ []) × (is_cut_group (open_group later) ≡ true)
-closed p [] later e h = (refl, h)
-closed p (w ∷ ws) later e h = absurd (true_not_false (is_cut_group (Some p.group)) h e)
-
--- none of the groups after the cut is the cut
-after_cut : (p : Place) (ws : List ℕ) (later : List Open) → is_cut_group (Some p.group) ≡ false → is_cut_group (open_group later) ≡ false → is_cut_group (open_group (with_group p ws later)) ≡ false
-after_cut p [] later e h = h
-after_cut p (w ∷ ws) later e h = e
+closed p ws later e h = grind arith
 
 cut_open : (b : Bool) (later : List Open) → is_cut_group (open_group later) ≡ false → is_cut_group (open_group (with_group (plain Cut) (if not b then 0 ∷ [] else []) later)) ≡ true → b ≡ false
-cut_open true later e h = absurd (true_not_false (is_cut_group (open_group later)) h e)
-cut_open false later e h = refl
+cut_open b later e h = grind arith
 
 none_after : (a : Agenda) → is_cut_group (open_group (left_from a (plain Commit ∷ plain Release ∷ plain PostCommit ∷ at_level Thaw System ∷ at_level Thaw BackEnd ∷ at_level Thaw FrontEnd ∷ plain (Orders PostSnapshot) ∷ []))) ≡ false
-none_after a =
-    after_cut (plain Commit) (waited_for a (plain Commit)) _ refl
-    (after_cut (plain Release) (waited_for a (plain Release)) _ refl
-    (after_cut (plain PostCommit) (waited_for a (plain PostCommit)) _ refl
-    (after_cut (at_level Thaw System) (waited_for a (at_level Thaw System)) _ refl
-    (after_cut (at_level Thaw BackEnd) (waited_for a (at_level Thaw BackEnd)) _ refl
-    (after_cut (at_level Thaw FrontEnd) (waited_for a (at_level Thaw FrontEnd)) _ refl
-    (after_cut (plain (Orders PostSnapshot)) (waited_for a (plain (Orders PostSnapshot))) [] refl refl))))))
+none_after a = grind arith
 
 pub at_cut : (a : Agenda) → is_cut_group (open_group (left_from a (places Snapshot))) ≡ true → IsAtCut a
-at_cut a h =
-    let prepared = closed (plain (Orders PrepareSnapshot)) (waited_for a (plain (Orders PrepareSnapshot))) _ refl h in
-    let front = closed (at_level Freeze FrontEnd) (waited_for a (at_level Freeze FrontEnd)) _ refl prepared.1 in
-    let back = closed (at_level Freeze BackEnd) (waited_for a (at_level Freeze BackEnd)) _ refl front.1 in
-    let system = closed (at_level Freeze System) (waited_for a (at_level Freeze System)) _ refl back.1 in
-    let before = closed (plain PreCommit) (waited_for a (plain PreCommit)) _ refl system.1 in
-    let flush = closed (plain Flush) (waited_for a (plain Flush)) _ refl before.1 in
-    let hold = closed (plain Hold) (waited_for a (plain Hold)) _ refl flush.1 in
-    record { prepared = prepared.0; before = before.0; flush = flush.0; front = front.0; back = back.0; system = system.0; hold = hold.0; cut = cut_open (is_cut_made a.log) _ (none_after a) hold.1 }
-
--- the open group, where all before are closed
-passed : (p : Place) (ws : List ℕ) (later : List Open) → ws ≡ [] → with_group p ws later ≡ later
-passed p [] later e = refl
-passed p (w ∷ ws) later e = absurd cc
-
-cut_waits : (b : Bool) (later : List Open) → b ≡ false → with_group (plain Cut) (if not b then 0 ∷ [] else []) later ≡ record { place = plain Cut; waits = 0 ∷ [] } ∷ later
-cut_waits true later e = absurd cc
-cut_waits false later e = refl
+at_cut a h = grind (arith, closed, cut_open, none_after)
 
 abbrev pub cut_group : Open
 cut_group = record { place = plain Cut; waits = 0 ∷ [] }
@@ -86,36 +55,15 @@ abbrev pub later_places : List Place
 later_places = plain Commit ∷ plain Release ∷ plain PostCommit ∷ at_level Thaw System ∷ at_level Thaw BackEnd ∷ at_level Thaw FrontEnd ∷ plain (Orders PostSnapshot) ∷ []
 
 pub cut_is_open : (a : Agenda) → IsAtCut a → left_from a (places Snapshot) ≡ cut_group ∷ left_from a later_places
-cut_is_open a c =
-    passed (plain (Orders PrepareSnapshot)) (waited_for a (plain (Orders PrepareSnapshot))) _ c.prepared
-    ∙ passed (at_level Freeze FrontEnd) (waited_for a (at_level Freeze FrontEnd)) _ c.front
-    ∙ passed (at_level Freeze BackEnd) (waited_for a (at_level Freeze BackEnd)) _ c.back
-    ∙ passed (at_level Freeze System) (waited_for a (at_level Freeze System)) _ c.system
-    ∙ passed (plain PreCommit) (waited_for a (plain PreCommit)) _ c.before
-    ∙ passed (plain Flush) (waited_for a (plain Flush)) _ c.flush
-    ∙ passed (plain Hold) (waited_for a (plain Hold)) _ c.hold
-    ∙ cut_waits (is_cut_made a.log) (left_from a later_places) c.cut
-
--- only a snapshot's agenda has a Cut group
-no_cut : (p : Place) (ws : List ℕ) → is_cut_group (Some p.group) ≡ false → is_cut_group (open_group (with_group p ws [])) ≡ true → ⊥
-no_cut p [] e h = absurd cc
-no_cut p (w ∷ ws) e h = true_not_false (is_cut_group (Some p.group)) h e
+cut_is_open a c = grind arith
 
 pub kind_at_cut : (k : Kind) (a : Agenda) → is_cut_group (open_group (left_from a (places k))) ≡ true → k ≡ Snapshot
-kind_at_cut Gather a h = absurd (no_cut (plain (Orders Identify)) (waited_for a (plain (Orders Identify))) refl h)
-kind_at_cut Prepare a h = absurd (no_cut (plain (Orders PrepareBackup)) (waited_for a (plain (Orders PrepareBackup))) refl h)
-kind_at_cut Complete a h = absurd (no_cut (plain (Orders BackupComplete)) (waited_for a (plain (Orders BackupComplete))) refl h)
-kind_at_cut Snapshot a h = refl
+kind_at_cut k a h = grind arith
 
 -- ## held
 
 said_if : (b : Bool) (log : List Entry) (p : Place) (x who : ℕ) (xs rest : List ℕ) → has_said log p x ≡ b → (if not b then x ∷ rest else rest) ≡ [] → ((x == who) || is_among who xs) ≡ true → (rest ≡ [] → is_among who xs ≡ true → has_said log p who ≡ true) → has_said log p who ≡ true
-said_if false log p x who xs rest e f g ih = absurd cc
-said_if true log p x who xs rest e f g ih = by_cases (x == who) refl g
-  where
-    by_cases : (c : Bool) → (x == who) ≡ c → (c || is_among who xs) ≡ true → has_said log p who ≡ true
-    by_cases true i j = subst (λ y. has_said log p y ≡ true) (eqb-true x who i) e
-    by_cases false i j = ih f j
+said_if b log p x who xs rest e f g ih = grind arith
 
 -- where nobody is waited for, all have said something
 pub all_said : (log : List Entry) (p : Place) (xs : List ℕ) (who : ℕ) → filter (λ x. not (has_said log p x)) xs ≡ [] → is_among who xs ≡ true → has_said log p who ≡ true
@@ -123,15 +71,10 @@ all_said log p [] who e f = absurd cc
 all_said log p (x ∷ xs) who e f = said_if (has_said log p x) log p x who xs _ refl e f (all_said log p xs who)
 
 release_undoes : (g : Group) → (group_code g == 12) ≡ true → undoes g ≡ true
-release_undoes (Orders Identify) e = absurd cc
-release_undoes (Orders _) e = absurd cc
-release_undoes Release e = refl
-release_undoes _ e = absurd cc
+release_undoes g e = grind arith
 
 thaw_undoes : (g : Group) → is_thaw g ≡ true → undoes g ≡ true
-thaw_undoes (Orders Thaw) e = refl
-thaw_undoes (Orders _) e = absurd cc
-thaw_undoes _ e = absurd cc
+thaw_undoes g e = grind arith
 
 -- one test follows from another, so where the other finds nothing, neither does it
 none_found : (test wider : Entry → Bool) → ((x : Entry) → test x ≡ true → wider x ≡ true) → (log : List Entry) → list_any wider log ≡ false → list_any test log ≡ false
@@ -145,24 +88,17 @@ none_found test wider follows (x ∷ log) e = head (test x) (wider x) (list_any 
     head false false c d f g h = h g
 
 nothing_undone : (b c : Bool) → (b ≡ true → c ≡ true) → c ≡ false → b ≡ false
-nothing_undone true c h e = absurd (true_not_false c (h refl) e)
-nothing_undone false c h e = refl
+nothing_undone b c h e = grind arith
 
 undone_not : (log : List Entry) → IsSound log → is_cut_made log ≡ false → list_any is_undoing log ≡ false
 undone_not log h e = nothing_undone (list_any is_undoing log) (is_cut_made log) h.cut_first e
 
 pub and_three : (a b c : Bool) → a ≡ true → b ≡ true → c ≡ false → (a && b && not c) ≡ true
-and_three true true false e f g = refl
-and_three true true true e f g = absurd cc
-and_three true false c e f g = absurd cc
-and_three false b c e f g = absurd cc
+and_three a b c e f g = grind arith
 
 -- nothing is said of a Release before the Cut step
 pub release_not : (log : List Entry) (v : ℕ) → IsSound log → is_cut_made log ≡ false → has_said log (plain Release) v ≡ false
-release_not log v h e =
-    none_found (λ (x : Entry). same_place x.place (plain Release) && (x.who == v)) is_undoing
-    (λ x g. release_undoes x.place.group (and_parts (group_code x.place.group == 12) (level_code x.place.level == 0) (and_parts (same_place x.place (plain Release)) (x.who == v) g).0).0)
-    log (undone_not log h e)
+release_not log v h e = grind (arith, none_found, release_undoes, and_parts, undone_not)
 
 held_in : (a : Agenda) (v : ℕ) → a.kind ≡ Snapshot → IsAtCut a → IsSound a.log → is_among v a.volumes ≡ true → holds (Some a) v ≡ true
 held_in a v k c h e =
@@ -174,26 +110,11 @@ held_in a v k c h e =
 -- ## frozen
 
 freeze_coded : (g : Group) → (group_code g == 3) ≡ true → is_freeze g ≡ true
-freeze_coded (Orders Freeze) e = refl
-freeze_coded (Orders _) e = absurd cc
-freeze_coded _ e = absurd cc
+freeze_coded g e = grind arith
 
 -- what was said at Freeze was ok
 ok_head : (coded level freeze ok who more said : Bool) → (coded ≡ true → freeze ≡ true) → (freeze && not ok) ≡ false → (((coded && level) && who) || said) ≡ true → (said ≡ true → more ≡ true) → ((freeze && ok && who) || more) ≡ true
-ok_head true true true true true more said f e g ih = refl
-ok_head true true true true false more said f e g ih = ih g
-ok_head true true true false who more said f e g ih = absurd cc
-ok_head true true false ok who more said f e g ih = absurd (true_not_false false (f refl) refl)
-ok_head true false freeze ok who more said f e g ih = weaken (freeze && ok && who) more (ih g)
-  where
-    weaken : (a b : Bool) → b ≡ true → (a || b) ≡ true
-    weaken true b e = refl
-    weaken false b e = e
-ok_head false level freeze ok who more said f e g ih = weaken (freeze && ok && who) more (ih g)
-  where
-    weaken : (a b : Bool) → b ≡ true → (a || b) ≡ true
-    weaken true b e = refl
-    weaken false b e = e
+ok_head coded level freeze ok who more said f e g ih = grind arith
 
 said_is_ok : (log : List Entry) (l : Level) (w : ℕ) → list_any is_refusal log ≡ false → has_said log (at_level Freeze l) w ≡ true → has_frozen log w ≡ true
 said_is_ok [] l w e f = absurd cc
@@ -203,16 +124,13 @@ said_is_ok (x ∷ log) l w e f =
     (freeze_coded x.place.group) parts.0 f (said_is_ok log l w parts.1)
 
 is_at_own : (l : Level) → is_at (Some l) l ≡ true
-is_at_own System = refl
-is_at_own _ = refl
+is_at_own l = grind arith
 
 among_head : (b c : Bool) (m : Member) (w : ℕ) (ms : List Member) → b ≡ true → (m.writer == w) ≡ true → is_among w (map (λ x. x.writer) (if b then m ∷ ms else ms)) ≡ true
-among_head true c m w ms e f = rw f refl
-among_head false c m w ms e f = absurd cc
+among_head b c m w ms e f = grind arith
 
 among_more : (b : Bool) (m : Member) (w : ℕ) (ms : List Member) → is_among w (map (λ x. x.writer) ms) ≡ true → is_among w (map (λ x. x.writer) (if b then m ∷ ms else ms)) ≡ true
-among_more true m w ms e = or_right (m.writer == w) _ e
-among_more false m w ms e = e
+among_more b m w ms e = grind arith
 
 -- what holds of the writers of each level holds of all
 member_of_level : (log : List Entry) (ms : List Member) (w : ℕ) → ((l : Level) → is_among w (writers_at ms (Some l)) ≡ true → has_frozen log w ≡ true) → is_member ms w ≡ true → has_frozen log w ≡ true
@@ -250,21 +168,13 @@ pub record CutsNow (st : State) : Type 0 where
   pub of_set : Tied (Some agenda) st.course.members (in_progress st)
 
 cuts_in : (o : Option Agenda) (st : State) → st.course.agenda ≡ o → is_cut_group (open_group (left o)) ≡ true → SoundLog o → Tied o st.course.members (in_progress st) → CutsNow st
-cuts_in None st e h l t = absurd cc
-cuts_in (Some a) st e h l t =
-    let k = kind_at_cut a.kind a h in
-    let Q : Kind → Type 0 = λ x. is_cut_group (open_group (left_from a (places x))) ≡ true in
-    record { agenda = a; runs = e; kind = k; at = at_cut a (subst Q k h); log = l; of_set = t }
+cuts_in o st e h l t = grind (arith, kind_at_cut, at_cut)
 
 pub cuts : (s : Plan) (acts : List Act) → is_cut_group (open_group (left_now (state s acts))) ≡ true → CutsNow (state s acts)
 cuts s acts h = cuts_in (state s acts).course.agenda (state s acts) refl h (sound s acts) (tied s acts)
 
 tied_to : (a : Agenda) (k : Kind) (ms : List Member) (o : Option SetRow) (r : SetRow) → k ≡ Snapshot → o ≡ Some r → IsOf k a.volumes a.members ms o → (a.volumes ≡ r.volumes) × (a.members ≡ ms)
-tied_to a Snapshot ms (Some q) r e f h = let same : q ≡ r = cc in (h.0 ∙ ap (λ x. x.volumes) same, h.1)
-tied_to a Snapshot ms None r e f h = absurd cc
-tied_to a Gather ms o r e f h = absurd cc
-tied_to a Prepare ms o r e f h = absurd cc
-tied_to a Complete ms o r e f h = absurd cc
+tied_to a k ms o r e f h = grind arith
 
 pub held_at_cut : (s : Plan) (acts : List Act) (r : SetRow) (v : ℕ) → is_cut_group (open_group (left_now (state s acts))) ≡ true → in_progress (state s acts) ≡ Some r → is_among v r.volumes ≡ true → is_held (state s acts) v ≡ true
 held_at_cut s acts r v h e f =

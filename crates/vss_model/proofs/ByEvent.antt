@@ -1,10 +1,9 @@
 -- The rule of events: what holds of each kind of act, each with what is known where it comes, holds of every act that is enabled.
-use Rattle.std.proofs.Common.{◌≡◌, ◌∙◌, ℕ, ◌==◌, List, [], Option, Some, None, refl, Bool, true, false, sym, subst, ap}
-use Rattle.std.specs.Prelude.{map, is_some, ◌&&◌, not, if◌then◌else◌, nat_lt}
-use Rattle.std.proofs.lemmas.Bool.{and_parts}
+use Rattle.std.proofs.Common.{◌≡◌, ◌∙◌, ℕ, ◌==◌, List, [], Option, Some, None, refl, Bool, true, false, sym, subst, ap, arith}
+use Rattle.std.specs.Prelude.{map, is_some, ◌&&◌, not, if◌then◌else◌}
 use Rattle.vss_names.specs.declared.context.Context.{Context}
 use Rattle.vss_names.specs.declared.vss_result.VssResult.{VssResult}
-use Rattle.vss_names.specs.declared.vss_result.VssResult.TheVariants.{AsyncCancelled, BadState, SnapshotSetInProgress, UnsupportedContext, ObjectNotFound, ObjectAlreadyExists}
+use Rattle.vss_names.specs.declared.vss_result.VssResult.TheVariants.{AsyncCancelled, BadState}
 use Rattle.write_history.specs.declared.mark.Mark.{Mark}
 use Rattle.write_history.specs.History.{Write, dropped}
 use Rattle.writer_calls.specs.declared.answer.Answer.{Answer}
@@ -13,13 +12,12 @@ use Rattle.set_agenda.specs.Agenda.{open_group, next_volume, is_asking, is_worki
 use Rattle.set_agenda.specs.Course.{change_at}
 use Rattle.block_data.specs.declared.payload.Payload.TheVariants.{Fill, Stamp}
 use Rattle.block_data.specs.PayloadBytes.{payload_bytes}
-use Rattle.component_doc.specs.Selection.{Pair, Naming, IsNotFound, IsNotSelectable, IsNamedAlready, Names, naming}
+use Rattle.component_doc.specs.Selection.{Pair, Names, naming}
 use Rattle.requestor.specs.declared.mode.Mode.{Mode}
-use Rattle.requestor.specs.declared.mode.Mode.TheVariants.{Components, All}
 use Rattle.requestor.specs.declared.session_call.SessionCall.{SessionCall}
 use Rattle.requestor.specs.declared.session_call.SessionCall.TheVariants as call
 use Rattle.requestor.specs.declared.verdict.Verdict.{Verdict}
-use Rattle.requestor.specs.declared.verdict.Verdict.TheVariants.{Go, Blocked, Refused}
+use Rattle.requestor.specs.declared.verdict.Verdict.TheVariants.{Go, Refused}
 use Rattle.requestor.specs.Session.{Session, context_of, opened, has_writers, makes_set}
 use Rattle.requestor.specs.Check.{check, check_other, check_owner, owner_only, verdict_of, goes_beside_agenda, is_start, is_await, allows}
 use Rattle.scenario.specs.declared.op.Op.{Op}
@@ -30,11 +28,11 @@ use Rattle.scenario.specs.declared.span.Span.{Span}
 use Rattle.scenario.specs.Plan.{Plan, token, acts_as}
 use Rattle.vss_model.specs.declared.event.Event.{Event}
 use Rattle.vss_model.specs.declared.event.Event.TheVariants.{Line, Answer as AnswerEvent, Provider, Idle}
-use Rattle.vss_model.specs.Reply.{Reply, Fine, Coded, NotSelectable, Deleted, Idled}
+use Rattle.vss_model.specs.Reply.{Reply, Fine, Deleted, Idled}
 use Rattle.vss_model.specs.State.{State, SetRow, Kept, in_progress, left_now, is_held, kept_image, is_kept_set}
 use Rattle.vss_model.specs.Ending.{runs, failed}
-use Rattle.vss_model.specs.Images.{Replied, write, reverted_as, image_block, image_blocks, properties, count_images, delete_set, delete_kept, delete_image, revert_refusal, revert_to, revert}
-use Rattle.vss_model.specs.Sessions.{begin_in, disable, gather, prepare, snapshot, complete, start_set, change_set, with_volume, end_session, named_as, component_in, known_metas, add_refusal, add_to, add, await_last, line_in, session_line, judged}
+use Rattle.vss_model.specs.Images.{Replied, write, reverted_as, image_block, image_blocks, properties, delete_set, delete_kept, delete_image, revert_refusal, revert_to, revert}
+use Rattle.vss_model.specs.Sessions.{disable, gather, prepare, snapshot, complete, start_set, change_set, with_volume, end_session, component_in, known_metas, add_refusal, add, await_last, line_in, session_line, judged}
 use Rattle.vss_model.specs.Steps.{answered, stepped, ticked}
 use Rattle.vss_model.specs.Lines.{called, line}
 use Rattle.vss_model.specs.Effects.{line_ticks}
@@ -49,8 +47,7 @@ pub some_same : {X : Type 0} (x y : X) → Some x ≡ Some y → x ≡ y
 some_same x y e = cc
 
 pub by_if : (P : Replied → Type 0) (b : Bool) (x y : Replied) → P x → P y → P (if b then x else y)
-by_if P true x y h i = h
-by_if P false x y h i = i
+by_if x0 b x y h i = grind arith
 
 -- of the state after the event alone
 abbrev pub Next : (State → Type 0) → Event → Mark → Replied → Type 0
@@ -111,15 +108,10 @@ other_reason : (x why : VssResult) → is_pending_code x ≡ false → Refused x
 other_reason x why f e = subst (λ y. is_pending_code y ≡ false) (same_reason x why e) f
 
 verdict_refuses : (a b c d : Bool) (why : VssResult) → verdict_of a b c d ≡ Refused why → is_pending_code why ≡ false
-verdict_refuses true b c d why e = other_reason SnapshotSetInProgress why refl e
-verdict_refuses false true c d why e = other_reason BadState why refl e
-verdict_refuses false false false d why e = other_reason BadState why refl e
-verdict_refuses false false true true why e = absurd cc
-verdict_refuses false false true false why e = absurd cc
+verdict_refuses a b c d why e = grind arith
 
 owner_refuses : (b : Bool) (v : Verdict) (why : VssResult) → (v ≡ Refused why → is_pending_code why ≡ false) → owner_only b v ≡ Refused why → is_pending_code why ≡ false
-owner_refuses true v why f e = f e
-owner_refuses false v why f e = other_reason BadState why refl e
+owner_refuses b v why f e = grind arith
 
 other_refuses : (q : Option Session) (running : Bool) (lane : ℕ) (c : SessionCall) (why : VssResult) → check_other q running lane c ≡ Refused why → is_pending_code why ≡ false
 other_refuses None running lane c why e = other_reason BadState why refl e
@@ -128,8 +120,7 @@ other_refuses (Some q) running lane c why e =
     (verdict_refuses (is_start c && makes_set q.stage) (running && not (goes_beside_agenda c)) (allows q.stage (has_writers q.context) c) (is_await c && running) why) e
 
 not_held : (held free : Bool) → (not held && free) ≡ true → held ≡ false
-not_held true free e = absurd cc
-not_held false free e = refl
+not_held held free e = grind arith
 
 -- a line that begins no agenda
 no_agenda : {X : Type 0} → false ≡ true → X
@@ -142,47 +133,31 @@ not_so b e f = absurd cc
 other_line : (op : Op) (told : Reply) → begins_agenda op ≡ false → changes_session op ≡ false → starts_set op ≡ false → ChangesNothing op told
 other_line op told e f g = record { agenda = not_so (begins_agenda op) e; session = not_so (changes_session op) f; set = not_so (starts_set op) g }
 
-refused_line : (op : Op) (told : Reply) → begins_agenda op ≡ false → is_fine told ≡ false → starts_set op ≡ false → ChangesNothing op told
-refused_line op told e f g = record { agenda = not_so (begins_agenda op) e; session = λ i. f; set = not_so (starts_set op) g }
-
 module _ (P : Event → Mark → Replied → Type 0) (s : Plan) (st : State) (k : Covers P s st) where
   -- ## images
 
   on_image_block : (lane n v b : ℕ) (kept : Option Kept) (mark : Mark) → P (Line lane (ImageBlock n v b)) mark (image_block v b kept mark st)
-  on_image_block lane n v b None mark = k.stays lane (ImageBlock n v b) mark _ refl (other_line (ImageBlock n v b) _ refl refl refl)
-  on_image_block lane n v b (Some x) mark = k.stays lane (ImageBlock n v b) mark _ refl (other_line (ImageBlock n v b) _ refl refl refl)
+  on_image_block lane n v b kept mark = grind arith
 
   on_image_blocks : (lane n v : ℕ) (kept : Option Kept) (mark : Mark) → P (Line lane (ImageDigest n v)) mark (image_blocks s v kept mark st)
-  on_image_blocks lane n v None mark = k.stays lane (ImageDigest n v) mark _ refl (other_line (ImageDigest n v) _ refl refl refl)
-  on_image_blocks lane n v (Some x) mark = k.stays lane (ImageDigest n v) mark _ refl (other_line (ImageDigest n v) _ refl refl refl)
+  on_image_blocks lane n v kept mark = grind arith
 
   on_properties : (lane n v : ℕ) (kept : Option Kept) (mark : Mark) → P (Line lane (Properties n v)) mark (properties s v kept st)
-  on_properties lane n v None mark = k.stays lane (Properties n v) mark _ refl (other_line (Properties n v) _ refl refl refl)
-  on_properties lane n v (Some x) mark = k.stays lane (Properties n v) mark _ refl (other_line (Properties n v) _ refl refl refl)
-
-  if_so : (event : Event) (mark : Mark) (b : Bool) (x y : Replied) → (b ≡ true → P event mark x) → P event mark y → P event mark (if b then x else y)
-  if_so event mark true x y h i = h refl
-  if_so event mark false x y h i = i
+  on_properties lane n v kept mark = grind arith
 
   on_delete_set : (lane n : ℕ) (mark : Mark) → P (Line lane (DeleteSet n)) mark (delete_set n st)
   unfolding delete_set
-  on_delete_set lane n mark =
-      if_so (Line lane (DeleteSet n)) mark (is_kept_set st n && nat_lt 0 (count_images n st.volumes)) _ _
-      (λ e. k.deletes_set lane n (count_images n st.volumes) mark ((and_parts (is_kept_set st n) (nat_lt 0 (count_images n st.volumes)) e).0))
-      (k.stays lane (DeleteSet n) mark _ refl (other_line (DeleteSet n) _ refl refl refl))
+  on_delete_set lane n mark = grind arith
 
   on_delete_kept : (lane n v : ℕ) (kept : Option Kept) (mark : Mark) → kept_image st n v ≡ kept → P (Line lane (DeleteImage n v)) mark (delete_kept v kept st)
-  on_delete_kept lane n v None mark e = k.stays lane (DeleteImage n v) mark _ refl (other_line (DeleteImage n v) _ refl refl refl)
-  on_delete_kept lane n v (Some x) mark e = k.deletes_image lane n v x mark e
+  on_delete_kept lane n v kept mark e = grind arith
 
   on_delete_image : (lane n v : ℕ) (mark : Mark) → P (Line lane (DeleteImage n v)) mark (delete_image n v st)
   unfolding delete_image
   on_delete_image lane n v mark = on_delete_kept lane n v (kept_image st n v) mark refl
 
   on_revert_to : (lane n v : ℕ) (refusal : Option VssResult) (kept : Option Kept) (mark : Mark) → kept_image st n v ≡ kept → revert_refusal v kept st ≡ refusal → P (Line lane (Revert n v)) mark (revert_to s v refusal kept mark st)
-  on_revert_to lane n v (Some why) kept mark e f = k.stays lane (Revert n v) mark _ refl (other_line (Revert n v) _ refl refl refl)
-  on_revert_to lane n v None None mark e f = k.stays lane (Revert n v) mark _ refl (other_line (Revert n v) _ refl refl refl)
-  on_revert_to lane n v None (Some x) mark e f = k.reverts lane n v x mark e f
+  on_revert_to lane n v refusal kept mark e f = grind arith
 
   on_revert : (lane n v : ℕ) (mark : Mark) → P (Line lane (Revert n v)) mark (revert s n v mark st)
   unfolding revert
@@ -190,41 +165,21 @@ module _ (P : Event → Mark → Replied → Type 0) (s : Plan) (st : State) (k 
 
   -- ## session calls
 
-  on_begin_in : (lane n : ℕ) (all : Bool) (c : Option Context) (mark : Mark) → st.session ≡ None → context_of n all ≡ c → P (Line lane (Begin n all)) mark (begin_in lane all c st)
-  on_begin_in lane n all None mark e f = k.stays lane (Begin n all) mark _ refl (refused_line (Begin n all) (Coded UnsupportedContext) refl refl refl)
-  on_begin_in lane n all (Some c) mark e f = k.begins lane n all c mark e f
-
   on_begin_line : (lane n : ℕ) (all : Bool) (q : Option Session) (mark : Mark) → st.session ≡ q → P (Line lane (Begin n all)) mark (line_in s lane (Begin n all) q st)
-  on_begin_line lane n all None mark e = on_begin_in lane n all (context_of n all) mark e refl
-  on_begin_line lane n all (Some q) mark e = k.stays lane (Begin n all) mark _ refl (refused_line (Begin n all) (Coded BadState) refl refl refl)
-
-  on_named : (lane w : ℕ) (full : Span) (q : Session) (n : Naming) (mark : Mark) → LetsGo call.Component q st → naming (known_metas s st) w (token s full) st.explicit ≡ n → P (Line lane (Component w full)) mark (named_as n st)
-  on_named lane w full q IsNotFound mark g e = k.stays lane (Component w full) mark _ refl (refused_line (Component w full) (Coded ObjectNotFound) refl refl refl)
-  on_named lane w full q IsNotSelectable mark g e = k.stays lane (Component w full) mark _ refl (refused_line (Component w full) NotSelectable refl refl refl)
-  on_named lane w full q IsNamedAlready mark g e = k.stays lane (Component w full) mark _ refl (refused_line (Component w full) (Coded ObjectAlreadyExists) refl refl refl)
-  on_named lane w full q (Names explicit) mark g e = k.names lane w full q explicit mark g e
+  on_begin_line lane n all q mark e = grind arith
 
   on_component : (lane w : ℕ) (full : Span) (q : Session) (mode : Mode) (mark : Mark) → LetsGo call.Component q st → P (Line lane (Component w full)) mark (component_in mode s w (token s full) st)
-  on_component lane w full q All mark g = k.stays lane (Component w full) mark _ refl (refused_line (Component w full) (Coded BadState) refl refl refl)
-  on_component lane w full q Components mark g = on_named lane w full q (naming (known_metas s st) w (token s full) st.explicit) mark g refl
-
-  on_add_to : (lane v : ℕ) (r : SetRow) (refusal : Option VssResult) (q : Session) (mark : Mark) → LetsGo call.Add q st → in_progress st ≡ Some r → add_refusal v r st ≡ refusal → P (Line lane (Add v)) mark (add_to v r refusal st)
-  on_add_to lane v r (Some why) q mark g e f = k.stays lane (Add v) mark _ refl (other_line (Add v) _ refl refl refl)
-  on_add_to lane v r None q mark g e f = k.adds lane v r q mark g e f
+  on_component lane w full q mode mark g = grind arith
 
   on_add : (lane v : ℕ) (o : Option SetRow) (q : Session) (mark : Mark) → LetsGo call.Add q st → in_progress st ≡ o → P (Line lane (Add v)) mark (add v o st)
-  on_add lane v None q mark g e = k.stays lane (Add v) mark _ refl (other_line (Add v) _ refl refl refl)
-  on_add lane v (Some r) q mark g e = on_add_to lane v r (add_refusal v r st) q mark g e refl
+  on_add lane v o q mark g e = grind arith
 
   on_await : (lane : ℕ) (last : Option VssResult) (mark : Mark) → P (Line lane Await) mark (await_last last st)
-  on_await lane None mark = k.stays lane Await mark _ refl (other_line Await _ refl refl refl)
-  on_await lane (Some why) mark = k.stays lane Await mark _ refl (other_line Await _ refl refl refl)
+  on_await lane last mark = grind arith
 
   on_judged : (v : Verdict) (lane : ℕ) (op : Op) (mark : Mark) → line_ticks op ≡ None → (begins_agenda op ≡ true → (why : VssResult) → v ≡ Refused why → is_pending_code why ≡ false)
       → (v ≡ Go → P (Line lane op) mark (line_in s lane op st.session st)) → P (Line lane op) mark (judged v s lane op st)
-  on_judged Go lane op mark e refuses goes = goes refl
-  on_judged Blocked lane op mark e refuses goes = k.stays lane op mark _ e (record { agenda = λ b. refl; session = λ b. refl; set = λ b. refl })
-  on_judged (Refused why) lane op mark e refuses goes = k.stays lane op mark _ e (record { agenda = λ b. refuses b why refl; session = λ b. refl; set = λ b. refl })
+  on_judged v lane op mark e refuses goes = grind arith
 
   on_called : (c : SessionCall) (lane : ℕ) (op : Op) (mark : Mark) → line_ticks op ≡ None → (begins_agenda op ≡ true → (why : VssResult) → check st.session (runs st) lane c ≡ Refused why → is_pending_code why ≡ false)
       → (check st.session (runs st) lane c ≡ Go → P (Line lane op) mark (line_in s lane op st.session st)) → P (Line lane op) mark (called c s lane op st)
@@ -273,10 +228,7 @@ module _ (P : Event → Mark → Replied → Type 0) (s : Plan) (st : State) (k 
   on_line lane End mark e = on_owned call.End lane End mark refl refl (λ g. k.ends lane g.own mark g.is)
 
   pub covered : (event : Event) (mark : Mark) → enabled s st event ≡ true → P event mark (happens s event mark st)
-  covered (Line lane op) mark e = on_line lane op mark e
-  covered (AnswerEvent w answer) mark e = k.answers w answer mark e
-  covered Provider mark e = k.steps mark e
-  covered Idle mark e = k.idles mark e
+  covered event mark e = grind (arith, on_line)
 
 -- ## the state after it
 
@@ -290,11 +242,7 @@ after_not_enabled s st act e = ap (λ b. after_if b s st act) e
 
 -- an act that is not enabled changes nothing
 pub after_by : (R : State → Type 0) (s : Plan) (st : State) (act : Act) → (enabled s st act.event ≡ true → R (happens s act.event act.mark st).1) → R st → R (after s st act)
-after_by R s st act h stays = by_test (enabled s st act.event) refl
-  where
-    by_test : (b : Bool) → enabled s st act.event ≡ b → R (after s st act)
-    by_test true e = subst R (sym (after_enabled s st act e)) (h e)
-    by_test false e = subst R (sym (after_not_enabled s st act e)) stays
+after_by x0 s st act h stays = grind (arith, after_enabled, after_not_enabled)
 
 pub after_covered : (R : State → Type 0) (s : Plan) (st : State) → Covers (Next R) s st → R st → (act : Act) → R (after s st act)
 after_covered R s st k h act = after_by R s st act (covered (Next R) s st k act.event act.mark) h

@@ -1,53 +1,43 @@
 -- Where an act gives no cause, no set fails in it.
-use Rattle.std.proofs.Common.{◌≡◌, ℕ, ◌+◌, ◌==◌, List, [], ◌∷◌, ◌++◌, Option, Some, None, refl, Bool, true, false, ap, sym, ◌∙◌, subst}
-use Rattle.std.specs.Prelude.{◌&&◌, not, if◌then◌else◌}
+use Rattle.std.proofs.Common.{◌≡◌, ℕ, ◌+◌, List, [], ◌∷◌, ◌++◌, Option, Some, None, refl, Bool, true, false, sym, subst, arith}
+use Rattle.std.specs.Prelude.{◌&&◌, not}
 use Rattle.vss_names.specs.declared.context.Context.{Context}
 use Rattle.vss_names.specs.declared.order.Order.{Order}
-use Rattle.vss_names.specs.declared.order.Order.TheVariants.{Identify}
 use Rattle.vss_names.specs.declared.set_outcome.SetOutcome.{SetOutcome}
-use Rattle.vss_names.specs.declared.set_outcome.SetOutcome.TheVariants.{Running, Complete as CompleteSet, Failed as FailedSet}
 use Rattle.vss_names.specs.declared.vss_result.VssResult.{VssResult}
 use Rattle.writer_state.specs.declared.said.Said.{Said}
 use Rattle.writer_state.specs.WriterState.{is_ok}
 use Rattle.write_history.specs.declared.mark.Mark.{Mark}
-use Rattle.write_history.specs.declared.mark.Mark.TheVariants.{Clean, Fault, FaultAfter}
 use Rattle.write_history.specs.History.{Write}
 use Rattle.writer_calls.specs.Script.{said_of}
 use Rattle.writer_calls.specs.declared.answer.Answer.{Answer}
-use Rattle.writer_calls.specs.declared.answer.Answer.TheVariants.{Ok as AnswerOk, Veto as AnswerVeto}
 use Rattle.set_agenda.specs.declared.group.Group.{Group}
-use Rattle.set_agenda.specs.declared.group.Group.TheVariants.{Orders, PreCommit, Flush, Hold, Cut, Commit, Release, PostCommit}
 use Rattle.set_agenda.specs.declared.limit.Limit.{Limit}
 use Rattle.set_agenda.specs.declared.limit.Limit.TheVariants.{Answer as AnswerLimit}
 use Rattle.set_agenda.specs.declared.kind.Kind.{Kind}
-use Rattle.set_agenda.specs.declared.kind.Kind.TheVariants.{Gather, Prepare, Snapshot, Complete}
 use Rattle.set_agenda.specs.declared.member.Member.{Member}
-use Rattle.set_agenda.specs.Agenda.{Agenda, left, groups_left, is_done, open_order, open_group, order_now, waits_now}
+use Rattle.set_agenda.specs.Agenda.{Agenda, left, open_order, open_group, order_now}
 use Rattle.set_agenda.specs.Limits.{Running as RunningLimit, spent_of}
-use Rattle.set_agenda.specs.Course.{Course, posted, settled_if, settled_in, settled, outcome_after, begun, is_decisive, told, decided, answered_to, answered as course_answered, worked, stepped as course_stepped, limits_now, lost_to, lost, fails_set, lost_decided, treated_as, treated, timed as course_timed}
-use Rattle.component_doc.specs.Selection.{Naming, IsNotFound, naming}
+use Rattle.set_agenda.specs.Course.{Course, posted, settled_in, settled, outcome_after, begun, is_decisive, told, decided, answered_to, answered as course_answered, worked, stepped as course_stepped, limits_now, lost_to, lost, fails_set, lost_decided, treated_as, treated, timed as course_timed}
 use Rattle.requestor.specs.declared.mode.Mode.{Mode}
-use Rattle.requestor.specs.declared.mode.Mode.TheVariants.{Components, All}
 use Rattle.requestor.specs.declared.session_call.SessionCall.{SessionCall}
 use Rattle.requestor.specs.declared.session_call.SessionCall.TheVariants as call
 use Rattle.requestor.specs.declared.verdict.Verdict.{Verdict}
-use Rattle.requestor.specs.declared.verdict.Verdict.TheVariants.{Go}
 use Rattle.requestor.specs.Session.{Session, context_of}
-use Rattle.requestor.specs.Check.{check, check_other, check_owner, owner_only}
+use Rattle.requestor.specs.Check.{check, check_other}
 use Rattle.scenario.specs.declared.op.Op.{Op}
-use Rattle.scenario.specs.declared.op.Op.TheVariants.{WriteFill, WriteStamp, Read, ImageDigest, ImageBlock, Query, Properties, Revert, DeleteSet, DeleteImage, Tick, Begin, Gather as GatherLine, Component, Start, Add, Prepare as PrepareLine, Snapshot as SnapshotLine, Await, Complete as CompleteLine, Abort, End}
-use Rattle.scenario.specs.Plan.{Plan, token}
+use Rattle.scenario.specs.declared.op.Op.TheVariants.{WriteFill, WriteStamp, Read, ImageDigest, ImageBlock, Query, Properties, Revert, DeleteSet, DeleteImage, Tick, Begin, Abort, End}
+use Rattle.scenario.specs.Plan.{Plan}
 use Rattle.vss_model.specs.declared.event.Event.{Event}
-use Rattle.vss_model.specs.declared.event.Event.TheVariants.{Line, Answer as AnswerEvent, Provider, Idle}
-use Rattle.vss_model.specs.State.{State, SetRow, Kept, in_progress, row_of, row_changed, left_now, kept_image}
+use Rattle.vss_model.specs.State.{State, SetRow, Kept, in_progress, row_of, left_now, kept_image}
 use Rattle.vss_model.specs.Ending.{ending, concluded, followed, runs}
-use Rattle.vss_model.specs.Images.{cleared, set_loses_image, with_room_if, put, write, image_block, image_blocks, properties, delete_set, delete_kept, delete_image, revert_refusal, reverted_as, revert_to, revert}
-use Rattle.vss_model.specs.Sessions.{begin_in, new_set, new_number, with_volume, named_as, component_in, known_metas, add_refusal, add_to, add, has_no_volume, await_last, line_in, session_line, judged}
-use Rattle.vss_model.specs.Steps.{with_cut, row_cut, cut_set, step_made, is_flush, is_failed_step, answered, stepped_as, stepped, ticked, later}
+use Rattle.vss_model.specs.Images.{cleared, set_loses_image, write, image_block, image_blocks, properties, delete_set, delete_kept, delete_image, revert_refusal, revert_to, revert}
+use Rattle.vss_model.specs.Sessions.{begin_in, component_in, add_to, add, await_last, line_in, session_line, judged}
+use Rattle.vss_model.specs.Steps.{cut_set, step_made, is_flush, is_failed_step, answered, stepped_as, stepped, ticked, later}
 use Rattle.vss_model.specs.Lines.{called, line}
-use Rattle.vss_model.specs.Acts.{Act, enabled, happens, order_of_writer, idle_now, after_if, after, state}
+use Rattle.vss_model.specs.Acts.{Act, enabled, happens, after_if, after, state}
 use Rattle.vss_model.specs.Facts.{NumberedFrom, IsOfSession, has_failed, is_live}
-use Rattle.vss_model.specs.Causes.{needs_consent, is_veto, is_refused, is_late_in, is_late, is_fault, is_flush_step, owns, line_gives_cause, gives_cause}
+use Rattle.vss_model.specs.Causes.{is_refused, is_late_in, is_late, is_fault, is_flush_step, owns, line_gives_cause, gives_cause}
 use Rattle.vss_model.proofs.Late.{Decides, late}
 use Rattle.vss_model.proofs.Appending.{state-append}
 use Rattle.vss_model.proofs.Failures.{failed_not_live}
@@ -65,16 +55,10 @@ unfolding posted
 none_posted before c h = h
 
 pub none_outcome : (k : Kind) (o : SetOutcome) → has_failed o ≡ false → has_failed (outcome_after k o) ≡ false
-none_outcome Snapshot o h = refl
-none_outcome _ o h = h
-
-none_settled_if : (b : Bool) (k : Kind) (c : Course) → Fails c ≡ false → Fails (settled_if b k c) ≡ false
-none_settled_if true k c h = none_outcome k c.outcome h
-none_settled_if false k c h = h
+none_outcome k o h = grind arith
 
 none_settled_in : (o : Option Agenda) (c : Course) → Fails c ≡ false → Fails (settled_in o c) ≡ false
-none_settled_in None c h = h
-none_settled_in (Some a) c h = none_settled_if (is_done (groups_left a)) a.kind c h
+none_settled_in o c h = grind arith
 
 pub none_settled : (c : Course) → Fails c ≡ false → Fails (settled c) ≡ false
 unfolding settled
@@ -89,29 +73,17 @@ unfolding worked
 none_worked now c h = h
 
 none_decided : (b : Bool) (said : Said) (c : Course) → b ≡ false → Fails c ≡ false → Fails (decided b said c) ≡ false
-none_decided true said c e h = absurd cc
-none_decided false said c e h = none_settled c h
-
--- a veto, in the words of the causes
-same_consent : (o : Order) → needs_consent o ≡ is_decisive o
-same_consent Identify = refl
-same_consent _ = refl
-
-same_veto : (answer : Answer) → is_veto answer ≡ not (is_ok (said_of answer))
-same_veto AnswerOk = refl
-same_veto (AnswerVeto error) = refl
+none_decided b said c e h = grind (arith, none_settled)
 
 abbrev is_decisive_order : Option Order → Bool
 is_decisive_order None = false
 is_decisive_order (Some o) = is_decisive o
 
 not_refused : (o : Option Order) (answer : Answer) → is_refused o answer ≡ false → (is_decisive_order o && not (is_ok (said_of answer))) ≡ false
-not_refused None answer e = refl
-not_refused (Some o) answer e = ap (λ b. b && not (is_ok (said_of answer))) (sym (same_consent o)) ∙ ap (λ b. needs_consent o && b) (sym (same_veto answer)) ∙ e
+not_refused o answer e = grind arith
 
 none_answered_to : (o : Option Order) (w : ℕ) (said : Said) (now : ℕ) (c : Course) → (is_decisive_order o && not (is_ok said)) ≡ false → Fails c ≡ false → Fails (answered_to o w said now c) ≡ false
-none_answered_to None w said now c e h = h
-none_answered_to (Some o) w said now c e h = none_decided (is_decisive o && not (is_ok said)) said (told o said now (w ∷ []) c) e (none_told o said now (w ∷ []) c h)
+none_answered_to o w said now c e h = grind (arith, none_decided, none_told)
 
 none_answered : (w : ℕ) (said : Said) (now : ℕ) (c : Course) → (is_decisive_order (open_order (left c.agenda) w) && not (is_ok said)) ≡ false → Fails c ≡ false → Fails (course_answered w said now c) ≡ false
 none_answered w said now c e h = none_posted c _ (none_answered_to (open_order (left c.agenda) w) w said now c e h)
@@ -120,8 +92,7 @@ none_stepped : (now : ℕ) (c : Course) → Fails c ≡ false → Fails (course_
 none_stepped now c h = none_posted c _ (none_settled (worked now c) (none_worked now c h))
 
 none_lost_to : (o : Option Order) (now : ℕ) (c : Course) → Fails c ≡ false → Fails (lost_to o now c) ≡ false
-none_lost_to None now c h = h
-none_lost_to (Some o) now c h = none_told o _ now (waits_now (left c.agenda)) c h
+none_lost_to o now c h = grind (arith, none_told)
 
 -- where nothing takes too long, a spent limit loses answers alone
 none_lost : (b : Bool) (now : ℕ) (c : Course) (l : RunningLimit) → fails_set (order_now (left c.agenda)) ≡ b → spent_of now (limits_now c) ≡ Some l → l.limit ≡ AnswerLimit → is_late_in now c c.agenda ≡ false → Fails c ≡ false → Fails (lost_decided b (lost now c)) ≡ false
@@ -141,37 +112,11 @@ none_timed now c e h = none_posted c _ (none_treated (spent_of now (limits_now c
 
 pub none_begun : (k : Kind) (ms : List Member) (vs : List ℕ) (now : ℕ) (c : Course) → Fails c ≡ false → Fails (begun k ms vs now c) ≡ false
 unfolding begun
-none_begun k ms vs now c h = none_posted c _ (none_settled (record c { agenda = Some (record { kind = k; members = ms; volumes = vs; begun = now; log = [] }) }) h)
+none_begun k ms vs now c h = grind (arith, none_posted, none_settled)
 
 -- a failed flush, in the words of the causes
 pub same_flush : (g : Option Group) (mark : Mark) → is_failed_step (is_flush g) mark ≡ (is_flush_step g && is_fault mark)
-same_flush None Clean = refl
-same_flush None Fault = refl
-same_flush None (FaultAfter k) = refl
-same_flush (Some (Orders o)) Clean = refl
-same_flush (Some (Orders o)) Fault = refl
-same_flush (Some (Orders o)) (FaultAfter k) = refl
-same_flush (Some PreCommit) Clean = refl
-same_flush (Some PreCommit) Fault = refl
-same_flush (Some PreCommit) (FaultAfter k) = refl
-same_flush (Some Flush) Clean = refl
-same_flush (Some Flush) Fault = refl
-same_flush (Some Flush) (FaultAfter k) = refl
-same_flush (Some Hold) Clean = refl
-same_flush (Some Hold) Fault = refl
-same_flush (Some Hold) (FaultAfter k) = refl
-same_flush (Some Cut) Clean = refl
-same_flush (Some Cut) Fault = refl
-same_flush (Some Cut) (FaultAfter k) = refl
-same_flush (Some Commit) Clean = refl
-same_flush (Some Commit) Fault = refl
-same_flush (Some Commit) (FaultAfter k) = refl
-same_flush (Some Release) Clean = refl
-same_flush (Some Release) Fault = refl
-same_flush (Some Release) (FaultAfter k) = refl
-same_flush (Some PostCommit) Clean = refl
-same_flush (Some PostCommit) Fault = refl
-same_flush (Some PostCommit) (FaultAfter k) = refl
+same_flush g mark = grind arith
 
 -- ## states
 
@@ -187,25 +132,7 @@ IsLive n st = is_live st.sets n ≡ true
 
 module _ (n : ℕ) where
   live_ended : (o p : SetOutcome) (ran : Bool) (a : Option Agenda) (st : State) → st.course.outcome ≡ p → has_failed p ≡ false → IsLive n st → IsLive n (concluded (ending o p ran a) st)
-  live_ended o (FailedSet why) ran a st e f h = absurd cc
-  live_ended Running Running true None st e f h = live-settled st.course.outcome (ap has_failed e) st.sets n h
-  live_ended Running Running true (Some a) st e f h = h
-  live_ended Running Running false a st e f h = h
-  live_ended Running CompleteSet true None st e f h = live-settled st.course.outcome (ap has_failed e) st.sets n h
-  live_ended Running CompleteSet true (Some a) st e f h = h
-  live_ended Running CompleteSet false a st e f h = h
-  live_ended CompleteSet Running true None st e f h = live-settled st.course.outcome (ap has_failed e) st.sets n h
-  live_ended CompleteSet Running true (Some a) st e f h = h
-  live_ended CompleteSet Running false a st e f h = h
-  live_ended CompleteSet CompleteSet true None st e f h = live-settled st.course.outcome (ap has_failed e) st.sets n h
-  live_ended CompleteSet CompleteSet true (Some a) st e f h = h
-  live_ended CompleteSet CompleteSet false a st e f h = h
-  live_ended (FailedSet why) Running true None st e f h = live-settled st.course.outcome (ap has_failed e) st.sets n h
-  live_ended (FailedSet why) Running true (Some a) st e f h = h
-  live_ended (FailedSet why) Running false a st e f h = h
-  live_ended (FailedSet why) CompleteSet true None st e f h = live-settled st.course.outcome (ap has_failed e) st.sets n h
-  live_ended (FailedSet why) CompleteSet true (Some a) st e f h = h
-  live_ended (FailedSet why) CompleteSet false a st e f h = h
+  live_ended o p ran a st e f h = grind (arith, live-settled)
 
   pub live_followed : (ran : Bool) (c : Course) (st : State) → Fails c ≡ false → IsLive n st → IsLive n (followed ran c st)
   unfolding followed
@@ -216,23 +143,13 @@ module _ (n : ℕ) where
   live_answers w said st e h = live_followed (runs st) _ st e h
 
   live_cut : (o : Option SetRow) (st : State) → IsLive n st → IsLive n (cut_set o st)
-  live_cut None st h = h
-  live_cut (Some r) st h = live-map (row_cut r.number st.clock) (same_changed r.number (with_cut st.clock) (λ q. refl) (λ q. refl)) st.sets n ∙ h
+  live_cut o st h = grind (arith, live-map, same_changed)
 
   live_made : (g : Option Group) (st : State) → IsLive n st → IsLive n (step_made g st)
-  live_made None st h = h
-  live_made (Some (Orders o)) st h = h
-  live_made (Some PreCommit) st h = h
-  live_made (Some Flush) st h = h
-  live_made (Some Hold) st h = h
-  live_made (Some Cut) st h = live_cut (in_progress st) st h
-  live_made (Some Commit) st h = h
-  live_made (Some Release) st h = h
-  live_made (Some PostCommit) st h = h
+  live_made g st h = grind (arith, live_cut)
 
   pub live_stepped_as : (fails : Bool) (g : Option Group) (st : State) → fails ≡ false → Fails st.course ≡ false → IsLive n st → IsLive n (stepped_as fails g st)
-  live_stepped_as true g st e f h = absurd cc
-  live_stepped_as false g st e f h = live_followed (runs st) (course_stepped true st.clock st.course) (step_made g st) (none_stepped st.clock st.course f) (live_made g st h)
+  live_stepped_as fails g st e f h = grind (arith, live_followed, none_stepped, live_made)
 
   live_steps : (mark : Mark) (st : State) → is_failed_step (is_flush (open_group (left_now st))) mark ≡ false → Fails st.course ≡ false → IsLive n st → IsLive n (stepped mark st)
   unfolding stepped
@@ -244,33 +161,21 @@ module _ (n : ℕ) where
 
   -- ## lines
 
-  live_room : (b : Bool) (x : State) → b ≡ false → IsLive n x → IsLive n (with_room_if b x)
-  live_room true x e h = absurd cc
-  live_room false x e h = h
-
-  live_put : (v : ℕ) (w : Write) (mark : Mark) (x : State) → IsLive n x → IsLive n (put v w mark x)
-  live_put v w Clean x h = h
-  live_put v w _ x h = h
-
   live_write : (s : Plan) (v : ℕ) (w : Write) (mark : Mark) (st : State) → set_loses_image (in_progress st) st.volumes (cleared s v w.block st).volumes ≡ false → IsLive n st → IsLive n (write s v w mark st).1
   unfolding write
-  live_write s v w mark st e h = live_put v w mark _ (live_room (set_loses_image (in_progress st) st.volumes (cleared s v w.block st).volumes) (cleared s v w.block st) e h)
+  live_write s v w mark st e h = grind arith
 
   live_image_block : (v b : ℕ) (kept : Option Kept) (mark : Mark) (st : State) → IsLive n st → IsLive n (image_block v b kept mark st).1
-  live_image_block v b None mark st h = h
-  live_image_block v b (Some x) mark st h = h
+  live_image_block v b kept mark st h = grind arith
 
   live_image_blocks : (s : Plan) (v : ℕ) (kept : Option Kept) (mark : Mark) (st : State) → IsLive n st → IsLive n (image_blocks s v kept mark st).1
-  live_image_blocks s v None mark st h = h
-  live_image_blocks s v (Some x) mark st h = h
+  live_image_blocks s v kept mark st h = grind arith
 
   live_properties : (s : Plan) (v : ℕ) (kept : Option Kept) (st : State) → IsLive n st → IsLive n (properties s v kept st).1
-  live_properties s v None st h = h
-  live_properties s v (Some x) st h = h
+  live_properties s v kept st h = grind arith
 
   live_delete_kept : (v : ℕ) (kept : Option Kept) (st : State) → IsLive n st → IsLive n (delete_kept v kept st).1
-  live_delete_kept v None st h = h
-  live_delete_kept v (Some x) st h = h
+  live_delete_kept v kept st h = grind arith
 
   live_delete_image : (m v : ℕ) (st : State) → IsLive n st → IsLive n (delete_image m v st).1
   unfolding delete_image
@@ -280,50 +185,30 @@ module _ (n : ℕ) where
   unfolding delete_set
   live_delete_set m st h = by_if (λ r. IsLive n r.1) _ _ _ h h
 
-  live_reverted : (s : Plan) (v : ℕ) (k : Kept) (mark : Mark) (st : State) → IsLive n st → IsLive n (reverted_as s v k mark st).1
-  live_reverted s v k Clean st h = h
-  live_reverted s v k _ st h = h
-
   live_revert_to : (s : Plan) (v : ℕ) (refusal : Option VssResult) (kept : Option Kept) (mark : Mark) (st : State) → IsLive n st → IsLive n (revert_to s v refusal kept mark st).1
-  live_revert_to s v (Some why) kept mark st h = h
-  live_revert_to s v None None mark st h = h
-  live_revert_to s v None (Some x) mark st h = live_reverted s v x mark st h
+  live_revert_to s v refusal kept mark st h = grind arith
 
   live_revert : (s : Plan) (m v : ℕ) (mark : Mark) (st : State) → IsLive n st → IsLive n (revert s m v mark st).1
   unfolding revert
   live_revert s m v mark st h = live_revert_to s v (revert_refusal v (kept_image st m v) st) (kept_image st m v) mark st h
 
   live_begin : (lane : ℕ) (all : Bool) (c : Option Context) (st : State) → IsLive n st → IsLive n (begin_in lane all c st).1
-  live_begin lane all None st h = h
-  live_begin lane all (Some c) st h = h
-
-  live_named : (x : Naming) (st : State) → IsLive n st → IsLive n (named_as x st).1
-  live_named IsNotFound st h = h
-  live_named _ st h = h
+  live_begin lane all c st h = grind arith
 
   live_component : (mode : Mode) (s : Plan) (w : ℕ) (name : List ℕ) (st : State) → IsLive n st → IsLive n (component_in mode s w name st).1
-  live_component All s w name st h = h
-  live_component Components s w name st h = live_named (naming (known_metas s st) w name st.explicit) st h
+  live_component mode s w name st h = grind arith
 
   live_add_to : (v : ℕ) (r : SetRow) (refusal : Option VssResult) (st : State) → IsLive n st → IsLive n (add_to v r refusal st).1
-  live_add_to v r (Some why) st h = h
-  live_add_to v r None st h = live-map (row_changed r.number (with_volume v)) (same_changed r.number (with_volume v) (λ q. refl) (λ q. refl)) st.sets n ∙ h
+  live_add_to v r refusal st h = grind (arith, live-map, same_changed)
 
   live_add : (v : ℕ) (o : Option SetRow) (st : State) → IsLive n st → IsLive n (add v o st).1
-  live_add v None st h = h
-  live_add v (Some r) st h = live_add_to v r (add_refusal v r st) st h
+  live_add v o st h = grind (arith, live_add_to)
 
   live_await : (last : Option VssResult) (st : State) → IsLive n st → IsLive n (await_last last st).1
-  live_await None st h = h
-  live_await (Some why) st h = h
+  live_await last st h = grind arith
 
   live_refused : (q : Option Session) (s : Plan) (lane : ℕ) (call : SessionCall) (op : Op) (st : State) → owns q lane ≡ false → IsLive n st → IsLive n (judged (check_other q (runs st) lane call) s lane op st).1
-  live_refused None s lane call op st e h = h
-  live_refused (Some q) s lane call op st e h = by_owner (q.owner == lane) e
-    where
-      by_owner : (b : Bool) → b ≡ false → IsLive n (judged (owner_only b (check_owner q (runs st) call)) s lane op st).1
-      by_owner true e = absurd cc
-      by_owner false e = h
+  live_refused q s lane call op st e h = grind arith
 
   -- `abort` and `end` of a lane that does not own the session
   live_abort : (s : Plan) (lane : ℕ) (st : State) → owns st.session lane ≡ false → IsLive n st → IsLive n (called call.Abort s lane Abort st).1
@@ -335,17 +220,7 @@ module _ (n : ℕ) where
   live_end s lane st e h = live_refused st.session s lane call.End End st e h
 
   live_session_line : (s : Plan) (lane : ℕ) (op : Op) (q : Session) (st : State) → stops op ≡ false → Fails st.course ≡ false → IsLive n st → IsLive n (session_line s lane op q st).1
-  live_session_line s lane GatherLine q st e f h = live_followed true _ st (none_begun Gather _ [] st.clock _ f) h
-  live_session_line s lane (Component w full) q st e f h = live_component q.mode s w (token s full) st h
-  live_session_line s lane Start q st e f h = live_append st.sets (new_set (new_number st) q.context) n h
-  live_session_line s lane (Add v) q st e f h = live_add v (in_progress st) st h
-  live_session_line s lane PrepareLine q st e f h = by_if (λ r. IsLive n r.1) (has_no_volume (in_progress st)) _ _ h (live_followed true _ st (none_begun Prepare _ [] st.clock _ f) h)
-  live_session_line s lane SnapshotLine q st e f h = by_if (λ r. IsLive n r.1) (has_no_volume (in_progress st)) _ _ h (live_followed true _ st (none_begun Snapshot st.course.members _ st.clock st.course f) h)
-  live_session_line s lane Await q st e f h = live_await q.last st h
-  live_session_line s lane CompleteLine q st e f h = live_followed true _ st (none_begun Complete _ [] st.clock _ f) h
-  live_session_line s lane Abort q st e f h = absurd cc
-  live_session_line s lane End q st e f h = absurd cc
-  live_session_line s lane _ q st e f h = h
+  live_session_line s lane op q st e f h = grind (arith, live_followed, none_begun, live_component, live_append, live_add, by_if, live_await)
 
   live_line_in : (s : Plan) (lane : ℕ) (op : Op) (q : Option Session) (st : State) → stops op ≡ false → Fails st.course ≡ false → IsLive n st → IsLive n (line_in s lane op q st).1
   live_line_in s lane (Begin c all) None st e f h = live_begin lane all (context_of c all) st h
@@ -353,8 +228,7 @@ module _ (n : ℕ) where
   live_line_in s lane _ None st e f h = h
 
   live_judged : (v : Verdict) (s : Plan) (lane : ℕ) (op : Op) (st : State) → stops op ≡ false → Fails st.course ≡ false → IsLive n st → IsLive n (judged v s lane op st).1
-  live_judged Go s lane op st e f h = live_line_in s lane op st.session st e f h
-  live_judged _ s lane op st e f h = h
+  live_judged v s lane op st e f h = grind (arith, live_line_in)
 
   live_called : (c : SessionCall) (s : Plan) (lane : ℕ) (op : Op) (st : State) → stops op ≡ false → Fails st.course ≡ false → IsLive n st → IsLive n (called c s lane op st).1
   unfolding called
@@ -379,14 +253,10 @@ module _ (n : ℕ) where
   -- ## every act
 
   live_happens : (s : Plan) (event : Event) (mark : Mark) (st : State) → gives_cause s st event mark ≡ false → Fails st.course ≡ false → IsLive n st → IsLive n (happens s event mark st).1
-  live_happens s (Line lane op) mark st e f h = live_line s lane op mark st e f h
-  live_happens s (AnswerEvent w answer) mark st e f h = live_answers w (said_of answer) st (none_answered w (said_of answer) st.clock st.course (not_refused (order_of_writer st w) answer e) f) h
-  live_happens s Provider mark st e f h = live_steps mark st (same_flush (open_group (left_now st)) mark ∙ e) f h
-  live_happens s Idle mark st e f h = live_ticks (idle_now st) st e f h
+  live_happens s event mark st e f h = grind (arith, live_line, live_answers, none_answered, not_refused, live_steps, same_flush, live_ticks)
 
   live_after_if : (b : Bool) (s : Plan) (st : State) (act : Act) → gives_cause s st act.event act.mark ≡ false → Fails st.course ≡ false → IsLive n st → IsLive n (after_if b s st act)
-  live_after_if true s st act e f h = live_happens s act.event act.mark st e f h
-  live_after_if false s st act e f h = h
+  live_after_if b s st act e f h = grind (arith, live_happens)
 
   live_after : (s : Plan) (st : State) (act : Act) → gives_cause s st act.event act.mark ≡ false → Fails st.course ≡ false → IsLive n st → IsLive n (after s st act)
   unfolding after
@@ -394,8 +264,7 @@ module _ (n : ℕ) where
 
 -- while a set is in progress, the course has not failed
 pub outcome_running : (q : Option Session) (o : SetOutcome) (r : SetRow) → IsOfSession q o (Some r) → has_failed o ≡ false
-outcome_running None o r h = absurd h
-outcome_running (Some q) o r h = ap has_failed h.2
+outcome_running q o r h = grind arith
 
 by_cause : (b : Bool) (s : Plan) (so_far : List Act) (act : Act) (r q : SetRow) → gives_cause s (state s so_far) act.event act.mark ≡ b → in_progress (state s so_far) ≡ Some r
     → row_of (after s (state s so_far) act) r.number ≡ Some q → has_failed q.result ≡ true → NumberedFrom 1 (after s (state s so_far) act).sets → b ≡ true

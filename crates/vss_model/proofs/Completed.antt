@@ -1,33 +1,30 @@
 -- A set that completes has its image on each of its volumes in that act.
 use Rattle.std.proofs.Common.{◌≡◌, ℕ, ◌+◌, ◌==◌, ◌<◌, zero, suc, List, [], ◌∷◌, ◌++◌, ◌⊎◌, Option, Some, None, refl, Bool, true, false, map, filter, length, ap, sym, ◌∙◌, subst, find, fold, inl, inr, arith}
-use Rattle.std.specs.Prelude.{is_some, option_map, ◌&&◌, ◌||◌, not, if◌then◌else◌}
+use Rattle.std.specs.Prelude.{is_some, ◌&&◌, ◌||◌, not, if◌then◌else◌}
 use Rattle.std.proofs.lemmas.List.Folds.{list_any-append}
 use Rattle.std.proofs.lemmas.Bool.{and_parts, eq-eqb, or_parts}
 use Rattle.vss_names.specs.declared.context.Context.{Context}
-use Rattle.vss_names.specs.declared.level.Level.TheVariants.{System, BackEnd, FrontEnd}
-use Rattle.vss_names.specs.declared.order.Order.TheVariants.{PrepareSnapshot, Freeze}
 use Rattle.vss_names.specs.declared.set_outcome.SetOutcome.{SetOutcome}
-use Rattle.vss_names.specs.declared.set_outcome.SetOutcome.TheVariants.{Running as RunningSet, Complete as CompleteSet, Failed as FailedSet}
+use Rattle.vss_names.specs.declared.set_outcome.SetOutcome.TheVariants.{Running as RunningSet}
 use Rattle.vss_names.specs.declared.vss_result.VssResult.{VssResult}
-use Rattle.vss_names.specs.declared.vss_result.VssResult.TheVariants.{InsufficientStorage, AsyncCancelled}
+use Rattle.vss_names.specs.declared.vss_result.VssResult.TheVariants.{AsyncCancelled}
 use Rattle.writer_state.specs.declared.said.Said.{Said}
 use Rattle.write_history.specs.declared.mark.Mark.{Mark}
-use Rattle.write_history.specs.declared.mark.Mark.TheVariants.{Clean, Fault, FaultAfter}
-use Rattle.write_history.specs.History.{Write, Image, History, point_in, dropped, written, reverted, reverted_in_part}
+use Rattle.write_history.specs.declared.mark.Mark.TheVariants.{Clean}
+use Rattle.write_history.specs.History.{Write, Image, History, point_in, dropped, written}
 use Rattle.write_history.specs.Slots.{Placed, gone_up_to}
 use Rattle.set_agenda.specs.declared.group.Group.{Group}
-use Rattle.set_agenda.specs.declared.group.Group.TheVariants.{Orders, PreCommit, Flush, Hold, Cut, Commit, Release, PostCommit}
 use Rattle.set_agenda.specs.declared.kind.Kind.{Kind}
 use Rattle.set_agenda.specs.declared.kind.Kind.TheVariants.{Gather, Prepare, Snapshot, Complete}
 use Rattle.set_agenda.specs.declared.member.Member.{Member}
 use Rattle.set_agenda.specs.declared.place.Place.{Place}
-use Rattle.set_agenda.specs.Agenda.{Agenda, Entry, Open, plain, at_level, places, same_place, is_orders, has_said, waited_for, with_group, left_from, groups_left, open_group, open_place, is_among, is_done, is_working, at_place, all_say}
-use Rattle.set_agenda.specs.Course.{Course, posted, failed as course_failed, outcome_after, settled_if, settled, begun, stepped as course_stepped, change_at, released}
+use Rattle.set_agenda.specs.Agenda.{Agenda, Open, with_group, groups_left, open_group, is_among, is_done, is_working, all_say}
+use Rattle.set_agenda.specs.Course.{Course, posted, failed as course_failed, settled_if, settled, begun, stepped as course_stepped, change_at, released}
 use Rattle.requestor.specs.Session.{Session}
-use Rattle.scenario.specs.Plan.{Plan, blocks_of}
+use Rattle.scenario.specs.Plan.{Plan}
 use Rattle.writer_calls.specs.Script.{said_of}
 use Rattle.vss_model.specs.State.{State, SetRow, Kept, is_complete, in_progress, row_of, row_changed, history_of, left_now, has_image, kept_if, kept_of, kept_image}
-use Rattle.vss_model.specs.Ending.{Ending, NothingEnds, ending, concluded, followed, runs, failed_in, failed}
+use Rattle.vss_model.specs.Ending.{Ending, ending, concluded, followed, runs, failed_in, failed}
 use Rattle.vss_model.specs.Images.{cleared, has_lost_image, set_loses_image, with_room_if, put, write, reverted_as, is_in_set}
 use Rattle.vss_model.specs.Sessions.{begin_in, new_set, new_number, start_set, change_set, with_volume, has_no_volume, closed}
 use Rattle.vss_model.specs.Steps.{answered, cut_if as image_cut_if, cut_each, with_cut, row_cut, cut_set, is_flush, is_failed_step, stepped_as, stepped, ticked, later}
@@ -38,7 +35,7 @@ use Rattle.vss_model.proofs.Appending.{state-append}
 use Rattle.vss_model.proofs.ByEvent.{Covers, Next, after_covered, some_same, by_if}
 use Rattle.vss_model.proofs.Rule.{no_set_of}
 use Rattle.vss_model.proofs.Orderly.{true_not_false, other_way}
-use Rattle.vss_model.proofs.OrderlyActs.{Moves, MovesOn, moves_answered, moves_stepped, moves_timed, ending_on, orderly}
+use Rattle.vss_model.proofs.OrderlyActs.{Moves, MovesOn, moves_answered, moves_stepped, moves_timed, orderly}
 use Rattle.vss_model.proofs.CourseCalls.{Settles, Says, Call, call_answered, call_stepped, call_timed}
 use Rattle.vss_model.proofs.LogRule.{unspoken}
 use Rattle.vss_model.proofs.CutLog.{is_cut_made}
@@ -62,74 +59,25 @@ Made (Some a) = is_cut_made a.log ≡ true
 
 -- what is said elsewhere is no Cut step
 made_back : (said : Said) (now : ℕ) (ws : List ℕ) (a : Agenda) → is_cut_group (open_group (groups_left a)) ≡ false → is_cut_made (all_say said now ws a).log ≡ true → is_cut_made a.log ≡ true
-made_back said now ws a e f =
-    by_cases (is_cut_made a.log) (has_said (map (at_place (open_place (groups_left a)) said now) ws) (plain Cut) 0) refl
-    (sym (list_any-append (λ (x : Entry). same_place x.place (plain Cut) && (x.who == 0)) a.log (map (at_place (open_place (groups_left a)) said now) ws)) ∙ f)
-  where
-    by_cases : (b c : Bool) → has_said (map (at_place (open_place (groups_left a)) said now) ws) (plain Cut) 0 ≡ c → (b || c) ≡ true → b ≡ true
-    by_cases true c g h = refl
-    by_cases false false g h = absurd cc
-    by_cases false true g h =
-        let parts = and_parts (same_place (open_place (groups_left a)) (plain Cut)) (is_among 0 ws) (new_said (open_place (groups_left a)) (plain Cut) said now 0 ws g) in
-        absurd (true_not_false (is_cut_group (open_group (groups_left a))) (cut_open (groups_left a) parts.0) e)
+made_back said now ws a e f = grind (arith, list_any-append, and_parts, new_said, true_not_false, cut_open)
 
 -- where nothing is left of a snapshot's agenda, its Cut step is made
 pub past_group : (p : Place) (ws : List ℕ) (later : List Open) → is_done (with_group p ws later) ≡ true → is_done later ≡ true
-past_group p [] later e = e
-past_group p (w ∷ ws) later e = absurd cc
-
-past_cut : (b : Bool) (later : List Open) → is_done (with_group (plain Cut) (if not b then 0 ∷ [] else []) later) ≡ true → b ≡ true
-past_cut true later e = refl
-past_cut false later e = absurd cc
-
-done_made : (a : Agenda) → is_done (left_from a (places Snapshot)) ≡ true → is_cut_made a.log ≡ true
-done_made a e =
-    past_cut (is_cut_made a.log) _
-    (past_group (plain Hold) (waited_for a (plain Hold)) _
-    (past_group (plain Flush) (waited_for a (plain Flush)) _
-    (past_group (plain PreCommit) (waited_for a (plain PreCommit)) _
-    (past_group (at_level Freeze System) (waited_for a (at_level Freeze System)) _
-    (past_group (at_level Freeze BackEnd) (waited_for a (at_level Freeze BackEnd)) _
-    (past_group (at_level Freeze FrontEnd) (waited_for a (at_level Freeze FrontEnd)) _
-    (past_group (plain (Orders PrepareSnapshot)) (waited_for a (plain (Orders PrepareSnapshot))) _ e)))))))
-
--- an agenda that completes the set is a snapshot's
-completes_snapshot : (k : Kind) (o p : SetOutcome) → o ≡ RunningSet → p ≡ outcome_after k o → is_complete p ≡ true → k ≡ Snapshot
-completes_snapshot Snapshot o p e f g = refl
-completes_snapshot _ o p e f g = absurd (true_not_false (is_complete p) g (ap is_complete (f ∙ e)))
+past_group p ws later e = grind arith
 
 running_made : (done : Bool) (a : Agenda) (o : SetOutcome) (b : Option Agenda) (p : SetOutcome) → (done ≡ true → is_done (groups_left a) ≡ true) → o ≡ RunningSet → is_complete p ≡ true → Settles done a o b p → is_cut_made a.log ≡ true
-running_made false a o b p d e f s = absurd (true_not_false (is_complete p) f (ap is_complete (s.1 ∙ e)))
-running_made true a o b p d e f s =
-    let k = completes_snapshot a.kind o p e s.1 f in
-    done_made a (subst (λ x. is_done (left_from a (places x)) ≡ true) k (d refl))
+running_made done a o b p d e f s = grind arith
 
 pub not_complete : (o : SetOutcome) → has_failed o ≡ true → is_complete o ≡ false
-not_complete (FailedSet why) e = refl
-not_complete _ e = absurd cc
+not_complete o e = grind arith
 
 -- the provider's Cut step is another matter
 abbrev NoCut : Bool → List Open → Type 0
 NoCut true os = Unit {0}
 NoCut false os = is_cut_group (open_group os) ≡ false
 
-orders_no_cut : (os : List Open) → is_orders (open_place os).group ≡ true → is_cut_group (open_group os) ≡ false
-orders_no_cut [] e = refl
-orders_no_cut (x ∷ os) e = of_group x.place.group e
-  where
-    of_group : (g : Group) → is_orders g ≡ true → is_cut_group (Some g) ≡ false
-    of_group (Orders o) e = refl
-    of_group PreCommit e = absurd cc
-    of_group Flush e = absurd cc
-    of_group Hold e = absurd cc
-    of_group Cut e = absurd cc
-    of_group Commit e = absurd cc
-    of_group Release e = absurd cc
-    of_group PostCommit e = absurd cc
-
 no_cut_now : (writers : Bool) (a : Agenda) (o : SetOutcome) (b : Option Agenda) (p : SetOutcome) → NoCut writers (groups_left a) → Says writers a o b p → is_cut_group (open_group (groups_left a)) ≡ false
-no_cut_now true a o b p n c = orders_no_cut (groups_left a) c.by
-no_cut_now false a o b p n c = n
+no_cut_now writers a o b p n c = grind arith
 
 -- a call that completes the set finds its Cut step made
 completes_made : (writers : Bool) (a : Option Agenda) (o : SetOutcome) (b : Option Agenda) (p : SetOutcome) → ((x : Agenda) → a ≡ Some x → NoCut writers (groups_left x)) → o ≡ RunningSet → is_complete p ≡ true → Call writers a o b p → Made a
@@ -142,16 +90,10 @@ completes_made writers (Some a) o b p n e f (inr (inr c)) =
 
 -- what goes on was made before
 goes_made : (done : Bool) (a : Agenda) (o : SetOutcome) (b : Option Agenda) (p : SetOutcome) → Settles done a o b p → Made b → is_cut_made a.log ≡ true
-goes_made true a o b p s h = absurd (subst Made s.0 h)
-goes_made false a o b p s h = subst Made s.0 h
+goes_made done a o b p s h = grind arith
 
 still_made : (writers : Bool) (a : Option Agenda) (o : SetOutcome) (b : Option Agenda) (p : SetOutcome) → ((x : Agenda) → a ≡ Some x → NoCut writers (groups_left x)) → Call writers a o b p → Made b → Made a
-still_made writers None o b p n c h = subst Made c.0 h
-still_made writers (Some a) o b p n (inl c) h = absurd (subst Made c.agenda h)
-still_made writers (Some a) o b p n (inr (inl c)) h = goes_made c.done a o b p c.settles h
-still_made writers (Some a) o b p n (inr (inr c)) h =
-    made_back c.said c.now c.ws a (no_cut_now writers a o b p (n a refl) c)
-    (goes_made (is_done (groups_left (all_say c.said c.now c.ws a))) (all_say c.said c.now c.ws a) o b p c.settles h)
+still_made writers a o b p n c h = grind (arith, goes_made, made_back, no_cut_now)
 
 -- ## images that stand
 
@@ -222,8 +164,7 @@ last_has (i ∷ images) n p = by_head (i.set == n) (last_has images n p)
     by_head false h = h
 
 cut_has : (b : Bool) (n : ℕ) (x : History) → b ≡ true → has_image n (image_cut_if b n x) ≡ true
-cut_has true n x e = last_has x.images n _
-cut_has false n x e = absurd cc
+cut_has b n x e = grind (arith, last_has)
 
 cut_images : (n : ℕ) (vs : List ℕ) (u v : ℕ) (hs : List History) → is_among (u + v) vs ≡ true → v < length hs → has_image n (at (cut_each n vs u hs) v) ≡ true
 cut_images n vs u v [] e l = absurd (omega (arith, l))
@@ -240,10 +181,7 @@ cut_images n vs u (suc v) (x ∷ hs) e l = cut_images n vs (u + 1) v hs (subst (
     fewer a b l = omega (arith, l)
 
 imaged_cut : (n : ℕ) (vs : List ℕ) (hs : List History) → Imaged n vs (cut_each n vs 0 hs)
-imaged_cut n vs hs v e l = cut_images n vs 0 v hs (subst (λ w. is_among w vs ≡ true) (plus v) e) (subst (λ m. v < m) (as_many_cut n vs 0 hs) l)
-  where
-    plus : (a : ℕ) → a ≡ 0 + a
-    plus a = omega arith
+imaged_cut n vs hs v e l = grind (arith, cut_images, as_many_cut)
 
 -- ## while the set is in progress
 
@@ -252,19 +190,14 @@ abbrev IsImaged : State → Type 0
 IsImaged st = (r : SetRow) → in_progress st ≡ Some r → Made st.course.agenda → Imaged r.number r.volumes st.volumes
 
 clash : {X : Type 0} (o : Option SetRow) (r : SetRow) → o ≡ None → o ≡ Some r → X
-clash None r e f = absurd cc
-clash (Some q) r e f = absurd cc
+clash o r e f = grind arith
 
 imaged_none : (x : State) → x.course.agenda ≡ None → IsImaged x
 imaged_none x e r f m = absurd (subst Made e m)
 
 imaged_ends : (a b : Option Agenda) (c : Course) (x : State) → c.agenda ≡ b → Moves a x.course.outcome b c.outcome → ((r : SetRow) → in_progress x ≡ Some r → Made b → Imaged r.number r.volumes x.volumes)
     → IsImaged (concluded (ending x.course.outcome c.outcome (is_some a) b) (record x { course = c }))
-imaged_ends None None c x e m h = imaged_none (concluded (ending x.course.outcome c.outcome false None) (record x { course = c })) (agenda-concluded (ending x.course.outcome c.outcome false None) (record x { course = c }) ∙ e)
-imaged_ends (Some a) None c x e m h = imaged_none (concluded (ending x.course.outcome c.outcome true None) (record x { course = c })) (agenda-concluded (ending x.course.outcome c.outcome true None) (record x { course = c }) ∙ e)
-imaged_ends None (Some b) c x e m h = absurd m
-imaged_ends (Some a) (Some b) c x e m h =
-    subst (λ end. IsImaged (concluded end (record x { course = c }))) (sym (ending_on x.course.outcome c.outcome true b m.1)) (λ r f made. h r f (subst Made e made))
+imaged_ends a b c x e m h = grind arith
 
 imaged_followed : (c : Course) (x : State) → MovesOn x.course c → ((r : SetRow) → in_progress x ≡ Some r → Made c.agenda → Imaged r.number r.volumes x.volumes) → IsImaged (followed (runs x) c x)
 unfolding followed
@@ -282,11 +215,7 @@ imaged_ticks k st h =
 
 -- a step that is not the Cut's
 no_cut_at : (st : State) (a : Agenda) → is_cut_group (open_group (left_now st)) ≡ false → st.course.agenda ≡ Some a → NoCut false (groups_left a)
-no_cut_at st a e f = subst (λ (o : Option Agenda). is_cut_group (open_group (left_of o)) ≡ false) f e
-  where
-    left_of : Option Agenda → List Open
-    left_of None = []
-    left_of (Some x) = groups_left x
+no_cut_at st a e f = grind arith
 
 imaged_stepped_as : (fails : Bool) (g : Option Group) (st : State) → is_cut_group g ≡ false → is_cut_group (open_group (left_now st)) ≡ false → is_working (left_now st) ≡ true → IsImaged st → IsImaged (stepped_as fails g st)
 imaged_stepped_as true g st e f w h =
@@ -302,15 +231,7 @@ imaged_steps mark st e w h = imaged_stepped_as (is_failed_step (is_flush (open_g
 -- the Cut step gives the images
 
 imaged_by_cut : (q : SetRow) (st : State) (r : SetRow) → in_progress st ≡ Some q → in_progress (cut_set (Some q) st) ≡ Some r → Imaged r.number r.volumes (cut_set (Some q) st).volumes
-imaged_by_cut q st r e f =
-    let found : Some (row_cut q.number st.clock q) ≡ Some r = sym (find-row_cut q.number st.clock st.sets ∙ ap (option_map (row_cut q.number st.clock)) e) ∙ f in
-    subst (λ (x : SetRow). Imaged x.number x.volumes (cut_each q.number q.volumes 0 st.volumes)) (some_same (row_cut q.number st.clock q) r found)
-    (subst (λ n. Imaged n (row_cut q.number st.clock q).volumes (cut_each q.number q.volumes 0 st.volumes)) (sym (number_cut (q.number == q.number) st.clock q))
-    (subst (λ vs. Imaged q.number vs (cut_each q.number q.volumes 0 st.volumes)) (sym (volumes-row_cut_if (q.number == q.number) st.clock q)) (imaged_cut q.number q.volumes st.volumes)))
-  where
-    number_cut : (b : Bool) (now : ℕ) (x : SetRow) → (if b then record x { cut_at = Some now } else x).number ≡ x.number
-    number_cut true now x = refl
-    number_cut false now x = refl
+imaged_by_cut q st r e f = grind (arith, find-row_cut, some_same, volumes-row_cut_if, imaged_cut)
 
 imaged_at_cut : (o : Option SetRow) (st : State) → in_progress st ≡ o → is_working (left_now st) ≡ true → IsImaged (followed (runs st) (course_stepped true st.clock st.course) (cut_set o st))
 imaged_at_cut None st e w = imaged_followed (course_stepped true st.clock st.course) st (moves_stepped true st.clock st.course w) (λ r f m. clash (in_progress st) r e f)
@@ -318,21 +239,16 @@ imaged_at_cut (Some q) st e w =
     imaged_followed (course_stepped true st.clock st.course) (cut_set (Some q) st) (moves_stepped true st.clock st.course w) (λ r f m. imaged_by_cut q st r e f)
 
 imaged_step : (b : Bool) (mark : Mark) (st : State) → is_cut_group (open_group (left_now st)) ≡ b → is_working (left_now st) ≡ true → IsImaged st → IsImaged (stepped mark st)
-imaged_step false mark st e w h = imaged_steps mark st e w h
-imaged_step true mark st e w h = subst IsImaged (sym (cut_step mark st e)) (imaged_at_cut (in_progress st) st refl w)
+imaged_step b mark st e w h = grind (arith, imaged_steps, cut_step, imaged_at_cut)
 
 -- ## writes, deletions and reverts
 
 imaged_failed : (o : Option SetRow) (why : VssResult) (x : State) → in_progress x ≡ o → IsImaged (failed_in o why x)
 unfolding course_failed
-imaged_failed None why x e = λ r f m. clash (in_progress x) r e f
-imaged_failed (Some q) why x e = imaged_none (failed_in (Some q) why x) refl
+imaged_failed o why x e = grind arith
 
 imaged_room : (b : Bool) (s : Plan) (v u : ℕ) (st : State) → set_loses_image (in_progress st) st.volumes (cleared s v u st).volumes ≡ b → IsImaged st → IsImaged (with_room_if b (cleared s v u st))
-imaged_room true s v u st e h = imaged_failed (in_progress st) InsufficientStorage (cleared s v u st) refl
-imaged_room false s v u st e h = λ r f m.
-    imaged_along r.number r.volumes st.volumes (cleared s v u st).volumes (as_many_gone _ _ st.volumes)
-    (none_lost r.number _ _ st.volumes (subst (λ o. set_loses_image o st.volumes (cleared s v u st).volumes ≡ false) f e)) (h r f m)
+imaged_room b s v u st e h = grind (arith, imaged_failed, imaged_along, as_many_gone, none_lost)
 
 imaged_put : (v : ℕ) (w : Write) (mark : Mark) (x : State) → IsImaged x → IsImaged (put v w mark x)
 imaged_put v w Clean x h = λ r e m.
@@ -346,14 +262,10 @@ imaged_write s v w mark st h = imaged_put v w mark _ (imaged_room (set_loses_ima
 
 -- a volume that the set has not changes
 imaged_other : (f : History → History) (v : ℕ) (st : State) → is_in_set v (in_progress st) ≡ false → IsImaged st → IsImaged (record st { volumes = change_at v f st.volumes })
-imaged_other f v st e h r g m u i l =
-    subst (λ x. has_image r.number x ≡ true) (sym (change_other f v st.volumes u (apart (λ x. is_among x r.volumes) v u (subst (λ o. is_in_set v o ≡ false) g e) i)))
-    (h r g m u i (subst (λ n. u < n) (as_many_change f v st.volumes) l))
+imaged_other f v st e h r g m u i l = grind (arith, change_other, apart, as_many_change)
 
 imaged_revert : (s : Plan) (v : ℕ) (k : Kept) (mark : Mark) (st : State) → is_in_set v (in_progress st) ≡ false → IsImaged st → IsImaged (reverted_as s v k mark st).1
-imaged_revert s v k Clean st e h = imaged_other (reverted k.row.number k.point) v st e h
-imaged_revert s v k Fault st e h = h
-imaged_revert s v k (FaultAfter n) st e h = imaged_other (reverted_in_part (blocks_of s v) k.row.number k.point n) v st e h
+imaged_revert s v k mark st e h = grind (arith, imaged_other)
 
 -- a complete set is not the one in progress
 complete_other : (st : State) (m : ℕ) (r : SetRow) → NumberedFrom 1 st.sets → in_progress st ≡ Some r → has_complete st.sets m ≡ true → (m == r.number) ≡ false
@@ -365,14 +277,10 @@ imaged_deletes_set n st o e h r f m =
     (each_map (KeepsImage r.number) (keeps_same r.number) (dropped n) (keeps_dropped n r.number (complete_other st n r o f e)) st.volumes) (h r f m)
 
 kept_complete : (b : Bool) (r : SetRow) (p : Option ℕ) (k : Kept) → kept_if b r p ≡ Some k → b ≡ true
-kept_complete true r p k e = refl
-kept_complete false r p k e = absurd cc
+kept_complete b r p k e = grind arith
 
 kept_has_complete : (n : ℕ) (rows : List SetRow) (o : Option SetRow) (p : Option ℕ) (k : Kept) → find (λ q. q.number == n) rows ≡ o → kept_of o p ≡ Some k → has_complete rows k.row.number ≡ true
-kept_has_complete n rows None p k e f = absurd cc
-kept_has_complete n rows (Some r) p k e f =
-    let number = kept_point n (Some r) p k (λ x g. row_number n rows x (e ∙ g)) f in
-    subst (λ m. has_complete rows m ≡ true) (sym number.0) (complete_found 1 n rows r e (kept_complete (is_complete r.result) r p k f))
+kept_has_complete n rows o p k e f = grind (arith, kept_point, row_number, complete_found, kept_complete)
 
 imaged_deletes_image : (n v : ℕ) (k : Kept) (st : State) → NumberedFrom 1 st.sets → kept_image st n v ≡ Some k → IsImaged st → IsImaged (record st { volumes = change_at v (dropped k.row.number) st.volumes })
 imaged_deletes_image n v k st o e h r f m =
@@ -383,12 +291,10 @@ imaged_deletes_image n v k st o e h r f m =
 -- ## session calls
 
 imaged_begin : (lane : ℕ) (all : Bool) (c : Option Context) (st : State) → IsImaged st → IsImaged (begin_in lane all c st).1
-imaged_begin lane all None st h = h
-imaged_begin lane all (Some c) st h = h
+imaged_begin lane all c st h = grind arith
 
 unmade_if : (done : Bool) (k j : Kind) (ms : List Member) (vs : List ℕ) (now : ℕ) (c : Course) → Made (settled_if done j (record c { agenda = Some (unspoken k ms vs now) })).agenda → ⊥
-unmade_if true k j ms vs now c m = m
-unmade_if false k j ms vs now c m = cc
+unmade_if done k j ms vs now c m = grind arith
 
 unmade_begun : (k : Kind) (ms : List Member) (vs : List ℕ) (now : ℕ) (c : Course) → Made (begun k ms vs now c).agenda → ⊥
 unfolding begun posted settled
@@ -445,26 +351,14 @@ abbrev Done : ℕ → List ℕ → State → Type 0
 Done n vs st = (has_complete st.sets n ≡ false) ⊎ Imaged n vs st.volumes
 
 volumes_ended : (o p : SetOutcome) (ran : Bool) (a : Option Agenda) (x : State) → is_complete p ≡ true → (concluded (ending o p ran a) x).volumes ≡ x.volumes
-volumes_ended o RunningSet ran a x e = absurd cc
-volumes_ended o (FailedSet why) ran a x e = absurd cc
-volumes_ended RunningSet CompleteSet true None x e = refl
-volumes_ended RunningSet CompleteSet true (Some a) x e = refl
-volumes_ended RunningSet CompleteSet false a x e = refl
-volumes_ended CompleteSet CompleteSet true None x e = refl
-volumes_ended CompleteSet CompleteSet true (Some a) x e = refl
-volumes_ended CompleteSet CompleteSet false a x e = refl
-volumes_ended (FailedSet why) CompleteSet true None x e = refl
-volumes_ended (FailedSet why) CompleteSet true (Some a) x e = refl
-volumes_ended (FailedSet why) CompleteSet false a x e = refl
+volumes_ended o p ran a x e = grind arith
 
 incomplete_ended : (e : Ending) (n : ℕ) (x : State) → is_complete x.course.outcome ≡ false → has_complete x.sets n ≡ false → has_complete (concluded e x).sets n ≡ false
-incomplete_ended NothingEnds n x e h = h
-incomplete_ended _ n x e h = incomplete_settled x.course.outcome n x.sets e h
+incomplete_ended e n x x3 h = grind (arith, incomplete_settled)
 
 module _ (n : ℕ) (vs : List ℕ) where
   done_if : (b : Bool) (ran : Bool) (c : Course) (x : State) → is_complete c.outcome ≡ b → has_complete x.sets n ≡ false → (b ≡ true → Imaged n vs x.volumes) → Done n vs (concluded (ending x.course.outcome c.outcome ran c.agenda) (record x { course = c }))
-  done_if true ran c x e h images = inr (subst (Imaged n vs) (sym (volumes_ended x.course.outcome c.outcome ran c.agenda (record x { course = c }) e)) (images refl))
-  done_if false ran c x e h images = inl (incomplete_ended (ending x.course.outcome c.outcome ran c.agenda) n (record x { course = c }) e h)
+  done_if b ran c x e h images = grind (arith, volumes_ended, incomplete_ended)
 
   done_followed : (ran : Bool) (c : Course) (x : State) → has_complete x.sets n ≡ false → (is_complete c.outcome ≡ true → Imaged n vs x.volumes) → Done n vs (followed ran c x)
   unfolding followed
@@ -472,28 +366,23 @@ module _ (n : ℕ) (vs : List ℕ) where
 
   done_failed : (o : Option SetRow) (why : VssResult) (x : State) → has_complete x.sets n ≡ false → has_complete (failed_in o why x).sets n ≡ false
   unfolding course_failed
-  done_failed None why x h = h
-  done_failed (Some r) why x h = incomplete_settled (FailedSet why) n x.sets refl h
+  done_failed o why x h = grind (arith, incomplete_settled)
 
   done_room : (b : Bool) (x : State) → has_complete x.sets n ≡ false → has_complete (with_room_if b x).sets n ≡ false
-  done_room true x h = done_failed (in_progress x) InsufficientStorage x h
-  done_room false x h = h
+  done_room b x h = grind (arith, done_failed)
 
   done_put : (v : ℕ) (w : Write) (mark : Mark) (x : State) → has_complete x.sets n ≡ false → has_complete (put v w mark x).sets n ≡ false
-  done_put v w Clean x h = h
-  done_put v w _ x h = h
+  done_put v w mark x h = grind arith
 
   done_write : (s : Plan) (v : ℕ) (w : Write) (mark : Mark) (st : State) → has_complete st.sets n ≡ false → Done n vs (write s v w mark st).1
   unfolding write
-  done_write s v w mark st h = inl (done_put v w mark _ (done_room (set_loses_image (in_progress st) st.volumes (cleared s v w.block st).volumes) (cleared s v w.block st) h))
+  done_write s v w mark st h = grind (arith, done_put, done_room)
 
   done_revert : (s : Plan) (v : ℕ) (k : Kept) (mark : Mark) (st : State) → has_complete st.sets n ≡ false → Done n vs (reverted_as s v k mark st).1
-  done_revert s v k Clean st h = inl h
-  done_revert s v k _ st h = inl h
+  done_revert s v k mark st h = grind arith
 
   done_begin : (lane : ℕ) (all : Bool) (c : Option Context) (st : State) → has_complete st.sets n ≡ false → Done n vs (begin_in lane all c st).1
-  done_begin lane all None st h = inl h
-  done_begin lane all (Some c) st h = inl h
+  done_begin lane all c st h = grind arith
 
   done_end : (q : Session) (x : State) → has_complete x.sets n ≡ false → Done n vs (closed q x)
   unfolding closed
@@ -518,18 +407,12 @@ module _ (n : ℕ) (vs : List ℕ) where
 
   done_steps : (mark : Mark) (st : State) → is_cut_group (open_group (left_now st)) ≡ false → is_working (left_now st) ≡ true → st.course.outcome ≡ RunningSet → has_complete st.sets n ≡ false → (Made st.course.agenda → Imaged n vs st.volumes) → Done n vs (stepped mark st)
   unfolding stepped
-  done_steps mark st c w run h images = done_stepped_as (is_failed_step (is_flush (open_group (left_now st))) mark) (open_group (left_now st)) st c c w run h images
+  done_steps mark st c w run h images = grind (arith, done_stepped_as)
 
 -- an agenda that begins does not complete the set
 begun_incomplete_if : (done : Bool) (k : Kind) (ms : List Member) (vs : List ℕ) (now : ℕ) (c : Course) → is_done (groups_left (unspoken k ms vs now)) ≡ done → c.outcome ≡ RunningSet
     → is_complete (settled_if done k (record c { agenda = Some (unspoken k ms vs now) })).outcome ≡ true → ⊥
-begun_incomplete_if false k ms vs now c d e f = true_not_false (is_complete c.outcome) f (ap is_complete e)
-begun_incomplete_if true k ms vs now c d e f =
-    let snapshot = completes_snapshot k c.outcome (outcome_after k c.outcome) e refl f in
-    nothing (done_made (unspoken k ms vs now) (subst (λ x. is_done (left_from (unspoken k ms vs now) (places x)) ≡ true) snapshot d))
-  where
-    nothing : is_cut_made [] ≡ true → ⊥
-    nothing g = cc
+begun_incomplete_if done k ms vs now c d e f = grind arith
 
 begun_incomplete : (k : Kind) (ms : List Member) (vs : List ℕ) (now : ℕ) (c : Course) → c.outcome ≡ RunningSet → is_complete (begun k ms vs now c).outcome ≡ true → ⊥
 unfolding begun posted settled
@@ -593,4 +476,4 @@ imaged_after s so_far act r q v e f g h l =
 -- while its snapshot's agenda runs, the set in progress has its image on each of its volumes once the Cut step is made
 pub image_once_cut : (s : Plan) (acts : List Act) (r : SetRow) (a : Agenda) (v : ℕ) → in_progress (state s acts) ≡ Some r → (state s acts).course.agenda ≡ Some a → is_cut_made a.log ≡ true → is_among v r.volumes ≡ true → v < length s.volumes
     → is_some (point_in r.number (history_of (state s acts) v).images) ≡ true
-image_once_cut s acts r a v e runs made among within = imaged s acts r e (subst Made (sym runs) made) v among (subst (λ n. v < n) (sym (as_many_volumes s acts)) within)
+image_once_cut s acts r a v e runs made among within = grind (arith, imaged, as_many_volumes)

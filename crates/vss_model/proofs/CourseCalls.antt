@@ -1,24 +1,20 @@
 -- What a call does to a running agenda: it stops it and fails the set; or it leaves it as it is, or ends it where nothing was left;
 -- or something is said at the open place by members that are waited for there.
-use Rattle.std.proofs.Common.{◌≡◌, ℕ, ◌==◌, List, [], ◌∷◌, ◌⊎◌, Option, Some, None, refl, Bool, true, false, ap, sym, subst, inl, inr, arith}
-use Rattle.std.specs.Prelude.{option_map, ◌&&◌, ◌||◌, not}
+use Rattle.std.proofs.Common.{◌≡◌, ℕ, List, [], ◌∷◌, ◌⊎◌, Option, Some, None, refl, Bool, true, false, ap, sym, subst, inl, inr, arith}
+use Rattle.std.specs.Prelude.{option_map, ◌&&◌, not}
 use Rattle.vss_names.specs.declared.order.Order.{Order}
-use Rattle.vss_names.specs.declared.order.Order.TheVariants.{Identify, PrepareBackup, PrepareSnapshot, Freeze, Thaw, PostSnapshot, BackupComplete}
 use Rattle.vss_names.specs.declared.set_outcome.SetOutcome.{SetOutcome}
 use Rattle.vss_names.specs.declared.vss_result.VssResult.{VssResult}
 use Rattle.writer_state.specs.declared.said.Said.{Said}
 use Rattle.writer_state.specs.declared.said.Said.TheVariants.{Ok, Lost}
 use Rattle.writer_state.specs.WriterState.{is_ok}
 use Rattle.set_agenda.specs.declared.group.Group.{Group}
-use Rattle.set_agenda.specs.declared.group.Group.TheVariants.{Orders, PreCommit, Flush, Hold, Cut, Commit, Release, PostCommit}
 use Rattle.set_agenda.specs.declared.limit.Limit.{Limit}
-use Rattle.set_agenda.specs.declared.limit.Limit.TheVariants.{Hold as HoldLimit, Freeze as FreezeLimit, Answer as AnswerLimit}
 use Rattle.set_agenda.specs.declared.place.Place.{Place}
-use Rattle.set_agenda.specs.Agenda.{Agenda, Open, order_of, is_orders, is_freeze, waited_for, with_group, left_from, places, groups_left, left, open_place, is_asked, is_among, order_if, open_order, order_now, waits_now, next_member, is_done, is_working, all_say}
+use Rattle.set_agenda.specs.Agenda.{Agenda, Open, is_orders, is_freeze, waited_for, with_group, left_from, places, groups_left, left, open_place, is_asked, is_among, open_order, order_now, waits_now, next_member, is_done, is_working, all_say}
 use Rattle.set_agenda.specs.Limits.{Running as RunningLimit, running_limits, spent_of}
-use Rattle.set_agenda.specs.Course.{Course, posted, outcome_after, failed as course_failed, settled_if, settled_in, settled, is_decisive, told, decided, answered_to, answered as course_answered, worked, stepped_as as course_stepped_as, stepped as course_stepped, freeze_limit, lost_to, lost, fails_set, lost_decided, treated_as, treated, timed as course_timed}
+use Rattle.set_agenda.specs.Course.{Course, posted, outcome_after, failed as course_failed, settled_in, settled, is_decisive, told, decided, answered_to, answered as course_answered, worked, stepped_as as course_stepped_as, stepped as course_stepped, freeze_limit, lost_to, fails_set, lost_decided, treated_as, treated, timed as course_timed}
 use Rattle.vss_model.specs.Facts.{has_failed}
-use Rattle.vss_model.proofs.Orderly.{true_not_false}
 pub use Rattle.set_agenda.proofs.CourseRule.{asked_if, asked_waits, one_alone}
 
 -- ## the three ways
@@ -61,49 +57,23 @@ IsCall writers c d = Call writers c.agenda c.outcome d.agenda d.outcome
 
 -- ## what the open place decides
 
--- the order of a Freeze group decides
-freeze_decides : (b : Bool) (g : Group) (o : Order) → order_if b (order_of g) ≡ Some o → is_freeze g ≡ true → is_decisive o ≡ true
-freeze_decides false g o e f = absurd cc
-freeze_decides true (Orders Freeze) o e f = let same : Freeze ≡ o = cc in subst (λ x. is_decisive x ≡ true) same refl
-freeze_decides true (Orders Identify) o e f = absurd cc
-freeze_decides true (Orders PrepareBackup) o e f = absurd cc
-freeze_decides true (Orders PrepareSnapshot) o e f = absurd cc
-freeze_decides true (Orders Thaw) o e f = absurd cc
-freeze_decides true (Orders PostSnapshot) o e f = absurd cc
-freeze_decides true (Orders BackupComplete) o e f = absurd cc
-freeze_decides true PreCommit o e f = absurd cc
-freeze_decides true Flush o e f = absurd cc
-freeze_decides true Hold o e f = absurd cc
-freeze_decides true Cut o e f = absurd cc
-freeze_decides true Commit o e f = absurd cc
-freeze_decides true Release o e f = absurd cc
-freeze_decides true PostCommit o e f = absurd cc
-
 open_decides : (os : List Open) (w : ℕ) (o : Order) → open_order os w ≡ Some o → is_freeze (open_place os).group ≡ true → is_decisive o ≡ true
-open_decides [] w o e f = absurd cc
-open_decides (x ∷ os) w o e f = freeze_decides (is_asked w (x ∷ os)) x.place.group o e f
+open_decides os w o e f = grind arith
 
 now_decides : (os : List Open) (o : Order) → order_now os ≡ Some o → is_freeze (open_place os).group ≡ true → is_decisive o ≡ true
-now_decides [] o e f = absurd cc
-now_decides (x ∷ os) o e f = freeze_decides true x.place.group o e f
+now_decides os o e f = grind arith
 
 -- a refusal that does not decide is none of Freeze
 mild : (freeze decides ok : Bool) → (freeze ≡ true → decides ≡ true) → (decides && not ok) ≡ false → (freeze && not ok) ≡ false
-mild false decides ok f e = refl
-mild true true ok f e = e
-mild true false ok f e = absurd (true_not_false false (f refl) refl)
+mild freeze decides ok f e = grind arith
 
 pub not_ok_of_ok : (b : Bool) → (b && not true) ≡ false
-not_ok_of_ok true = refl
-not_ok_of_ok false = refl
+not_ok_of_ok b = grind arith
 
 -- ## who is waited for
 
 pub first_among : (w : ℕ) (ws : List ℕ) → is_among w (w ∷ ws) ≡ true
-first_among w ws = own w (is_among w ws)
-  where
-    own : (a : ℕ) (b : Bool) → ((a == a) || b) ≡ true
-    own a b = grind arith
+first_among w ws = grind arith
 
 -- of a group that is left somebody is waited for
 head_waits : (a : Agenda) (ps : List Place) → is_working (left_from a ps) ≡ true → is_among (next_member (left_from a ps)) (waits_now (left_from a ps)) ≡ true
@@ -116,30 +86,12 @@ head_waits a (p ∷ ps) e = at_group p (waited_for a p) (left_from a ps) (head_w
     at_group p (w ∷ ws) later ih e = first_among w ws
 
 pub now_orders : (os : List Open) (o : Order) → order_now os ≡ Some o → is_orders (open_place os).group ≡ true
-now_orders [] o e = absurd cc
-now_orders (x ∷ os) o e = of_group x.place.group e
-  where
-    of_group : (g : Group) → order_of g ≡ Some o → is_orders g ≡ true
-    of_group (Orders x) e = refl
-    of_group PreCommit e = absurd cc
-    of_group Flush e = absurd cc
-    of_group Hold e = absurd cc
-    of_group Cut e = absurd cc
-    of_group Commit e = absurd cc
-    of_group Release e = absurd cc
-    of_group PostCommit e = absurd cc
+now_orders os o e = grind arith
 
 -- ## settled
 
-settles_if : (done : Bool) (b : Agenda) (o : SetOutcome) (d : Course) → d.agenda ≡ Some b → d.outcome ≡ o → Settles done b o (settled_if done b.kind d).agenda (settled_if done b.kind d).outcome
-settles_if true b o d e f = (refl, ap (λ x. outcome_after b.kind x) f)
-settles_if false b o d e f = (e, f)
-
 settles_in : (x : Option Agenda) (b : Agenda) (o : SetOutcome) (d : Course) → d.agenda ≡ x → x ≡ Some b → d.outcome ≡ o → Settles (is_done (groups_left b)) b o (settled_in x d).agenda (settled_in x d).outcome
-settles_in None b o d e f g = absurd cc
-settles_in (Some y) b o d e f g =
-    let same : y ≡ b = cc in
-    subst (λ z. Settles (is_done (groups_left z)) z o (settled_in (Some y) d).agenda (settled_in (Some y) d).outcome) same (settles_if (is_done (groups_left y)) y o d e g)
+settles_in x b o d e f g = grind arith
 
 settles : (b : Agenda) (o : SetOutcome) (d : Course) → d.agenda ≡ Some b → d.outcome ≡ o → Settles (is_done (groups_left b)) b o (settled d).agenda (settled d).outcome
 unfolding settled
@@ -156,8 +108,7 @@ unfolding course_failed
 call_failed writers a o why d = inl (record { agenda = refl; failed = refl })
 
 call_same : (writers : Bool) (a : Option Agenda) (o : SetOutcome) → Call writers a o a o
-call_same writers None o = (refl, refl)
-call_same writers (Some a) o = inr (inl (record { done = false; is_done = λ e. absurd cc; settles = (refl, refl) }))
+call_same writers a o = grind arith
 
 along : (writers : Bool) (a : Option Agenda) (c d : Course) → c.agenda ≡ a → Call writers a c.outcome d.agenda d.outcome → IsCall writers c d
 along writers a c d e h = subst (λ x. Call writers x c.outcome d.agenda d.outcome) (sym e) h
@@ -180,12 +131,10 @@ call_decided false w o said now a c e f g =
     says_told true o said now (w ∷ []) a c e (λ x h. one_alone w x (waits_now os) asked.1 h) (mild (is_freeze (open_place os).group) (is_decisive o) (is_ok said) (open_decides os w o f) g) asked.0
 
 call_answered_to : (o : Option Order) (w : ℕ) (said : Said) (now : ℕ) (a : Agenda) (c : Course) → c.agenda ≡ Some a → open_order (groups_left a) w ≡ o → Call true (Some a) c.outcome (answered_to o w said now c).agenda (answered_to o w said now c).outcome
-call_answered_to None w said now a c e f = subst (λ x. Call true (Some a) c.outcome x c.outcome) (sym e) (call_same true (Some a) c.outcome)
-call_answered_to (Some o) w said now a c e f = call_decided (is_decisive o && not (is_ok said)) w o said now a c e f refl
+call_answered_to o w said now a c e f = grind (arith, call_same, call_decided)
 
 call_answered_at : (x : Option Agenda) (w : ℕ) (said : Said) (now : ℕ) (c : Course) → c.agenda ≡ x → IsCall true c (answered_to (open_order (left x) w) w said now c)
-call_answered_at None w said now c e = call_same true c.agenda c.outcome
-call_answered_at (Some a) w said now c e = along true (Some a) c (answered_to (open_order (groups_left a) w) w said now c) e (call_answered_to (open_order (groups_left a) w) w said now a c e refl)
+call_answered_at x w said now c e = grind (arith, call_same, along, call_answered_to)
 
 pub call_answered : (w : ℕ) (said : Said) (now : ℕ) (c : Course) → IsCall true c (course_answered w said now c)
 call_answered w said now c = call_posted true c c _ (call_answered_at c.agenda w said now c refl)
@@ -208,9 +157,7 @@ says_worked now a c e f =
     }))
 
 call_stepped_as : (ok : Bool) (x : Option Agenda) (now : ℕ) (c : Course) → c.agenda ≡ x → is_working (left x) ≡ true → IsCall false c (course_stepped_as ok now c)
-call_stepped_as ok None now c e f = absurd cc
-call_stepped_as true (Some a) now c e f = along false (Some a) c (course_stepped_as true now c) e (says_worked now a c e f)
-call_stepped_as false (Some a) now c e f = along false (Some a) c (course_stepped_as false now c) e (call_failed false a c.outcome _ c)
+call_stepped_as ok x now c e f = grind (arith, along, says_worked, call_failed)
 
 pub call_stepped : (ok : Bool) (now : ℕ) (c : Course) → is_working (left c.agenda) ≡ true → IsCall false c (course_stepped ok now c)
 call_stepped ok now c f = call_posted false c c _ (call_stepped_as ok c.agenda now c refl f)
@@ -226,23 +173,16 @@ call_lost_to (Some o) now a c e f g =
 
 call_lost_decided : (fails : Bool) (now : ℕ) (a : Agenda) (c : Course) → c.agenda ≡ Some a → fails_set (order_now (groups_left a)) ≡ fails
     → Call true (Some a) c.outcome (lost_decided fails (lost_to (order_now (groups_left a)) now c)).agenda (lost_decided fails (lost_to (order_now (groups_left a)) now c)).outcome
-call_lost_decided true now a c e f = call_failed true a c.outcome _ (lost_to (order_now (groups_left a)) now c)
-call_lost_decided false now a c e f = call_lost_to (order_now (groups_left a)) now a c e refl f
+call_lost_decided fails now a c e f = grind (arith, call_failed, call_lost_to)
 
 call_treated_as : (l : Limit) (now : ℕ) (a : Agenda) (c : Course) → c.agenda ≡ Some a → Call true (Some a) c.outcome (treated_as l now c).agenda (treated_as l now c).outcome
-call_treated_as HoldLimit now a c e = call_failed true a c.outcome _ c
-call_treated_as FreezeLimit now a c e = call_failed true a c.outcome _ (lost now c)
-call_treated_as AnswerLimit now a c e =
-    let R : Option Agenda → Type 0 = λ x. Call true (Some a) c.outcome (lost_decided (fails_set (order_now (left x))) (lost_to (order_now (left x)) now c)).agenda (lost_decided (fails_set (order_now (left x))) (lost_to (order_now (left x)) now c)).outcome in
-    subst R (sym e) (call_lost_decided (fails_set (order_now (groups_left a))) now a c e refl)
+call_treated_as l now a c e = grind (arith, call_failed, call_lost_decided)
 
 call_treated : (l : Option RunningLimit) (now : ℕ) (a : Agenda) (c : Course) → c.agenda ≡ Some a → Call true (Some a) c.outcome (treated l now c).agenda (treated l now c).outcome
-call_treated None now a c e = subst (λ x. Call true (Some a) c.outcome x c.outcome) (sym e) (call_same true (Some a) c.outcome)
-call_treated (Some l) now a c e = call_treated_as l.limit now a c e
+call_treated l now a c e = grind (arith, call_same, call_treated_as)
 
 call_timed_at : (x : Option Agenda) (now : ℕ) (c : Course) → c.agenda ≡ x → IsCall true c (treated (spent_of now (running_limits (freeze_limit c) x)) now c)
-call_timed_at None now c e = call_same true c.agenda c.outcome
-call_timed_at (Some a) now c e = along true (Some a) c (treated (spent_of now (running_limits (freeze_limit c) (Some a))) now c) e (call_treated (spent_of now (running_limits (freeze_limit c) (Some a))) now a c e)
+call_timed_at x now c e = grind (arith, call_same, along, call_treated)
 
 pub call_timed : (now : ℕ) (c : Course) → IsCall true c (course_timed now c)
 call_timed now c = call_posted true c c _ (call_timed_at c.agenda now c refl)

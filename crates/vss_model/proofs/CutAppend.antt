@@ -1,5 +1,5 @@
 -- Where one more act leaves the cut of a set.
-use Rattle.std.proofs.Common.{◌≡◌, ℕ, List, [], ◌∷◌, ◌++◌, Option, Some, None, refl, Bool, true, false, ap, sym, ◌∙◌, fold}
+use Rattle.std.proofs.Common.{◌≡◌, ℕ, List, [], ◌∷◌, ◌++◌, Option, Some, None, refl, Bool, ap, sym, fold, arith}
 use Rattle.std.proofs.lemmas.List.{append_assoc}
 use Rattle.scenario.specs.Plan.{Plan}
 use Rattle.vss_model.specs.State.{State, start}
@@ -14,12 +14,8 @@ pub append_nothing : (xs : List Act) → xs ++ [] ≡ xs
 append_nothing [] = refl
 append_nothing (x ∷ xs) = ap (λ ys. x ∷ ys) (append_nothing xs)
 
-none_yet : (o : Option (List Act)) → or_cut None o ≡ o
-none_yet o = refl
-
 cut_first : (b : Bool) (before : List Act) (x y : Option (List Act)) (z w : Option (List Act)) → x ≡ or_cut y z → z ≡ w → cut_if b before x ≡ or_cut (cut_if b before y) w
-cut_first true before x y z w e f = refl
-cut_first false before x y z w e f = e ∙ ap (or_cut y) f
+cut_first b before x y z w e f = grind arith
 
 cut_from-append : (s : Plan) (n : ℕ) (before : List Act) (st : State) (acts : List Act) (act : Act)
     → cut_from s n before st (acts ++ act ∷ []) ≡ or_cut (cut_from s n before st acts) (cut_if (is_cut_of n (fold (after s) st acts) act) (before ++ acts) None)

@@ -45,16 +45,14 @@ AllShown k v (h ∷ hs) = IsShown k v h × AllShown k (v + 1) hs
 -- ## fewer images
 
 above_if : (b : Bool) (i j : Image) (js : List Image) → i.set < j.set → i.point ≤ j.point → Above i js → Above i (if b then j ∷ js else js)
-above_if true i j js e f h = (e, f, h)
-above_if false i j js e f h = h
+above_if b i j js e f h = grind arith
 
 above-filter : (test : Image → Bool) (i : Image) (js : List Image) → Above i js → Above i (filter test js)
 above-filter test i [] h = tt
 above-filter test i (j ∷ js) h = above_if (test j) i j (filter test js) h.0 h.1 (above-filter test i js h.2)
 
 shown_if : (b : Bool) (k : Known) (v : ℕ) (ws : List Write) (i : Image) (images : List Image) → (b ≡ true → ShownIn (k i.set) v i.point ws) → Above i images → Shown k v ws images → Shown k v ws (if b then i ∷ images else images)
-shown_if true k v ws i images e f h = (e refl, f, h)
-shown_if false k v ws i images e f h = h
+shown_if b k v ws i images e f h = grind arith
 
 pub shown-filter : (test : Image → Bool) (k : Known) (v : ℕ) (ws : List Write) (images : List Image) → Shown k v ws images → Shown k v ws (filter test images)
 shown-filter test k v ws [] h = tt
@@ -66,8 +64,7 @@ begins-append : (first ws more : List Write) → Begins first ws → Begins firs
 begins-append first ws more h = record { rest = h.rest ++ more; is = ap (λ x. x ++ more) h.is ∙ append_assoc first h.rest more }
 
 in-append : (o : Option (List History)) (v point : ℕ) (ws more : List Write) → ShownIn o v point ws → ShownIn o v point (ws ++ more)
-in-append None v point ws more h = absurd h
-in-append (Some hs) v point ws more h = (h.0, begins-append (writes_at hs v) ws more h.1)
+in-append o v point ws more h = grind (arith, begins-append)
 
 pub shown-writes : (k : Known) (v : ℕ) (ws more : List Write) (images : List Image) → Shown k v ws images → Shown k v (ws ++ more) images
 shown-writes k v ws more [] h = tt
@@ -87,11 +84,7 @@ begins-take first ws n l h = record {
     split a b l = omega arith
 
 in-take : (o : Option (List History)) (v point n : ℕ) (ws : List Write) → point ≤ n → ShownIn o v point ws → ShownIn o v point (take n ws)
-in-take None v point n ws l h = absurd h
-in-take (Some hs) v point n ws l h = (h.0, begins-take (writes_at hs v) ws n (along (length (writes_at hs v)) point n h.0 l) h.1)
-  where
-    along : (a b n : ℕ) → a ≡ b → b ≤ n → a ≤ n
-    along a b n e l = rw e l
+in-take o v point n ws l h = grind (arith, begins-take)
 
 -- an image that is kept by a revert has no greater point
 abbrev Within : ℕ → ℕ → List Image → Type 0
@@ -99,8 +92,7 @@ Within n p [] = Unit {0}
 Within n p (i ∷ images) = (nat_lt n i.set ≡ false → i.point ≤ p) × Within n p images
 
 above_point_if : (b : Bool) (i j : Image) (n p : ℕ) (js : List Image) → i.point ≤ j.point → (if b then Some j.point else point_in n js) ≡ Some p → (point_in n js ≡ Some p → i.point ≤ p) → i.point ≤ p
-above_point_if true i j n p js l e ih = let same : j.point ≡ p = cc in subst (λ x. i.point ≤ x) same l
-above_point_if false i j n p js l e ih = ih e
+above_point_if b i j n p js l e ih = grind arith
 
 above_point : (i : Image) (n p : ℕ) (js : List Image) → Above i js → point_in n js ≡ Some p → i.point ≤ p
 above_point i n p [] h e = absurd cc
@@ -114,13 +106,7 @@ later_within i n p (j ∷ js) e h = ((λ f. absurd (past i.set n j.set e h.0 f))
     past a n b e l f = grind arith
 
 within_if : (b : Bool) (i : Image) (n p : ℕ) (images : List Image) → (i.set == n) ≡ b → (if b then Some i.point else point_in n images) ≡ Some p → Above i images → (point_in n images ≡ Some p → Within n p images) → Within n p (i ∷ images)
-within_if true i n p images e f h ih =
-    let same : i.point ≡ p = cc in
-    ((λ g. subst (λ x. i.point ≤ x) same (own i.point)), later_within i n p images (eqb-true i.set n e) h)
-  where
-    own : (a : ℕ) → a ≤ a
-    own a = omega arith
-within_if false i n p images e f h ih = ((λ g. above_point i n p images h f), ih f)
+within_if b i n p images e f h ih = grind (arith, later_within, eqb-true, above_point)
 
 within : (k : Known) (v : ℕ) (ws : List Write) (n p : ℕ) (images : List Image) → Shown k v ws images → point_in n images ≡ Some p → Within n p images
 within k v ws n p [] h e = absurd cc
@@ -153,8 +139,7 @@ all-change_at k f zero v (x ∷ hs) keeps h = (keeps v x refl h.0, h.1)
 all-change_at k f (suc at) v (x ∷ hs) keeps h = (h.0, all-change_at k f at (v + 1) hs (λ u y e g. keeps u y e g) h.1)
 
 gone_if : (b : Bool) (k : Known) (v m : ℕ) (h : History) → IsShown k v h → IsShown k v (if b then record { writes = h.writes; images = after_set m h.images } else h)
-gone_if true k v m h shown = shown-filter (λ i. nat_lt m i.set) k v h.writes h.images shown
-gone_if false k v m h shown = shown
+gone_if b k v m h shown = grind (arith, shown-filter)
 
 pub all-gone : (k : Known) (m : ℕ) (ps : List Placed) (v : ℕ) (hs : List History) → AllShown k v hs → AllShown k v (gone_up_to m ps hs)
 all-gone k m [] v hs h = h
@@ -231,9 +216,7 @@ append_none [] = refl
 append_none (w ∷ ws) = ap (λ x. w ∷ x) (append_none ws)
 
 pub shown-cut : (k : Known) (v n : ℕ) (hs : List History) (h : History) → k n ≡ Some hs → writes_at hs v ≡ h.writes → Below h.images n (length h.writes) → IsShown k v h → IsShown k v (cut n h)
-shown-cut k v n hs h e f b shown =
-    shown-append k v h.writes h.images (record { set = n; point = length h.writes }) shown b
-    (along_known (Some hs) (k n) v (length h.writes) h.writes (sym e) (ap length f, record { rest = []; is = append_none h.writes ∙ ap (λ x. x ++ []) (sym f) }))
+shown-cut k v n hs h e f b shown = grind (arith, shown-append, along_known, append_none)
 
 pub below-known : (k : Known) (v n : ℕ) (h : History) → ((m : ℕ) → n ≤ m → k m ≡ None) → IsShown k v h → Below h.images n (length h.writes)
 below-known k v n h none shown = below k v h.writes n h.images none shown
@@ -241,11 +224,7 @@ below-known k v n h none shown = below k v h.writes n h.images none shown
 -- ## the image of a set
 
 point_if : (b : Bool) (k : Known) (v n p : ℕ) (ws : List Write) (i : Image) (images : List Image) → (i.set == n) ≡ b → (if b then Some i.point else point_in n images) ≡ Some p → ShownIn (k i.set) v i.point ws → (point_in n images ≡ Some p → ShownIn (k n) v p ws) → ShownIn (k n) v p ws
-point_if true k v n p ws i images e f h ih =
-    let point : i.point ≡ p = cc in
-    let set : i.set ≡ n = eqb-true i.set n e in
-    subst (λ x. ShownIn (k n) v x ws) point (subst (λ x. ShownIn (k x) v i.point ws) set h)
-point_if false k v n p ws i images e f h ih = ih f
+point_if b k v n p ws i images e f h ih = grind arith
 
 point_shown : (k : Known) (v n p : ℕ) (ws : List Write) (images : List Image) → point_in n images ≡ Some p → Shown k v ws images → ShownIn (k n) v p ws
 point_shown k v n p ws [] e h = absurd cc

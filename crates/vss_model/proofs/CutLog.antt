@@ -1,20 +1,18 @@
 -- What the log of a running agenda says: nothing but ok to Freeze, and before the Cut step nothing of a Release or a Thaw.
 -- So at the Cut step every volume is held and every participant is frozen.
-use Rattle.std.proofs.Common.{◌≡◌, ℕ, ◌==◌, List, [], ◌∷◌, ◌++◌, Option, refl, Bool, true, false, map, sym, ◌∙◌}
-use Rattle.std.specs.Prelude.{◌&&◌, ◌||◌, not, if◌then◌else◌}
+use Rattle.std.proofs.Common.{◌≡◌, ℕ, List, [], ◌∷◌, ◌++◌, Option, refl, Bool, true, false, map, sym, ◌∙◌, arith}
+use Rattle.std.specs.Prelude.{◌&&◌, ◌||◌, not}
 use Rattle.std.specs.List.{list_any}
 use Rattle.std.proofs.lemmas.List.Folds.{list_any-append}
 use Rattle.std.proofs.lemmas.Bool.{or_from, or_left}
-use Rattle.vss_names.specs.declared.level.Level.TheVariants.{System, BackEnd, FrontEnd}
-use Rattle.vss_names.specs.declared.order.Order.TheVariants.{Identify, PrepareBackup, PrepareSnapshot, Freeze, BackupComplete, Thaw}
+use Rattle.vss_names.specs.declared.order.Order.TheVariants.{Thaw}
 use Rattle.writer_state.specs.declared.said.Said.{Said}
 use Rattle.writer_state.specs.WriterState.{is_ok}
 use Rattle.set_agenda.specs.declared.group.Group.{Group}
-use Rattle.set_agenda.specs.declared.group.Group.TheVariants.{Orders, PreCommit, Flush, Hold, Cut, Release}
+use Rattle.set_agenda.specs.declared.group.Group.TheVariants.{Orders, Cut, Release}
 use Rattle.set_agenda.specs.declared.kind.Kind.{Kind}
-use Rattle.set_agenda.specs.declared.kind.Kind.TheVariants.{Gather, Prepare, Snapshot, Complete}
 use Rattle.set_agenda.specs.declared.place.Place.{Place}
-use Rattle.set_agenda.specs.Agenda.{Agenda, Entry, Open, plain, at_level, places, same_place, is_freeze, has_said, waited_for, with_group, left_from, groups_left, open_place, at_place, all_say}
+use Rattle.set_agenda.specs.Agenda.{Agenda, Entry, plain, places, is_freeze, has_said, left_from, groups_left, open_place, at_place, all_say}
 use Rattle.scenario.specs.Plan.{Plan}
 use Rattle.vss_model.specs.Acts.{Act, state}
 use Rattle.vss_model.proofs.Orderly.{true_not_false}
@@ -52,44 +50,20 @@ any-at_place test p said now [] e = refl
 any-at_place test p said now (w ∷ ws) e = rw (e w) (any-at_place test p said now ws e)
 
 pub either_way : (a b c : Bool) → (a || b) ≡ true → (a ≡ true → c ≡ true) → (b ≡ true → c ≡ true) → c ≡ true
-either_way true b c e f g = f refl
-either_way false b c e f g = g e
+either_way a b c e f g = grind arith
 
 -- what was said stays said
 pub said_stays : (log new : List Entry) (p : Place) (who : ℕ) → has_said log p who ≡ true → has_said (log ++ new) p who ≡ true
-said_stays log new p who e =
-    list_any-append (λ (x : Entry). same_place x.place p && (x.who == who)) log new ∙ or_left (has_said log p who) (has_said new p who) e
+said_stays log new p who e = grind (arith, list_any-append, or_left)
 
 cut_stays : (log new : List Entry) → is_cut_made log ≡ true → is_cut_made (log ++ new) ≡ true
 cut_stays log new e = said_stays log new (plain Cut) 0 e
 
--- the open place undoes nothing before the Cut step is made
-skip : (p : Place) (ws : List ℕ) (later : List Open) → undoes p.group ≡ false → undoes (open_place (with_group p ws later)).group ≡ true → undoes (open_place later).group ≡ true
-skip p [] later e h = h
-skip p (w ∷ ws) later e h = absurd (true_not_false (undoes p.group) h e)
-
-at_cut : (b : Bool) (later : List Open) → undoes (open_place (with_group (plain Cut) (if not b then 0 ∷ [] else []) later)).group ≡ true → b ≡ true
-at_cut true later h = refl
-at_cut false later h = absurd cc
-
 cut_before_in : (k : Kind) (a : Agenda) → undoes (open_place (left_from a (places k))).group ≡ true → is_cut_made a.log ≡ true
-cut_before_in Gather a h = absurd (true_not_false false (skip (plain (Orders Identify)) (waited_for a (plain (Orders Identify))) [] refl h) refl)
-cut_before_in Prepare a h = absurd (true_not_false false (skip (plain (Orders PrepareBackup)) (waited_for a (plain (Orders PrepareBackup))) [] refl h) refl)
-cut_before_in Complete a h = absurd (true_not_false false (skip (plain (Orders BackupComplete)) (waited_for a (plain (Orders BackupComplete))) [] refl h) refl)
-cut_before_in Snapshot a h =
-    at_cut (is_cut_made a.log) _
-    (skip (plain Hold) (waited_for a (plain Hold)) _ refl
-    (skip (plain Flush) (waited_for a (plain Flush)) _ refl
-    (skip (plain PreCommit) (waited_for a (plain PreCommit)) _ refl
-    (skip (at_level Freeze System) (waited_for a (at_level Freeze System)) _ refl
-    (skip (at_level Freeze BackEnd) (waited_for a (at_level Freeze BackEnd)) _ refl
-    (skip (at_level Freeze FrontEnd) (waited_for a (at_level Freeze FrontEnd)) _ refl
-    (skip (plain (Orders PrepareSnapshot)) (waited_for a (plain (Orders PrepareSnapshot))) _ refl h)))))))
+cut_before_in k a h = grind arith
 
 all_false : (test : Entry → Bool) (p : Place) (said : Said) (now : ℕ) (ws : List ℕ) (b : Bool) → ((w : ℕ) → test (at_place p said now w) ≡ b) → list_any test (map (at_place p said now) ws) ≡ true → b ≡ true
-all_false test p said now [] b e h = absurd cc
-all_false test p said now (w ∷ ws) true e h = refl
-all_false test p said now (w ∷ ws) false e h = absurd (true_not_false (list_any test (map (at_place p said now) (w ∷ ws))) h (any-at_place test p said now (w ∷ ws) e))
+all_false test p said now ws b e h = grind (arith, true_not_false, any-at_place)
 
 sound-say : (said : Said) (now : ℕ) (ws : List ℕ) (a : Agenda) → (is_freeze (open_place (groups_left a)).group && not (is_ok said)) ≡ false → IsSound a.log → IsSound (all_say said now ws a).log
 sound-say said now ws a e h =

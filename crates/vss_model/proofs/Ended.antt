@@ -1,9 +1,9 @@
 -- At the end of a legal and complete trail no session stands, so no set is in progress.
-use Rattle.std.proofs.Common.{◌≡◌, ℕ, zero, suc, ◌≤◌, List, [], ◌∷◌, Option, Some, None, refl, true, ap, sym, ◌∙◌, length, drop, arith}
+use Rattle.std.proofs.Common.{◌≡◌, ℕ, zero, suc, ◌≤◌, List, [], ◌∷◌, Option, None, refl, true, ap, sym, ◌∙◌, length, drop, arith}
 use Rattle.std.specs.Prelude.{All, slice_get}
 use Rattle.write_history.specs.declared.move_item.Move.{Move}
 use Rattle.requestor.specs.Session.{Session}
-use Rattle.scenario.specs.Bounds.{IsPlan, IsLane, has_end, ends_sessions}
+use Rattle.scenario.specs.Bounds.{IsPlan, IsLane, ends_sessions}
 use Rattle.scenario.specs.Plan.{Plan, LaneLine, LanePlan, lines_in, lines_of}
 use Rattle.vss_names.specs.declared.set_outcome.SetOutcome.{SetOutcome}
 use Rattle.vss_model.specs.State.{State, SetRow, in_progress}
@@ -35,17 +35,10 @@ nothing_left (l ∷ ls) zero h = absurd (omega (arith, h))
 nothing_left (l ∷ ls) (suc k) h = nothing_left ls k (omega (arith, h))
 
 no_session : (s : Plan) (r : Run) (q : Option Session) → EndsLeft s r.moves q → ((i : ℕ) → length (lines_of s i) ≤ cursor r.moves i) → q ≡ None
-no_session s r None h e = refl
-no_session s r (Some p) h e = absurd (own (drop (cursor r.moves p.owner) (lines_of s p.owner)) (nothing_left (lines_of s p.owner) (cursor r.moves p.owner) (e p.owner)) h)
-  where
-    own : (ls : List LaneLine) → ls ≡ [] → has_end ls ≡ true → ⊥
-    own [] f g = cc
-    own (l ∷ ls) f g = cc
+no_session s r q h e = grind (arith, nothing_left)
 
 no_set : (q : Option Session) (o : SetOutcome) (found : Option SetRow) → q ≡ None → IsOfSession q o found → found ≡ None
-no_set None o None e h = refl
-no_set None o (Some r) e h = absurd h
-no_set (Some q) o found e h = absurd cc
+no_set q o found e h = grind arith
 
 pub complete_ends : (s : Plan) (trail : List Move) → IsPlan s → is_legal s trail ≡ true → is_complete s trail ≡ true → in_progress (state s (acts s trail)) ≡ None
 complete_ends s trail h e f =

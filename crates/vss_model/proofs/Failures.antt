@@ -1,8 +1,7 @@
 -- What a failed set leaves, and what holds while no set is in progress.
-use Rattle.std.proofs.Common.{◌≡◌, ℕ, ◌+◌, ◌==◌, ◌<◌, zero, suc, List, [], ◌∷◌, Option, Some, None, refl, Bool, true, false, ap, sym, ◌∙◌, subst, find, arith}
+use Rattle.std.proofs.Common.{◌≡◌, ℕ, ◌+◌, ◌==◌, ◌<◌, zero, suc, List, [], ◌∷◌, Some, None, refl, Bool, true, false, ◌∙◌, find, arith}
 use Rattle.std.specs.Prelude.{◌++◌, map, ◌&&◌, ◌||◌, not, if◌then◌else◌, slice_get}
 use Rattle.std.proofs.lemmas.List.Folds.{list_any-append}
-use Rattle.std.proofs.lemmas.Bool.{eqb-true}
 use Rattle.write_history.specs.History.{Write, Image, History, point_in}
 use Rattle.write_history.specs.Slots.{Copy, Placed, named, copy_of, copies_of, copies_from, copies}
 use Rattle.scenario.specs.Plan.{Plan}
@@ -12,7 +11,6 @@ use Rattle.vss_model.specs.Laws.{RunsSnapshot}
 use Rattle.vss_model.specs.Facts.{NumberedFrom, has_failed, is_live, AreLive, AllLive, holds_for}
 use Rattle.vss_model.proofs.HeldOfSet.{held_means, frozen_means}
 use Rattle.vss_model.proofs.OrderlyActs.{orderly}
-use Rattle.vss_model.proofs.Orderly.{true_not_false}
 
 -- ## images of a failed set
 
@@ -40,15 +38,7 @@ failed_head : (b : Bool) (k n : ℕ) (r q : SetRow) (rows : List SetRow) → (q.
     → (if b then Some q else find (λ x. x.number == n) rows) ≡ Some r → has_failed r.result ≡ true
     → (find (λ x. x.number == n) rows ≡ Some r → is_live rows n ≡ false)
     → ((b && not (has_failed q.result)) || is_live rows n) ≡ false
-failed_head true k n r q rows e f g h i ih =
-    let same : q ≡ r = cc in
-    let Q : SetRow → Type 0 = λ x. has_failed x.result ≡ true in
-    let failed : has_failed q.result ≡ true = subst Q (sym same) i in
-    rw failed (no_live_below (k + 1) n rows g (equal_below q.number n k e f))
-  where
-    equal_below : (a b c : ℕ) → (a == b) ≡ true → a ≡ c → b < c + 1
-    equal_below a b c e f = grind arith
-failed_head false k n r q rows e f g h i ih = ih h
+failed_head b k n r q rows e f g h i ih = grind (arith, no_live_below)
 
 -- a set that has failed is not live
 pub failed_not_live : (k n : ℕ) (rows : List SetRow) (r : SetRow) → NumberedFrom k rows → find (λ x. x.number == n) rows ≡ Some r → has_failed r.result ≡ true → is_live rows n ≡ false
@@ -57,10 +47,7 @@ failed_not_live k n (q ∷ rows) r h e f =
     failed_head (q.number == n) k n r q rows refl h.0 h.1 e f (λ g. failed_not_live (k + 1) n rows r h.1 g f)
 
 none_point_if : (b : Bool) (rows : List SetRow) (n : ℕ) (i : Image) (images : List Image) → (i.set == n) ≡ b → is_live rows n ≡ false → is_live rows i.set ≡ true → point_in n images ≡ None → (if b then Some i.point else point_in n images) ≡ None
-none_point_if true rows n i images e f g h =
-    let same : i.set ≡ n = eqb-true i.set n e in
-    absurd (true_not_false (is_live rows n) (ap (is_live rows) (sym same) ∙ g) f)
-none_point_if false rows n i images e f g h = h
+none_point_if b rows n i images e f g h = grind arith
 
 none_point : (rows : List SetRow) (n : ℕ) (images : List Image) → is_live rows n ≡ false → AreLive rows images → point_in n images ≡ None
 none_point rows n [] f h = refl
@@ -83,11 +70,7 @@ none_in_either : (n : ℕ) (xs ys : List Copy) → holds_for n xs ≡ false → 
 none_in_either n xs ys e f = list_any-append (λ (c : Copy). c.set == n) xs ys ∙ rw e f
 
 other_set : (rows : List SetRow) (n m : ℕ) → is_live rows n ≡ false → is_live rows m ≡ true → (m == n) ≡ false
-other_set rows n m f g = by_cases (m == n) refl
-  where
-    by_cases : (b : Bool) → (m == n) ≡ b → b ≡ false
-    by_cases true e = absurd (true_not_false (is_live rows n) (ap (is_live rows) (sym (eqb-true m n e)) ∙ g) f)
-    by_cases false e = refl
+other_set rows n m f g = grind arith
 
 none_of_volume : (rows : List SetRow) (n v blocks : ℕ) (ws : List Write) (images : List Image) → is_live rows n ≡ false → AreLive rows images
     → holds_for n (copies_of v blocks ws images) ≡ false
@@ -99,8 +82,7 @@ none_of_volume rows n v blocks ws (i ∷ newer) f h =
 
 none_from_if : (b : Bool) (n : ℕ) (xs ys zs : List Copy) → holds_for n xs ≡ false → holds_for n ys ≡ false → holds_for n zs ≡ false
     → holds_for n (if b then xs ++ ys else zs) ≡ false
-none_from_if true n xs ys zs e f g = none_in_either n xs ys e f
-none_from_if false n xs ys zs e f g = g
+none_from_if b n xs ys zs e f g = grind (arith, none_in_either)
 
 none_from : (rows : List SetRow) (n v : ℕ) (ps : List Placed) (hs : List History) → is_live rows n ≡ false → AllLive rows hs
     → holds_for n (copies_from v ps hs) ≡ false
@@ -122,15 +104,10 @@ failed_has_no_copy s acts n r group e f =
 -- ## while no set is in progress
 
 false_where_not_true : (b : Bool) → (b ≡ true → ⊥) → b ≡ false
-false_where_not_true true h = absurd (h refl)
-false_where_not_true false h = refl
+false_where_not_true b h = grind arith
 
 no_set : (st : State) → in_progress st ≡ None → RunsSnapshot st → ⊥
-no_set st e r = none_some (in_progress st) r.set e r.in_progress_is
-  where
-    none_some : (o : Option SetRow) (x : SetRow) → o ≡ None → o ≡ Some x → ⊥
-    none_some None x e f = cc
-    none_some (Some y) x e f = cc
+no_set st e r = grind arith
 
 pub none_held : (s : Plan) (acts : List Act) (v : ℕ) → in_progress (state s acts) ≡ None → is_held (state s acts) v ≡ false
 none_held s acts v e = false_where_not_true (is_held (state s acts) v) (λ h. no_set (state s acts) e (held_means s acts v h))

@@ -1,34 +1,29 @@
 -- Nowhere are there more than 64 writers, or more than 64 volumes in the set in progress.
-use Rattle.std.proofs.Common.{◌≡◌, ℕ, suc, ◌+◌, ◌==◌, ◌≤◌, List, [], ◌∷◌, ◌++◌, Option, Some, None, refl, Bool, true, false, ap, sym, ◌∙◌, subst, fold, map, length, arith}
+use Rattle.std.proofs.Common.{◌≡◌, ℕ, suc, ◌+◌, ◌≤◌, List, [], ◌∷◌, ◌++◌, Option, Some, None, refl, Bool, true, false, ap, sym, ◌∙◌, subst, fold, map, length, arith}
 use Rattle.std.specs.Prelude.{if◌then◌else◌, nat_le, find, option_map}
 use Rattle.std.proofs.lemmas.List.{length-map}
 use Rattle.vss_names.specs.declared.context.Context.{Context}
 use Rattle.vss_names.specs.declared.order.Order.{Order}
 use Rattle.vss_names.specs.declared.set_outcome.SetOutcome.{SetOutcome}
-use Rattle.vss_names.specs.declared.set_outcome.SetOutcome.TheVariants.{Running, Complete as CompleteSet, Failed}
+use Rattle.vss_names.specs.declared.set_outcome.SetOutcome.TheVariants.{Running}
 use Rattle.vss_names.specs.declared.vss_result.VssResult.{VssResult}
 use Rattle.vss_names.specs.declared.vss_result.VssResult.TheVariants.{AsyncCancelled}
 use Rattle.writer_state.specs.declared.said.Said.{Said}
 use Rattle.writer_state.specs.declared.writer_row.WriterRow.{WriterRow}
-use Rattle.writer_state.specs.WriterRow.{row_after, row_aborted, row_gathered, row_ended}
+use Rattle.writer_state.specs.WriterRow.{row_aborted, row_gathered, row_ended}
 use Rattle.write_history.specs.declared.mark.Mark.{Mark}
-use Rattle.write_history.specs.declared.mark.Mark.TheVariants.{Clean}
-use Rattle.write_history.specs.History.{Write}
 use Rattle.set_agenda.specs.declared.group.Group.{Group}
-use Rattle.set_agenda.specs.declared.group.Group.TheVariants.{Orders, PreCommit, Flush, Hold, Cut, Commit, Release, PostCommit}
 use Rattle.set_agenda.specs.declared.kind.Kind.{Kind}
 use Rattle.set_agenda.specs.declared.kind.Kind.TheVariants.{Gather, Prepare, Snapshot, Complete}
 use Rattle.set_agenda.specs.declared.member.Member.{Member}
-use Rattle.set_agenda.specs.Agenda.{is_among}
 use Rattle.set_agenda.specs.Course.{Course, posted, failed as course_failed, begun, told, worked, released, rows_where, member_if, members_from, is_member}
 use Rattle.requestor.specs.Session.{Session}
 use Rattle.scenario.specs.Bounds.{IsPlan}
 use Rattle.scenario.specs.Plan.{Plan}
-use Rattle.vss_model.specs.State.{State, SetRow, Kept, start, in_progress, is_running, row_changed, row_of_writer}
-use Rattle.vss_model.specs.Ending.{Ending, NothingEnds, SetFails, ending, row_settled, concluded, followed, runs, failed_in, failed}
-use Rattle.vss_model.specs.Images.{is_in_set, put, reverted_as}
+use Rattle.vss_model.specs.State.{State, SetRow, start, in_progress, is_running, row_changed}
+use Rattle.vss_model.specs.Ending.{Ending, SetFails, ending, row_settled, concluded, followed, runs, failed_in, failed}
 use Rattle.vss_model.specs.Sessions.{begin_in, new_set, new_number, with_volume, add_refusal, has_no_volume, closed}
-use Rattle.vss_model.specs.Steps.{with_cut, row_cut, cut_set, step_made, answered, stepped_as, stepped, ticked, later}
+use Rattle.vss_model.specs.Steps.{row_cut, cut_set, step_made, answered, stepped_as, stepped, ticked, later}
 use Rattle.vss_model.specs.Acts.{Act, after, state}
 use Rattle.vss_model.specs.Laws.{IsKeptByChanges, IsKeptByWrites}
 use Rattle.set_agenda.proofs.CourseRule.{IsKeptInCourse, course_answered, course_stepped, course_timed, course_begun}
@@ -53,9 +48,6 @@ short_members test w (r ∷ rs) = own (test w) (short_members test (w + 1) rs)
     own true h = omega arith
     own false h = omega arith
 
-few_rows : (n : ℕ) (c d : Course) → length d.rows ≡ length c.rows → d.members ≡ c.members → FewWriters c → FewWriters d
-few_rows n c d e f h = record { rows = subst (λ k. k ≤ 64) (sym e) h.rows; members = subst (λ ms. length ms ≤ 64) (sym f) h.members }
-
 few_failed : (why : VssResult) (c : Course) → FewWriters c → FewWriters (course_failed why c)
 unfolding course_failed
 few_failed why c h = record { rows = subst (λ k. k ≤ 64) (sym (length-rows_where row_aborted (is_member c.members) 0 c.rows)) h.rows; members = h.members }
@@ -66,7 +58,7 @@ few_posted before c h = record { rows = h.rows; members = h.members }
 
 few_told : (o : Order) (said : Said) (now : ℕ) (ws : List ℕ) (c : Course) → FewWriters c → FewWriters (told o said now ws c)
 unfolding told
-few_told o said now ws c h = record { rows = subst (λ k. k ≤ 64) (sym (length-rows_where (row_after o said) (λ w. is_among w ws) 0 c.rows)) h.rows; members = h.members }
+few_told o said now ws c h = grind (arith, length-rows_where)
 
 few_worked : (now : ℕ) (c : Course) → FewWriters c → FewWriters (worked now c)
 unfolding worked
@@ -110,49 +102,29 @@ none_settled o e (r ∷ rows) = own (is_running r.result) refl (none_settled o e
     own false f h = ap (λ c. if c then Some r else running_in (map (row_settled o) rows)) f ∙ h
 
 same_settled : (r : SetRow) → is_running (row_settled Running r).result ≡ is_running r.result
-same_settled r = own (is_running r.result) refl
-  where
-    own : (b : Bool) → is_running r.result ≡ b → is_running (if b then record r { result = Running } else r).result ≡ b
-    own true e = refl
-    own false e = e
+same_settled r = grind arith
 
 volumes_settled : (r : SetRow) → (row_settled Running r).volumes ≡ r.volumes
-volumes_settled r = own (is_running r.result)
-  where
-    own : (b : Bool) → (if b then record r { result = Running } else r).volumes ≡ r.volumes
-    own true = refl
-    own false = refl
+volumes_settled r = grind arith
 
 few_mapped : (g : SetRow → SetRow) → ((r : SetRow) → (g r).volumes ≡ r.volumes) → (o : Option SetRow) → FewVolumes o → FewVolumes (option_map g o)
-few_mapped g same None h = tt
-few_mapped g same (Some r) h = subst (λ vs. length vs ≤ 64) (sym (same r)) h
+few_mapped g same o h = grind arith
 
 few_same : (o p : Option SetRow) → p ≡ o → FewVolumes o → FewVolumes p
 few_same o p e h = subst FewVolumes (sym e) h
 
 few_row_settled : (o : SetOutcome) (rows : List SetRow) → FewVolumes (running_in rows) → FewVolumes (running_in (map (row_settled o) rows))
-few_row_settled Running rows h = few_same _ _ (find_changed (row_settled Running) same_settled rows) (few_mapped (row_settled Running) volumes_settled (running_in rows) h)
-few_row_settled CompleteSet rows h = few_same None _ (none_settled CompleteSet refl rows) tt
-few_row_settled (Failed why) rows h = few_same None _ (none_settled (Failed why) refl rows) tt
+few_row_settled o rows h = grind (arith, few_same, find_changed, same_settled, few_mapped, volumes_settled, none_settled)
 
 -- a change of the row of one set that keeps its result
 same_changed : (n : ℕ) (f : SetRow → SetRow) → ((r : SetRow) → (f r).result ≡ r.result) → (r : SetRow) → is_running (row_changed n f r).result ≡ is_running r.result
-same_changed n f same r = own (r.number == n)
-  where
-    own : (b : Bool) → is_running (if b then f r else r).result ≡ is_running r.result
-    own true = ap is_running (same r)
-    own false = refl
+same_changed n f same r = grind arith
 
 volumes_cut : (n now : ℕ) (r : SetRow) → (row_cut n now r).volumes ≡ r.volumes
-volumes_cut n now r = own (r.number == n)
-  where
-    own : (b : Bool) → (if b then with_cut now r else r).volumes ≡ r.volumes
-    own true = refl
-    own false = refl
+volumes_cut n now r = grind arith
 
 few_cut : (o : Option SetRow) (st : State) → FewVolumes (running_in st.sets) → FewVolumes (running_in (cut_set o st).sets)
-few_cut None st h = h
-few_cut (Some r) st h = few_same _ _ (find_changed (row_cut r.number st.clock) (same_changed r.number (with_cut st.clock) (λ q. refl)) st.sets) (few_mapped (row_cut r.number st.clock) (volumes_cut r.number st.clock) (running_in st.sets) h)
+few_cut o st h = grind (arith, few_same, find_changed, same_changed, few_mapped, volumes_cut)
 
 few_started : (rows : List SetRow) (n : ℕ) (c : Context) → FewVolumes (running_in rows) → FewVolumes (running_in (rows ++ new_set n c ∷ []))
 few_started [] n c h = omega arith
@@ -167,24 +139,10 @@ length-more [] v = refl
 length-more (u ∷ vs) v = ap suc (length-more vs v)
 
 few_if_added : (a b d : Bool) (x y z : VssResult) (n : ℕ) → nat_le 64 n ≡ b → (if a then Some x else if b then Some y else if d then Some z else None) ≡ None → suc n ≤ 64
-few_if_added true b d x y z n e f = absurd cc
-few_if_added false true d x y z n e f = absurd cc
-few_if_added false false d x y z n e f = own n e
-  where
-    own : (n : ℕ) → nat_le 64 n ≡ false → suc n ≤ 64
-    own n e = grind arith
+few_if_added a b d x y z n e f = grind arith
 
 few_added : (v : ℕ) (r : SetRow) (st : State) → in_progress st ≡ Some r → add_refusal v r st ≡ None → FewVolumes (running_in (map (row_changed r.number (with_volume v)) st.sets))
-few_added v r st e f =
-    few_same _ _ (find_changed (row_changed r.number (with_volume v)) (same_changed r.number (with_volume v) (λ q. refl)) st.sets ∙ ap (option_map (row_changed r.number (with_volume v))) e)
-    (own (r.number == r.number))
-  where
-    enough : suc (length r.volumes) ≤ 64
-    enough = few_if_added (is_in_set v (Some r)) (nat_le 64 (length r.volumes)) _ _ _ _ (length r.volumes) refl f
-
-    own : (b : Bool) → length (if b then with_volume v r else r).volumes ≤ 64
-    own true = subst (λ n. n ≤ 64) (sym (length-more r.volumes v)) enough
-    own false = omega (arith, enough)
+few_added v r st e f = grind (arith, few_same, find_changed, same_changed, few_if_added, length-more)
 
 -- ## both, in every state
 
@@ -193,8 +151,7 @@ pub record IsFew (st : State) : Type 0 where
   pub volumes : FewVolumes (in_progress st)
 
 few_concluded : (e : Ending) (st : State) → IsFew st → IsFew (concluded e st)
-few_concluded NothingEnds st h = h
-few_concluded _ st h = record { writers = h.writers; volumes = few_row_settled st.course.outcome st.sets h.volumes }
+few_concluded e st h = grind (arith, few_row_settled)
 
 few_followed : (ran : Bool) (c : Course) (st : State) → FewWriters c → FewVolumes (in_progress st) → IsFew (followed ran c st)
 unfolding followed
@@ -205,15 +162,7 @@ unfolding answered
 on_answers w said st h = few_followed (runs st) _ st (course_answered FewWriters few_kept w said st.clock st.course h.writers) h.volumes
 
 few_step_made : (g : Option Group) (st : State) → FewVolumes (in_progress st) → FewVolumes (in_progress (step_made g st))
-few_step_made None st h = h
-few_step_made (Some (Orders o)) st h = h
-few_step_made (Some PreCommit) st h = h
-few_step_made (Some Flush) st h = h
-few_step_made (Some Hold) st h = h
-few_step_made (Some Cut) st h = few_cut (in_progress st) st h
-few_step_made (Some Commit) st h = h
-few_step_made (Some Release) st h = h
-few_step_made (Some PostCommit) st h = h
+few_step_made g st h = grind (arith, few_cut)
 
 on_stepped_as : (fails : Bool) (g : Option Group) (st : State) → IsFew st → IsFew (stepped_as fails g st)
 on_stepped_as true g st h = few_followed (runs st) _ st (course_stepped FewWriters few_kept false st.clock st.course h.writers) h.volumes
@@ -232,8 +181,7 @@ on_failed_in None why st h = h
 on_failed_in (Some r) why st h = few_concluded (SetFails why) (record st { course = course_failed why st.course }) (record { writers = few_failed why st.course h.writers; volumes = h.volumes })
 
 on_begins : (lane : ℕ) (all : Bool) (c : Option Context) (st : State) → IsFew st → IsFew (begin_in lane all c st).1
-on_begins lane all None st h = h
-on_begins lane all (Some c) st h = record { writers = h.writers; volumes = h.volumes }
+on_begins lane all c st h = grind arith
 
 on_closes : (q : Session) (st : State) → IsFew st → IsFew (closed q st)
 unfolding closed
@@ -266,26 +214,15 @@ kept_by_changes = record {
   ends = λ q st e h. on_closes q (failed AsyncCancelled st) (on_failed_in (in_progress st) AsyncCancelled st h);
 }
 
-on_puts : (v : ℕ) (w : Write) (mark : Mark) (x : State) → IsFew x → IsFew (put v w mark x)
-on_puts v w Clean x h = record { writers = h.writers; volumes = h.volumes }
-on_puts v w _ x h = h
-
-on_reverts : (s : Plan) (v : ℕ) (k : Kept) (mark : Mark) (st : State) → IsFew st → IsFew (reverted_as s v k mark st).1
-on_reverts s v k Clean st h = record { writers = h.writers; volumes = h.volumes }
-on_reverts s v k _ st h = record { writers = h.writers; volumes = h.volumes }
-
 kept_by_writes : (st : State) → IsKeptByWrites IsFew st
-kept_by_writes st = record {
-  puts = λ v e w mark x h. on_puts v w mark x h;
-  reverts = λ s n v k mark e f h. on_reverts s v k mark st h;
-}
+kept_by_writes st = grind arith
 
 few_fold : (s : Plan) (st : State) (acts : List Act) → IsFew st → IsFew (fold (after s) st acts)
 few_fold s st [] h = h
 few_fold s st (act ∷ acts) h = few_fold s (after s st act) acts (on_after IsFew kept_by_changes s st act (kept_by_writes st) h)
 
 few_start : (s : Plan) → IsPlan s → IsFew (start s)
-few_start s h = record { writers = record { rows = subst (λ k. k ≤ 64) (sym (length-map s.writers row_of_writer)) h.few_writers; members = omega arith }; volumes = tt }
+few_start s h = grind (arith, length-map)
 
 pub few_in : (s : Plan) (acts : List Act) → IsPlan s → IsFew (state s acts)
 few_in s acts h = few_fold s (start s) acts (few_start s h)

@@ -1,6 +1,6 @@
 -- Only the Cut step gives an image: after any other act each volume has no image of another set, and no more of them.
-use Rattle.std.proofs.Common.{◌≡◌, ◌∙◌, ℕ, suc, List, [], ◌∷◌, Option, Some, None, refl, Bool, true, false, ap, sym, subst, map, length, fold}
-use Rattle.std.specs.Prelude.{◌&&◌, if◌then◌else◌}
+use Rattle.std.proofs.Common.{◌≡◌, ◌∙◌, ℕ, suc, List, [], ◌∷◌, Option, Some, None, refl, Bool, true, false, ap, sym, subst, map, length, fold, arith}
+use Rattle.std.specs.Prelude.{◌&&◌}
 use Rattle.vss_names.specs.declared.context.Context.{Context}
 use Rattle.vss_names.specs.declared.context.Context.TheVariants.{Backup, AppRollback, NasRollback}
 use Rattle.vss_names.specs.declared.vss_result.VssResult.{VssResult}
@@ -11,7 +11,7 @@ use Rattle.write_history.specs.declared.mark.Mark.TheVariants.{Clean, Fault, Fau
 use Rattle.write_history.specs.History.{Write, History, fresh, dropped, written, reverted, reverted_in_part}
 use Rattle.set_agenda.specs.declared.group.Group.{Group}
 use Rattle.set_agenda.specs.Agenda.{open_group}
-use Rattle.set_agenda.specs.Course.{Course, released, stepped as course_stepped}
+use Rattle.set_agenda.specs.Course.{Course, released}
 use Rattle.requestor.specs.Session.{Session}
 use Rattle.scenario.specs.Plan.{Plan, blocks_of}
 use Rattle.scenario.specs.declared.volume_row.VolumeRow.{VolumeRow}
@@ -75,8 +75,7 @@ module _ (hs : List History) where
   on_steps mark st e h = on_stepped_as (is_failed_step (is_flush (open_group (left_now st))) mark) (open_group (left_now st)) st e h
 
   on_begin : (lane : ℕ) (all : Bool) (c : Option Context) (st : State) → Has st → Has (begin_in lane all c st).1
-  on_begin lane all None st h = h
-  on_begin lane all (Some c) st h = h
+  on_begin lane all c st h = grind arith
 
   on_closed : (q : Session) (st : State) → Has st → Has (closed q st)
   unfolding closed released
@@ -133,15 +132,10 @@ fewer_after s st act e = fewer_from st.volumes s st act e (fewer_in_same st.volu
 -- ## as many volumes as at the start
 
 as_many_cut_set : (o : Option SetRow) (st : State) → length (cut_set o st).volumes ≡ length st.volumes
-as_many_cut_set None st = refl
-as_many_cut_set (Some r) st = as_many_cut r.number r.volumes 0 st.volumes
+as_many_cut_set o st = grind (arith, as_many_cut)
 
 as_many_after : (b : Bool) (s : Plan) (st : State) (act : Act) → (is_provider act.event && is_cut_group (open_group (left_now st))) ≡ b → length (after s st act).volumes ≡ length st.volumes
-as_many_after false s st act e = (fewer_after s st act e).as_many
-as_many_after true s st act e =
-    let parts = both (is_provider act.event) (is_cut_group (open_group (left_now st))) e in
-    let x = cut_set (in_progress st) st in
-    ap (λ (y : State). length y.volumes) (after_cut s st act parts.0 parts.1) ∙ (fewer_followed (runs st) (course_stepped true st.clock st.course) x).as_many ∙ as_many_cut_set (in_progress st) st
+as_many_after b s st act e = grind (arith, fewer_after, both, after_cut, fewer_followed, as_many_cut_set)
 
 as_many_from : (s : Plan) (st : State) (acts : List Act) → length (fold (after s) st acts).volumes ≡ length st.volumes
 as_many_from s st [] = refl

@@ -1,6 +1,6 @@
 -- A device that fails to flush fails the set in progress in that act.
-use Rattle.std.proofs.Common.{◌≡◌, ℕ, ◌==◌, List, [], ◌∷◌, find, Option, Some, None, refl, Bool, true, false, map, ap, ◌∙◌, subst}
-use Rattle.std.specs.Prelude.{option_map, not}
+use Rattle.std.proofs.Common.{◌≡◌, ℕ, ◌==◌, List, find, Option, Some, refl, Bool, true, false, map, ap, ◌∙◌, subst, arith}
+use Rattle.std.specs.Prelude.{option_map}
 use Rattle.vss_names.specs.declared.set_outcome.SetOutcome.{SetOutcome}
 use Rattle.vss_names.specs.declared.set_outcome.SetOutcome.TheVariants.{Running, Failed}
 use Rattle.vss_names.specs.declared.vss_result.VssResult.{VssResult}
@@ -9,7 +9,7 @@ use Rattle.write_history.specs.declared.mark.Mark.{Mark}
 use Rattle.write_history.specs.declared.mark.Mark.TheVariants.{Fault}
 use Rattle.set_agenda.specs.declared.group.Group.{Group}
 use Rattle.set_agenda.specs.declared.group.Group.TheVariants.{Flush}
-use Rattle.set_agenda.specs.Agenda.{Agenda, Open, is_orders, open_group, is_working}
+use Rattle.set_agenda.specs.Agenda.{Agenda, Open, open_group, is_working}
 use Rattle.set_agenda.specs.Course.{Course, posted, failed as course_failed, stepped as course_stepped}
 use Rattle.scenario.specs.Plan.{Plan}
 use Rattle.vss_model.specs.declared.event.Event.TheVariants.{Provider}
@@ -26,23 +26,14 @@ use Rattle.vss_model.proofs.OrderlyActs.{orderly}
 use Rattle.vss_model.proofs.Rows.{running_found, row_running, row_settles, result-settled}
 
 step_fails : (g : Option Group) (mark : Mark) (st : State) → g ≡ Some Flush → mark ≡ Fault → stepped_as (is_failed_step (is_flush g) mark) g st ≡ followed (runs st) (course_stepped false st.clock st.course) st
-step_fails g mark st e f =
-    let G : Option Group → Mark → State = λ x m. stepped_as (is_failed_step (is_flush x) m) x st in
-    ap (λ x. G x mark) e ∙ ap (G (Some Flush)) f
+step_fails g mark st e f = grind arith
 
 stepped_fails : (mark : Mark) (st : State) → open_group (left_now st) ≡ Some Flush → mark ≡ Fault → stepped mark st ≡ followed (runs st) (course_stepped false st.clock st.course) st
 unfolding stepped
 stepped_fails mark st e f = step_fails (open_group (left_now st)) mark st e f
 
 working_at_flush : (os : List Open) → open_group os ≡ Some Flush → is_working os ≡ true
-working_at_flush [] e = absurd cc
-working_at_flush (x ∷ os) e = of_group x.place.group (same x.place.group e)
-  where
-    same : (g : Group) → Some g ≡ Some Flush → g ≡ Flush
-    same g e = cc
-
-    of_group : (g : Group) → g ≡ Flush → not (is_orders g) ≡ true
-    of_group g e = ap (λ x. not (is_orders x)) e
+working_at_flush os e = grind arith
 
 outcome_stepped : (now : ℕ) (c : Course) → (course_stepped false now c).outcome ≡ Failed UnexpectedProviderError
 unfolding posted course_failed
@@ -56,8 +47,7 @@ unfolding followed
 sets_followed ran c st why e f = sets_fail st.course.outcome c.outcome ran c.agenda (record st { course = c }) why e f
 
 pub outcome_in : (q : Option Session) (o : SetOutcome) (r : SetRow) → IsOfSession q o (Some r) → o ≡ Running
-outcome_in None o r h = absurd h
-outcome_in (Some q) o r h = h.2
+outcome_in q o r h = grind arith
 
 -- the outcome of the course while a set is in progress
 pub outcome_is_running : (s : Plan) (so_far : List Act) (r : SetRow) → in_progress (state s so_far) ≡ Some r → (state s so_far).course.outcome ≡ Running

@@ -1,12 +1,11 @@
 -- Right after an act in which the set in progress fails no agenda runs, so no volume is held and no writer stands frozen.
-use Rattle.std.proofs.Common.{◌≡◌, ℕ, ◌+◌, List, [], ◌∷◌, ◌++◌, ◌⊎◌, Option, Some, None, refl, Bool, true, false, ap, sym, ◌∙◌, subst, inl, inr}
-use Rattle.std.specs.Prelude.{is_some, if◌then◌else◌}
+use Rattle.std.proofs.Common.{◌≡◌, ℕ, ◌+◌, List, [], ◌∷◌, ◌++◌, ◌⊎◌, Option, Some, None, refl, Bool, true, false, ap, ◌∙◌, subst, inl, inr, arith}
+use Rattle.std.specs.Prelude.{is_some}
 use Rattle.vss_names.specs.declared.context.Context.{Context}
 use Rattle.vss_names.specs.declared.vss_result.VssResult.{VssResult}
-use Rattle.vss_names.specs.declared.vss_result.VssResult.TheVariants.{InsufficientStorage, AsyncCancelled}
+use Rattle.vss_names.specs.declared.vss_result.VssResult.TheVariants.{AsyncCancelled}
 use Rattle.writer_state.specs.declared.said.Said.{Said}
 use Rattle.write_history.specs.declared.mark.Mark.{Mark}
-use Rattle.write_history.specs.declared.mark.Mark.TheVariants.{Clean}
 use Rattle.write_history.specs.History.{Write}
 use Rattle.set_agenda.specs.declared.group.Group.{Group}
 use Rattle.set_agenda.specs.declared.kind.Kind.TheVariants.{Gather, Prepare, Snapshot, Complete}
@@ -16,7 +15,7 @@ use Rattle.requestor.specs.Session.{Session}
 use Rattle.scenario.specs.Plan.{Plan}
 use Rattle.writer_calls.specs.Script.{said_of}
 use Rattle.vss_model.specs.State.{State, SetRow, Kept, in_progress, row_of, left_now, is_held, is_frozen}
-use Rattle.vss_model.specs.Ending.{Ending, NothingEnds, ending, concluded, followed, runs, failed_in, failed}
+use Rattle.vss_model.specs.Ending.{Ending, ending, concluded, followed, runs, failed_in, failed}
 use Rattle.vss_model.specs.Images.{cleared, set_loses_image, with_room_if, put, write, reverted_as}
 use Rattle.vss_model.specs.Sessions.{begin_in, new_set, new_number, with_volume, has_no_volume, closed}
 use Rattle.vss_model.specs.Steps.{answered, is_flush, is_failed_step, stepped_as, stepped, ticked, later}
@@ -25,7 +24,7 @@ use Rattle.vss_model.specs.Facts.{NumberedFrom, IsOfSession, has_failed, is_live
 use Rattle.vss_model.proofs.Appending.{state-append}
 use Rattle.vss_model.proofs.ByEvent.{Covers, Next, after_covered, by_if}
 use Rattle.vss_model.proofs.Orderly.{live-map, live_append, live_found, true_not_false}
-use Rattle.vss_model.proofs.OrderlyActs.{Moves, MovesOn, moves_answered, moves_stepped, moves_timed, ending_idle, ending_on, orderly, same_changed}
+use Rattle.vss_model.proofs.OrderlyActs.{Moves, MovesOn, moves_answered, moves_stepped, moves_timed, orderly, same_changed}
 use Rattle.vss_model.proofs.Failures.{failed_not_live}
 use Rattle.vss_model.proofs.Causes.{Fails, none_begun, live_followed, live_stepped_as, outcome_running}
 
@@ -34,15 +33,11 @@ abbrev pub LiveOrIdle : ℕ → State → Type 0
 LiveOrIdle n st = (is_live st.sets n ≡ true) ⊎ (st.course.agenda ≡ None)
 
 pub agenda-concluded : (e : Ending) (st : State) → (concluded e st).course.agenda ≡ st.course.agenda
-agenda-concluded NothingEnds st = refl
-agenda-concluded _ st = refl
+agenda-concluded e st = grind arith
 
 module _ (n : ℕ) where
   ends_idle : (a b : Option Agenda) (c : Course) (st : State) → c.agenda ≡ b → Moves a st.course.outcome b c.outcome → is_live st.sets n ≡ true → LiveOrIdle n (concluded (ending st.course.outcome c.outcome (is_some a) b) (record st { course = c }))
-  ends_idle None None c st e m h = subst (λ x. LiveOrIdle n (concluded x (record st { course = c }))) (sym (ending_idle st.course.outcome c.outcome m)) (inl h)
-  ends_idle None (Some b) c st e m h = absurd m
-  ends_idle (Some a) (Some b) c st e m h = subst (λ x. LiveOrIdle n (concluded x (record st { course = c }))) (sym (ending_on st.course.outcome c.outcome true b m.1)) (inl h)
-  ends_idle (Some a) None c st e m h = inr (agenda-concluded (ending st.course.outcome c.outcome true None) (record st { course = c }) ∙ e)
+  ends_idle a b c st e m h = grind arith
 
   idle_followed : (c : Course) (st : State) → MovesOn st.course c → is_live st.sets n ≡ true → LiveOrIdle n (followed (runs st) c st)
   unfolding followed
@@ -66,28 +61,23 @@ module _ (n : ℕ) where
 
   idle_failed : (o : Option SetRow) (r : SetRow) (why : VssResult) (st : State) → o ≡ Some r → LiveOrIdle n (failed_in o why st)
   unfolding course_failed
-  idle_failed None r why st e = absurd cc
-  idle_failed (Some q) r why st e = inr refl
+  idle_failed o r why st e = grind arith
 
   idle_room : (b : Bool) (r : SetRow) (st : State) → in_progress st ≡ Some r → is_live st.sets n ≡ true → LiveOrIdle n (with_room_if b st)
-  idle_room true r st e h = idle_failed (in_progress st) r InsufficientStorage st e
-  idle_room false r st e h = inl h
+  idle_room b r st e h = grind (arith, idle_failed)
 
   idle_put : (v : ℕ) (w : Write) (mark : Mark) (st : State) → LiveOrIdle n st → LiveOrIdle n (put v w mark st)
-  idle_put v w Clean st h = h
-  idle_put v w _ st h = h
+  idle_put v w mark st h = grind arith
 
   idle_write : (s : Plan) (v : ℕ) (w : Write) (mark : Mark) (r : SetRow) (st : State) → in_progress st ≡ Some r → is_live st.sets n ≡ true → LiveOrIdle n (write s v w mark st).1
   unfolding write
   idle_write s v w mark r st e h = idle_put v w mark _ (idle_room (set_loses_image (in_progress st) st.volumes (cleared s v w.block st).volumes) r (cleared s v w.block st) e h)
 
   idle_revert : (s : Plan) (v : ℕ) (k : Kept) (mark : Mark) (st : State) → is_live st.sets n ≡ true → LiveOrIdle n (reverted_as s v k mark st).1
-  idle_revert s v k Clean st h = inl h
-  idle_revert s v k _ st h = inl h
+  idle_revert s v k mark st h = grind arith
 
   idle_begin : (lane : ℕ) (all : Bool) (c : Option Context) (st : State) → is_live st.sets n ≡ true → LiveOrIdle n (begin_in lane all c st).1
-  idle_begin lane all None st h = inl h
-  idle_begin lane all (Some c) st h = inl h
+  idle_begin lane all c st h = grind arith
 
   idle_end : (q : Session) (st : State) → LiveOrIdle n (closed q st)
   unfolding closed released

@@ -1,16 +1,14 @@
 -- Before its writers are gathered a session names nothing and nobody takes part; from then on what it names are selectable
 -- components of writers that it knows, and only they take part.
 use Rattle.std.proofs.Common.{◌≡◌, ℕ, ◌+◌, ◌==◌, ◌<◌, zero, suc, List, [], ◌∷◌, ◌++◌, ◌⊎◌, Option, Some, None, refl, Bool, true, false, map, filter, ap, sym, ◌∙◌, subst, fold, inl, inr, arith}
-use Rattle.std.specs.Prelude.{option_map, is_some, ◌&&◌, ◌||◌, not, if◌then◌else◌, slice_get, length}
-use Rattle.std.specs.List.{list_any, range_with_len}
+use Rattle.std.specs.Prelude.{is_some, ◌&&◌, ◌||◌, not, if◌then◌else◌, slice_get, length}
+use Rattle.std.specs.List.{list_any}
 use Rattle.vss_names.specs.declared.context.Context.{Context}
-use Rattle.vss_names.specs.declared.context.Context.TheVariants.{Backup, AppRollback, NasRollback}
 use Rattle.vss_names.specs.declared.vss_result.VssResult.{VssResult}
-use Rattle.vss_names.specs.declared.vss_result.VssResult.TheVariants.{AsyncCancelled, InsufficientStorage}
+use Rattle.vss_names.specs.declared.vss_result.VssResult.TheVariants.{AsyncCancelled}
 use Rattle.writer_state.specs.declared.said.Said.{Said}
 use Rattle.writer_state.specs.declared.writer_row.WriterRow.{WriterRow}
 use Rattle.write_history.specs.declared.mark.Mark.{Mark}
-use Rattle.write_history.specs.declared.mark.Mark.TheVariants.{Clean, Fault, FaultAfter}
 use Rattle.write_history.specs.History.{Write, dropped}
 use Rattle.writer_meta.specs.Metadata.{Meta}
 use Rattle.component_doc.specs.Selection.{Pair, naming, Names, is_taker, takers, known_from as known_of}
@@ -18,36 +16,35 @@ use Rattle.component_doc.specs.Over.{meta_at, is_selectable_of, names_selectable
 use Rattle.std.specs.List.{list_all}
 use Rattle.std.proofs.lemmas.Bool.{and_parts, eqb-true, or_from, or_right}
 use Rattle.set_agenda.specs.declared.group.Group.{Group}
-use Rattle.set_agenda.specs.declared.group.Group.TheVariants.{Orders, PreCommit, Flush, Hold, Cut, Commit, Release, PostCommit}
 use Rattle.set_agenda.specs.declared.kind.Kind.{Kind}
 use Rattle.set_agenda.specs.declared.kind.Kind.TheVariants.{Gather, Prepare, Snapshot, Complete}
 use Rattle.set_agenda.specs.declared.member.Member.{Member}
-use Rattle.set_agenda.specs.Agenda.{Agenda, groups_left, is_among, is_done, open_group}
-use Rattle.set_agenda.specs.Course.{Course, change_at, posted, settled_if, settled, begun, failed as course_failed, member_if, members_from, is_member, answered as course_answered, stepped as course_stepped, timed as course_timed, released}
+use Rattle.set_agenda.specs.Agenda.{Agenda, is_among, open_group}
+use Rattle.set_agenda.specs.Course.{Course, change_at, posted, settled, begun, failed as course_failed, member_if, members_from, is_member, answered as course_answered, stepped as course_stepped, timed as course_timed, released}
 use Rattle.requestor.specs.declared.mode.Mode.{Mode}
 use Rattle.requestor.specs.declared.mode.Mode.TheVariants.{Components, All}
 use Rattle.requestor.specs.declared.stage.Stage.{Stage}
-use Rattle.requestor.specs.declared.stage.Stage.TheVariants.{Opened, Gathered, Started, Prepared, Done, Finished, Failed}
+use Rattle.requestor.specs.declared.stage.Stage.TheVariants.{Opened, Gathered, Started}
 use Rattle.requestor.specs.declared.session_call.SessionCall.TheVariants as call
-use Rattle.requestor.specs.Session.{Session, agenda_ended, set_failed, stage_after, has_writers}
+use Rattle.requestor.specs.Session.{Session, has_writers}
 use Rattle.requestor.specs.Check.{is_stage}
 use Rattle.scenario.specs.Plan.{token, Plan, WriterPlan}
 use Rattle.writer_calls.specs.Script.{said_of}
 use Rattle.vss_model.specs.State.{State, SetRow, Kept, start, in_progress, left_now}
-use Rattle.vss_model.specs.Ending.{Ending, NothingEnds, AgendaEnds, SetFails, ending, concluded, followed, runs, failed_in, failed}
-use Rattle.vss_model.specs.Images.{cleared, set_loses_image, with_room_if, put, write, reverted_as}
+use Rattle.vss_model.specs.Ending.{Ending, ending, concluded, followed, runs, failed_in, failed}
+use Rattle.vss_model.specs.Images.{with_room_if, put, write, reverted_as}
 use Rattle.vss_model.specs.Sessions.{begin_in, disable, has_failed_identify, has_no_volume, start_set, change_set, with_volume, selected_in, is_known, meta_if, known_from, known_metas, closed}
 use Rattle.vss_model.specs.Steps.{answered, cut_set, step_made, is_flush, is_failed_step, stepped_as, stepped, ticked, later}
 use Rattle.vss_model.specs.Acts.{idle_now, Act, after, state}
 use Rattle.vss_model.specs.Laws.{LetsGo}
-use Rattle.vss_model.specs.Facts.{WaitsFor, IsAgendaOf}
+use Rattle.vss_model.specs.Facts.{IsAgendaOf}
 use Rattle.vss_model.proofs.OrderlyActs.{orderly}
 use Rattle.vss_model.proofs.ByEvent.{Covers, Next, after_covered, by_if}
 use Rattle.vss_model.proofs.Rows.{none_runs}
 use Rattle.vss_model.proofs.Orderly.{true_not_false}
-use Rattle.vss_model.proofs.LogRule.{unspoken, course-step_made}
+use Rattle.vss_model.proofs.LogRule.{course-step_made}
 use Rattle.vss_model.proofs.HeldOfSet.{Follows, goes_answered, goes_stepped, goes_timed}
-use Rattle.vss_model.proofs.KnownWriters.{is_unfit, AsFit, AsksFit, AsksFitIn, is_gathering, Keeps, keeps_failed, keeps_answered, keeps_stepped, keeps_timed, members_answered, members_timed}
+use Rattle.vss_model.proofs.KnownWriters.{is_unfit, AsFit, AsksFitIn, is_gathering, Keeps, keeps_failed, keeps_answered, keeps_stepped, keeps_timed, members_answered, members_timed}
 use Rattle.vss_model.proofs.Named.{AreOver, known_same, named_over}
 
 -- ## the facts
@@ -77,59 +74,18 @@ record IsGathered (s : Plan) (st : State) : Type 0 where
 
 -- ## what follows
 
-explicit-concluded : (e : Ending) (st : State) → (concluded e st).explicit ≡ st.explicit
-explicit-concluded NothingEnds st = refl
-explicit-concluded _ st = refl
-
 course-concluded : (e : Ending) (st : State) → (concluded e st).course ≡ st.course
-course-concluded NothingEnds st = refl
-course-concluded _ st = refl
-
-late_ended : (c : Context) (x : Stage) → is_late x ≡ true → is_late (stage_after c x) ≡ true
-late_ended c Opened e = absurd cc
-late_ended c Gathered e = refl
-late_ended Backup Started e = refl
-late_ended AppRollback Started e = refl
-late_ended NasRollback Started e = refl
-late_ended c Prepared e = refl
-late_ended c Done e = refl
-late_ended c Finished e = refl
-late_ended c Failed e = refl
-
-late_by_end : (q : Option Session) → LateIn q → LateIn (option_map agenda_ended q)
-late_by_end None h = absurd h
-late_by_end (Some q) h = late_ended q.context q.stage h
-
-late_by_failure : (why : VssResult) (q : Option Session) → LateIn q → LateIn (option_map (set_failed why) q)
-late_by_failure why None h = absurd h
-late_by_failure why (Some q) h = refl
-
-late-concluded : (e : Ending) (st : State) → LateIn st.session → LateIn (concluded e st).session
-late-concluded NothingEnds st h = h
-late-concluded AgendaEnds st h = late_by_end st.session h
-late-concluded (SetFails why) st h = late_by_failure why st.session h
+course-concluded e st = grind arith
 
 bare_concluded : (e : Ending) (st : State) → IsBare st → IsBare (concluded e st)
-bare_concluded e st h = record {
-  explicit = explicit-concluded e st ∙ h.explicit;
-  members = ap (λ (c : Course). c.members) (course-concluded e st) ∙ h.members;
-  agenda = subst (λ (c : Course). BareAgenda c.agenda) (sym (course-concluded e st)) h.agenda;
-}
+bare_concluded e st h = grind arith
 
 gathered_concluded : (s : Plan) (e : Ending) (st : State) → IsGathered s st → IsGathered s (concluded e st)
-gathered_concluded s e st h =
-    let x = concluded e st in
-    let same = course-concluded e st in
-    record {
-      over = subst (AreOver (known_metas s x)) (sym (explicit-concluded e st)) (subst (λ ms. AreOver ms st.explicit) (sym (known_same s st x (ap (λ (c : Course). c.disabled) same) (λ w. ap (λ (c : Course). is_unfit c.rows w) same))) h.over);
-      members = λ w f. ap (λ (c : Course). is_unfit c.rows w) same ∙ h.members w (subst (λ (c : Course). is_member c.members w ≡ true) same f);
-      agenda = subst (λ (c : Course). AsksFitIn c.agenda c.rows) (sym same) h.agenda;
-      late = late-concluded e st h.late;
-    }
+gathered_concluded s e st h = grind arith
 
 bare_followed : (ran : Bool) (c : Course) (st : State) → c.members ≡ [] → BareAgenda c.agenda → IsBare st → IsBare (followed ran c st)
 unfolding followed
-bare_followed ran c st e f h = bare_concluded (ending st.course.outcome c.outcome ran c.agenda) (record st { course = c }) (record { explicit = h.explicit; members = e; agenda = f })
+bare_followed ran c st e f h = grind arith
 
 gathered_followed : (s : Plan) (ran : Bool) (c : Course) (st : State) → Keeps st.course c → AsksFitIn c.agenda c.rows → IsGathered s st → IsGathered s (followed ran c st)
 unfolding followed
@@ -143,50 +99,27 @@ gathered_followed s ran c st k a h =
     })
 
 bare_follows : (a : Option Agenda) (c d : Course) → Follows a c.members c.outcome d.agenda d.members d.outcome → BareAgenda a → BareAgenda d.agenda
-bare_follows a c d f h = by_agenda a d.agenda f h
-  where
-    by_agenda : (a b : Option Agenda) → Follows a c.members c.outcome b d.members d.outcome → BareAgenda a → BareAgenda b
-    by_agenda a None f h = tt
-    by_agenda None (Some b) f h = absurd f
-    by_agenda (Some a) (Some b) f (inl h) = inl (ap is_gathering f.kind ∙ h)
-    by_agenda (Some a) (Some b) f (inr h) = inr (f.members ∙ h)
+bare_follows a c d f h = grind arith
 
 asks_follows : (a b : Option Agenda) (c d : Course) → Follows a c.members c.outcome b d.members d.outcome → AsFit c.rows d.rows → AsksFitIn a c.rows → AsksFitIn b d.rows
-asks_follows a None c d f fit h = tt
-asks_follows None (Some b) c d f fit h = absurd f
-asks_follows (Some a) (Some b) c d f fit h = record {
-  kind = ap is_gathering f.kind ∙ h.kind;
-  fit = λ w e. fit w ∙ h.fit w (subst (λ ms. is_member ms w ≡ true) f.members e);
-}
+asks_follows a b c d f fit h = grind arith
 
 -- ## an agenda begins
 
 begun_members : (k : Kind) (ms : List Member) (vs : List ℕ) (now : ℕ) (c : Course) → Keeps c (begun k ms vs now c)
 unfolding begun posted settled
-begun_members k ms vs now c = by_done (is_done (groups_left (unspoken k ms vs now)))
-  where
-    by_done : (b : Bool) → Keeps c (posted c (settled_if b k (record c { agenda = Some (unspoken k ms vs now) })))
-    by_done true = record { disabled = refl; members = refl; fit = λ w. refl }
-    by_done false = record { disabled = refl; members = refl; fit = λ w. refl }
+begun_members k ms vs now c = grind arith
 
 bare_begun_agenda : (k : Kind) (ms : List Member) (vs : List ℕ) (now : ℕ) (c : Course) → (is_gathering k ≡ true) ⊎ (ms ≡ []) → BareAgenda (begun k ms vs now c).agenda
 unfolding begun posted settled
-bare_begun_agenda k ms vs now c h = by_done (is_done (groups_left (unspoken k ms vs now)))
-  where
-    by_done : (b : Bool) → BareAgenda (settled_if b k (record c { agenda = Some (unspoken k ms vs now) })).agenda
-    by_done true = tt
-    by_done false = h
+bare_begun_agenda k ms vs now c h = grind arith
 
 fit_begun_agenda : (k : Kind) (ms : List Member) (vs : List ℕ) (now : ℕ) (c : Course) → is_gathering k ≡ false → ((w : ℕ) → is_member ms w ≡ true → is_unfit c.rows w ≡ false) → AsksFitIn (begun k ms vs now c).agenda (begun k ms vs now c).rows
 unfolding begun posted settled
-fit_begun_agenda k ms vs now c e h = by_done (is_done (groups_left (unspoken k ms vs now)))
-  where
-    by_done : (b : Bool) → AsksFitIn (settled_if b k (record c { agenda = Some (unspoken k ms vs now) })).agenda (settled_if b k (record c { agenda = Some (unspoken k ms vs now) })).rows
-    by_done true = tt
-    by_done false = record { kind = e; fit = h }
+fit_begun_agenda k ms vs now c e h = grind arith
 
 bare_begun : (k : Kind) (ms : List Member) (vs : List ℕ) (now : ℕ) (c : Course) (st : State) → c.members ≡ [] → (is_gathering k ≡ true) ⊎ (ms ≡ []) → IsBare st → IsBare (followed true (begun k ms vs now c) st)
-bare_begun k ms vs now c st e g h = bare_followed true (begun k ms vs now c) st ((begun_members k ms vs now c).members ∙ e) (bare_begun_agenda k ms vs now c g) h
+bare_begun k ms vs now c st e g h = grind (arith, bare_followed, begun_members, bare_begun_agenda)
 
 gathered_begun : (s : Plan) (k : Kind) (ms : List Member) (vs : List ℕ) (now : ℕ) (st : State) → is_gathering k ≡ false → ((w : ℕ) → is_member ms w ≡ true → is_unfit st.course.rows w ≡ false) → IsGathered s st → IsGathered s (followed true (begun k ms vs now st.course) st)
 gathered_begun s k ms vs now st e fit h = gathered_followed s true (begun k ms vs now st.course) st (begun_members k ms vs now st.course) (fit_begun_agenda k ms vs now st.course e fit) h
@@ -194,8 +127,7 @@ gathered_begun s k ms vs now st e fit h = gathered_followed s true (begun k ms v
 -- ## who takes part is known
 
 pub known_if : (b : Bool) (m : Meta) → is_some (meta_if b m) ≡ true → b ≡ true
-known_if true m e = refl
-known_if false m e = absurd cc
+known_if b m e = grind arith
 
 pub known_at : (s : Plan) (st : State) (k : ℕ) (ps : List WriterPlan) (w : ℕ) → is_some (meta_at (slice_get (known_from s st k ps) w)) ≡ true → is_known s st (k + w) ≡ true
 known_at s st k [] zero e = absurd cc
@@ -210,19 +142,13 @@ known_at s st k (p ∷ ps) (suc w) e = ap (is_known s st) (shift k w) ∙ known_
     shift a b = omega arith
 
 fit_if_known : (a b : Bool) → (not a && not b) ≡ true → b ≡ false
-fit_if_known true b e = absurd cc
-fit_if_known false true e = absurd cc
-fit_if_known false false e = refl
+fit_if_known a b e = grind arith
 
 fit_of : (s : Plan) (st : State) (w : ℕ) → is_some (meta_at (slice_get (known_metas s st) w)) ≡ true → is_unfit st.course.rows w ≡ false
-fit_of s st w e = fit_if_known _ (is_unfit st.course.rows w) (subst (λ x. is_known s st x ≡ true) (zero_plus w) (known_at s st 0 s.writers w e))
-  where
-    zero_plus : (a : ℕ) → 0 + a ≡ a
-    zero_plus a = omega arith
+fit_of s st w e = grind (arith, fit_if_known, known_at)
 
 pub selectable_known : (i : ℕ) (o : Option Meta) → is_selectable_of i o ≡ true → is_some o ≡ true
-selectable_known i None e = absurd cc
-selectable_known i (Some m) e = refl
+selectable_known i o e = grind arith
 
 pub named_known : (ms : List (Option Meta)) (ps : List Pair) (w : ℕ) → list_all (names_selectable ms) ps ≡ true → list_any (λ (p : Pair). p.writer == w) ps ≡ true → is_some (meta_at (slice_get ms w)) ≡ true
 named_known ms [] w e f = absurd cc
@@ -307,49 +233,27 @@ abbrev participants : Plan → Mode → State → List Member
 participants s mode st = members_from (λ w. is_among w (takers (length s.writers) (selected_in mode s st))) 0 st.course.rows
 
 participants_fit : (s : Plan) (mode : Mode) (st : State) (w : ℕ) → AreOver (known_metas s st) st.explicit → is_member (participants s mode st) w ≡ true → is_unfit st.course.rows w ≡ false
-participants_fit s mode st w over e =
-    taker_known mode s st w over (filter_passes (is_taker (selected_in mode s st)) w (range_with_len 0 (length s.writers)) (member_passes (λ x. is_among x (takers (length s.writers) (selected_in mode s st))) 0 st.course.rows w e))
+participants_fit s mode st w over e = grind (arith, taker_known, filter_passes, member_passes)
 
 gathered_prepared : (s : Plan) (mode : Mode) (now : ℕ) (st : State) → AreOver (known_metas s st) st.explicit → LateIn st.session
     → IsGathered s (followed true (begun Prepare (participants s mode st) [] now (record st.course { members = participants s mode st })) st)
 unfolding followed
-gathered_prepared s mode now st over late =
-    let ms = participants s mode st in
-    let d : Course = begun Prepare ms [] now (record st.course { members = ms }) in
-    let x : State = record st { course = d } in
-    let k = begun_members Prepare ms [] now (record st.course { members = ms }) in
-    gathered_concluded s (ending st.course.outcome d.outcome true d.agenda) x
-    (record {
-      over = subst (λ xs. AreOver xs st.explicit) (sym (known_same s st x k.disabled k.fit)) over;
-      members = λ w f. k.fit w ∙ participants_fit s mode st w over (subst (λ xs. is_member xs w ≡ true) k.members f);
-      agenda = fit_begun_agenda Prepare ms [] now (record st.course { members = ms }) refl (λ w f. participants_fit s mode st w over f);
-      late = late;
-    })
+gathered_prepared s mode now st over late = grind (arith, begun_members, gathered_concluded, known_same, participants_fit, fit_begun_agenda)
 
 -- ## what changes neither names nor course
 
 bare_same : (st x : State) → x.explicit ≡ st.explicit → x.course ≡ st.course → IsBare st → IsBare x
-bare_same st x e f h = record {
-  explicit = e ∙ h.explicit;
-  members = ap (λ (c : Course). c.members) f ∙ h.members;
-  agenda = subst (λ (c : Course). BareAgenda c.agenda) (sym f) h.agenda;
-}
+bare_same st x e f h = grind arith
 
 gathered_same : (s : Plan) (st x : State) → x.explicit ≡ st.explicit → x.course ≡ st.course → LateIn x.session → IsGathered s st → IsGathered s x
-gathered_same s st x e f late h = record {
-  over = subst (AreOver (known_metas s x)) (sym e) (subst (λ ms. AreOver ms st.explicit) (sym (known_same s st x (ap (λ (c : Course). c.disabled) f) (λ w. ap (λ (c : Course). is_unfit c.rows w) f))) h.over);
-  members = λ w g. ap (λ (c : Course). is_unfit c.rows w) f ∙ h.members w (subst (λ (c : Course). is_member c.members w ≡ true) f g);
-  agenda = subst (λ (c : Course). AsksFitIn c.agenda c.rows) (sym f) h.agenda;
-  late = late;
-}
+gathered_same s st x e f late h = grind arith
 
 -- nothing is named and nobody takes part, or all that is named is known
 abbrev NamesKnown : Plan → State → Type 0
 NamesKnown s st = IsBare st ⊎ IsGathered s st
 
 same : (s : Plan) (st x : State) → x.explicit ≡ st.explicit → x.course ≡ st.course → (LateIn st.session → LateIn x.session) → NamesKnown s st → NamesKnown s x
-same s st x e f late (inl h) = inl (bare_same st x e f h)
-same s st x e f late (inr h) = inr (gathered_same s st x e f (late h.late) h)
+same s st x e f late x6 = grind (arith, bare_same, gathered_same)
 
 -- ## the agenda goes on
 
@@ -383,23 +287,13 @@ stepped_on s ok ran now x (inr h) =
     inr (gathered_followed s ran d x k (asks_follows x.course.agenda d.agenda x.course d (goes_stepped ok now x.course) k.fit h.agenda) h)
 
 explicit-cut_set : (o : Option SetRow) (st : State) → (cut_set o st).explicit ≡ st.explicit
-explicit-cut_set None st = refl
-explicit-cut_set (Some r) st = refl
+explicit-cut_set o st = grind arith
 
 session-cut_set : (o : Option SetRow) (st : State) → (cut_set o st).session ≡ st.session
-session-cut_set None st = refl
-session-cut_set (Some r) st = refl
+session-cut_set o st = grind arith
 
 made_same : (s : Plan) (g : Option Group) (st : State) → NamesKnown s st → NamesKnown s (step_made g st)
-made_same s None st h = h
-made_same s (Some (Orders o)) st h = h
-made_same s (Some PreCommit) st h = h
-made_same s (Some Flush) st h = h
-made_same s (Some Hold) st h = h
-made_same s (Some Cut) st h = same s st (cut_set (in_progress st) st) (explicit-cut_set (in_progress st) st) (course-step_made (Some Cut) st) (λ l. subst LateIn (sym (session-cut_set (in_progress st) st)) l) h
-made_same s (Some Commit) st h = h
-made_same s (Some Release) st h = h
-made_same s (Some PostCommit) st h = h
+made_same s g st h = grind (arith, same, explicit-cut_set, course-step_made, session-cut_set)
 
 on_stepped_as : (s : Plan) (fails : Bool) (g : Option Group) (st : State) → NamesKnown s st → NamesKnown s (stepped_as fails g st)
 on_stepped_as s true g st h = stepped_on s false (runs st) st.clock st h
@@ -417,38 +311,20 @@ unfolding course_failed
 failed_agenda why c = refl
 
 on_failed : (s : Plan) (o : Option SetRow) (why : VssResult) (x : State) → NamesKnown s x → NamesKnown s (failed_in o why x)
-on_failed s None why x h = h
-on_failed s (Some r) why x (inl h) =
-    let d = course_failed why x.course in
-    inl (bare_concluded (SetFails why) (record x { course = d }) (record { explicit = h.explicit; members = (keeps_failed why x.course).members ∙ h.members; agenda = subst BareAgenda (sym (failed_agenda why x.course)) tt }))
-on_failed s (Some r) why x (inr h) =
-    let d = course_failed why x.course in
-    let y : State = record x { course = d } in
-    let k = keeps_failed why x.course in
-    inr (gathered_concluded s (SetFails why) y (record {
-      over = subst (λ ms. AreOver ms x.explicit) (sym (known_same s x y k.disabled k.fit)) h.over;
-      members = λ w f. k.fit w ∙ h.members w (subst (λ ms. is_member ms w ≡ true) k.members f);
-      agenda = subst (λ a. AsksFitIn a d.rows) (sym (failed_agenda why x.course)) tt;
-      late = h.late;
-    }))
+on_failed s o why x h = grind (arith, bare_concluded, keeps_failed, failed_agenda, gathered_concluded, known_same)
 
 on_room : (s : Plan) (b : Bool) (x : State) → NamesKnown s x → NamesKnown s (with_room_if b x)
-on_room s true x h = on_failed s (in_progress x) InsufficientStorage x h
-on_room s false x h = h
+on_room s b x h = grind (arith, on_failed)
 
 on_put : (s : Plan) (v : ℕ) (w : Write) (mark : Mark) (x : State) → NamesKnown s x → NamesKnown s (put v w mark x)
-on_put s v w Clean x h = same s x (put v w Clean x) refl refl (λ l. l) h
-on_put s v w _ x h = h
+on_put s v w mark x h = grind (arith, same)
 
 on_write : (s : Plan) (v : ℕ) (w : Write) (mark : Mark) (st : State) → NamesKnown s st → NamesKnown s (write s v w mark st).1
 unfolding write
-on_write s v w mark st h =
-    on_put s v w mark _ (on_room s (set_loses_image (in_progress st) st.volumes (cleared s v w.block st).volumes) (cleared s v w.block st) (same s st (cleared s v w.block st) refl refl (λ l. l) h))
+on_write s v w mark st h = grind (arith, on_put, on_room, same)
 
 on_revert : (s : Plan) (v : ℕ) (k : Kept) (mark : Mark) (st : State) → NamesKnown s st → NamesKnown s (reverted_as s v k mark st).1
-on_revert s v k Clean st h = same s st (reverted_as s v k Clean st).1 refl refl (λ l. l) h
-on_revert s v k Fault st h = h
-on_revert s v k (FaultAfter n) st h = same s st (reverted_as s v k (FaultAfter n) st).1 refl refl (λ l. l) h
+on_revert s v k mark st h = grind (arith, same)
 
 -- ## session calls
 
@@ -456,45 +332,25 @@ late_at : (q : Option Session) (x : Session) → q ≡ Some x → LateIn q → i
 late_at q x e h = subst LateIn e h
 
 opened_not_late : (x : Stage) (b : Bool) → (is_stage x Opened && b) ≡ true → is_late x ≡ true → ⊥
-opened_not_late Opened b e h = cc
-opened_not_late _ b e h = cc
+opened_not_late x b e h = grind arith
 
 names_late : (x : Stage) (b : Bool) → ((is_stage x Gathered || is_stage x Started) && b) ≡ true → is_late x ≡ true
-names_late Opened b e = absurd cc
-names_late _ b e = refl
+names_late x b e = grind arith
 
 prepares_late : (x : Stage) (b : Bool) → (is_stage x Started && b) ≡ true → is_late x ≡ true
-prepares_late Opened b e = absurd cc
-prepares_late _ b e = refl
+prepares_late x b e = grind arith
 
 nobody : (ms : List Member) (w : ℕ) → ms ≡ [] → is_member ms w ≡ true → ⊥
-nobody [] w e f = cc
-nobody (m ∷ ms) w e f = cc
+nobody ms w e f = grind arith
 
 over_nothing : (ms : List (Option Meta)) (ps : List Pair) → ps ≡ [] → AreOver ms ps
 over_nothing ms ps e = subst (AreOver ms) (sym e) refl
 
 on_names : (s : Plan) (w : ℕ) (name : List ℕ) (q : Session) (explicit : List Pair) (st : State) → LetsGo call.Component q st → naming (known_metas s st) w name st.explicit ≡ Names explicit → NamesKnown s st → NamesKnown s (record st { explicit = explicit })
-on_names s w name q explicit st g e (inl h) =
-    let x : State = record st { explicit = explicit } in
-    inr (record {
-      over = subst (λ ms. AreOver ms explicit) (sym (known_same s st x refl (λ u. refl))) (named_over (known_metas s st) w name st.explicit explicit e (over_nothing (known_metas s st) st.explicit h.explicit));
-      members = λ u f. absurd (nobody st.course.members u h.members f);
-      agenda = subst (λ a. AsksFitIn a st.course.rows) (sym (none_runs st.course.agenda g.quiet)) tt;
-      late = subst LateIn (sym g.stands) (names_late q.stage (has_writers q.context) g.allowed);
-    })
-on_names s w name q explicit st g e (inr h) =
-    let x : State = record st { explicit = explicit } in
-    inr (record {
-      over = subst (λ ms. AreOver ms explicit) (sym (known_same s st x refl (λ u. refl))) (named_over (known_metas s st) w name st.explicit explicit e h.over);
-      members = h.members;
-      agenda = h.agenda;
-      late = h.late;
-    })
+on_names s w name q explicit st g e x8 = grind (arith, known_same, named_over, over_nothing, nobody, none_runs, names_late)
 
 on_disables : (s : Plan) (w : ℕ) (q : Session) (st : State) → LetsGo call.Disable q st → NamesKnown s st → NamesKnown s (disable w st).1
-on_disables s w q st g (inl h) = inl (record { explicit = h.explicit; members = h.members; agenda = h.agenda })
-on_disables s w q st g (inr h) = absurd (opened_not_late q.stage (has_writers q.context) g.allowed (late_at st.session q g.stands h.late))
+on_disables s w q st g x5 = grind arith
 
 on_starts : (s : Plan) (q : Session) (st : State) → NamesKnown s st → NamesKnown s (start_set q st).1
 on_starts s q st h = same s st (start_set q st).1 refl refl (λ l. refl) h
@@ -504,17 +360,13 @@ unfolding closed released
 on_end s q st = inl (record { explicit = refl; members = refl; agenda = tt })
 
 on_begin : (s : Plan) (lane : ℕ) (all : Bool) (c : Option Context) (st : State) → st.session ≡ None → NamesKnown s st → NamesKnown s (begin_in lane all c st).1
-on_begin s lane all None st e h = h
-on_begin s lane all (Some c) st e (inl h) = inl (record { explicit = refl; members = h.members; agenda = h.agenda })
-on_begin s lane all (Some c) st e (inr h) = absurd (subst LateIn e h.late)
+on_begin s lane all c st e h = grind arith
 
 on_gather : (s : Plan) (q : Session) (ms : List Member) (c : Course) (st : State) → LetsGo call.Gather q st → c.members ≡ st.course.members → NamesKnown s st → NamesKnown s (followed true (begun Gather ms [] st.clock c) st)
-on_gather s q ms c st g e (inl h) = inl (bare_begun Gather ms [] st.clock c st (e ∙ h.members) (inl refl) h)
-on_gather s q ms c st g e (inr h) = absurd (opened_not_late q.stage (has_writers q.context) g.allowed (late_at st.session q g.stands h.late))
+on_gather s q ms c st g e x7 = grind (arith, bare_begun, opened_not_late, late_at)
 
 on_prepare : (s : Plan) (q : Session) (st : State) → LetsGo call.Prepare q st → NamesKnown s st → NamesKnown s (followed true (begun Prepare (participants s q.mode st) [] st.clock (record st.course { members = participants s q.mode st })) st)
-on_prepare s q st g (inl h) = inr (gathered_prepared s q.mode st.clock st (over_nothing (known_metas s st) st.explicit h.explicit) (subst LateIn (sym g.stands) (prepares_late q.stage (has_writers q.context) g.allowed)))
-on_prepare s q st g (inr h) = inr (gathered_prepared s q.mode st.clock st h.over h.late)
+on_prepare s q st g x4 = grind (arith, gathered_prepared, over_nothing, prepares_late)
 
 -- an agenda of some of the participants
 pub filter_member : (test : Member → Bool) (ms : List Member) (w : ℕ) → is_member (filter test ms) w ≡ true → is_member ms w ≡ true
@@ -530,12 +382,10 @@ filter_member test (m ∷ ms) w e = by_test (test m) e (filter_member test ms w)
     by_test false e ih = or_right (m.writer == w) (is_member ms w) (ih e)
 
 on_part : (s : Plan) (k : Kind) (test : Member → Bool) (vs : List ℕ) (st : State) → is_gathering k ≡ false → NamesKnown s st → NamesKnown s (followed true (begun k (filter test st.course.members) vs st.clock st.course) st)
-on_part s k test vs st e (inl h) = inl (bare_begun k (filter test st.course.members) vs st.clock st.course st h.members (inr (ap (filter test) h.members)) h)
-on_part s k test vs st e (inr h) = inr (gathered_begun s k (filter test st.course.members) vs st.clock st e (λ w f. h.members w (filter_member test st.course.members w f)) h)
+on_part s k test vs st e x6 = grind (arith, bare_begun, gathered_begun, filter_member)
 
 on_all : (s : Plan) (k : Kind) (vs : List ℕ) (st : State) → is_gathering k ≡ false → NamesKnown s st → NamesKnown s (followed true (begun k st.course.members vs st.clock st.course) st)
-on_all s k vs st e (inl h) = inl (bare_begun k st.course.members vs st.clock st.course st h.members (inr h.members) h)
-on_all s k vs st e (inr h) = inr (gathered_begun s k st.course.members vs st.clock st e h.members h)
+on_all s k vs st e x5 = grind (arith, bare_begun, gathered_begun)
 
 kept_at : (s : Plan) (st : State) → NamesKnown s st → Covers (Next (NamesKnown s)) s st
 kept_at s st h = record {
@@ -566,39 +416,23 @@ names_from s st [] h = h
 names_from s st (act ∷ acts) h = names_from s (after s st act) acts (after_covered (NamesKnown s) s st (kept_at s st h) h act)
 
 names_over : (s : Plan) (st : State) → NamesKnown s st → AreOver (known_metas s st) st.explicit
-names_over s st (inl h) = over_nothing (known_metas s st) st.explicit h.explicit
-names_over s st (inr h) = h.over
+names_over s st x2 = grind arith
 
 -- at every list of acts
 pub named_known_components : (s : Plan) (acts : List Act) → AreOver (known_metas s (state s acts)) (state s acts).explicit
 named_known_components s acts = names_over s (state s acts) (names_from s (start s) acts (inl (record { explicit = refl; members = refl; agenda = tt })))
 
 asked_are_fit : (s : Plan) (st : State) (w : ℕ) → NamesKnown s st → is_member st.course.members w ≡ true → is_unfit st.course.rows w ≡ false
-asked_are_fit s st w (inl h) e = absurd (nobody st.course.members w h.members e)
-asked_are_fit s st w (inr h) e = h.members w e
+asked_are_fit s st w x3 e = grind arith
 
 -- who takes part has not failed at Identify
 pub participants_are_fit : (s : Plan) (acts : List Act) (w : ℕ) → is_member (state s acts).course.members w ≡ true → has_failed_identify (slice_get (state s acts).course.rows w) ≡ false
-participants_are_fit s acts w e = asked_are_fit s (state s acts) w (names_from s (start s) acts (inl (record { explicit = refl; members = refl; agenda = tt }))) e
+participants_are_fit s acts w e = grind (arith, asked_are_fit, names_from)
 
 -- ## whom a session knows, once its writers are gathered
 
-late_asks : (a : Option Agenda) (q : Session) (rows : List WriterRow) → is_late q.stage ≡ true → IsAgendaOf a (Some q) → BareAgenda a → AsksFitIn a rows
-late_asks None q rows l w b = tt
-late_asks (Some a) q rows l w b = by_kind a.kind refl w b
-  where
-    by_kind : (k : Kind) → a.kind ≡ k → WaitsFor k q.context q.stage → (is_gathering a.kind ≡ true) ⊎ (a.members ≡ []) → AsksFit a rows
-    by_kind Gather e w b = absurd (true_not_false (is_late q.stage) l (ap is_late w))
-    by_kind Prepare e w (inl b) = absurd (true_not_false (is_gathering a.kind) b (ap is_gathering e))
-    by_kind Snapshot e w (inl b) = absurd (true_not_false (is_gathering a.kind) b (ap is_gathering e))
-    by_kind Complete e w (inl b) = absurd (true_not_false (is_gathering a.kind) b (ap is_gathering e))
-    by_kind Prepare e w (inr b) = record { kind = ap is_gathering e; fit = λ u f. absurd (nobody a.members u b f) }
-    by_kind Snapshot e w (inr b) = record { kind = ap is_gathering e; fit = λ u f. absurd (nobody a.members u b f) }
-    by_kind Complete e w (inr b) = record { kind = ap is_gathering e; fit = λ u f. absurd (nobody a.members u b f) }
-
 asks_in : (s : Plan) (st : State) (q : Session) → st.session ≡ Some q → is_late q.stage ≡ true → IsAgendaOf st.course.agenda st.session → NamesKnown s st → AsksFitIn st.course.agenda st.course.rows
-asks_in s st q e l w (inl h) = late_asks st.course.agenda q st.course.rows l (subst (IsAgendaOf st.course.agenda) e w) h.agenda
-asks_in s st q e l w (inr h) = h.agenda
+asks_in s st q e l w x6 = grind arith
 
 module _ (s : Plan) (st : State) where
   -- a session that stands knows whom it knew
@@ -635,41 +469,30 @@ module _ (s : Plan) (st : State) where
   knows_steps mark = knows_stepped_as (is_failed_step (is_flush (open_group (left_now st))) mark) (open_group (left_now st))
 
   knows_failed : (o : Option SetRow) (why : VssResult) (x : State) → x.course ≡ st.course → KnowsStill (failed_in o why x)
-  knows_failed None why x e = knows_same x e
-  knows_failed (Some r) why x e =
-      let d = course_failed why x.course in
-      let k = keeps_failed why x.course in
-      knows_kept (failed_in (Some r) why x) d (course-concluded (SetFails why) (record x { course = d })) (k.disabled ∙ ap (λ (c : Course). c.disabled) e) (λ w. k.fit w ∙ ap (λ (c : Course). is_unfit c.rows w) e)
+  knows_failed o why x e = grind (arith, knows_same, keeps_failed, knows_kept, course-concluded)
 
   knows_room : (b : Bool) (x : State) → x.course ≡ st.course → KnowsStill (with_room_if b x)
-  knows_room true x e = knows_failed (in_progress x) InsufficientStorage x e
-  knows_room false x e = knows_same x e
+  knows_room b x e = grind (arith, knows_failed, knows_same)
 
   knows_put : (v : ℕ) (w : Write) (mark : Mark) (x : State) → KnowsStill x → KnowsStill (put v w mark x)
-  knows_put v w Clean x h = λ p e. known_same s x (put v w Clean x) refl (λ u. refl) ∙ h p e
-  knows_put v w _ x h = h
+  knows_put v w mark x h = grind arith
 
   knows_write : (v : ℕ) (w : Write) (mark : Mark) → KnowsStill (write s v w mark st).1
   unfolding write
-  knows_write v w mark = knows_put v w mark _ (knows_room (set_loses_image (in_progress st) st.volumes (cleared s v w.block st).volumes) (cleared s v w.block st) refl)
+  knows_write v w mark = grind (arith, knows_put, knows_room)
 
   knows_revert : (v : ℕ) (k : Kept) (mark : Mark) → KnowsStill (reverted_as s v k mark st).1
-  knows_revert v k Clean = knows_same (reverted_as s v k Clean st).1 refl
-  knows_revert v k Fault = knows_same st refl
-  knows_revert v k (FaultAfter n) = knows_same (reverted_as s v k (FaultAfter n) st).1 refl
+  knows_revert v k mark = grind arith
 
   knows_end : (q : Session) (x : State) → KnowsStill (closed q x)
   unfolding closed
   knows_end q x p e = absurd cc
 
   knows_begun : (k : Kind) (ms : List Member) (vs : List ℕ) (now : ℕ) (c : Course) → c.disabled ≡ st.course.disabled → AsFit st.course.rows c.rows → KnowsStill (followed true (begun k ms vs now c) st)
-  knows_begun k ms vs now c e f =
-      let kept = begun_members k ms vs now c in
-      knows_kept (followed true (begun k ms vs now c) st) (begun k ms vs now c) (course_of true (begun k ms vs now c) st) (kept.disabled ∙ e) (λ w. kept.fit w ∙ f w)
+  knows_begun k ms vs now c e f = grind (arith, begun_members, knows_kept, course_of)
 
   no_begin : (o : Option Session) (q : Session) → o ≡ Some q → o ≡ None → ⊥
-  no_begin None q e f = cc
-  no_begin (Some x) q e f = cc
+  no_begin o q e f = grind arith
 
   knows_at : (q : Session) → st.session ≡ Some q → is_late q.stage ≡ true → AsksFitIn st.course.agenda st.course.rows → Covers (Next KnowsStill) s st
   knows_at q e l a = record {
@@ -696,8 +519,7 @@ module _ (s : Plan) (st : State) where
   }
 
 late_stage : (x : Stage) → is_stage x Opened ≡ false → is_late x ≡ true
-late_stage Opened e = absurd cc
-late_stage _ e = refl
+late_stage x e = grind arith
 
 pub known_stay : (s : Plan) (acts : List Act) (act : Act) (q p : Session) → (state s acts).session ≡ Some q → is_stage q.stage Opened ≡ false → (after s (state s acts) act).session ≡ Some p
     → known_metas s (after s (state s acts) act) ≡ known_metas s (state s acts)

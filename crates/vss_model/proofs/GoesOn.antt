@@ -1,9 +1,9 @@
 -- A legal trail that is not complete can go on.
 use Rattle.std.proofs.Common.{◌≡◌, ℕ, ◌+◌, ◌==◌, zero, suc, List, [], ◌∷◌, ◌++◌, Option, Some, None, refl, Bool, true, false, ap, sym, ◌∙◌, subst, inl, inr, drop, cond, arith}
 use Rattle.std.proofs.lemmas.List.Sums.{sum_by-append}
-use Rattle.std.specs.Prelude.{◌⊎◌, option_map, is_some, is_none, length, ◌&&◌, ◌||◌, not, if◌then◌else◌, slice_get}
+use Rattle.std.specs.Prelude.{◌⊎◌, is_none, length, ◌&&◌, ◌||◌, not, slice_get}
 use Rattle.std.specs.List.{list_all, range_with_len}
-use Rattle.std.proofs.lemmas.Bool.{and_from, and_parts, and_right, eq-eqb, eqb-true}
+use Rattle.std.proofs.lemmas.Bool.{and_from, and_parts, eq-eqb, eqb-true}
 use Rattle.vss_names.specs.declared.context.Context.{Context}
 use Rattle.vss_names.specs.declared.vss_result.VssResult.{VssResult}
 use Rattle.vss_names.specs.declared.vss_result.VssResult.TheVariants.{AsyncCancelled}
@@ -15,29 +15,23 @@ use Rattle.write_history.specs.declared.mark.Mark.TheVariants.{Clean}
 use Rattle.write_history.specs.declared.move_item.Move.{Move}
 use Rattle.write_history.specs.History.{Write}
 use Rattle.set_agenda.specs.declared.group.Group.{Group}
-use Rattle.set_agenda.specs.declared.group.Group.TheVariants.{Orders, PreCommit, Flush, Hold, Cut, Commit, Release, PostCommit}
-use Rattle.set_agenda.specs.Agenda.{is_asking, is_working, is_held as holds, is_frozen as freezes}
-use Rattle.set_agenda.specs.Course.{Course, failed as course_failed, released}
-use Rattle.requestor.specs.declared.verdict.Verdict.TheVariants.{Go}
+use Rattle.set_agenda.specs.Agenda.{is_asking, is_working}
+use Rattle.set_agenda.specs.Course.{Course, released}
 use Rattle.requestor.specs.declared.session_call.SessionCall.{SessionCall}
 use Rattle.requestor.specs.declared.session_call.SessionCall.TheVariants as call
-use Rattle.requestor.specs.Session.{Session, has_writers, makes_set}
-use Rattle.requestor.specs.Check.{check, check_begin, begin_verdict, check_other, check_owner, owner_only, verdict_of, is_start, is_await, goes_beside_agenda, allows}
+use Rattle.requestor.specs.Session.{Session}
 use Rattle.scenario.specs.declared.op.Op.{Op}
-use Rattle.scenario.specs.declared.line.Line.{Line as Does}
-use Rattle.scenario.specs.declared.line.Line.TheVariants.{Writes, Calls}
-use Rattle.scenario.specs.declared.op.Op.TheVariants.{Begin, End}
-use Rattle.scenario.specs.Calls.{call_in, call_of, line_of}
-use Rattle.scenario.specs.Plan.{Plan, LaneLine, lines_of, acts_as}
+use Rattle.scenario.specs.declared.op.Op.TheVariants.{End}
+use Rattle.scenario.specs.Plan.{Plan, LaneLine, lines_of}
 use Rattle.vss_model.specs.declared.event.Event.{Event}
-use Rattle.vss_model.specs.declared.event.Event.TheVariants.{Line, Answer as AnswerEvent, Provider, Idle}
-use Rattle.vss_model.specs.State.{State, SetRow, Kept, in_progress, left_now, is_held}
-use Rattle.vss_model.specs.Ending.{Ending, NothingEnds, SetFails, ending, concluded, followed, runs, failed_in, failed}
+use Rattle.vss_model.specs.declared.event.Event.TheVariants.{Line}
+use Rattle.vss_model.specs.State.{State, SetRow, Kept, in_progress, left_now}
+use Rattle.vss_model.specs.Ending.{Ending, ending, concluded, followed, runs, failed_in, failed}
 use Rattle.vss_model.specs.Images.{put, reverted_as}
-use Rattle.vss_model.specs.Sessions.{begin_in, has_no_volume, closed, line_in, judged}
+use Rattle.vss_model.specs.Sessions.{begin_in, has_no_volume, closed}
 use Rattle.vss_model.specs.Lines.{called, line}
-use Rattle.vss_model.specs.Steps.{answered, cut_set, step_made, stepped_as, stepped, ticked, later}
-use Rattle.vss_model.specs.Acts.{Act, after, enabled, line_enabled, may_do, is_free, is_blocked, order_of_writer}
+use Rattle.vss_model.specs.Steps.{answered, step_made, stepped_as, stepped, ticked, later}
+use Rattle.vss_model.specs.Acts.{Act, after, enabled, line_enabled}
 use Rattle.vss_model.specs.Laws.{IsKeptByWrites}
 use Rattle.vss_model.specs.Trail.{Run, begin, is_lane, cursor, next_line, line_event, answer_event, script_event, event_of, act_of, after_event, moved, run_from, run, acts, event_enabled, can_act, none_can_act, may_move, allows as allows_mark, is_legal_move, is_legal_from, is_legal, is_used_up, is_complete}
 use Rattle.scenario.specs.Bounds.{is_begin, is_end, has_end, ends_sessions}
@@ -49,9 +43,6 @@ use Rattle.vss_model.proofs.Appending.{state-run, moves-run}
 use Rattle.vss_model.proofs.Orderly.{true_not_false}
 use Rattle.vss_model.proofs.Waiting.{working_or_asking}
 use Rattle.writer_calls.specs.declared.answer.Answer.{Answer}
-use Rattle.writer_calls.specs.Script.{scripted_answer}
-use Rattle.set_agenda.specs.Course.{sent}
-use Rattle.scenario.specs.Plan.{script_of}
 use Rattle.vss_names.specs.declared.order.Order.{Order}
 use Rattle.vss_model.proofs.GoingOn.{running_off}
 
@@ -65,32 +56,15 @@ IsOf o (Some q) = q.owner ≡ o
 abbrev Owned : ℕ → State → Type 0
 Owned o st = IsOf o st.session
 
-owned_map : (o : ℕ) (f : Session → Session) → ((q : Session) → (f q).owner ≡ q.owner) → (q : Option Session) → IsOf o q → IsOf o (option_map f q)
-owned_map o f same None h = tt
-owned_map o f same (Some q) h = same q ∙ h
-
 owned_concluded : (o : ℕ) (e : Ending) (st : State) → Owned o st → Owned o (concluded e st)
-owned_concluded o NothingEnds st h = h
-owned_concluded o _ st h = owned_map o _ (λ q. refl) st.session h
+owned_concluded o e st h = grind arith
 
 owned_followed : (o : ℕ) (ran : Bool) (c : Course) (st : State) → Owned o st → Owned o (followed ran c st)
 unfolding followed
 owned_followed o ran c st h = owned_concluded o (ending st.course.outcome c.outcome ran c.agenda) (record st { course = c }) h
 
 owned_cut : (o : ℕ) (g : Option Group) (st : State) → Owned o st → Owned o (step_made g st)
-owned_cut o None st h = h
-owned_cut o (Some (Orders x)) st h = h
-owned_cut o (Some PreCommit) st h = h
-owned_cut o (Some Flush) st h = h
-owned_cut o (Some Hold) st h = h
-owned_cut o (Some Cut) st h = in_set (in_progress st)
-  where
-    in_set : (r : Option SetRow) → Owned o (cut_set r st)
-    in_set None = h
-    in_set (Some r) = h
-owned_cut o (Some Commit) st h = h
-owned_cut o (Some Release) st h = h
-owned_cut o (Some PostCommit) st h = h
+owned_cut o g st h = grind arith
 
 owned_stepped_as : (o : ℕ) (fails : Bool) (g : Option Group) (st : State) → Owned o st → Owned o (stepped_as fails g st)
 owned_stepped_as o true g st h = owned_followed o (runs st) _ st h
@@ -109,8 +83,7 @@ unfolding ticked
 owned_ticked o n st h = owned_followed o (runs st) _ (later n st) h
 
 owned_failed_in : (o : ℕ) (r : Option SetRow) (why : VssResult) (st : State) → Owned o st → Owned o (failed_in r why st)
-owned_failed_in o None why st h = h
-owned_failed_in o (Some r) why st h = owned_concluded o (SetFails why) (record st { course = course_failed why st.course }) h
+owned_failed_in o r why st h = grind arith
 
 owned_closed : (o : ℕ) (q : Session) (st : State) → Owned o (closed q st)
 unfolding closed released
@@ -139,20 +112,17 @@ owned_changes o = record {
 }
 
 owned_puts : (o v : ℕ) (w : Write) (mark : Mark) (x : State) → Owned o x → Owned o (put v w mark x)
-owned_puts o v w Clean x h = h
-owned_puts o v w _ x h = h
+owned_puts o v w mark x h = grind arith
 
 owned_reverts : (o : ℕ) (s : Plan) (v : ℕ) (k : Kept) (mark : Mark) (st : State) → Owned o st → Owned o (reverted_as s v k mark st).1
-owned_reverts o s v k Clean st h = h
-owned_reverts o s v k _ st h = h
+owned_reverts o s v k mark st h = grind arith
 
 owned_writes : (o : ℕ) (st : State) → IsKeptByWrites (Owned o) st
 owned_writes o st = record { puts = λ v e w mark x h. owned_puts o v w mark x h; reverts = λ s n v k mark e f h. owned_reverts o s v k mark st h }
 
 -- a session is begun by the lane of the act alone
 begun_by : (o lane : ℕ) (all : Bool) (c : Option Context) (st : State) → lane ≡ o → Owned o st → Owned o (begin_in lane all c st).1
-begun_by o lane all None st e h = h
-begun_by o lane all (Some c) st e h = e
+begun_by o lane all c st e h = grind arith
 
 owned_after : (o : ℕ) (s : Plan) (st : State) (act : Act) → ((lane : ℕ) → begins_at lane act.event ≡ true → st.session ≡ None → lane ≡ o) → Owned o st → Owned o (after s st act)
 owned_after o s st act begins h =
@@ -160,11 +130,7 @@ owned_after o s st act begins h =
     (λ lane all c e f. begun_by o lane all c st (begins lane e f) h) h
 
 in_both : (q : Option Session) → IsOf 0 q → IsOf 1 q → q ≡ None
-in_both None h i = refl
-in_both (Some q) h i = absurd (clash q.owner h i)
-  where
-    clash : (a : ℕ) → a ≡ 0 → a ≡ 1 → ⊥
-    clash a e f = grind arith
+in_both q h i = grind arith
 
 -- no session stands, and none is begun
 none_stays : (s : Plan) (st : State) (act : Act) → ((lane : ℕ) → begins_at lane act.event ≡ true → ⊥) → st.session ≡ None → (after s st act).session ≡ None
@@ -187,16 +153,10 @@ cursor_as : (moves : List Move) (m : Move) (i : ℕ) (b : Bool) → is_lane i m.
 cursor_as moves m i b e = sum_by-append (λ (x : Move). cond (is_lane i x.actor) 1 0) moves (m ∷ []) ∙ ap (λ c. cursor moves i + (0 + cond c 1 0)) e
 
 pub cursor_more : (moves : List Move) (m : Move) (i : ℕ) → is_lane i m.actor ≡ true → cursor (moves ++ m ∷ []) i ≡ suc (cursor moves i)
-cursor_more moves m i e = cursor_as moves m i true e ∙ one (cursor moves i)
-  where
-    one : (a : ℕ) → a + (0 + 1) ≡ suc a
-    one a = omega arith
+cursor_more moves m i e = grind (arith, cursor_as)
 
 pub cursor_same : (moves : List Move) (m : Move) (i : ℕ) → is_lane i m.actor ≡ false → cursor (moves ++ m ∷ []) i ≡ cursor moves i
-cursor_same moves m i e = cursor_as moves m i false e ∙ none (cursor moves i)
-  where
-    none : (a : ℕ) → a + (0 + 0) ≡ a
-    none a = omega arith
+cursor_same moves m i e = grind (arith, cursor_as)
 
 drop_at : (lines : List LaneLine) (n : ℕ) (l : LaneLine) → slice_get lines n ≡ Some l → drop n lines ≡ l ∷ drop (suc n) lines
 drop_at [] zero l e = absurd cc
@@ -211,37 +171,21 @@ ends_drop (x ∷ lines) zero e = e
 ends_drop (x ∷ lines) (suc n) e = ends_drop lines n (and_parts (not (is_begin x.op) || has_end lines) (ends_sessions lines) e).1
 
 begin_has_end : (l : LaneLine) (lines : List LaneLine) → is_begin l.op ≡ true → ends_sessions (l ∷ lines) ≡ true → has_end lines ≡ true
-begin_has_end l lines e f = by_parts (is_begin l.op) (has_end lines) (ends_sessions lines) e f
-  where
-    by_parts : (a b c : Bool) → a ≡ true → ((not a || b) && c) ≡ true → b ≡ true
-    by_parts true true c e f = refl
-    by_parts true false c e f = absurd cc
-    by_parts false b c e f = absurd cc
+begin_has_end l lines e f = grind arith
 
 end_left : (l : LaneLine) (lines : List LaneLine) → is_end l.op ≡ false → has_end (l ∷ lines) ≡ true → has_end lines ≡ true
-end_left l lines e f = by_parts (is_end l.op) (has_end lines) e f
-  where
-    by_parts : (a b : Bool) → a ≡ false → (a || b) ≡ true → b ≡ true
-    by_parts true b e f = absurd cc
-    by_parts false b e f = f
+end_left l lines e f = grind arith
 
 -- ## the owner's end ends the session
 
-end_goes : (q : Session) (running : Bool) → check_owner q running call.End ≡ Go
-end_goes q true = refl
-end_goes q false = refl
-
 own_end : (s : Plan) (q : Session) (mark : Mark) (st : State) → st.session ≡ Some q → (line s q.owner End mark st).1.session ≡ None
 unfolding closed called
-own_end s q mark st e =
-    ap (λ v. (judged v s q.owner End st).1.session) (ap (λ x. check x (runs st) q.owner call.End) e ∙ ap (λ b. owner_only b (check_owner q (runs st) call.End)) (eq-eqb q.owner q.owner refl) ∙ end_goes q (runs st))
-    ∙ ap (λ x. (line_in s q.owner End x st).1.session) e
+own_end s q mark st e = grind arith
 
 -- ## a legal move keeps it
 
 may_can : (s : Plan) (r : Run) (a : Actor) → may_move s r a ≡ true → can_act s r a ≡ true
-may_can s r IdleActor e = (and_parts (can_act s r IdleActor) (none_can_act s r) e).0
-may_can s r _ e = e
+may_can s r a e = grind arith
 
 -- the moves of others leave what a lane has left
 left_same : (s : Plan) (moves : List Move) (m : Move) (i : ℕ) → is_lane i m.actor ≡ false → has_end (rest_of s moves i) ≡ true → has_end (rest_of s (moves ++ m ∷ []) i) ≡ true
@@ -261,8 +205,7 @@ quiet_move s moves m st event (Some q) e never out h =
 
 -- where lane i makes its next line
 pub none_some : (x : Option Session) (q : Session) → x ≡ Some q → x ≡ None → ⊥
-none_some None q e f = cc
-none_some (Some p) q e f = cc
+none_some x q e f = grind arith
 
 lane_left : (s : Plan) (moves : List Move) (m : Move) (i : ℕ) (l : LaneLine) → m.actor ≡ Lane i → slice_get (lines_of s i) (cursor moves i) ≡ Some l → rest_of s moves i ≡ l ∷ rest_of s (moves ++ m ∷ []) i
 lane_left s moves m i l e f =
@@ -338,26 +281,19 @@ lane_move (Some q) s moves m st i l g good e f on h = by_owner (q.owner == i) re
 
 on_line_move : (s : Plan) (r : Run) (m : Move) (i : ℕ) (x : Option LaneLine) → EndsSessions s → m.actor ≡ Lane i → next_line s r i ≡ x → event_enabled s r (line_event i x) ≡ true → EndsLeft s r.moves r.state.session
     → EndsLeft s (r.moves ++ m ∷ []) (after_event s r.state (line_event i x) m.mark).session
-on_line_move s r m i None good e f on h = absurd cc
-on_line_move s r m i (Some l) good e f on h = lane_move r.state.session s r.moves m r.state i l refl good e f on h
+on_line_move s r m i x good e f on h = grind (arith, lane_move)
 
 on_answer_move : (s : Plan) (r : Run) (m : Move) (w : ℕ) (x : Option Answer) → m.actor ≡ Writer w → event_enabled s r (answer_event w x) ≡ true → EndsLeft s r.moves r.state.session
     → EndsLeft s (r.moves ++ m ∷ []) (after_event s r.state (answer_event w x) m.mark).session
-on_answer_move s r m w None e on h = absurd cc
-on_answer_move s r m w (Some a) e on h =
-    quiet_move s r.moves m r.state (AnswerEvent w a) r.state.session refl (λ lane f. true_not_false false f refl) (λ i. ap (is_lane i) e) h
+on_answer_move s r m w x e on h = grind (arith, quiet_move, true_not_false)
 
 on_script_move : (s : Plan) (r : Run) (m : Move) (w : ℕ) (x : Option Order) → m.actor ≡ Writer w → event_enabled s r (script_event s r.state w x) ≡ true → EndsLeft s r.moves r.state.session
     → EndsLeft s (r.moves ++ m ∷ []) (after_event s r.state (script_event s r.state w x) m.mark).session
-on_script_move s r m w None e on h = absurd cc
-on_script_move s r m w (Some o) e on h = on_answer_move s r m w (scripted_answer (script_of s w) o (sent r.state.course w o)) e on h
+on_script_move s r m w x e on h = grind (arith, on_answer_move)
 
 on_move : (s : Plan) (r : Run) (m : Move) (a : Actor) → EndsSessions s → m.actor ≡ a → can_act s r a ≡ true → EndsLeft s r.moves r.state.session
     → EndsLeft s (r.moves ++ m ∷ []) (after_event s r.state (event_of s r a) m.mark).session
-on_move s r m (Lane i) good e on h = on_line_move s r m i (next_line s r i) good e refl on h
-on_move s r m (Writer w) good e on h = on_script_move s r m w (order_of_writer r.state w) e on h
-on_move s r m Advance good e on h = quiet_move s r.moves m r.state Provider r.state.session refl (λ lane f. true_not_false false f refl) (λ i. ap (is_lane i) e) h
-on_move s r m IdleActor good e on h = quiet_move s r.moves m r.state Idle r.state.session refl (λ lane f. true_not_false false f refl) (λ i. ap (is_lane i) e) h
+on_move s r m a good e on h = grind (arith, on_line_move, on_script_move, quiet_move, true_not_false)
 
 pub legal_ends : (s : Plan) (r : Run) (ms : List Move) → EndsSessions s → EndsLeft s r.moves r.state.session → is_legal_from s r ms ≡ true → EndsLeft s (run_from s r ms).moves (run_from s r ms).state.session
 legal_ends s r [] good h e = h
@@ -368,18 +304,12 @@ legal_ends s r (m ∷ ms) good h e =
 
 -- in a legal trail the owner of the session that stands has an `end` line left
 pub owner_ends : (s : Plan) (trail : List Move) (q : Session) → EndsSessions s → is_legal s trail ≡ true → (run s trail).state.session ≡ Some q → has_end (drop (cursor trail q.owner) (lines_of s q.owner)) ≡ true
-owner_ends s trail q good e f =
-    subst (λ moves. has_end (rest_of s moves q.owner) ≡ true) (moves-run s trail)
-    (subst (EndsLeft s (run s trail).moves) f (legal_ends s (begin s) trail good tt e))
+owner_ends s trail q good e f = grind (arith, moves-run, legal_ends)
 
 -- ## a move that may come
 
 allowed_clean : (s : Plan) (r : Run) (x : Option Event) → event_enabled s r x ≡ true → allows_mark s r x Clean ≡ true
-allowed_clean s r None e = absurd cc
-allowed_clean s r (Some (Line lane op)) e = refl
-allowed_clean s r (Some (AnswerEvent w a)) e = refl
-allowed_clean s r (Some Provider) e = refl
-allowed_clean s r (Some Idle) e = refl
+allowed_clean s r x e = grind arith
 
 can_move : (s : Plan) (r : Run) (a : Actor) → may_move s r a ≡ true → CanGoOn s r
 can_move s r a e = record {
@@ -392,65 +322,15 @@ line_can s r i l e f = can_move s r (Lane i) (subst (λ x. event_enabled s r (li
 
 -- ## where no agenda runs
 
-free_of : (st : State) (x : Option ℕ) → st.course.agenda ≡ None → is_free st x ≡ true
-free_of st None e = refl
-free_of st (Some w) e = ap (λ a. not (freezes a w)) e
-
-quiet_write : (s : Plan) (st : State) (lane v : ℕ) → st.course.agenda ≡ None → (not (is_held st v) && is_free st (acts_as s lane)) ≡ true
-quiet_write s st lane v e = and_from (not (is_held st v)) (is_free st (acts_as s lane)) (ap (λ a. not (holds a v)) e) (free_of st (acts_as s lane) e)
-
-verdict_free : (a b c d : Bool) → d ≡ false → not (is_blocked (verdict_of a b c d)) ≡ true
-verdict_free true b c d e = refl
-verdict_free false true c d e = refl
-verdict_free false false false d e = refl
-verdict_free false false true true e = absurd cc
-verdict_free false false true false e = refl
-
-owner_free : (b : Bool) (q : Session) (running : Bool) (c : SessionCall) → running ≡ false → not (is_blocked (owner_only b (check_owner q running c))) ≡ true
-owner_free true q running c e = verdict_free (is_start c && makes_set q.stage) (running && not (goes_beside_agenda c)) (allows q.stage (has_writers q.context) c) (is_await c && running) (and_right (is_await c) running e)
-owner_free false q running c e = refl
-
-quiet_call : (q : Option Session) (running : Bool) (lane : ℕ) (c : SessionCall) → running ≡ false → not (is_blocked (check_other q running lane c)) ≡ true
-quiet_call None running lane c e = refl
-quiet_call (Some q) running lane c e = owner_free (q.owner == lane) q running c e
-
-abbrev opens : Option SessionCall → Bool
-opens (Some (call.Begin c all)) = true
-opens _ = false
-
-opens_begin : (op : Op) → opens (call_of op) ≡ is_begin op
-opens_begin (Begin c all) = refl
-opens_begin _ = refl
-
-quiet_check : (q : Option Session) (running : Bool) (lane : ℕ) (c : SessionCall) → running ≡ false → opens (Some c) ≡ false → not (is_blocked (check q running lane c)) ≡ true
-quiet_check q running lane (call.Begin c all) e f = absurd cc
-quiet_check q running lane _ e f = quiet_call q running lane _ e
-
-quiet_line : (s : Plan) (st : State) (lane : ℕ) (l : Does) → st.course.agenda ≡ None → opens (call_in l) ≡ false → may_do s st lane l ≡ true
-quiet_line s st lane (Writes v b payload) e f = quiet_write s st lane v e
-quiet_line s st lane (Calls c) e f = quiet_check st.session (runs st) lane c (ap is_some e) f
-quiet_line s st lane _ e f = refl
-
--- a `begin` waits only for another lane's session
-begin_free : (q : Option Session) (lane : ℕ) → ((x : Session) → q ≡ Some x → (x.owner == lane) ≡ true) → not (is_blocked (check_begin q lane)) ≡ true
-begin_free None lane own = refl
-begin_free (Some q) lane own = ap (λ b. not (is_blocked (begin_verdict b))) (own q refl)
-
-begin_line : (s : Plan) (st : State) (lane : ℕ) (op : Op) → is_begin op ≡ true → ((x : Session) → st.session ≡ Some x → (x.owner == lane) ≡ true) → line_enabled s st lane op ≡ true
-begin_line s st lane (Begin c all) e own = begin_free st.session lane own
-begin_line s st lane _ e own = absurd cc
-
 line_or_begin : (b : Bool) (s : Plan) (st : State) (lane : ℕ) (op : Op) → is_begin op ≡ b → st.course.agenda ≡ None → ((x : Session) → st.session ≡ Some x → (x.owner == lane) ≡ true) → line_enabled s st lane op ≡ true
-line_or_begin true s st lane op e f own = begin_line s st lane op e own
-line_or_begin false s st lane op e f own = quiet_line s st lane (line_of op) f (opens_begin op ∙ e)
+line_or_begin b s st lane op e f own = grind arith
 
 record Next (x : Option LaneLine) : Type 0 where
   line : LaneLine
   is : x ≡ Some line
 
 next_of : (x : Option LaneLine) → is_none x ≡ false → Next x
-next_of None e = absurd cc
-next_of (Some l) e = record { line = l; is = refl }
+next_of x e = grind arith
 
 next_left : (lines : List LaneLine) (n : ℕ) → has_end (drop n lines) ≡ true → Next (slice_get lines n)
 next_left [] zero e = absurd cc
@@ -472,11 +352,7 @@ not_all test (x ∷ xs) e = by_head (test x) refl e (not_all test xs)
     by_head false f g ih = record { at = x; is = f }
 
 own_session : (x : Option Session) (q p : Session) → x ≡ Some q → x ≡ Some p → p.owner ≡ q.owner
-own_session (Some y) q p e f =
-    let one : y ≡ q = cc in
-    let two : y ≡ p = cc in
-    ap (λ (z : Session). z.owner) (sym two ∙ one)
-own_session None q p e f = absurd cc
+own_session x q p e f = grind arith
 
 waits_for_owner : (s : Plan) (r : Run) (x : Option Session) (i : ℕ) (l : LaneLine) → r.state.session ≡ x → r.state.course.agenda ≡ None → EndsLeft s r.moves x → next_line s r i ≡ Some l → CanGoOn s r
 waits_for_owner s r None i l e f h g =
@@ -495,8 +371,7 @@ quiet_goes s r e h f =
 -- ## where an agenda runs
 
 not_false : (b : Bool) → not b ≡ false → b ≡ true
-not_false true e = refl
-not_false false e = absurd cc
+not_false b e = grind arith
 
 some_acts : (lanes writers provider : Bool) (s : Plan) (r : Run) → (lanes && writers && provider) ≡ false → (lanes ≡ false → CanGoOn s r) → (writers ≡ false → CanGoOn s r) → (provider ≡ false → CanGoOn s r) → CanGoOn s r
 some_acts false writers provider s r e f g h = f refl

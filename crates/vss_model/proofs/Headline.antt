@@ -1,14 +1,13 @@
 -- Every run keeps its promises, and a legal and complete trail makes each line once.
 use Rattle.std.proofs.Common.{◌≡◌, ℕ, zero, suc, ◌+◌, ◌==◌, ◌<◌, ◌≤◌, List, [], ◌∷◌, ◌++◌, Option, Some, None, refl, Bool, true, false, ap, ◌∙◌, subst, length, inl, inr, arith}
-use Rattle.std.specs.Prelude.{◌⊎◌, is_none, ◌&&◌, not, slice_get}
+use Rattle.std.specs.Prelude.{◌⊎◌, is_none, not, slice_get}
 use Rattle.std.specs.List.{list_all, range_with_len}
 use Rattle.std.proofs.lemmas.Bool.{and_parts, eqb-true}
 use Rattle.write_history.specs.History.{point_in}
 use Rattle.write_history.specs.declared.actor.Actor.{Actor}
 use Rattle.write_history.specs.declared.actor.Actor.TheVariants.{Lane}
 use Rattle.write_history.specs.declared.move_item.Move.{Move}
-use Rattle.set_agenda.specs.declared.group.Group.TheVariants.{Hold, Release}
-use Rattle.set_agenda.specs.Agenda.{Agenda, open_group, plain, is_snapshot, is_among, has_said, has_frozen, has_thawed, is_held as holds, is_frozen as freezes}
+use Rattle.set_agenda.specs.Agenda.{open_group, is_among}
 use Rattle.set_agenda.specs.Course.{is_member}
 use Rattle.scenario.specs.Plan.{Plan, LaneLine, LanePlan, lines_in, lines_of}
 use Rattle.vss_model.specs.State.{State, SetRow, in_progress, row_of, left_now, history_of, is_held, is_frozen}
@@ -58,30 +57,16 @@ reads_as s so_far n v p h (Some before) e i =
 -- ## held and frozen
 
 held_volume : (st : State) (v : ℕ) (run : RunsSnapshot st) → Running HoldsOwn st.course.agenda → is_held st v ≡ true → is_among v run.set.volumes ≡ true
-held_volume st v run own e =
-    let H : Option Agenda → Type 0 = λ a. holds a v ≡ true in
-    let said = and_parts (is_snapshot run.agenda.kind && has_said run.agenda.log (plain Hold) v) (not (has_said run.agenda.log (plain Release) v)) (subst H run.runs e) in
-    let held = and_parts (is_snapshot run.agenda.kind) (has_said run.agenda.log (plain Hold) v) said.0 in
-    let its : HoldsOwn run.agenda = subst (Running HoldsOwn) run.runs own in
-    subst (λ vs. is_among v vs ≡ true) run.volumes (its v held.1)
+held_volume st v run own e = grind arith
 
 frozen_participant : (st : State) (w : ℕ) (run : RunsSnapshot st) → Running FreezesOwn st.course.agenda → is_frozen st w ≡ true → is_member st.course.members w ≡ true
-frozen_participant st w run own e =
-    let F : Option Agenda → Type 0 = λ a. freezes a w ≡ true in
-    let said = and_parts (is_snapshot run.agenda.kind && has_frozen run.agenda.log w) (not (has_thawed run.agenda.log w)) (subst F run.runs e) in
-    let frozen = and_parts (is_snapshot run.agenda.kind) (has_frozen run.agenda.log w) said.0 in
-    let its : FreezesOwn run.agenda = subst (Running FreezesOwn) run.runs own in
-    subst (λ ms. is_member ms w ≡ true) run.members (its w frozen.1)
+frozen_participant st w run own e = grind arith
 
 pub held_for_set : (s : Plan) (so_far : List Act) (v : ℕ) → is_held (state s so_far) v ≡ true → IsHeldForSet (state s so_far) v
-held_for_set s so_far v e =
-    let run = held_means s so_far v e in
-    record { run = run; volume = held_volume (state s so_far) v run (held_own s so_far) e }
+held_for_set s so_far v e = grind (arith, held_means, held_volume, held_own)
 
 pub frozen_for_set : (s : Plan) (so_far : List Act) (w : ℕ) → is_frozen (state s so_far) w ≡ true → IsFrozenForSet (state s so_far) w
-frozen_for_set s so_far w e =
-    let run = frozen_means s so_far w e in
-    record { run = run; participant = frozen_participant (state s so_far) w run (frozen_own s so_far) e }
+frozen_for_set s so_far w e = grind (arith, frozen_means, frozen_participant, frozen_own)
 
 -- ## what an act keeps of the set in progress
 
@@ -91,18 +76,13 @@ still s so_far act v e =
     held_keeps s so_far act held.run.set v held.run.in_progress_is held.volume e
 
 pub keeps_set : (s : Plan) (so_far : List Act) (r : SetRow) (act : Act) → in_progress (state s so_far) ≡ Some r → KeepsSet s (state s so_far) act r
-keeps_set s so_far r act e = record {
-  still = λ v f. still s so_far act v f;
-  free = λ q f g. record { held = λ v. not_held_after s so_far act r q v e f g; frozen = λ w. not_frozen_after s so_far act r q w e f g };
-  images = λ q f g v h l. imaged_after s so_far act r q v e f g h l;
-  flush = λ f g h. flush_fails s so_far act r e f g h;
-}
+keeps_set s so_far r act e = grind (arith, still, not_held_after, not_frozen_after, imaged_after, flush_fails)
 
 pub reads_as_at_cut : (s : Plan) (so_far : List Act) (n v p : ℕ) → point_in n (history_of (state s so_far) v).images ≡ Some p → ReadsAsAtTheCut s so_far n v p
 reads_as_at_cut s so_far n v p h = reads_as s so_far n v p h (cut s n so_far) refl (image_shown s so_far n v p h)
 
 pub leaves_nothing : (s : Plan) (so_far : List Act) (n : ℕ) (r : SetRow) → row_of (state s so_far) n ≡ Some r → has_failed r.result ≡ true → LeavesNothing s so_far n
-leaves_nothing s so_far n r e f = record { no_image = λ v. failed_keeps_nothing s so_far n v r e f; no_copy = λ group. failed_has_no_copy s so_far n r group e f }
+leaves_nothing s so_far n r e f = grind (arith, failed_keeps_nothing, failed_has_no_copy)
 
 -- ## each line once
 
@@ -121,21 +101,14 @@ zero_more : (x : ℕ) → 0 + x ≡ x
 zero_more x = omega arith
 
 lanes_or : (i n : ℕ) → (i < n) ⊎ (n ≤ i)
-lanes_or i zero = inr (omega arith)
-lanes_or zero (suc n) = inl (omega arith)
-lanes_or (suc i) (suc n) = raise (lanes_or i n)
-  where
-    raise : (i < n) ⊎ (n ≤ i) → (suc i < suc n) ⊎ (suc n ≤ suc i)
-    raise (inl h) = inl (omega (arith, h))
-    raise (inr h) = inr (omega (arith, h))
+lanes_or i n = grind arith
 
 -- no lane is past its end
 abbrev NonePast : Plan → List Move → Type 0
 NonePast s moves = (i : ℕ) → cursor moves i ≤ length (lines_of s i)
 
 has_line : (s : Plan) (r : Run) (j : ℕ) (o : Option LaneLine) → next_line s r j ≡ o → event_enabled s r (line_event j o) ≡ true → cursor r.moves j < length (lines_of s j)
-has_line s r j None e f = absurd cc
-has_line s r j (Some l) e f = within (lines_of s j) (cursor r.moves j) l e
+has_line s r j o e f = grind (arith, within)
 
 lane_past : (s : Plan) (r : Run) (m : Move) (j i : ℕ) → m.actor ≡ Lane j → event_enabled s r (event_of s r (Lane j)) ≡ true → NonePast s r.moves → cursor (r.moves ++ m ∷ []) i ≤ length (lines_of s i)
 lane_past s r m j i e f h = own (j == i) refl
@@ -154,8 +127,7 @@ other_past : (s : Plan) (r : Run) (m : Move) (i : ℕ) → is_lane i m.actor ≡
 other_past s r m i e h = let less = cursor_same r.moves m i e in let here = h i in omega (arith, less, here)
 
 move_past : (s : Plan) (r : Run) (m : Move) (a : Actor) → m.actor ≡ a → may_move s r a ≡ true → NonePast s r.moves → NonePast s (r.moves ++ m ∷ [])
-move_past s r m (Lane j) e f h i = lane_past s r m j i e f h
-move_past s r m _ e f h i = other_past s r m i (ap (is_lane i) e) h
+move_past s r m a e f h i = grind (arith, lane_past, other_past)
 
 past_from : (s : Plan) (r : Run) (ms : List Move) → is_legal_from s r ms ≡ true → NonePast s r.moves → NonePast s (run_from s r ms).moves
 past_from s r [] e h = h

@@ -1,6 +1,6 @@
 -- From the Cut until the volume's Release the image of the set in progress names no block: its point is the end of the
 -- volume's effective writes, and it uses no slot.
-use Rattle.std.proofs.Common.{◌≡◌, ◌⊎◌, ℕ, ◌+◌, ◌==◌, ◌<◌, ◌≤◌, zero, suc, List, [], ◌∷◌, ◌++◌, Option, Some, None, refl, Bool, true, false, map, filter, length, drop, ap, sym, ◌∙◌, subst, find, fold, inl, inr, arith}
+use Rattle.std.proofs.Common.{◌≡◌, ◌⊎◌, ℕ, ◌+◌, ◌==◌, ◌<◌, ◌≤◌, zero, suc, List, [], ◌∷◌, ◌++◌, Option, Some, None, refl, Bool, true, false, map, filter, length, drop, ap, sym, ◌∙◌, subst, find, fold, inl, arith}
 use Rattle.std.specs.Prelude.{option_map, is_some, ◌&&◌, not, if◌then◌else◌, nat_lt, slice_get}
 use Rattle.std.specs.List.{range_with_len}
 use Rattle.std.proofs.Math.Seq.{drop-length}
@@ -8,10 +8,8 @@ use Rattle.std.proofs.lemmas.Bool.{eq-eqb, eqb-true}
 use Rattle.vss_names.specs.declared.context.Context.{Context}
 use Rattle.vss_names.specs.declared.vss_result.VssResult.TheVariants.{AsyncCancelled}
 use Rattle.vss_names.specs.declared.set_outcome.SetOutcome.{SetOutcome}
-use Rattle.vss_names.specs.declared.set_outcome.SetOutcome.TheVariants.{Running, Complete as CompleteSet, Failed as FailedSet}
 use Rattle.writer_state.specs.declared.said.Said.{Said}
 use Rattle.write_history.specs.declared.mark.Mark.{Mark}
-use Rattle.write_history.specs.declared.mark.Mark.TheVariants.{Clean, Fault, FaultAfter}
 use Rattle.write_history.specs.History.{Write, Image, History, point_in, names, blocks_named, dropped, written, reverted, reverted_in_part, after_set, cut as history_cut, AreLater, AreInTime}
 use Rattle.write_history.specs.Slots.{Placed, gone_up_to, named, used_by}
 use Rattle.set_agenda.specs.declared.group.Group.{Group}
@@ -20,11 +18,11 @@ use Rattle.set_agenda.specs.declared.member.Member.{Member}
 use Rattle.set_agenda.specs.Agenda.{Agenda, open_group, has_said, plain, is_among, is_snapshot, is_working, is_held as holds}
 use Rattle.set_agenda.specs.Course.{Course, change_at, stepped as course_stepped, released}
 use Rattle.requestor.specs.Session.{Session}
-use Rattle.scenario.specs.Plan.{Plan, blocks_of}
-use Rattle.vss_model.specs.State.{State, SetRow, Kept, is_running, in_progress, row_changed, history_in, history_of, left_now, is_held}
+use Rattle.scenario.specs.Plan.{Plan}
+use Rattle.vss_model.specs.State.{State, SetRow, Kept, is_running, in_progress, history_in, history_of, left_now, is_held}
 use Rattle.vss_model.specs.Ending.{Ending, NothingEnds, AgendaEnds, SetFails, ending, row_settled, images_dropped, concluded, followed, runs, failed}
 use Rattle.vss_model.specs.Images.{put, is_in_set, reverted_as}
-use Rattle.vss_model.specs.Sessions.{begin_in, has_no_volume, start_set, new_set, with_volume, change_set, closed}
+use Rattle.vss_model.specs.Sessions.{begin_in, has_no_volume, start_set, with_volume, change_set, closed}
 use Rattle.vss_model.specs.Steps.{answered, cut_if, cut_each, row_cut, cut_set, is_flush, is_failed_step, stepped_as, stepped, ticked, later}
 use Rattle.vss_model.specs.Acts.{Act, after, state}
 use Rattle.vss_model.specs.Cut.{is_provider, is_cut_group}
@@ -88,16 +86,9 @@ record Fewer (m : Bool) (h k : History) : Type 0 where
 fewer_same : (m : Bool) (h : History) → Fewer m h h
 fewer_same m h = record { writes = λ e. refl; images = λ n p e. e }
 
-passed_over : (b c : Bool) (x : ℕ) (less rest : Option ℕ) → (c ≡ true → b ≡ true) → b ≡ false → less ≡ rest → (if c then Some x else less) ≡ rest
-passed_over b true x less rest f g h = absurd (true_not_false b (f refl) g)
-passed_over b false x less rest f g h = h
-
 filter_head : (b t : Bool) (i : Image) (n : ℕ) (less rest : List Image) → ((i.set == n) ≡ true → b ≡ t) → point_in n less ≡ (if t then point_in n rest else None)
     → point_in n (if b then i ∷ less else less) ≡ (if t then point_in n (i ∷ rest) else None)
-filter_head true true i n less rest f g = ap (λ o. if i.set == n then Some i.point else o) g
-filter_head true false i n less rest f g = passed_over false (i.set == n) i.point _ None (λ e. sym (f e)) refl g
-filter_head false true i n less rest f g = sym (passed_over false (i.set == n) i.point _ _ f refl (sym g))
-filter_head false false i n less rest f g = g
+filter_head b t i n less rest f g = grind arith
 
 -- images that are kept by their sets
 point_in-filter : (test : ℕ → Bool) (n : ℕ) (images : List Image) → point_in n (filter (λ i. test i.set) images) ≡ (if test n then point_in n images else None)
@@ -113,11 +104,7 @@ point_in-filter test n (i ∷ images) =
     filter_head (test i.set) (test n) i n (filter (λ j. test j.set) images) images (λ e. ap test (eqb-true i.set n e)) (point_in-filter test n images)
 
 some_of : (b : Bool) (o less : Option ℕ) (p : ℕ) → less ≡ (if b then o else None) → less ≡ Some p → o ≡ Some p
-some_of true o less p e f = sym e ∙ f
-some_of false o less p e f = absurd (nothing (sym e ∙ f))
-  where
-    nothing : None ≡ Some p → ⊥
-    nothing g = cc
+some_of b o less p e f = grind arith
 
 kept_images : (test : ℕ → Bool) (n p : ℕ) (images : List Image) → point_in n (filter (λ i. test i.set) images) ≡ Some p → point_in n images ≡ Some p
 kept_images test n p images e = some_of (test n) (point_in n images) _ p (point_in-filter test n images) e
@@ -171,89 +158,44 @@ other_same f (suc at) (x ∷ hs) (suc v) e = other_same f at hs v (one_less at v
 
 -- ## the fact with fewer images
 
-since_writes : (m b : Bool) (p : ℕ) (ws xs : List Write) → (m ≡ true → xs ≡ ws) → Since m b p ws → Since m b p xs
-since_writes true b p ws xs same h = λ e. h e ∙ ap length (sym (same refl))
-since_writes false b p ws xs same h = h
-
-agenda_fewer : (m : Bool) (v : ℕ) (a : Option Agenda) (r : SetRow) (p : ℕ) (ws xs : List Write) → (m ≡ true → xs ≡ ws) → AgendaUnused m v a r p ws → AgendaUnused m v a r p xs
-agenda_fewer m v None r p ws xs same h = absurd h
-agenda_fewer m v (Some a) r p ws xs same h = record { snapshot = h.snapshot; among = h.among; hold = h.hold; since = since_writes m (has_said a.log (plain Release) v) p ws xs same h.since }
-
-image_fewer : (m : Bool) (v : ℕ) (a : Option Agenda) (r : SetRow) (h k : History) → Fewer m h k → (o : Option ℕ) → point_in r.number k.images ≡ o → ImageUnused m v a r (point_in r.number h.images) h.writes → ImageUnused m v a r o k.writes
-image_fewer m v a r h k f None e g = tt
-image_fewer m v a r h k f (Some p) e g = agenda_fewer m v a r p h.writes k.writes f.writes (subst (λ o. ImageUnused m v a r o h.writes) (f.images r.number p e) g)
-
 set_fewer : (m : Bool) (v : ℕ) (a : Option Agenda) (o : Option SetRow) (h k : History) → Fewer m h k → SetUnused m v a o h → SetUnused m v a o k
-set_fewer m v a None h k f g = tt
-set_fewer m v a (Some r) h k f g = image_fewer m v a r h k f (point_in r.number k.images) refl g
+set_fewer m v a o h k f g = grind arith
 
 -- ## no image
 
 no_image_any : (m : Bool) (v : ℕ) (a : Option Agenda) (o : Option SetRow) (h : History) → NoImage o h.images → SetUnused m v a o h
-no_image_any m v a None h e = tt
-no_image_any m v a (Some r) h e = subst (λ x. ImageUnused m v a r x h.writes) (sym e) tt
+no_image_any m v a o h e = grind arith
 
 not_some : (o : Option ℕ) → ((p : ℕ) → o ≡ Some p → ⊥) → o ≡ None
-not_some None f = refl
-not_some (Some p) f = absurd (f p refl)
+not_some o f = grind arith
 
 -- where an image cannot be unused, there is none
 no_image_of : (m : Bool) (v : ℕ) (a : Option Agenda) (o : Option SetRow) (h : History) → ((r : SetRow) (p : ℕ) → o ≡ Some r → AgendaUnused m v a r p h.writes → ⊥) → SetUnused m v a o h → NoImage o h.images
-no_image_of m v a None h f g = tt
-no_image_of m v a (Some r) h f g = not_some (point_in r.number h.images) (λ p e. f r p refl (subst (λ x. ImageUnused m v a r x h.writes) e g))
+no_image_of m v a o h f g = grind arith
 
 quiet_no_image : (m : Bool) (v : ℕ) (a : Option Agenda) (o : Option SetRow) (h : History) → is_some a ≡ false → SetUnused m v a o h → NoImage o h.images
-quiet_no_image m v None o h e g = no_image_of m v None o h (λ r p f i. i) g
-quiet_no_image m v (Some a) o h e g = absurd cc
+quiet_no_image m v a o h e g = grind arith
 
 plain_no_image : (m : Bool) (v : ℕ) (a : Agenda) (o : Option SetRow) (h : History) → is_snapshot a.kind ≡ false → SetUnused m v (Some a) o h → NoImage o h.images
 plain_no_image m v a o h e g = no_image_of m v (Some a) o h (λ r p f i. true_not_false (is_snapshot a.kind) i.snapshot e) g
 
 -- a volume that is not of the set has none of its images
 outside_no_image : (m : Bool) (v : ℕ) (a : Option Agenda) (o : Option SetRow) (h : History) → is_in_set v o ≡ false → SetUnused m v a o h → NoImage o h.images
-outside_no_image m v a o h e g = no_image_of m v a o h (λ r p f i. not_among a r p (subst (λ x. is_in_set v x ≡ false) f e) i) g
-  where
-    not_among : (a : Option Agenda) (r : SetRow) (p : ℕ) → is_among v r.volumes ≡ false → AgendaUnused m v a r p h.writes → ⊥
-    not_among None r p e i = i
-    not_among (Some a) r p e i = true_not_false (is_among v r.volumes) i.among e
+outside_no_image m v a o h e g = grind arith
 
 no_image_fewer : (m : Bool) (o : Option SetRow) (h k : History) → Fewer m h k → NoImage o h.images → NoImage o k.images
-no_image_fewer m None h k f e = tt
-no_image_fewer m (Some r) h k f e = not_some (point_in r.number k.images) (λ p g. clash (point_in r.number h.images) p e (f.images r.number p g))
-  where
-    clash : (o : Option ℕ) (p : ℕ) → o ≡ None → o ≡ Some p → ⊥
-    clash None p e f = cc
-    clash (Some x) p e f = cc
+no_image_fewer m o h k f e = grind arith
 
 no_image_rows : (f : SetRow → SetRow) → ((r : SetRow) → (f r).number ≡ r.number) → (o : Option SetRow) (images : List Image) → NoImage o images → NoImage (option_map f o) images
-no_image_rows f same None images e = tt
-no_image_rows f same (Some r) images e = ap (λ n. point_in n images) (same r) ∙ e
+no_image_rows f same o images e = grind arith
 
 no_image_settled : (p : SetOutcome) (rows : List SetRow) (images : List Image) → NoImage (find (λ r. is_running r.result) rows) images → NoImage (find (λ r. is_running r.result) (map (row_settled p) rows)) images
-no_image_settled Running rows images e =
-    subst (λ o. NoImage o images) (sym (find-settled_running rows)) (no_image_rows (λ (r : SetRow). record r { result = Running }) (λ r. refl) (find (λ r. is_running r.result) rows) images e)
-no_image_settled CompleteSet rows images e = subst (λ o. NoImage o images) (sym (find-settled_over CompleteSet refl rows)) tt
-no_image_settled (FailedSet why) rows images e = subst (λ o. NoImage o images) (sym (find-settled_over (FailedSet why) refl rows)) tt
+no_image_settled p rows images e = grind (arith, find-settled_running, no_image_rows, find-settled_over)
 
 -- ## the course goes on
 
-since_later : (m b c : Bool) (p : ℕ) (ws : List Write) → (b ≡ true → c ≡ true) → Since m b p ws → Since m c p ws
-since_later true true c p ws f h = λ e. absurd (true_not_false c (f refl) e)
-since_later true false c p ws f h = λ e. h refl
-since_later false b c p ws f h = f h
-
-image_follows : (m : Bool) (v : ℕ) (a b : Agenda) (ms ns : List Member) (o q : SetOutcome) (r : SetRow) (x : Option ℕ) (ws : List Write) → IsSameAgenda a b ms ns o q → ImageUnused m v (Some a) r x ws → ImageUnused m v (Some b) r x ws
-image_follows m v a b ms ns o q r None ws f h = tt
-image_follows m v a b ms ns o q r (Some p) ws f h = record {
-  snapshot = ap is_snapshot f.kind ∙ h.snapshot;
-  among = h.among;
-  hold = f.said (plain Hold) v h.hold;
-  since = since_later m (has_said a.log (plain Release) v) (has_said b.log (plain Release) v) p ws (f.said (plain Release) v) h.since;
-}
-
 set_follows : (m : Bool) (v : ℕ) (a b : Agenda) (ms ns : List Member) (o q : SetOutcome) (found : Option SetRow) (h : History) → IsSameAgenda a b ms ns o q → SetUnused m v (Some a) found h → SetUnused m v (Some b) found h
-set_follows m v a b ms ns o q None h f g = tt
-set_follows m v a b ms ns o q (Some r) h f g = image_follows m v a b ms ns o q r (point_in r.number h.images) h.writes f g
+set_follows m v a b ms ns o q found h f g = grind arith
 
 no_set : (m : Bool) (v : ℕ) (x : State) → in_progress x ≡ None → Unused m v x
 no_set m v x e = subst (λ o. SetUnused m v x.course.agenda o (history_of x v)) (sym e) tt
@@ -268,21 +210,11 @@ none_concluded m v (SetFails why) x h =
 -- the agenda ends: that of the snapshot with its set, which is not in progress any more
 ended_if : (b : Bool) (m : Bool) (v : ℕ) (a : Agenda) (c : Course) (st : State) → is_running c.outcome ≡ b → Moves (Some a) st.course.outcome None c.outcome → SetUnused m v (Some a) (in_progress st) (history_of st v)
     → Unused m v (concluded (ending st.course.outcome c.outcome true None) (record st { course = c }))
-ended_if true m v a c st e g h =
-    none_concluded m v (ending st.course.outcome c.outcome true None) (record st { course = c }) (plain_no_image m v a (in_progress st) (history_of st v) (plain_kind a.kind st.course.outcome c.outcome e g) h)
-ended_if false m v a c st e g h =
-    no_set m v (concluded (ending st.course.outcome c.outcome true None) (record st { course = c })) (ends_settle st.course.outcome c.outcome (record st { course = c }) ∙ find-settled_over c.outcome e st.sets)
+ended_if b m v a c st e g h = grind (arith, none_concluded, plain_no_image, plain_kind, no_set, ends_settle, find-settled_over)
 
 on_course : (m : Bool) (v : ℕ) (a b : Option Agenda) (c : Course) (st : State) → c.agenda ≡ b → Moves a st.course.outcome b c.outcome → Follows a st.course.members st.course.outcome b c.members c.outcome
     → SetUnused m v a (in_progress st) (history_of st v) → Unused m v (concluded (ending st.course.outcome c.outcome (is_some a) b) (record st { course = c }))
-on_course m v None None c st e g f h =
-    subst (λ x. Unused m v (concluded x (record st { course = c }))) (sym (ending_idle st.course.outcome c.outcome g))
-    (no_image_any m v c.agenda (in_progress st) (history_of st v) (quiet_no_image m v None (in_progress st) (history_of st v) refl h))
-on_course m v None (Some b) c st e g f h = absurd g
-on_course m v (Some a) (Some b) c st e g f h =
-    subst (λ x. Unused m v (concluded x (record st { course = c }))) (sym (ending_on st.course.outcome c.outcome true b g.1))
-    (subst (λ x. SetUnused m v x (in_progress st) (history_of st v)) (sym e) (set_follows m v a b st.course.members c.members st.course.outcome c.outcome (in_progress st) (history_of st v) f h))
-on_course m v (Some a) None c st e g f h = ended_if (is_running c.outcome) m v a c st refl g h
+on_course m v a b c st e g f h = grind (arith, ending_idle, no_image_any, quiet_no_image, ending_on, set_follows, ended_if)
 
 goes : (m : Bool) (v : ℕ) (c : Course) (st : State) → MovesOn st.course c → GoesOn st.course c → Unused m v st → Unused m v (followed (runs st) c st)
 unfolding followed
@@ -291,8 +223,7 @@ goes m v c st g f h = on_course m v st.course.agenda c.agenda c st refl g f h
 -- an agenda begins: none ran, so the set in progress has no image
 begun_unused : (m : Bool) (v : ℕ) (ran : Bool) (c : Course) (st : State) → runs st ≡ false → Unused m v st → Unused m v (followed ran c st)
 unfolding followed
-begun_unused m v ran c st e h =
-    none_concluded m v (ending st.course.outcome c.outcome ran c.agenda) (record st { course = c }) (quiet_no_image m v st.course.agenda (in_progress st) (history_of st v) e h)
+begun_unused m v ran c st e h = grind (arith, none_concluded, quiet_no_image)
 
 -- ## each change
 
@@ -305,8 +236,7 @@ unfolding ticked
 on_ticks m v n st h = goes m v _ (later n st) (moves_timed (st.clock + n) st.course) (goes_timed (st.clock + n) st.course) h
 
 on_begins : (m : Bool) (v lane : ℕ) (all : Bool) (c : Option Context) (st : State) → Unused m v st → Unused m v (begin_in lane all c st).1
-on_begins m v lane all None st h = h
-on_begins m v lane all (Some c) st h = h
+on_begins m v lane all c st h = grind arith
 
 with_volumes : (m : Bool) (v : ℕ) (hs : List History) (st : State) → Fewer m (history_of st v) (history_in (slice_get hs v)) → Unused m v st → Unused m v (record st { volumes = hs })
 with_volumes m v hs st f h = set_fewer m v st.course.agenda (in_progress st) (history_of st v) (history_in (slice_get hs v)) f h
@@ -332,21 +262,10 @@ unnumbered n m (i ∷ images) h l = rw (differs i.set n m h.0 l) (unnumbered n m
     differs a n m e l = grind arith
 
 on_starts : (m : Bool) (v : ℕ) (q : Session) (st : State) → runs st ≡ false → IsOrderly st → Unused m v st → Unused m v (start_set q st).1
-on_starts m v q st e o h =
-    no_image_any m v st.course.agenda _ (history_of st v)
-    (found_no_image st.sets (new_set (length st.sets + 1) q.context) (history_of st v).images
-    (unnumbered (length st.sets + 1) (length st.sets) (history_of st v).images (images_up_to st.sets st.volumes v o.numbered o.live) (more (length st.sets)))
-    (quiet_no_image m v st.course.agenda (in_progress st) (history_of st v) e h))
-  where
-    more : (a : ℕ) → a < a + 1
-    more a = omega arith
+on_starts m v q st e o h = grind (arith, no_image_any, found_no_image, unnumbered, images_up_to, quiet_no_image)
 
 on_adds : (m : Bool) (v u n : ℕ) (st : State) → runs st ≡ false → Unused m v st → Unused m v (change_set n (with_volume u) st)
-on_adds m v u n st e h =
-    let f : SetRow → SetRow = row_changed n (with_volume u) in
-    no_image_any m v st.course.agenda _ (history_of st v)
-    (subst (λ o. NoImage o (history_of st v).images) (sym (find-map f (λ r. ap is_running (changed_result (r.number == n) (with_volume u) r refl)) st.sets))
-    (no_image_rows f (λ r. changed_number (r.number == n) (with_volume u) r refl) (in_progress st) (history_of st v).images (quiet_no_image m v st.course.agenda (in_progress st) (history_of st v) e h)))
+on_adds m v u n st e h = grind (arith, no_image_any, find-map, changed_result, no_image_rows, changed_number, quiet_no_image)
 
 in_progress-closed : (q : Session) (x : State) → in_progress (closed q x) ≡ in_progress x
 unfolding closed released
@@ -387,8 +306,7 @@ on_put false v u w st x e free h =
     with_volumes false v _ x (fewer-change_at false (written w) (λ y. record { writes = λ f. absurd cc; images = λ n p f. f }) u x.volumes v) h
 
 on_puts : (m : Bool) (v u : ℕ) (w : Write) (mark : Mark) (st x : State) → is_held st v ≡ m → is_held st u ≡ false → Unused m v x → Unused m v (put u w mark x)
-on_puts m v u w Clean st x e free h = on_put m v u w st x e free h
-on_puts m v u w _ st x e free h = h
+on_puts m v u w mark st x e free h = grind (arith, on_put)
 
 on_reverted : (m : Bool) (v u : ℕ) (f : History → History) (st : State) → ((h : History) → Fewer false h (f h)) → is_in_set u (in_progress st) ≡ false → Unused m v st → Unused m v (record st { volumes = change_at u f st.volumes })
 on_reverted m v u f st less e h = by_cases (u == v) refl
@@ -401,9 +319,7 @@ on_reverted m v u f st less e h = by_cases (u == v) refl
     by_cases false g = on_other m v u f st g h
 
 on_reverts : (m : Bool) (v : ℕ) (s : Plan) (u : ℕ) (k : Kept) (mark : Mark) (st : State) → is_in_set u (in_progress st) ≡ false → Unused m v st → Unused m v (reverted_as s u k mark st).1
-on_reverts m v s u k Clean st e h = on_reverted m v u (reverted k.row.number k.point) st (fewer_reverted k.row.number k.point) e h
-on_reverts m v s u k Fault st e h = h
-on_reverts m v s u k (FaultAfter n) st e h = on_reverted m v u (reverted_in_part (blocks_of s u) k.row.number k.point n) st (fewer_reverted_in_part (blocks_of s u) k.row.number k.point n) e h
+on_reverts m v s u k mark st e h = grind (arith, on_reverted, fewer_reverted, fewer_reverted_in_part)
 
 kept_by_writes : (m : Bool) (v : ℕ) (st : State) → is_held st v ≡ m → IsKeptByWrites (Holds m v) st
 kept_by_writes m v st e =
@@ -432,8 +348,7 @@ abbrev IsCutHistory : ℕ → List ℕ → ℕ → History → History → Type 
 IsCutHistory n vs v h k = (k ≡ h) ⊎ ((is_among v vs ≡ true) × (k ≡ history_cut n h))
 
 cut_head : (b : Bool) (n : ℕ) (vs : List ℕ) (v : ℕ) (h : History) → is_among v vs ≡ b → IsCutHistory n vs v h (cut_if b n h)
-cut_head true n vs v h e = inr (e, refl)
-cut_head false n vs v h e = inl refl
+cut_head b n vs v h e = grind arith
 
 cut_each_at : (n : ℕ) (vs : List ℕ) (base : ℕ) (hs : List History) (v u : ℕ) → u ≡ base + v → IsCutHistory n vs u (history_in (slice_get hs v)) (history_in (slice_get (cut_each n vs base hs) v))
 cut_each_at n vs base [] zero u e = inl refl
@@ -456,26 +371,14 @@ point_in-append n p (i ∷ images) e = by_cases (i.set == n) e (point_in-append 
     by_cases false f ih = ih f
 
 pub held_parts : (a b c : Bool) → (a && b && not c) ≡ true → (a ≡ true) × (b ≡ true) × (c ≡ false)
-held_parts true true false e = (refl, refl, refl)
-held_parts true true true e = absurd cc
-held_parts true false c e = absurd cc
-held_parts false b c e = absurd cc
+held_parts a b c e = grind arith
 
 cut_image : (v : ℕ) (a : Agenda) (r : SetRow) (h k : History) → (is_among v r.volumes ≡ true → holds (Some a) v ≡ true) → IsCutHistory r.number r.volumes v h k → point_in r.number h.images ≡ None → ImageUnused true v (Some a) r (point_in r.number k.images) k.writes
-cut_image v a r h k held (inl e) none = subst (λ x. ImageUnused true v (Some a) r (point_in r.number x.images) x.writes) (sym e) (subst (λ o. ImageUnused true v (Some a) r o h.writes) (sym none) tt)
-cut_image v a r h k held (inr e) none =
-    let parts = held_parts (is_snapshot a.kind) (has_said a.log (plain Hold) v) (has_said a.log (plain Release) v) (held e.0) in
-    subst (λ x. ImageUnused true v (Some a) r (point_in r.number x.images) x.writes) (sym e.1)
-    (subst (λ o. ImageUnused true v (Some a) r o h.writes) (sym (point_in-append r.number (length h.writes) h.images none))
-    (record { snapshot = parts.0; among = e.0; hold = parts.1; since = λ f. refl }))
+cut_image v a r h k held x6 none = grind (arith, held_parts, point_in-append)
 
 -- the row with the time of its cut has the same number and volumes
 image_of_row : (m : Bool) (v : ℕ) (a : Agenda) (r q : SetRow) (h : History) → q.number ≡ r.number → q.volumes ≡ r.volumes → ImageUnused m v (Some a) r (point_in r.number h.images) h.writes → ImageUnused m v (Some a) q (point_in q.number h.images) h.writes
-image_of_row m v a r q h number volumes g = subst (λ n. ImageUnused m v (Some a) q (point_in n h.images) h.writes) (sym number) (of_row (point_in r.number h.images) g)
-  where
-    of_row : (o : Option ℕ) → ImageUnused m v (Some a) r o h.writes → ImageUnused m v (Some a) q o h.writes
-    of_row None g = tt
-    of_row (Some p) g = record { snapshot = g.snapshot; among = ap (is_among v) volumes ∙ g.among; hold = g.hold; since = g.since }
+image_of_row m v a r q h number volumes g = grind arith
 
 cut_unused : (s : Plan) (past : List Act) (v : ℕ) (r : SetRow) → is_cut_group (open_group (left_now (state s past))) ≡ true → CutsNow (state s past) → in_progress (state s past) ≡ Some r → Unused true v (cut_set (Some r) (state s past))
 cut_unused s past v r g c e =
@@ -497,36 +400,11 @@ cut_unused s past v r g c e =
 
 -- ## every act
 
--- a volume that has an image of the set in progress and is not held was released
-released_image : (v : ℕ) (a : Option Agenda) (r : SetRow) (o : Option ℕ) (ws : List Write) → holds a v ≡ false → ImageUnused true v a r o ws → ImageUnused false v a r o ws
-released_image v a r None ws e h = tt
-released_image v None r (Some p) ws e h = absurd h
-released_image v (Some a) r (Some p) ws e h = record {
-  snapshot = h.snapshot;
-  among = h.among;
-  hold = h.hold;
-  since = must (is_snapshot a.kind) (has_said a.log (plain Hold) v) (has_said a.log (plain Release) v) h.snapshot h.hold e;
-}
-  where
-    must : (x y z : Bool) → x ≡ true → y ≡ true → (x && y && not z) ≡ false → z ≡ true
-    must true true true e f g = refl
-    must true true false e f g = absurd cc
-    must true false z e f g = absurd cc
-    must false y z e f g = absurd cc
-
 released_unused : (v : ℕ) (a : Option Agenda) (o : Option SetRow) (h : History) → holds a v ≡ false → SetUnused true v a o h → SetUnused false v a o h
-released_unused v a None h e g = tt
-released_unused v a (Some r) h e g = released_image v a r (point_in r.number h.images) h.writes e g
-
--- what was released stays so, whatever is written
-ever_image : (v : ℕ) (a : Option Agenda) (r : SetRow) (o : Option ℕ) (ws : List Write) → ImageUnused false v a r o ws → ImageUnused true v a r o ws
-ever_image v a r None ws h = tt
-ever_image v None r (Some p) ws h = absurd h
-ever_image v (Some a) r (Some p) ws h = record { snapshot = h.snapshot; among = h.among; hold = h.hold; since = λ e. absurd (true_not_false (has_said a.log (plain Release) v) h.since e) }
+released_unused v a o h e g = grind arith
 
 ever_unused : (v : ℕ) (a : Option Agenda) (o : Option SetRow) (h : History) → SetUnused false v a o h → SetUnused true v a o h
-ever_unused v a None h g = tt
-ever_unused v a (Some r) h g = ever_image v a r (point_in r.number h.images) h.writes g
+ever_unused v a o h g = grind arith
 
 on_no_cut : (m : Bool) (s : Plan) (past : List Act) (act : Act) (v : ℕ) → is_held (state s past) v ≡ m → (is_provider act.event && is_cut_group (open_group (left_now (state s past)))) ≡ false → Unused m v (state s past) → Unused m v (after s (state s past) act)
 on_no_cut m s past act v held e h =
@@ -539,12 +417,7 @@ on_no_cut m s past act v held e h =
     (λ lane all c f g. (orderly_changes.begins lane all c st g (orderly s past), on_begins m v lane all c st h)) (orderly s past, h)).1
 
 on_held_if : (m : Bool) (s : Plan) (past : List Act) (act : Act) (v : ℕ) → is_held (state s past) v ≡ m → (is_provider act.event && is_cut_group (open_group (left_now (state s past)))) ≡ false → Unused true v (state s past) → Unused true v (after s (state s past) act)
-on_held_if true s past act v held e h = on_no_cut true s past act v held e h
-on_held_if false s past act v held e h =
-    let st = state s past in
-    let x = after s st act in
-    ever_unused v x.course.agenda (in_progress x) (history_of x v)
-    (on_no_cut false s past act v held e (released_unused v st.course.agenda (in_progress st) (history_of st v) held h))
+on_held_if m s past act v held e h = grind (arith, on_no_cut, ever_unused, released_unused)
 
 on_act_if : (b : Bool) (s : Plan) (past : List Act) (act : Act) (v : ℕ) → (is_provider act.event && is_cut_group (open_group (left_now (state s past)))) ≡ b → Unused true v (state s past) → Unused true v (after s (state s past) act)
 on_act_if false s past act v e h = on_held_if (is_held (state s past) v) s past act v refl e h
@@ -578,8 +451,7 @@ pub record RunsWithImage (st : State) (r : SetRow) (v : ℕ) : Type 0 where
   pub hold : has_said agenda.log (plain Hold) v ≡ true
 
 runs_with_image : (v : ℕ) (a : Option Agenda) (r : SetRow) (p : ℕ) (ws : List Write) (st : State) → st.course.agenda ≡ a → AgendaUnused true v a r p ws → RunsWithImage st r v
-runs_with_image v None r p ws st e h = absurd h
-runs_with_image v (Some a) r p ws st e h = record { agenda = a; runs = e; snapshot = h.snapshot; among = h.among; hold = h.hold }
+runs_with_image v a r p ws st e h = grind arith
 
 pub image_runs : (s : Plan) (acts : List Act) (r : SetRow) (v p : ℕ) → in_progress (state s acts) ≡ Some r → point_in r.number (history_of (state s acts) v).images ≡ Some p → RunsWithImage (state s acts) r v
 image_runs s acts r v p e g =
@@ -588,8 +460,7 @@ image_runs s acts r v p e g =
     (subst (λ o. ImageUnused true v st.course.agenda r o (history_of st v).writes) g (subst (λ o. SetUnused true v st.course.agenda o (history_of st v)) e (unused s acts v)))
 
 point_of : (v : ℕ) (a : Option Agenda) (r : SetRow) (p : ℕ) (ws : List Write) → holds a v ≡ true → AgendaUnused true v a r p ws → p ≡ length ws
-point_of v None r p ws e h = absurd h
-point_of v (Some a) r p ws e h = h.since (held_parts (is_snapshot a.kind) (has_said a.log (plain Hold) v) (has_said a.log (plain Release) v) e).2
+point_of v a r p ws e h = grind arith
 
 -- the point is the end of the effective writes
 pub held_point : (s : Plan) (acts : List Act) (r : SetRow) (v p : ℕ) → in_progress (state s acts) ≡ Some r → is_held (state s acts) v ≡ true → point_in r.number (history_of (state s acts) v).images ≡ Some p

@@ -1,30 +1,27 @@
 -- A running snapshot agenda is that of the one set in progress, with its volumes and participants.
-use Rattle.std.proofs.Common.{◌≡◌, ℕ, ◌+◌, ◌==◌, List, [], ◌∷◌, Option, Some, None, refl, Bool, true, false, map, ap, sym, ◌∙◌, subst, find, fold}
-use Rattle.std.specs.Prelude.{option_map, ◌&&◌, not, if◌then◌else◌}
+use Rattle.std.proofs.Common.{◌≡◌, ℕ, ◌+◌, ◌==◌, List, [], ◌∷◌, Option, Some, None, refl, Bool, true, false, map, ap, sym, subst, find, fold, arith}
+use Rattle.std.specs.Prelude.{option_map, if◌then◌else◌}
 use Rattle.vss_names.specs.declared.context.Context.{Context}
 use Rattle.vss_names.specs.declared.order.Order.{Order}
 use Rattle.vss_names.specs.declared.vss_result.VssResult.{VssResult}
 use Rattle.vss_names.specs.declared.vss_result.VssResult.TheVariants.{BadState, AsyncCancelled}
 use Rattle.vss_names.specs.declared.set_outcome.SetOutcome.{SetOutcome}
-use Rattle.vss_names.specs.declared.set_outcome.SetOutcome.TheVariants.{Running, Complete as CompleteSet, Failed}
 use Rattle.writer_state.specs.declared.said.Said.{Said}
 use Rattle.writer_state.specs.declared.said.Said.TheVariants.{Ok}
 use Rattle.write_history.specs.declared.mark.Mark.{Mark}
-use Rattle.write_history.specs.declared.mark.Mark.TheVariants.{Clean}
-use Rattle.write_history.specs.History.{Write}
 use Rattle.set_agenda.specs.declared.group.Group.{Group}
-use Rattle.set_agenda.specs.declared.group.Group.TheVariants.{Orders, PreCommit, Flush, Hold, Cut, Commit, Release, PostCommit}
+use Rattle.set_agenda.specs.declared.group.Group.TheVariants.{Cut}
 use Rattle.set_agenda.specs.declared.kind.Kind.{Kind}
 use Rattle.set_agenda.specs.declared.kind.Kind.TheVariants.{Gather, Prepare, Snapshot, Complete}
 use Rattle.set_agenda.specs.declared.member.Member.{Member}
 use Rattle.set_agenda.specs.declared.place.Place.{Place}
-use Rattle.set_agenda.specs.Agenda.{Agenda, groups_left, left, open_place, at_place, all_say, is_done, is_snapshot, open_group, next_member, has_said, has_frozen, has_thawed, plain, is_held as holds, is_frozen as freezes}
+use Rattle.set_agenda.specs.Agenda.{Agenda, groups_left, left, all_say, is_done, open_group, next_member, has_said, is_held as holds, is_frozen as freezes}
 use Rattle.set_agenda.specs.Course.{Course, posted, failed as course_failed, settled_if, settled, begun, snapshot_begun, told, answered as course_answered, worked, stepped as course_stepped, timed as course_timed, released}
 use Rattle.requestor.specs.Session.{Session}
 use Rattle.scenario.specs.Plan.{Plan}
-use Rattle.vss_model.specs.State.{State, SetRow, Kept, start, is_running, in_progress, left_now, is_held, is_frozen}
-use Rattle.vss_model.specs.Ending.{Ending, NothingEnds, SetFails, ending, concluded, followed, runs, failed_in, failed}
-use Rattle.vss_model.specs.Images.{refused, put, reverted_as}
+use Rattle.vss_model.specs.State.{State, SetRow, start, is_running, in_progress, left_now, is_held, is_frozen}
+use Rattle.vss_model.specs.Ending.{Ending, NothingEnds, ending, concluded, followed, runs, failed_in, failed}
+use Rattle.vss_model.specs.Images.{refused}
 use Rattle.vss_model.specs.Sessions.{begin_in, pending, has_no_volume, volumes_of, closed}
 use Rattle.vss_model.specs.Steps.{answered, row_cut, cut_set, step_made, is_flush, is_failed_step, stepped_as, stepped, ticked, later}
 use Rattle.vss_model.specs.Acts.{Act, after, state}
@@ -53,8 +50,7 @@ abbrev pub IsTied : State → Type 0
 IsTied st = Tied st.course.agenda st.course.members (in_progress st)
 
 tied_none : (a : Option Agenda) (ms : List Member) (r : Option SetRow) → a ≡ None → Tied a ms r
-tied_none None ms r e = tt
-tied_none (Some a) ms r e = absurd cc
+tied_none a ms r e = grind arith
 
 -- ## what calls do to the agenda
 
@@ -78,12 +74,10 @@ abbrev pub GoesOn : Course → Course → Type 0
 GoesOn c d = Follows c.agenda c.members c.outcome d.agenda d.members d.outcome
 
 follows_same : (a : Option Agenda) (ms : List Member) (o : SetOutcome) → Follows a ms o a ms o
-follows_same None ms o = tt
-follows_same (Some a) ms o = record { kind = refl; volumes = refl; members = refl; participants = refl; outcome = refl; said = λ p who e. e }
+follows_same a ms o = grind arith
 
 follows_said : (said : Said) (now : ℕ) (ws : List ℕ) (a : Option Agenda) (ms : List Member) (o : SetOutcome) → Follows a ms o (option_map (all_say said now ws) a) ms o
-follows_said said now ws None ms o = tt
-follows_said said now ws (Some a) ms o = record { kind = refl; volumes = refl; members = refl; participants = refl; outcome = refl; said = said_stays a.log (map (at_place (open_place (groups_left a)) said now) ws) }
+follows_said said now ws a ms o = grind (arith, said_stays)
 
 goes_told : (o : Order) (said : Said) (now : ℕ) (ws : List ℕ) (c : Course) → GoesOn c (told o said now ws c)
 unfolding told
@@ -102,14 +96,7 @@ unfolding posted
 goes_posted before c d h = h
 
 goes_kept : (c : Course) → IsKeptFrom (GoesOn c) c
-goes_kept c = record {
-  stays = follows_same c.agenda c.members c.outcome;
-  posts = λ before d h. goes_posted before c d h;
-  says = λ o said now ws e. goes_told o said now ws c;
-  works = λ now. goes_worked now c;
-  fails = λ why d e h. goes_failed why c d;
-  closes = λ a d e f h. tt;
-}
+goes_kept c = grind (arith, follows_same, goes_posted, goes_told, goes_worked, goes_failed)
 
 pub goes_answered : (w : ℕ) (said : Said) (now : ℕ) (c : Course) → GoesOn c (course_answered w said now c)
 goes_answered w said now c = from_answered (GoesOn c) c (goes_kept c) w said now
@@ -128,45 +115,14 @@ abbrev EndsNone : Ending → Option Agenda → Type 0
 EndsNone NothingEnds a = Unit {0}
 EndsNone _ a = a ≡ None
 
-ends_at_none : (e : Ending) → EndsNone e None
-ends_at_none NothingEnds = tt
-ends_at_none _ = refl
-
-ending_same : (o : SetOutcome) (ran : Bool) (b : Agenda) → ending o o ran (Some b) ≡ NothingEnds
-ending_same Running true b = refl
-ending_same Running false b = refl
-ending_same CompleteSet true b = refl
-ending_same CompleteSet false b = refl
-ending_same (Failed why) true b = refl
-ending_same (Failed why) false b = refl
-
-ends_where_same : (o p : SetOutcome) (ran : Bool) (b : Agenda) → p ≡ o → EndsNone (ending o p ran (Some b)) (Some b)
-ends_where_same o p ran b e =
-    let Q : SetOutcome → Type 0 = λ x. EndsNone (ending o x ran (Some b)) (Some b) in
-    let R : Ending → Type 0 = λ x. EndsNone x (Some b) in
-    subst Q (sym e) (subst R (sym (ending_same o ran b)) tt)
-
 ends_none : (a : Option Agenda) (ms : List Member) (o : SetOutcome) (ran : Bool) (b : Option Agenda) (ns : List Member) (p : SetOutcome) → Follows a ms o b ns p → EndsNone (ending o p ran b) b
-ends_none a ms o ran None ns p f = ends_at_none (ending o p ran None)
-ends_none None ms o ran (Some b) ns p f = absurd f
-ends_none (Some a) ms o ran (Some b) ns p f = ends_where_same o p ran b f.outcome
+ends_none a ms o ran b ns p f = grind arith
 
 tied_concluded : (e : Ending) (st : State) → EndsNone e st.course.agenda → IsTied st → IsTied (concluded e st)
-tied_concluded NothingEnds st n h = h
-tied_concluded _ st n h = tied_none st.course.agenda st.course.members _ n
-
-is_of_same : (a b : Agenda) (ms ns : List Member) (o p : SetOutcome) (r : Option SetRow) → IsSameAgenda a b ms ns o p → IsOf a.kind a.volumes a.members ms r → IsOf b.kind b.volumes b.members ns r
-is_of_same a b ms ns o p r f h =
-    let K : Kind → Type 0 = λ k. IsOf k b.volumes b.members ns r in
-    let V : List ℕ → Type 0 = λ vs. IsOf a.kind vs b.members ns r in
-    let M : List Member → Type 0 = λ xs. IsOf a.kind a.volumes xs ns r in
-    let N : List Member → Type 0 = λ xs. IsOf a.kind a.volumes a.members xs r in
-    subst K (sym f.kind) (subst V (sym f.volumes) (subst M (sym f.members) (subst N (sym f.participants) h)))
+tied_concluded e st n h = grind arith
 
 tied_follows : (a : Option Agenda) (ms : List Member) (o : SetOutcome) (b : Option Agenda) (ns : List Member) (p : SetOutcome) (r : Option SetRow) → Follows a ms o b ns p → Tied a ms r → Tied b ns r
-tied_follows a ms o None ns p r f h = tt
-tied_follows None ms o (Some b) ns p r f h = absurd f
-tied_follows (Some a) ms o (Some b) ns p r f h = is_of_same a b ms ns o p r f h
+tied_follows a ms o b ns p r f h = grind arith
 
 -- a course that is tied to the set, and ends nothing while its agenda runs
 tied_course : (ran : Bool) (c : Course) (st : State) → EndsNone (ending st.course.outcome c.outcome ran c.agenda) c.agenda → Tied c.agenda c.members (in_progress st) → IsTied (followed ran c st)
@@ -174,10 +130,7 @@ unfolding followed
 tied_course ran c st n h = tied_concluded (ending st.course.outcome c.outcome ran c.agenda) (record st { course = c }) n h
 
 tied_followed : (ran : Bool) (c : Course) (st : State) → GoesOn st.course c → IsTied st → IsTied (followed ran c st)
-tied_followed ran c st g h =
-    tied_course ran c st
-    (ends_none st.course.agenda st.course.members st.course.outcome ran c.agenda c.members c.outcome g)
-    (tied_follows st.course.agenda st.course.members st.course.outcome c.agenda c.members c.outcome (in_progress st) g h)
+tied_followed ran c st g h = grind (arith, tied_course, ends_none, tied_follows)
 
 -- ## an agenda begins
 
@@ -187,11 +140,7 @@ record IsBegunWell (o : SetOutcome) (ran : Bool) (r : Option SetRow) (c : Course
   tied : Tied c.agenda c.members r
 
 begun_if : (done : Bool) (k : Kind) (a : Agenda) (c : Course) (o : SetOutcome) (ran : Bool) (r : Option SetRow) → c.agenda ≡ Some a → c.outcome ≡ o → Tied (Some a) c.members r → IsBegunWell o ran r (settled_if done k c)
-begun_if true k a c o ran r e f h = record { ends = ends_at_none _; tied = tt }
-begun_if false k a c o ran r e f h =
-    let E : Option Agenda → Type 0 = λ x. EndsNone (ending o c.outcome ran x) x in
-    let T : Option Agenda → Type 0 = λ x. Tied x c.members r in
-    record { ends = subst E (sym e) (ends_where_same o c.outcome ran a f); tied = subst T (sym e) h }
+begun_if done k a c o ran r e f h = grind arith
 
 posted_well : (before c : Course) (o : SetOutcome) (ran : Bool) (r : Option SetRow) → IsBegunWell o ran r c → IsBegunWell o ran r (posted before c)
 unfolding posted
@@ -211,18 +160,13 @@ tied_begun k ms vs now c st f h =
 -- ## the Cut step
 
 pub volumes-row_cut_if : (b : Bool) (now : ℕ) (r : SetRow) → (if b then record r { cut_at = Some now } else r).volumes ≡ r.volumes
-volumes-row_cut_if true now r = refl
-volumes-row_cut_if false now r = refl
+volumes-row_cut_if b now r = grind arith
 
 result-row_cut_if : (b : Bool) (now : ℕ) (r : SetRow) → (if b then record r { cut_at = Some now } else r).result ≡ r.result
-result-row_cut_if true now r = refl
-result-row_cut_if false now r = refl
+result-row_cut_if b now r = grind arith
 
 find_if : (test : SetRow → Bool) (b c : Bool) (f : SetRow → SetRow) (r : SetRow) (found other : Option SetRow) → c ≡ b → other ≡ option_map f found → (if c then Some (f r) else other) ≡ option_map f (if b then Some r else found)
-find_if test true true f r found other e h = refl
-find_if test false false f r found other e h = h
-find_if test true false f r found other e h = absurd cc
-find_if test false true f r found other e h = absurd cc
+find_if test b c f r found other e h = grind arith
 
 -- the set in progress is found by its result, which a cut leaves
 pub find-row_cut : (n now : ℕ) (rows : List SetRow) → find (λ r. is_running r.result) (map (row_cut n now) rows) ≡ option_map (row_cut n now) (find (λ r. is_running r.result) rows)
@@ -230,48 +174,18 @@ find-row_cut n now [] = refl
 find-row_cut n now (r ∷ rows) =
     find_if (λ q. is_running q.result) (is_running r.result) (is_running (row_cut n now r).result) (row_cut n now) r _ _ (ap is_running (result-row_cut_if (r.number == n) now r)) (find-row_cut n now rows)
 
-is_of-row_cut : (k : Kind) (vs : List ℕ) (ms participants : List Member) (n now : ℕ) (o : Option SetRow) → IsOf k vs ms participants o → IsOf k vs ms participants (option_map (row_cut n now) o)
-is_of-row_cut Gather vs ms participants n now o h = tt
-is_of-row_cut Prepare vs ms participants n now o h = tt
-is_of-row_cut Complete vs ms participants n now o h = tt
-is_of-row_cut Snapshot vs ms participants n now None h = absurd h
-is_of-row_cut Snapshot vs ms participants n now (Some r) h = (h.0 ∙ sym (volumes-row_cut_if (r.number == n) now r), h.1)
-
 tied-row_cut : (a : Option Agenda) (ms : List Member) (n now : ℕ) (o : Option SetRow) → Tied a ms o → Tied a ms (option_map (row_cut n now) o)
-tied-row_cut None ms n now o h = tt
-tied-row_cut (Some a) ms n now o h = is_of-row_cut a.kind a.volumes a.members ms n now o h
+tied-row_cut a ms n now o h = grind arith
 
 tied_cut : (o : Option SetRow) (st : State) → IsTied st → IsTied (cut_set o st)
-tied_cut None st h = h
-tied_cut (Some r) st h =
-    let Q : Option SetRow → Type 0 = λ x. Tied st.course.agenda st.course.members x in
-    subst Q (sym (find-row_cut r.number st.clock st.sets)) (tied-row_cut st.course.agenda st.course.members r.number st.clock (in_progress st) h)
+tied_cut o st h = grind (arith, find-row_cut, tied-row_cut)
 
 tied_step : (g : Option Group) (st : State) → IsTied st → IsTied (step_made g st)
-tied_step None st h = h
-tied_step (Some (Orders o)) st h = h
-tied_step (Some PreCommit) st h = h
-tied_step (Some Flush) st h = h
-tied_step (Some Hold) st h = h
 tied_step (Some Cut) st h = tied_cut (in_progress st) st h
-tied_step (Some Commit) st h = h
-tied_step (Some Release) st h = h
-tied_step (Some PostCommit) st h = h
-
-course-cut_set : (o : Option SetRow) (st : State) → (cut_set o st).course ≡ st.course
-course-cut_set None st = refl
-course-cut_set (Some r) st = refl
+tied_step _ st h = h
 
 course-step_made : (g : Option Group) (st : State) → (step_made g st).course ≡ st.course
-course-step_made None st = refl
-course-step_made (Some (Orders o)) st = refl
-course-step_made (Some PreCommit) st = refl
-course-step_made (Some Flush) st = refl
-course-step_made (Some Hold) st = refl
-course-step_made (Some Cut) st = course-cut_set (in_progress st) st
-course-step_made (Some Commit) st = refl
-course-step_made (Some Release) st = refl
-course-step_made (Some PostCommit) st = refl
+course-step_made g st = grind arith
 
 -- ## each change keeps it
 
@@ -295,18 +209,13 @@ on_ticks n st h = tied_followed (runs st) _ (later n st) (goes_timed (st.clock +
 
 on_failed_in : (o : Option SetRow) (why : VssResult) (st : State) → IsTied st → IsTied (failed_in o why st)
 unfolding course_failed
-on_failed_in None why st h = h
-on_failed_in (Some r) why st h = tied_concluded (SetFails why) (record st { course = course_failed why st.course }) refl tt
+on_failed_in o why st h = grind arith
 
 on_begins : (lane : ℕ) (all : Bool) (c : Option Context) (st : State) → IsTied st → IsTied (begin_in lane all c st).1
-on_begins lane all None st h = h
-on_begins lane all (Some c) st h = h
+on_begins lane all c st h = grind arith
 
 on_snapshot : (o : Option SetRow) (st : State) → in_progress st ≡ o → IsTied st → IsTied (if has_no_volume o then refused BadState st else pending (snapshot_begun (volumes_of o) st.clock st.course) st).1
-on_snapshot None st e h = h
-on_snapshot (Some r) st e h =
-    let Q : Option SetRow → Type 0 = λ x. IsOf Snapshot r.volumes st.course.members st.course.members x in
-    by_if (λ r. IsTied r.1) (has_no_volume (Some r)) _ _ h (tied_begun Snapshot st.course.members r.volumes st.clock st.course st refl (subst Q (sym e) (refl, refl)))
+on_snapshot o st e h = grind (arith, by_if, tied_begun)
 
 on_closes : (q : Session) (st : State) → IsTied (closed q st)
 unfolding closed released
@@ -333,19 +242,8 @@ kept_by_changes = record {
   ends = λ q st e h. on_closes q (failed AsyncCancelled st);
 }
 
-on_puts : (v : ℕ) (w : Write) (mark : Mark) (x : State) → IsTied x → IsTied (put v w mark x)
-on_puts v w Clean x h = h
-on_puts v w _ x h = h
-
-on_reverts : (s : Plan) (v : ℕ) (k : Kept) (mark : Mark) (st : State) → IsTied st → IsTied (reverted_as s v k mark st).1
-on_reverts s v k Clean st h = h
-on_reverts s v k _ st h = h
-
 kept_by_writes : (st : State) → IsKeptByWrites IsTied st
-kept_by_writes st = record {
-  puts = λ v e w mark x h. on_puts v w mark x h;
-  reverts = λ s n v k mark e f h. on_reverts s v k mark st h;
-}
+kept_by_writes st = grind arith
 
 tied_fold : (s : Plan) (st : State) (acts : List Act) → IsTied st → IsTied (fold (after s) st acts)
 tied_fold s st [] h = h
@@ -356,26 +254,11 @@ tied s acts = tied_fold s (start s) acts tt
 
 -- ## what a held volume and a frozen writer mean
 
-first_true : (a b c : Bool) → (a && b && c) ≡ true → a ≡ true
-first_true true b c e = refl
-first_true false b c e = absurd cc
-
-runs_set : (st : State) (a : Agenda) (k : Kind) (r : Option SetRow) → st.course.agenda ≡ Some a → a.kind ≡ k → in_progress st ≡ r → is_snapshot k ≡ true → IsOf k a.volumes a.members st.course.members r → RunsSnapshot st
-runs_set st a Gather r e f g i h = absurd cc
-runs_set st a Prepare r e f g i h = absurd cc
-runs_set st a Complete r e f g i h = absurd cc
-runs_set st a Snapshot None e f g i h = absurd h
-runs_set st a Snapshot (Some r) e f g i h = record { agenda = a; set = r; runs = e; kind = ap is_snapshot f; in_progress_is = g; volumes = h.0; members = h.1 }
-
 held_runs : (st : State) (v : ℕ) (a : Option Agenda) → st.course.agenda ≡ a → holds a v ≡ true → Tied a st.course.members (in_progress st) → RunsSnapshot st
-held_runs st v None e i h = absurd cc
-held_runs st v (Some a) e i h =
-    runs_set st a a.kind (in_progress st) e refl refl (first_true (is_snapshot a.kind) (has_said a.log (plain Hold) v) (not (has_said a.log (plain Release) v)) i) h
+held_runs st v a e i h = grind arith
 
 frozen_runs : (st : State) (w : ℕ) (a : Option Agenda) → st.course.agenda ≡ a → freezes a w ≡ true → Tied a st.course.members (in_progress st) → RunsSnapshot st
-frozen_runs st w None e i h = absurd cc
-frozen_runs st w (Some a) e i h =
-    runs_set st a a.kind (in_progress st) e refl refl (first_true (is_snapshot a.kind) (has_frozen a.log w) (not (has_thawed a.log w)) i) h
+frozen_runs st w a e i h = grind arith
 
 pub held_means : (s : Plan) (acts : List Act) (v : ℕ) → is_held (state s acts) v ≡ true → RunsSnapshot (state s acts)
 held_means s acts v h = let st = state s acts in held_runs st v st.course.agenda refl h (tied s acts)

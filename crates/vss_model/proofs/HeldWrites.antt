@@ -1,31 +1,26 @@
 -- The effective writes of a volume of the set in progress do not change while it is held.
-use Rattle.std.proofs.Common.{◌≡◌, ℕ, ◌+◌, ◌==◌, zero, suc, List, [], ◌∷◌, Option, Some, None, refl, Bool, true, false, map, ap, ◌∙◌, subst, arith}
+use Rattle.std.proofs.Common.{◌≡◌, ℕ, ◌+◌, ◌==◌, zero, suc, List, [], ◌∷◌, Option, Some, refl, Bool, true, false, map, ◌∙◌, arith}
 use Rattle.std.specs.Prelude.{if◌then◌else◌, slice_get}
-use Rattle.std.proofs.lemmas.Bool.{eqb-true}
 use Rattle.vss_names.specs.declared.context.Context.{Context}
-use Rattle.vss_names.specs.declared.context.Context.TheVariants.{Backup, AppRollback, NasRollback}
 use Rattle.vss_names.specs.declared.vss_result.VssResult.{VssResult}
 use Rattle.vss_names.specs.declared.vss_result.VssResult.TheVariants.{AsyncCancelled}
 use Rattle.writer_state.specs.declared.said.Said.{Said}
 use Rattle.write_history.specs.declared.mark.Mark.{Mark}
-use Rattle.write_history.specs.declared.mark.Mark.TheVariants.{Clean, Fault, FaultAfter}
-use Rattle.write_history.specs.History.{Write, History, dropped, written, reverted, reverted_in_part, after_set}
+use Rattle.write_history.specs.History.{Write, History, dropped, after_set}
 use Rattle.write_history.specs.Slots.{Placed, gone_up_to}
 use Rattle.set_agenda.specs.declared.group.Group.{Group}
-use Rattle.set_agenda.specs.declared.group.Group.TheVariants.{Orders, PreCommit, Flush, Hold, Cut, Commit, Release, PostCommit}
 use Rattle.set_agenda.specs.Agenda.{is_among, open_group}
 use Rattle.set_agenda.specs.Course.{Course, change_at, released}
 use Rattle.requestor.specs.Session.{Session}
-use Rattle.scenario.specs.Plan.{Plan, blocks_of}
+use Rattle.scenario.specs.Plan.{Plan}
 use Rattle.vss_model.specs.State.{State, SetRow, Kept, in_progress, history_in, history_of, left_now, is_held}
-use Rattle.vss_model.specs.Ending.{Ending, SetFails, ending, images_dropped, concluded, followed, runs, failed_in, failed}
-use Rattle.vss_model.specs.Images.{put, is_in_set, reverted_as}
+use Rattle.vss_model.specs.Ending.{Ending, ending, images_dropped, concluded, followed, runs, failed_in, failed}
+use Rattle.vss_model.specs.Images.{put, reverted_as}
 use Rattle.vss_model.specs.Sessions.{begin_in, has_no_volume, images_released, closed}
 use Rattle.vss_model.specs.Steps.{answered, cut_if, cut_each, cut_set, step_made, is_flush, is_failed_step, stepped_as, stepped, ticked, later}
 use Rattle.vss_model.specs.Acts.{Act, after, state}
 use Rattle.vss_model.specs.Laws.{IsKeptByChanges, IsKeptByWrites}
 use Rattle.vss_model.proofs.Rule.{on_after}
-use Rattle.vss_model.proofs.Orderly.{true_not_false}
 use Rattle.vss_model.proofs.ByEvent.{by_if}
 
 -- the effective writes of volume v
@@ -59,8 +54,7 @@ writes-other f (suc at) (x ∷ hs) (suc v) e = writes-other f at hs v (one_less 
     one_less a b e = grind arith
 
 gone_if : (b : Bool) (m : ℕ) (x : History) → (if b then record { writes = x.writes; images = after_set m x.images } else x).writes ≡ x.writes
-gone_if true m x = refl
-gone_if false m x = refl
+gone_if b m x = grind arith
 
 writes-gone : (m : ℕ) (ps : List Placed) (hs : List History) (v : ℕ) → writes_in (gone_up_to m ps hs) v ≡ writes_in hs v
 writes-gone m [] hs v = refl
@@ -69,8 +63,7 @@ writes-gone m (p ∷ ps) (x ∷ hs) zero = gone_if p.within m x
 writes-gone m (p ∷ ps) (x ∷ hs) (suc v) = writes-gone m ps hs v
 
 cut-writes : (b : Bool) (n : ℕ) (x : History) → (cut_if b n x).writes ≡ x.writes
-cut-writes true n x = refl
-cut-writes false n x = refl
+cut-writes b n x = grind arith
 
 writes-cut_each : (n : ℕ) (vs : List ℕ) (u : ℕ) (hs : List History) (v : ℕ) → writes_in (cut_each n vs u hs) v ≡ writes_in hs v
 writes-cut_each n vs u [] v = refl
@@ -78,35 +71,23 @@ writes-cut_each n vs u (x ∷ hs) zero = cut-writes (is_among u vs) n x
 writes-cut_each n vs u (x ∷ hs) (suc v) = writes-cut_each n vs (u + 1) hs v
 
 writes-images_dropped : (o : Option SetRow) (hs : List History) (v : ℕ) → writes_in (images_dropped o hs) v ≡ writes_in hs v
-writes-images_dropped None hs v = refl
-writes-images_dropped (Some r) hs v = writes-map (dropped r.number) (λ h. refl) hs v
+writes-images_dropped o hs v = grind (arith, writes-map)
 
 writes-concluded : (e : Ending) (st : State) (v : ℕ) → writes_in (concluded e st).volumes v ≡ writes_in st.volumes v
-writes-concluded (SetFails why) st v = writes-images_dropped (in_progress st) st.volumes v
-writes-concluded _ st v = refl
+writes-concluded e st v = grind (arith, writes-images_dropped)
 
 writes-followed : (ran : Bool) (c : Course) (st : State) (v : ℕ) → writes_in (followed ran c st).volumes v ≡ writes_in st.volumes v
 unfolding followed
 writes-followed ran c st v = writes-concluded (ending st.course.outcome c.outcome ran c.agenda) (record st { course = c }) v
 
 writes-cut_set : (o : Option SetRow) (st : State) (v : ℕ) → writes_in (cut_set o st).volumes v ≡ writes_in st.volumes v
-writes-cut_set None st v = refl
-writes-cut_set (Some r) st v = writes-cut_each r.number r.volumes 0 st.volumes v
+writes-cut_set o st v = grind (arith, writes-cut_each)
 
 writes-step_made : (g : Option Group) (st : State) (v : ℕ) → writes_in (step_made g st).volumes v ≡ writes_in st.volumes v
-writes-step_made None st v = refl
-writes-step_made (Some (Orders o)) st v = refl
-writes-step_made (Some PreCommit) st v = refl
-writes-step_made (Some Flush) st v = refl
-writes-step_made (Some Hold) st v = refl
-writes-step_made (Some Cut) st v = writes-cut_set (in_progress st) st v
-writes-step_made (Some Commit) st v = refl
-writes-step_made (Some Release) st v = refl
-writes-step_made (Some PostCommit) st v = refl
+writes-step_made g st v = grind (arith, writes-cut_set)
 
 writes-stepped_as : (fails : Bool) (g : Option Group) (st : State) (v : ℕ) → writes_in (stepped_as fails g st).volumes v ≡ writes_in st.volumes v
-writes-stepped_as true g st v = writes-followed (runs st) _ st v
-writes-stepped_as false g st v = writes-followed (runs st) _ (step_made g st) v ∙ writes-step_made g st v
+writes-stepped_as fails g st v = grind (arith, writes-followed, writes-step_made)
 
 writes-stepped : (mark : Mark) (st : State) (v : ℕ) → writes_in (stepped mark st).volumes v ≡ writes_in st.volumes v
 unfolding stepped
@@ -121,22 +102,17 @@ unfolding ticked
 writes-ticked n st v = writes-followed (runs st) _ (later n st) v
 
 writes-failed_in : (o : Option SetRow) (why : VssResult) (st : State) (v : ℕ) → writes_in (failed_in o why st).volumes v ≡ writes_in st.volumes v
-writes-failed_in None why st v = refl
-writes-failed_in (Some r) why st v = writes-images_dropped (in_progress st) st.volumes v
+writes-failed_in o why st v = grind (arith, writes-images_dropped)
 
 writes-released : (c : Context) (set : Option ℕ) (hs : List History) (v : ℕ) → writes_in (images_released c set hs) v ≡ writes_in hs v
-writes-released Backup None hs v = refl
-writes-released Backup (Some n) hs v = writes-map (dropped n) (λ h. refl) hs v
-writes-released AppRollback set hs v = refl
-writes-released NasRollback set hs v = refl
+writes-released c set hs v = grind (arith, writes-map)
 
 writes-closed : (q : Session) (st : State) (v : ℕ) → writes_in (closed q st).volumes v ≡ writes_in st.volumes v
 unfolding closed released
 writes-closed q st v = writes-released q.context q.set st.volumes v
 
 writes-begun : (lane : ℕ) (all : Bool) (c : Option Context) (st : State) (v : ℕ) → writes_in (begin_in lane all c st).1.volumes v ≡ writes_in st.volumes v
-writes-begun lane all None st v = refl
-writes-begun lane all (Some c) st v = refl
+writes-begun lane all c st v = grind arith
 
 -- ## the fact
 
@@ -166,27 +142,17 @@ kept_by_changes v ws = record {
 }
 
 on_puts : (v : ℕ) (ws : List Write) (u : ℕ) (w : Write) (mark : Mark) (x : State) → (u == v) ≡ false → HasWrites v ws x → HasWrites v ws (put u w mark x)
-on_puts v ws u w Clean x e h = writes-other (written w) u x.volumes v e ∙ h
-on_puts v ws u w _ x e h = h
+on_puts v ws u w mark x e h = grind (arith, writes-other)
 
 on_reverts : (v : ℕ) (ws : List Write) (s : Plan) (u : ℕ) (k : Kept) (mark : Mark) (st : State) → (u == v) ≡ false → HasWrites v ws st → HasWrites v ws (reverted_as s u k mark st).1
-on_reverts v ws s u k Clean st e h = writes-other (reverted k.row.number k.point) u st.volumes v e ∙ h
-on_reverts v ws s u k Fault st e h = h
-on_reverts v ws s u k (FaultAfter n) st e h = writes-other (reverted_in_part (blocks_of s u) k.row.number k.point n) u st.volumes v e ∙ h
+on_reverts v ws s u k mark st e h = grind (arith, writes-other)
 
 -- what holds of one number and not of another tells them apart
 pub apart : (test : ℕ → Bool) (u v : ℕ) → test u ≡ false → test v ≡ true → (u == v) ≡ false
-apart test u v e f = by_cases (u == v) refl
-  where
-    by_cases : (b : Bool) → (u == v) ≡ b → b ≡ false
-    by_cases true g = absurd (true_not_false (test u) (ap test (eqb-true u v g) ∙ f) e)
-    by_cases false g = refl
+apart test u v e f = grind arith
 
 kept_by_writes : (v : ℕ) (ws : List Write) (st : State) (r : SetRow) → in_progress st ≡ Some r → is_among v r.volumes ≡ true → is_held st v ≡ true → IsKeptByWrites (HasWrites v ws) st
-kept_by_writes v ws st r e f g = record {
-  puts = λ u free w mark x h. on_puts v ws u w mark x (apart (is_held st) u v free g) h;
-  reverts = λ s n u k mark kept out h. on_reverts v ws s u k mark st (apart (λ x. is_among x r.volumes) u v (subst (λ o. is_in_set u o ≡ false) e out) f) h;
-}
+kept_by_writes v ws st r e f g = grind (arith, on_puts, apart, on_reverts)
 
 pub held_keeps : (s : Plan) (acts : List Act) (act : Act) (r : SetRow) (v : ℕ) → in_progress (state s acts) ≡ Some r → is_among v r.volumes ≡ true → is_held (state s acts) v ≡ true
     → (history_of (after s (state s acts) act) v).writes ≡ (history_of (state s acts) v).writes

@@ -1,6 +1,6 @@
 -- The writers whose metadata the session has do not change once they are gathered, and only they are asked to take part.
 use Rattle.std.proofs.Common.{◌≡◌, ℕ, ◌+◌, zero, suc, List, [], ◌∷◌, Option, Some, None, refl, Bool, true, false, ap, sym, ◌∙◌, subst, arith}
-use Rattle.std.specs.Prelude.{if◌then◌else◌, slice_get}
+use Rattle.std.specs.Prelude.{slice_get}
 use Rattle.vss_names.specs.declared.order.Order.{Order}
 use Rattle.vss_names.specs.declared.order.Order.TheVariants.{Identify, PrepareBackup, PrepareSnapshot, Freeze, Thaw, PostSnapshot, BackupComplete}
 use Rattle.vss_names.specs.declared.level.Level.{Level}
@@ -9,17 +9,15 @@ use Rattle.vss_names.specs.declared.vss_result.VssResult.{VssResult}
 use Rattle.vss_names.specs.declared.writer_state.WriterState.{WriterState}
 use Rattle.vss_names.specs.declared.writer_state.WriterState.TheVariants as state
 use Rattle.writer_state.specs.declared.said.Said.{Said}
-use Rattle.writer_state.specs.declared.said.Said.TheVariants.{Ok, Veto, Lost}
 use Rattle.writer_state.specs.declared.writer_row.WriterRow.{WriterRow}
-use Rattle.writer_state.specs.WriterState.{is_failed, stable_again}
-use Rattle.writer_state.specs.WriterRow.{row_after, row_aborted, one_more}
+use Rattle.writer_state.specs.WriterRow.{row_after, row_aborted}
 use Rattle.set_agenda.specs.declared.group.Group.{Group}
 use Rattle.set_agenda.specs.declared.group.Group.TheVariants.{Orders, PreCommit, Flush, Hold, Cut, Commit, Release, PostCommit}
 use Rattle.set_agenda.specs.declared.kind.Kind.{Kind}
 use Rattle.set_agenda.specs.declared.kind.Kind.TheVariants.{Gather, Prepare, Snapshot, Complete}
 use Rattle.set_agenda.specs.declared.place.Place.{Place}
 use Rattle.set_agenda.specs.declared.member.Member.{Member}
-use Rattle.set_agenda.specs.Agenda.{Agenda, Open, plain, at_level, places, order_of, is_orders, is_at, writers_at, members_of, waited_for, with_group, left_from, groups_left, left, open_place, is_among, order_now, waits_now, is_done}
+use Rattle.set_agenda.specs.Agenda.{Agenda, Open, plain, at_level, places, order_of, is_orders, members_of, waited_for, with_group, left_from, groups_left, open_place, is_among, order_now, waits_now}
 use Rattle.set_agenda.specs.Course.{Course, row_if, rows_where, is_member, posted, failed as course_failed, settled_if, settled_in, settled, told, answered as course_answered, worked, stepped as course_stepped, timed as course_timed}
 use Rattle.vss_model.specs.Sessions.{is_identify_failure, has_failed_identify}
 use Rattle.set_agenda.proofs.CourseRule.{IsAsked, IsKeptFrom, from_answered, from_timed, IsKeptInCourse, course_answered as kept_answered, course_timed as kept_timed}
@@ -66,16 +64,8 @@ fit_each f same test k (r ∷ rows) zero = here (test k)
     here false = refl
 fit_each f same test k (r ∷ rows) (suc w) = fit_each f same test (k + 1) rows w
 
-aborted_state : (x : WriterState) → is_identify_failure (if is_failed x then x else stable_again x) ≡ is_identify_failure x
-aborted_state state.Unknown = refl
-aborted_state _ = refl
-
 row_fit_aborted : (r : WriterRow) → is_identify_failure (row_aborted r).state ≡ is_identify_failure r.state
-row_fit_aborted r = by_test (is_failed r.state) ∙ aborted_state r.state
-  where
-    by_test : (b : Bool) → is_identify_failure (if b then r else record r { state = stable_again r.state; aborts = one_more r.aborts }).state ≡ is_identify_failure (if b then r.state else stable_again r.state)
-    by_test true = refl
-    by_test false = refl
+row_fit_aborted r = grind arith
 
 -- an order but Identify
 abbrev pub is_later : Order → Bool
@@ -83,25 +73,7 @@ is_later Identify = false
 is_later _ = true
 
 row_fit_after : (o : Order) (said : Said) (r : WriterRow) → is_later o ≡ true → is_identify_failure (row_after o said r).state ≡ false
-row_fit_after Identify said r e = absurd cc
-row_fit_after PrepareBackup Ok r e = refl
-row_fit_after PrepareBackup (Veto x) r e = refl
-row_fit_after PrepareBackup Lost r e = refl
-row_fit_after PrepareSnapshot Ok r e = refl
-row_fit_after PrepareSnapshot (Veto x) r e = refl
-row_fit_after PrepareSnapshot Lost r e = refl
-row_fit_after Freeze Ok r e = refl
-row_fit_after Freeze (Veto x) r e = refl
-row_fit_after Freeze Lost r e = refl
-row_fit_after Thaw Ok r e = refl
-row_fit_after Thaw (Veto x) r e = refl
-row_fit_after Thaw Lost r e = refl
-row_fit_after PostSnapshot Ok r e = refl
-row_fit_after PostSnapshot (Veto x) r e = refl
-row_fit_after PostSnapshot Lost r e = refl
-row_fit_after BackupComplete Ok r e = refl
-row_fit_after BackupComplete (Veto x) r e = refl
-row_fit_after BackupComplete Lost r e = refl
+row_fit_after o said r e = grind arith
 
 -- ## who is asked
 
@@ -114,8 +86,7 @@ is_gathering Gather = true
 is_gathering _ = false
 
 later_pass : (p : Place) (ws : List ℕ) (rest : List Open) → ((o : Order) → order_of p.group ≡ Some o → is_later o ≡ true) → LaterNow rest → LaterNow (with_group p ws rest)
-later_pass p [] rest e h = h
-later_pass p (w ∷ ws) rest e h = e
+later_pass p ws rest e h = grind arith
 
 later_order : (x : Order) → is_later x ≡ true → (o : Order) → Some x ≡ Some o → is_later o ≡ true
 later_order x e o f = let same : x ≡ o = cc in subst (λ y. is_later y ≡ true) same e
@@ -145,9 +116,7 @@ later_in Snapshot a e =
     (later_pass (plain (Orders PostSnapshot)) (waited_for a (plain (Orders PostSnapshot))) [] (later_order PostSnapshot refl) no_order))))))))))))))
 
 order_members : (g : Group) (a : Agenda) (l : Option Level) (w : ℕ) → is_orders g ≡ true → is_among w (members_of a g l) ≡ true → is_member a.members w ≡ true
-order_members (Orders PostSnapshot) a l w e h = among_members (λ m. is_at l m.level) w a.members (among_filter _ w (writers_at a.members l) h)
-order_members (Orders _) a l w e h = among_members (λ m. is_at l m.level) w a.members h
-order_members _ a l w e h = absurd cc
+order_members g a l w e h = grind (arith, among_members, among_filter)
 
 -- ## calls on an agenda that gathers no more
 
@@ -190,13 +159,8 @@ pub keeps_failed : (why : VssResult) (c : Course) → Keeps c (course_failed why
 unfolding course_failed
 keeps_failed why c = record { disabled = refl; members = refl; fit = fit_each row_aborted row_fit_aborted (is_member c.members) 0 c.rows }
 
-keeps_settled_if : (b : Bool) (k : Kind) (c : Course) → Keeps c (settled_if b k c)
-keeps_settled_if true k c = record { disabled = refl; members = refl; fit = λ w. refl }
-keeps_settled_if false k c = keeps_same c
-
 keeps_settled_in : (a : Option Agenda) (c : Course) → Keeps c (settled_in a c)
-keeps_settled_in None c = keeps_same c
-keeps_settled_in (Some a) c = keeps_settled_if (is_done (groups_left a)) a.kind c
+keeps_settled_in a c = grind arith
 
 pub keeps_settled : (c : Course) → Keeps c (settled c)
 unfolding settled
@@ -214,14 +178,7 @@ unfolding worked
 keeps_worked now c = record { disabled = refl; members = refl; fit = λ w. refl }
 
 keeps_asked : (o : Order) (said : Said) (now : ℕ) (ws : List ℕ) (x : Option Agenda) (c : Course) → c.agenda ≡ x → AsksFitIn x c.rows → IsAsked o ws c → Keeps c (told o said now ws c)
-keeps_asked o said now ws None c e h asked = absurd (no_order (subst (λ x. order_now (left x) ≡ Some o) e asked.order))
-  where
-    no_order : None ≡ Some o → ⊥
-    no_order e = cc
-keeps_asked o said now ws (Some a) c e h asked =
-    let order = subst (λ x. order_now (left x) ≡ Some o) e asked.order in
-    keeps_told o said now ws c (later_in a.kind a h.kind o order)
-    (λ w f. waits_fit a c.rows h (now_orders (groups_left a) o order) w (subst (λ x. is_among w (waits_now (left x)) ≡ true) e (asked.waits w f)))
+keeps_asked o said now ws x c e h asked = grind (arith, no_order, keeps_told, later_in, waits_fit, now_orders)
 
 keeps_calls : (c : Course) → AsksFitIn c.agenda c.rows → IsKeptFrom (Keeps c) c
 keeps_calls c h = record {
@@ -240,8 +197,7 @@ pub keeps_timed : (now : ℕ) (c : Course) → AsksFitIn c.agenda c.rows → Kee
 keeps_timed now c h = from_timed (Keeps c) c (keeps_calls c h) now
 
 pub keeps_stepped : (ok : Bool) (now : ℕ) (c : Course) → Keeps c (course_stepped ok now c)
-keeps_stepped true now c = keeps_posted c c _ (keeps_then c (worked now c) (settled (worked now c)) (keeps_worked now c) (keeps_settled (worked now c)))
-keeps_stepped false now c = keeps_posted c c _ (keeps_failed _ c)
+keeps_stepped ok now c = grind (arith, keeps_posted, keeps_then, keeps_worked, keeps_settled, keeps_failed)
 
 -- ## the participants stay, whoever is asked
 

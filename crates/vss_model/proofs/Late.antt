@@ -1,50 +1,39 @@
 -- A call that lets time go by fails the set only where something takes too long, in the words of the causes.
-use Rattle.std.proofs.Common.{◌≡◌, ℕ, ◌+◌, ◌-◌, List, [], ◌∷◌, Option, Some, None, refl, Bool, true, false, min, fold, filter, ap, sym, ◌∙◌, subst, arith}
+use Rattle.std.proofs.Common.{◌≡◌, ℕ, ◌+◌, List, [], ◌∷◌, Option, Some, None, refl, Bool, true, false, min, fold, filter, sym, ◌∙◌, subst, arith}
 use Rattle.std.specs.Prelude.{nat_lt, ◌&&◌, ◌||◌, not, if◌then◌else◌, slice_get}
 use Rattle.std.specs.List.{list_any}
 use Rattle.std.proofs.lemmas.Bool.{and_from, or_right}
 use Rattle.vss_names.specs.declared.order.Order.{Order}
-use Rattle.vss_names.specs.declared.order.Order.TheVariants.{Identify, PrepareBackup, PrepareSnapshot, Freeze, Thaw, PostSnapshot, BackupComplete}
 use Rattle.writer_state.specs.declared.writer_row.WriterRow.{WriterRow}
 use Rattle.tick_limits.specs.Time.{answer_limit, hold_limit, default_freeze, is_spent}
 use Rattle.set_agenda.specs.declared.group.Group.{Group}
-use Rattle.set_agenda.specs.declared.group.Group.TheVariants.{Orders, PreCommit, Flush, Hold, Cut, Commit, Release, PostCommit}
 use Rattle.set_agenda.specs.declared.limit.Limit.{Limit}
 use Rattle.set_agenda.specs.declared.limit.Limit.TheVariants.{Hold as HoldLimit, Freeze as FreezeLimit, Answer as AnswerLimit}
 use Rattle.set_agenda.specs.declared.member.Member.{Member}
-use Rattle.set_agenda.specs.Agenda.{Agenda, Entry, Open, groups_left, left, order_now, order_of, same_place}
+use Rattle.set_agenda.specs.Agenda.{Agenda, Entry, Open, left, order_now, order_of}
 use Rattle.set_agenda.specs.Limits.{Running, last_time, opened_at, is_prepare_snapshot, freeze_opened_at, is_hold, first_time, first_hold, hold_runs, freeze_runs, answer_runs, runs_if, hold_running, running_at, running_limits, spent_of}
 use Rattle.set_agenda.specs.Course.{Course, limit_of, freeze_limit, fails_set}
 use Rattle.vss_model.specs.Causes.{has_passed, last_of, holds_volumes, is_hold_step, held_too_long, freezes_writers, prepares_snapshot, frozen_too_long, prepares_writers, is_elsewhere, unanswered_too_long, is_late_at, is_late_in}
-use Rattle.set_agenda.proofs.SpentLimits.{same_running, IsSpentHere, spent_here}
+use Rattle.set_agenda.proofs.SpentLimits.{IsSpentHere, spent_here}
 use Rattle.vss_model.proofs.ByEvent.{some_same}
 
 -- ## tables
 
 pub same_hold : (g : Group) → hold_runs g ≡ holds_volumes g
-same_hold (Orders o) = refl
-same_hold _ = refl
+same_hold g = grind arith
 
 pub same_hold_step : (g : Group) → is_hold g ≡ is_hold_step g
-same_hold_step (Orders o) = refl
-same_hold_step _ = refl
+same_hold_step g = grind arith
 
 pub same_freeze : (g : Group) → freeze_runs g ≡ freezes_writers g
-same_freeze (Orders Identify) = refl
-same_freeze (Orders _) = refl
-same_freeze _ = refl
+same_freeze g = grind arith
 
 pub same_prepare : (g : Group) → is_prepare_snapshot g ≡ prepares_snapshot g
-same_prepare (Orders Identify) = refl
-same_prepare (Orders _) = refl
-same_prepare _ = refl
+same_prepare g = grind arith
 
 -- where the answer limit runs and its loss fails the set, consent is asked for
 consent : (g : Group) → answer_runs g ≡ true → fails_set (order_of g) ≡ true → prepares_writers g ≡ true
-consent (Orders PrepareBackup) e f = refl
-consent (Orders PrepareSnapshot) e f = refl
-consent (Orders _) e f = absurd cc
-consent _ e f = absurd cc
+consent g e f = grind arith
 
 -- ## since when
 
@@ -59,30 +48,19 @@ last_time_is test t (e ∷ log) = by_test (test e) (last_time_is test e.time log
 
 -- a fold by tests that agree
 fold_along : (f g : Entry → Bool) → ((e : Entry) → f e ≡ g e) → (t : ℕ) (log : List Entry) → fold (λ t (e : Entry). if f e then e.time else t) t log ≡ fold (λ t (e : Entry). if g e then e.time else t) t log
-fold_along f g same t [] = refl
-fold_along f g same t (e ∷ log) =
-    fold_along f g same (if f e then e.time else t) log ∙ ap (λ b. fold (λ t (x : Entry). if g x then x.time else t) (if b then e.time else t) log) (same e)
+fold_along f g same t log = grind arith
 
 not_is : (b : Bool) → not b ≡ (if b then false else true)
-not_is true = refl
-not_is false = refl
+not_is b = grind arith
 
 pub freeze_since : (a : Agenda) → freeze_opened_at a ≡ last_of (λ e. prepares_snapshot e.place.group) a
-freeze_since a =
-    last_time_is (λ e. is_prepare_snapshot e.place.group) a.begun a.log
-    ∙ fold_along (λ e. is_prepare_snapshot e.place.group) (λ e. prepares_snapshot e.place.group) (λ e. same_prepare e.place.group) a.begun a.log
+freeze_since a = grind (arith, last_time_is, fold_along, same_prepare)
 
 pub answer_since : (a : Agenda) (o : Open) → opened_at a o ≡ last_of (is_elsewhere o.place) a
-answer_since a o =
-    last_time_is (λ e. not (same_place e.place o.place)) a.begun a.log
-    ∙ fold_along (λ e. not (same_place e.place o.place)) (is_elsewhere o.place) (λ e. not_is (same_place e.place o.place)) a.begun a.log
+answer_since a o = grind (arith, last_time_is, fold_along, not_is)
 
 spent_passed : (now since limit : ℕ) → is_spent now since limit ≡ true → has_passed limit since now ≡ true
-spent_passed now since limit e = over (nat_lt limit (now - since)) limit now since refl e
-  where
-    over : (b : Bool) (l n t : ℕ) → nat_lt l (n - t) ≡ b → b ≡ true → nat_lt (t + l) n ≡ true
-    over true l n t e f = grind arith
-    over false l n t e f = absurd cc
+spent_passed now since limit e = grind arith
 
 -- ## which limit is spent
 
@@ -93,12 +71,7 @@ record IsSpentOne (b : Bool) (x : Limit) (since ticks now : ℕ) (l : Running) :
   spent : is_spent now since ticks ≡ true
 
 spent_one : (b : Bool) (limit : Limit) (since ticks now : ℕ) (l : Running) → spent_of now (runs_if b limit since ticks) ≡ Some l → IsSpentOne b limit since ticks now l
-spent_one false limit since ticks now l e = absurd cc
-spent_one true limit since ticks now l e = by_test (is_spent now since ticks) refl e
-  where
-    by_test : (b : Bool) → is_spent now since ticks ≡ b → (if b then Some (record { limit = limit; since = since; ticks = ticks }) else None) ≡ Some l → IsSpentOne true limit since ticks now l
-    by_test true f e = record { runs = refl; limit = ap (λ (x : Running). x.limit) (sym (same_running (record { limit = limit; since = since; ticks = ticks }) l e)); spent = f }
-    by_test false f e = absurd cc
+spent_one b limit since ticks now l e = grind arith
 
 -- ## held
 
@@ -156,26 +129,18 @@ freeze_late now g c a l e =
 -- ## unanswered
 
 answer_late : (now : ℕ) (a : Agenda) (o : Open) (l : Running) → spent_of now (runs_if (answer_runs o.place.group) AnswerLimit (opened_at a o) answer_limit) ≡ Some l → fails_set (order_of o.place.group) ≡ true → unanswered_too_long now o.place a ≡ true
-answer_late now a o l e f =
-    let one = spent_one (answer_runs o.place.group) AnswerLimit (opened_at a o) answer_limit now l e in
-    and_from (prepares_writers o.place.group) _ (consent o.place.group one.runs f)
-    (subst (λ t. has_passed answer_limit t now ≡ true) (answer_since a o) (spent_passed now (opened_at a o) answer_limit one.spent))
+answer_late now a o l e f = grind (arith, spent_one, and_from, consent, answer_since, spent_passed)
 
 -- ## the spent limit
 
 or_first : (a b c : Bool) → a ≡ true → (a || b || c) ≡ true
-or_first true b c e = refl
-or_first false b c e = absurd cc
+or_first a b c e = grind arith
 
 or_second : (a b c : Bool) → b ≡ true → (a || b || c) ≡ true
-or_second true b c e = refl
-or_second false true c e = refl
-or_second false false c e = absurd cc
+or_second a b c e = grind arith
 
 or_third : (a b c : Bool) → c ≡ true → (a || b || c) ≡ true
-or_third true b c e = refl
-or_third false true c e = refl
-or_third false false c e = e
+or_third a b c e = grind arith
 
 -- a spent limit that is not the answers', or whose loss fails the set
 abbrev pub Decides : Limit → Option Order → Type 0
@@ -198,5 +163,4 @@ late_left now c a (o ∷ os) l e d = late_open now c a o os l e d
 
 -- a spent limit that fails the set is a cause
 pub late : (now : ℕ) (c : Course) (a : Option Agenda) (l : Running) → spent_of now (running_limits (freeze_limit c) a) ≡ Some l → Decides l.limit (order_now (left a)) → is_late_in now c a ≡ true
-late now c None l e d = absurd cc
-late now c (Some a) l e d = late_left now c a (groups_left a) l e d
+late now c a l e d = grind (arith, late_left)

@@ -1,7 +1,7 @@
 -- The rule of logs: a fact of the running agenda holds in every state where it holds of an agenda that begins, and is kept by what
 -- members say that are waited for at the open place.
-use Rattle.std.proofs.Common.{◌≡◌, ℕ, List, [], ◌∷◌, Option, Some, None, refl, Bool, true, false, sym, subst, fold, ◌+◌, inl, inr}
-use Rattle.std.specs.Prelude.{◌&&◌, not, if◌then◌else◌}
+use Rattle.std.proofs.Common.{◌≡◌, ℕ, List, [], ◌∷◌, Option, Some, None, Bool, true, false, fold, ◌+◌, arith}
+use Rattle.std.specs.Prelude.{◌&&◌, not}
 use Rattle.vss_names.specs.declared.context.Context.{Context}
 use Rattle.vss_names.specs.declared.set_outcome.SetOutcome.{SetOutcome}
 use Rattle.vss_names.specs.declared.vss_result.VssResult.{VssResult}
@@ -9,26 +9,22 @@ use Rattle.vss_names.specs.declared.vss_result.VssResult.TheVariants.{AsyncCance
 use Rattle.writer_state.specs.declared.said.Said.{Said}
 use Rattle.writer_state.specs.WriterState.{is_ok}
 use Rattle.write_history.specs.declared.mark.Mark.{Mark}
-use Rattle.write_history.specs.declared.mark.Mark.TheVariants.{Clean}
-use Rattle.write_history.specs.History.{Write}
 use Rattle.set_agenda.specs.declared.group.Group.{Group}
-use Rattle.set_agenda.specs.declared.group.Group.TheVariants.{Orders, PreCommit, Flush, Hold, Cut, Commit, Release, PostCommit}
 use Rattle.set_agenda.specs.declared.kind.Kind.{Kind}
 use Rattle.set_agenda.specs.declared.kind.Kind.TheVariants.{Gather, Prepare, Snapshot, Complete}
 use Rattle.set_agenda.specs.declared.member.Member.{Member}
-use Rattle.set_agenda.specs.Agenda.{Agenda, groups_left, open_group, open_place, is_freeze, is_among, waits_now, is_done, is_working, all_say}
-use Rattle.set_agenda.specs.Course.{Course, posted, failed as course_failed, settled_if, settled_in, settled, begun, released}
+use Rattle.set_agenda.specs.Agenda.{Agenda, groups_left, open_group, open_place, is_freeze, is_among, waits_now, is_working, all_say}
+use Rattle.set_agenda.specs.Course.{Course, posted, failed as course_failed, settled_in, settled, begun, released}
 use Rattle.requestor.specs.Session.{Session}
 use Rattle.scenario.specs.Plan.{Plan}
-use Rattle.vss_model.specs.State.{State, SetRow, Kept, start, in_progress, left_now}
-use Rattle.vss_model.specs.Ending.{Ending, NothingEnds, ending, concluded, followed, runs, failed_in, failed}
-use Rattle.vss_model.specs.Images.{put, reverted_as}
+use Rattle.vss_model.specs.State.{State, SetRow, start, in_progress, left_now}
+use Rattle.vss_model.specs.Ending.{Ending, ending, concluded, followed, runs, failed_in, failed}
 use Rattle.vss_model.specs.Sessions.{begin_in, has_no_volume, closed}
-use Rattle.vss_model.specs.Steps.{answered, cut_set, step_made, is_flush, is_failed_step, stepped_as, stepped, ticked, later}
+use Rattle.vss_model.specs.Steps.{answered, step_made, is_flush, is_failed_step, stepped_as, stepped, ticked, later}
 use Rattle.vss_model.specs.Acts.{Act, after, state}
 use Rattle.vss_model.specs.Laws.{IsKeptByChanges, IsKeptByWrites}
 use Rattle.vss_model.proofs.Rule.{on_after}
-use Rattle.vss_model.proofs.CourseCalls.{Settles, Call, call_answered, call_stepped, call_timed}
+use Rattle.vss_model.proofs.CourseCalls.{Call, call_answered, call_stepped, call_timed}
 use Rattle.vss_model.proofs.ByEvent.{by_if}
 
 -- nothing is said yet
@@ -43,40 +39,15 @@ abbrev pub Running : (Agenda → Type 0) → Option Agenda → Type 0
 Running P None = Unit {0}
 Running P (Some a) = P a
 
-pub course-cut_set : (o : Option SetRow) (st : State) → (cut_set o st).course ≡ st.course
-course-cut_set None st = refl
-course-cut_set (Some r) st = refl
-
 pub course-step_made : (g : Option Group) (st : State) → (step_made g st).course ≡ st.course
-course-step_made None st = refl
-course-step_made (Some (Orders o)) st = refl
-course-step_made (Some PreCommit) st = refl
-course-step_made (Some Flush) st = refl
-course-step_made (Some Hold) st = refl
-course-step_made (Some Cut) st = course-cut_set (in_progress st) st
-course-step_made (Some Commit) st = refl
-course-step_made (Some Release) st = refl
-course-step_made (Some PostCommit) st = refl
+course-step_made g st = grind arith
 
 module _ (P : Agenda → Type 0) (k : IsKeptInLog P) where
-  settled_run : (done : Bool) (a : Agenda) (o : SetOutcome) (b : Option Agenda) (p : SetOutcome) → Settles done a o b p → P a → Running P b
-  settled_run true a o b p e h = subst (Running P) (sym e.0) tt
-  settled_run false a o b p e h = subst (Running P) (sym e.0) h
-
   on_call : (writers : Bool) (a : Option Agenda) (o : SetOutcome) (b : Option Agenda) (p : SetOutcome) → Call writers a o b p → Running P a → Running P b
-  on_call writers None o b p c h = subst (Running P) (sym c.0) tt
-  on_call writers (Some a) o b p (inl c) h = subst (Running P) (sym c.agenda) tt
-  on_call writers (Some a) o b p (inr (inl c)) h = settled_run c.done a o b p c.settles h
-  on_call writers (Some a) o b p (inr (inr c)) h =
-      settled_run (is_done (groups_left (all_say c.said c.now c.ws a))) (all_say c.said c.now c.ws a) o b p c.settles (k.says c.said c.now c.ws a c.waited c.mild h)
-
-  on_begun_if : (done : Bool) (j : Kind) (c : Course) → Running P c.agenda → Running P (settled_if done j c).agenda
-  on_begun_if true j c h = tt
-  on_begun_if false j c h = h
+  on_call writers a o b p c h = grind arith
 
   on_begun_in : (a : Option Agenda) (c : Course) → Running P c.agenda → Running P (settled_in a c).agenda
-  on_begun_in None c h = h
-  on_begun_in (Some a) c h = on_begun_if (is_done (groups_left a)) a.kind c h
+  on_begun_in a c h = grind arith
 
   on_begun : (j : Kind) (ms : List Member) (vs : List ℕ) (now : ℕ) (c : Course) → Running P (begun j ms vs now c).agenda
   unfolding begun posted settled
@@ -88,8 +59,7 @@ module _ (P : Agenda → Type 0) (k : IsKeptInLog P) where
   Holds st = Running P st.course.agenda
 
   on_concluded : (e : Ending) (st : State) → Holds st → Holds (concluded e st)
-  on_concluded NothingEnds st h = h
-  on_concluded _ st h = h
+  on_concluded e st h = grind arith
 
   on_followed : (ran : Bool) (c : Course) (st : State) → Running P c.agenda → Holds (followed ran c st)
   unfolding followed
@@ -113,12 +83,10 @@ module _ (P : Agenda → Type 0) (k : IsKeptInLog P) where
 
   on_failed_in : (o : Option SetRow) (why : VssResult) (st : State) → Holds st → Holds (failed_in o why st)
   unfolding course_failed
-  on_failed_in None why st h = h
-  on_failed_in (Some r) why st h = tt
+  on_failed_in o why st h = grind arith
 
   on_begin : (lane : ℕ) (all : Bool) (c : Option Context) (st : State) → Holds st → Holds (begin_in lane all c st).1
-  on_begin lane all None st h = h
-  on_begin lane all (Some c) st h = h
+  on_begin lane all c st h = grind arith
 
   on_closes : (q : Session) (st : State) → Holds (closed q st)
   unfolding closed released
@@ -145,19 +113,8 @@ module _ (P : Agenda → Type 0) (k : IsKeptInLog P) where
     ends = λ q st e h. on_closes q (failed AsyncCancelled st);
   }
 
-  on_puts : (v : ℕ) (w : Write) (mark : Mark) (x : State) → Holds x → Holds (put v w mark x)
-  on_puts v w Clean x h = h
-  on_puts v w _ x h = h
-
-  on_reverts : (s : Plan) (v : ℕ) (x : Kept) (mark : Mark) (st : State) → Holds st → Holds (reverted_as s v x mark st).1
-  on_reverts s v x Clean st h = h
-  on_reverts s v x _ st h = h
-
   kept_by_writes : (st : State) → IsKeptByWrites Holds st
-  kept_by_writes st = record {
-    puts = λ v e w mark x h. on_puts v w mark x h;
-    reverts = λ s n v x mark e f h. on_reverts s v x mark st h;
-  }
+  kept_by_writes st = grind arith
 
   on_fold : (s : Plan) (st : State) (acts : List Act) → Holds st → Holds (fold (after s) st acts)
   on_fold s st [] h = h

@@ -1,26 +1,23 @@
 -- What a session names are selectable components of writers that it knows.
-use Rattle.std.proofs.Common.{◌≡◌, ℕ, ◌+◌, ◌==◌, List, [], ◌∷◌, Option, Some, None, refl, Bool, true, false, ap, sym, ◌∙◌, subst}
-use Rattle.std.specs.Prelude.{◌&&◌, not, slice_get}
-use Rattle.std.specs.List.{list_all, list_any}
+use Rattle.std.proofs.Common.{◌≡◌, ℕ, List, Option, Some, None, refl, Bool, true, false, ap, sym, arith}
+use Rattle.std.specs.Prelude.{◌&&◌, slice_get}
+use Rattle.std.specs.List.{list_all}
 use Rattle.writer_meta.specs.Metadata.{Meta}
 use Rattle.component_doc.specs.Selection.{Pair, Names, naming, naming_of, naming_found, naming_if, has_pair, with_pair, found_in, found_of}
 use Rattle.component_doc.specs.Over.{names_selectable, is_ascending}
 use Rattle.component_doc.proofs.Added.{over-more}
-use Rattle.scenario.specs.Plan.{Plan, WriterPlan, class_of}
+use Rattle.scenario.specs.Plan.{Plan, WriterPlan}
 use Rattle.vss_model.specs.State.{State}
-use Rattle.vss_model.specs.Sessions.{is_disabled, has_failed_identify, is_known, meta_if, known_from, known_metas}
+use Rattle.vss_model.specs.Sessions.{is_known, known_from, known_metas}
 use Rattle.vss_model.proofs.KnownWriters.{AsFit}
 
 -- ## who is known
 
 same_known : (s : Plan) (st x : State) → x.course.disabled ≡ st.course.disabled → AsFit st.course.rows x.course.rows → (w : ℕ) → is_known s x w ≡ is_known s st w
-same_known s st x e f w =
-    ap (λ ds. not (list_any (λ d. class_of s d == class_of s w) ds) && not (has_failed_identify (slice_get x.course.rows w))) e
-    ∙ ap (λ b. not (is_disabled s st w) && not b) (f w)
+same_known s st x e f w = grind arith
 
 known_along : (s : Plan) (st x : State) → ((w : ℕ) → is_known s x w ≡ is_known s st w) → (w : ℕ) (ps : List WriterPlan) → known_from s x w ps ≡ known_from s st w ps
-known_along s st x same w [] = refl
-known_along s st x same w (p ∷ ps) = ap (λ b. meta_if b p.meta ∷ known_from s x (w + 1) ps) (same w) ∙ ap (λ ms. meta_if (is_known s st w) p.meta ∷ ms) (known_along s st x same (w + 1) ps)
+known_along s st x same w ps = grind arith
 
 pub known_same : (s : Plan) (st x : State) → x.course.disabled ≡ st.course.disabled → AsFit st.course.rows x.course.rows → known_metas s x ≡ known_metas s st
 known_same s st x e f = known_along s st x (same_known s st x e f) 0 s.writers
@@ -31,9 +28,7 @@ abbrev pub AreOver : List (Option Meta) → List Pair → Type 0
 AreOver ms ps = (list_all (names_selectable ms) ps && is_ascending ps) ≡ true
 
 named_if : (ms : List (Option Meta)) (q : Pair) (ps new : List Pair) (a b : Bool) → naming_if a b q ps ≡ Names new → (a ≡ true → b ≡ false → AreOver ms (with_pair q ps)) → AreOver ms new
-named_if ms q ps new false b i over = absurd cc
-named_if ms q ps new true true i over = absurd cc
-named_if ms q ps new true false i over = let same : with_pair q ps ≡ new = cc in subst (AreOver ms) same (over refl refl)
+named_if ms q ps new a b i over = grind arith
 
 named_of : (ms : List (Option Meta)) (w : ℕ) (name : List ℕ) (o : Option (Option Meta)) (ps new : List Pair) → slice_get ms w ≡ o → naming_of w name o ps ≡ Names new → AreOver ms ps → AreOver ms new
 named_of ms w name None ps new e i over = absurd cc

@@ -1,5 +1,5 @@
 -- The image of the set in progress is the newest of its volume: no set has a greater number, and images rise in set.
-use Rattle.std.proofs.Common.{◌≡◌, ℕ, ◌+◌, ◌==◌, ◌<◌, ◌≤◌, zero, suc, List, [], ◌∷◌, Some, refl, Bool, true, false, length, ap, ◌∙◌, arith}
+use Rattle.std.proofs.Common.{◌≡◌, ℕ, ◌+◌, ◌==◌, ◌<◌, ◌≤◌, zero, suc, List, [], ◌∷◌, Some, refl, Bool, true, length, ap, ◌∙◌, arith}
 use Rattle.std.specs.Prelude.{◌&&◌, ◌||◌, not, if◌then◌else◌, slice_get}
 use Rattle.std.proofs.lemmas.Bool.{eqb-true}
 use Rattle.write_history.specs.History.{Image, History, point_in, AreLater, AreInTime}
@@ -13,9 +13,7 @@ use Rattle.vss_model.proofs.OneCut.{newest_number, images_in_time}
 -- ## numbers of images
 
 either_number : (a b c : Bool) (n m : ℕ) → ((a && b) || c) ≡ true → (a ≡ true → n < m) → (c ≡ true → n < m) → n < m
-either_number true true c n m e f g = f refl
-either_number true false c n m e f g = g e
-either_number false b c n m e f g = g e
+either_number a b c n m e f g = grind arith
 
 -- a live set has one of the numbers
 live_number : (m n : ℕ) (rows : List SetRow) → NumberedFrom m rows → is_live rows n ≡ true → n < m + length rows
@@ -48,11 +46,7 @@ live_at rows (x ∷ hs) (suc v) h = live_at rows hs v h.1
 
 -- every image is of a set that was started
 pub images_up_to : (rows : List SetRow) (hs : List History) (v : ℕ) → NumberedFrom 1 rows → AllLive rows hs → UpTo (length rows) (history_in (slice_get hs v)).images
-images_up_to rows hs v h live =
-    up_to (length rows) rows (λ m e. at_most m (length rows) (live_number 1 m rows h e)) (history_in (slice_get hs v)).images (live_at rows hs v live)
-  where
-    at_most : (m k : ℕ) → m < 1 + k → m ≤ k
-    at_most m k l = omega arith
+images_up_to rows hs v h live = grind (arith, up_to, live_number, live_at)
 
 -- ## the last image
 
@@ -74,8 +68,7 @@ after_one i n p images h = record { older = i ∷ h.older; is = ap (λ xs. i ∷
 
 newest_if : (b : Bool) (i : Image) (n p : ℕ) (images : List Image) → (i.set == n) ≡ b → (if b then Some i.point else point_in n images) ≡ Some p → AreLater i images → UpTo n images
     → (point_in n images ≡ Some p → IsNewest n p images) → IsNewest n p (i ∷ images)
-newest_if true i n p images e f h u ih = last_one i n p images (eqb-true i.set n e) (cc) h u
-newest_if false i n p images e f h u ih = after_one i n p images (ih f)
+newest_if b i n p images e f h u ih = grind (arith, last_one, eqb-true, after_one)
 
 newest_in : (n p writes : ℕ) (images : List Image) → AreInTime writes images → UpTo n images → point_in n images ≡ Some p → IsNewest n p images
 newest_in n p writes [] h u e = absurd cc

@@ -45,12 +45,7 @@ abbrev WasOrIs : ℕ → List ℕ → ℕ → ℕ → Bool → Type 0
 WasOrIs m vs n v was = (was ≡ true) ⊎ (((m == n) && is_among v vs) ≡ true)
 
 cut_here : (b : Bool) (m : ℕ) (vs : List ℕ) (n v : ℕ) (x : History) → is_among v vs ≡ b → has_image n (image_cut_if b m x) ≡ true → WasOrIs m vs n v (has_image n x)
-cut_here false m vs n v x e f = inl f
-cut_here true m vs n v x e f = by_last (last_image x.images m n _ f)
-  where
-    by_last : (has_image n x ≡ true) ⊎ ((m == n) ≡ true) → WasOrIs m vs n v (has_image n x)
-    by_last (inl g) = inl g
-    by_last (inr g) = inr (and_from (m == n) (is_among v vs) g e)
+cut_here b m vs n v x e f = grind (arith, last_image, and_from)
 
 cut_there : (m : ℕ) (vs : List ℕ) (n u v : ℕ) (hs : List History) → has_image n (at (cut_each m vs u hs) v) ≡ true → WasOrIs m vs n (u + v) (has_image n (at hs v))
 cut_there m vs n u v [] e = inl e
@@ -76,17 +71,13 @@ abbrev AllOfSets : Plan → List Act → Type 0
 AllOfSets s past = (n v : ℕ) → has_image n (history_of (state s past) v) ≡ true → CutWith s v (cut s n past)
 
 stays_cut : (s : Plan) (v : ℕ) (o p : Option (List Act)) → CutWith s v o → CutWith s v (or_cut o p)
-stays_cut s v None p h = absurd h
-stays_cut s v (Some before) p h = h
+stays_cut s v o p h = grind arith
 
 now_cut : (s : Plan) (v : ℕ) (past : List Act) (b : Bool) (o : Option (List Act)) → o ≡ None → b ≡ true → is_in_set v (in_progress (state s past)) ≡ true → CutWith s v (or_cut o (cut_if b past None))
-now_cut s v past true None e f h = h
-now_cut s v past false None e f h = absurd cc
-now_cut s v past b (Some acts) e f h = absurd cc
+now_cut s v past b o e f h = grind arith
 
 along : (s : Plan) (past : List Act) (act : Act) → ((n v : ℕ) → has_image n (history_of (after s (state s past) act) v) ≡ true → CutWith s v (or_cut (cut s n past) (cut_if (is_cut_of n (state s past) act) past None))) → AllOfSets s (past ++ act ∷ [])
-along s past act h n v e =
-    subst (CutWith s v) (sym (cut-append s n past act)) (h n v (subst (λ (st : State). has_image n (history_of st v) ≡ true) (state-append s past act) e))
+along s past act h n v e = grind (arith, cut-append, state-append)
 
 -- at the Cut step of set r
 cut_now : (s : Plan) (past : List Act) (act : Act) (r : SetRow) → is_provider act.event ≡ true → is_cut_group (open_group (left_now (state s past))) ≡ true → CutsNow (state s past) → in_progress (state s past) ≡ Some r

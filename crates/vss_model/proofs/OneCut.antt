@@ -1,33 +1,30 @@
 -- Every act keeps what the images show.
-use Rattle.std.proofs.Common.{◌≡◌, ℕ, ◌+◌, ◌==◌, ◌<◌, ◌≤◌, zero, suc, List, [], ◌∷◌, ◌++◌, Option, Some, None, refl, Bool, true, false, map, length, take, ap, sym, ◌∙◌, subst, find, fold, inl, inr, arith}
-use Rattle.std.specs.Prelude.{option_map, is_some, ◌&&◌, ◌||◌, if◌then◌else◌, nat_lt, slice_get}
+use Rattle.std.proofs.Common.{◌≡◌, ℕ, ◌+◌, ◌==◌, ◌<◌, ◌≤◌, zero, suc, List, [], ◌∷◌, ◌++◌, Option, Some, None, refl, Bool, true, false, map, length, take, ap, sym, ◌∙◌, subst, find, fold, arith}
+use Rattle.std.specs.Prelude.{option_map, is_some, ◌&&◌, if◌then◌else◌, slice_get}
 use Rattle.std.proofs.lemmas.List.Folds.{list_any-append}
 use Rattle.std.proofs.Math.Seq.{take-append_seam}
 use Rattle.std.proofs.lemmas.List.{length_push}
-use Rattle.std.proofs.lemmas.Bool.{eq-eqb, eqb-true, ltb-true}
+use Rattle.std.proofs.lemmas.Bool.{eqb-true, ltb-true}
 use Rattle.vss_names.specs.declared.context.Context.{Context}
 use Rattle.vss_names.specs.declared.context.Context.TheVariants.{Backup, AppRollback, NasRollback}
 use Rattle.vss_names.specs.declared.vss_result.VssResult.{VssResult}
 use Rattle.vss_names.specs.declared.vss_result.VssResult.TheVariants.{AsyncCancelled}
 use Rattle.vss_names.specs.declared.set_outcome.SetOutcome.{SetOutcome}
-use Rattle.vss_names.specs.declared.set_outcome.SetOutcome.TheVariants.{Running, Complete as CompleteSet, Failed as FailedSet}
 use Rattle.writer_state.specs.declared.said.Said.{Said}
 use Rattle.writer_state.specs.declared.said.Said.TheVariants.{Ok}
 use Rattle.write_history.specs.declared.mark.Mark.{Mark}
 use Rattle.write_history.specs.declared.mark.Mark.TheVariants.{Clean, Fault, FaultAfter}
-use Rattle.write_history.specs.History.{Write, Image, History, content, last_bytes, fresh, point_in, dropped, written, reverted, AreLater, AreInTime}
-use Rattle.block_data.specs.Runs.{zeros}
+use Rattle.write_history.specs.History.{Write, Image, History, content, fresh, point_in, dropped, written, reverted, AreLater, AreInTime}
 use Rattle.set_agenda.specs.declared.group.Group.{Group}
-use Rattle.set_agenda.specs.declared.group.Group.TheVariants.{Cut}
 use Rattle.set_agenda.specs.declared.kind.Kind.{Kind}
-use Rattle.set_agenda.specs.declared.kind.Kind.TheVariants.{Gather, Prepare, Snapshot, Complete}
-use Rattle.set_agenda.specs.Agenda.{Agenda, Entry, is_working, plain, places, left_from, groups_left, left, open_group, open_place as open_at, same_place, next_member, at_place, all_say, is_snapshot, is_done, is_among}
-use Rattle.set_agenda.specs.Course.{Course, posted, settled_if, settled_in, settled, worked, stepped as course_stepped, released}
+use Rattle.set_agenda.specs.declared.kind.Kind.TheVariants.{Snapshot}
+use Rattle.set_agenda.specs.Agenda.{Agenda, is_working, groups_left, open_group, next_member, all_say, is_snapshot, is_among}
+use Rattle.set_agenda.specs.Course.{Course, posted, settled_in, settled, worked, stepped as course_stepped, released}
 use Rattle.requestor.specs.Session.{Session}
 use Rattle.scenario.specs.Plan.{Plan, blocks_of}
 use Rattle.scenario.specs.declared.volume_row.VolumeRow.{VolumeRow}
-use Rattle.vss_model.specs.State.{State, SetRow, Kept, start, is_running, in_progress, row_of, row_changed, history_in, history_of, left_now, is_complete, kept_at, kept_if, kept_of, kept_image}
-use Rattle.vss_model.specs.Ending.{Ending, NothingEnds, SetFails, ending, row_settled, images_dropped, concluded, followed, runs, failed_in, failed}
+use Rattle.vss_model.specs.State.{State, SetRow, Kept, start, is_running, in_progress, row_of, row_changed, history_in, history_of, left_now, kept_of, kept_image}
+use Rattle.vss_model.specs.Ending.{Ending, NothingEnds, ending, row_settled, images_dropped, concluded, followed, runs, failed_in, failed}
 use Rattle.vss_model.specs.Images.{put, reverted_as}
 use Rattle.vss_model.specs.Sessions.{begin_in, has_no_volume, start_set, new_set, with_volume, change_set, images_released, closed}
 use Rattle.vss_model.specs.Steps.{answered, cut_if as history_cut_if, cut_each, row_cut, cut_set, is_flush, is_failed_step, stepped_as, stepped, ticked, later}
@@ -37,14 +34,13 @@ use Rattle.vss_model.specs.Facts.{NumberedFrom, OverButNewest, IsOrderly}
 use Rattle.vss_model.specs.Cut.{is_provider, is_cut_group, is_set, is_cut_of, cut_if, cut_from, cut, IsShownAt, IsCutAt}
 use Rattle.vss_model.proofs.Rule.{IsKeptButSteps, on_after_steps, working_of}
 use Rattle.vss_model.proofs.Appending.{state-append}
-use Rattle.vss_model.proofs.Orderly.{find-map, find-settled_over, find-settled_running, true_not_false}
+use Rattle.vss_model.proofs.Orderly.{find-map, find-settled_over, find-settled_running}
 use Rattle.vss_model.proofs.OrderlyActs.{EndsIn, Moves, MovesOn, moves_answered, moves_stepped, moves_timed, ending_idle, ending_on, none_after, orderly}
 use Rattle.vss_model.proofs.HeldOfSet.{Follows, GoesOn, goes_answered, goes_stepped, goes_timed}
 use Rattle.vss_model.proofs.CutLog.{is_cut_made}
-use Rattle.vss_model.proofs.AtCut.{IsAtCut, CutsNow, cuts, cut_group, later_places, cut_is_open}
+use Rattle.vss_model.proofs.AtCut.{IsAtCut, CutsNow, cuts, cut_is_open}
 use Rattle.vss_model.proofs.CutStep.{second_not, both, step_made_same, working_at_cut, after_cut, has_set}
 use Rattle.vss_model.proofs.CutHistory.{Above, Shown, no_greater, Known, writes_at, ShownIn, IsShown, AllShown, all-map, all-change_at, all-gone, all_along, shown-reverted, shown-reverted_in_part, shown-dropped, shown-written, shown-cut, below-known, shown_at, append_none}
-use Rattle.vss_model.proofs.Rows.{apart}
 use Rattle.vss_model.proofs.ByEvent.{by_if}
 
 -- ## the fact
@@ -70,39 +66,24 @@ record IsCut (k : Known) (st : State) : Type 0 where
   fresh : (n : ℕ) → length st.sets < n → k n ≡ None
 
 made_in_none : (o : Option (List History)) → o ≡ None → (a : Option Agenda) → MadeIn o a
-made_in_none None e a = tt
-made_in_none (Some hs) e a = absurd cc
-
-none_made : (o : Option (List History)) → MadeIn o None → o ≡ None
-none_made None h = refl
-none_made (Some hs) h = absurd h
+made_in_none o e a = grind arith
 
 uncut_progress : (k : Known) (a : Option Agenda) (o : Option SetRow) → Uncut k o → Progress k a o
-uncut_progress k a None h = tt
-uncut_progress k a (Some r) h = made_in_none (k r.number) h a
-
-none_uncut : (k : Known) (o : Option SetRow) → Progress k None o → Uncut k o
-none_uncut k None h = tt
-none_uncut k (Some r) h = none_made (k r.number) h
+uncut_progress k a o h = grind arith
 
 quiet_uncut : (k : Known) (a : Option Agenda) (o : Option SetRow) → is_some a ≡ false → Progress k a o → Uncut k o
-quiet_uncut k None o e h = none_uncut k o h
-quiet_uncut k (Some a) o e h = absurd cc
+quiet_uncut k a o e h = grind arith
 
 -- ## rows that change
 
 uncut_same : (k : Known) (f : SetRow → SetRow) → ((r : SetRow) → (f r).number ≡ r.number) → (o : Option SetRow) → Uncut k o → Uncut k (option_map f o)
-uncut_same k f same None h = tt
-uncut_same k f same (Some r) h = ap k (same r) ∙ h
+uncut_same k f same o h = grind arith
 
 progress_same : (k : Known) (a : Option Agenda) (f : SetRow → SetRow) → ((r : SetRow) → (f r).number ≡ r.number) → (o : Option SetRow) → Progress k a o → Progress k a (option_map f o)
-progress_same k a f same None h = tt
-progress_same k a f same (Some r) h = subst (λ n. MadeIn (k n) a) (sym (same r)) h
+progress_same k a f same o h = grind arith
 
 uncut_settled_at : (k : Known) (p : SetOutcome) (rows : List SetRow) → Uncut k (find (λ r. is_running r.result) rows) → Uncut k (find (λ r. is_running r.result) (map (row_settled p) rows))
-uncut_settled_at k Running rows h = subst (Uncut k) (sym (find-settled_running rows)) (uncut_same k (λ (r : SetRow). record r { result = Running }) (λ r. refl) (find (λ r. is_running r.result) rows) h)
-uncut_settled_at k CompleteSet rows h = subst (Uncut k) (sym (find-settled_over CompleteSet refl rows)) tt
-uncut_settled_at k (FailedSet why) rows h = subst (Uncut k) (sym (find-settled_over (FailedSet why) refl rows)) tt
+uncut_settled_at k p rows h = grind (arith, find-settled_running, uncut_same, find-settled_over)
 
 uncut_concluded : (k : Known) (e : Ending) (st : State) → Uncut k (in_progress st) → Uncut k (in_progress (concluded e st))
 uncut_concluded k NothingEnds st h = h
@@ -116,16 +97,14 @@ fresh_length : (k : Known) (m n : ℕ) → m ≡ n → ((i : ℕ) → n < i → 
 fresh_length k m n e h i l = h i (subst (λ x. x < i) e l)
 
 fresh_concluded : (k : Known) (e : Ending) (st : State) → ((n : ℕ) → length st.sets < n → k n ≡ None) → (n : ℕ) → length (concluded e st).sets < n → k n ≡ None
-fresh_concluded k NothingEnds st h = h
-fresh_concluded k _ st h = fresh_length k (length (map (row_settled st.course.outcome) st.sets)) (length st.sets) (length-map (row_settled st.course.outcome) st.sets) h
+fresh_concluded k e st h = grind (arith, fresh_length, length-map)
 
 shown_images : (k : Known) (o : Option SetRow) (hs : List History) → AllShown k 0 hs → AllShown k 0 (images_dropped o hs)
 shown_images k None hs h = h
 shown_images k (Some r) hs h = all-map k (dropped r.number) (shown-dropped r.number k) 0 hs h
 
 shown_concluded : (k : Known) (e : Ending) (st : State) → AllShown k 0 st.volumes → AllShown k 0 (concluded e st).volumes
-shown_concluded k (SetFails why) st h = shown_images k (in_progress st) st.volumes h
-shown_concluded k _ st h = h
+shown_concluded k e st h = grind (arith, shown_images)
 
 -- ## the course goes on
 
@@ -140,20 +119,10 @@ PlainUncut k None o = Unit {0}
 PlainUncut k (Some a) o = is_snapshot a.kind ≡ false → Uncut k o
 
 pub ends_settle : (o p : SetOutcome) (st : State) → in_progress (concluded (ending o p true None) st) ≡ find (λ r. is_running r.result) (map (row_settled st.course.outcome) st.sets)
-ends_settle Running Running st = refl
-ends_settle Running CompleteSet st = refl
-ends_settle Running (FailedSet why) st = refl
-ends_settle CompleteSet p st = refl
-ends_settle (FailedSet why) p st = refl
+ends_settle o p st = grind arith
 
 pub plain_kind : (k : Kind) (o p : SetOutcome) → is_running p ≡ true → EndsIn k o p → is_snapshot k ≡ false
-plain_kind Gather o p e h = refl
-plain_kind Prepare o p e h = refl
-plain_kind Complete o p e h = refl
-plain_kind Snapshot o p e (inl f) = absurd (true_not_false (is_running p) e (ap is_running f))
-plain_kind Snapshot o Running e (inr f) = absurd cc
-plain_kind Snapshot o CompleteSet e (inr f) = absurd cc
-plain_kind Snapshot o (FailedSet why) e (inr f) = absurd cc
+plain_kind k o p e h = grind arith
 
 over_settled : (b : Bool) (k : Known) (p : SetOutcome) (rows : List SetRow) → is_running p ≡ b → (b ≡ true → Uncut k (find (λ r. is_running r.result) rows)) → Uncut k (find (λ r. is_running r.result) (map (row_settled p) rows))
 over_settled true k p rows e h = uncut_settled_at k p rows (h refl)
@@ -193,28 +162,13 @@ cut_followed k c st m i g u shown fresh =
     agenda-concluded _ x = refl
 
 idle_progress : (k : Known) (a : Option Agenda) (o : Option SetRow) → Progress k a o → IdleProgress k a o
-idle_progress k None o h = h
-idle_progress k (Some a) o h = tt
-
--- by the relation of the log
-made_follows : (o : Option (List History)) (a b : Agenda) → b.kind ≡ a.kind → (is_cut_made a.log ≡ true → is_cut_made b.log ≡ true) → MadeIn o (Some a) → MadeIn o (Some b)
-made_follows None a b e f h = tt
-made_follows (Some hs) a b e f h = (ap is_snapshot e ∙ h.0, f h.1)
+idle_progress k a o h = grind arith
 
 goes_from : (k : Known) (a : Option Agenda) (c d : Course) (o : Option SetRow) → c.agenda ≡ a → (b : Option Agenda) → d.agenda ≡ b → Follows a c.members c.outcome b d.members d.outcome → Progress k a o → GoesFrom k b o
-goes_from k a c d o e None f g h = tt
-goes_from k None c d o e (Some b) f g h = absurd g
-goes_from k (Some a) c d None e (Some b) f g h = tt
-goes_from k (Some a) c d (Some r) e (Some b) f g h = made_follows (k r.number) a b g.kind (g.said (plain Cut) 0) h
-
-plain_made : (o : Option (List History)) (a : Agenda) → is_snapshot a.kind ≡ false → MadeIn o (Some a) → o ≡ None
-plain_made None a e h = refl
-plain_made (Some hs) a e h = absurd (true_not_false (is_snapshot a.kind) h.0 e)
+goes_from k a c d o e b f g h = grind arith
 
 plain_uncut : (k : Known) (a : Option Agenda) (o : Option SetRow) → Progress k a o → PlainUncut k a o
-plain_uncut k None o h = tt
-plain_uncut k (Some a) None h = λ e. tt
-plain_uncut k (Some a) (Some r) h = λ e. plain_made (k r.number) a e h
+plain_uncut k a o h = grind arith
 
 goes : (k : Known) (c : Course) (st : State) → MovesOn st.course c → GoesOn st.course c → IsCut k st → IsCut k (followed (runs st) c st)
 goes k c st m g h =
@@ -246,21 +200,13 @@ unfolding ticked
 on_ticks k n st h = goes k _ (later n st) (moves_timed (st.clock + n) st.course) (goes_timed (st.clock + n) st.course) (cut_later k n st h)
 
 on_fails_in : (k : Known) (o : Option SetRow) (why : VssResult) (st : State) → in_progress st ≡ o → IsCut k st → IsCut k (failed_in o why st)
-on_fails_in k None why st e h = h
-on_fails_in k (Some r) why st e h =
-    let x : State = failed_in (Some r) why st in
-    record {
-      shown = shown_images k (in_progress st) st.volumes h.shown;
-      progress = subst (Progress k x.course.agenda) (sym (none_after (Some r) why st e)) tt;
-      fresh = fresh_length k _ (length st.sets) (length-map (row_settled _) st.sets) h.fresh;
-    }
+on_fails_in k o why st e h = grind (arith, shown_images, none_after, fresh_length, length-map)
 
 with_volumes : (k : Known) (hs : List History) (st : State) → AllShown k 0 hs → IsCut k st → IsCut k (record st { volumes = hs })
 with_volumes k hs st shown h = record { shown = shown; progress = h.progress; fresh = h.fresh }
 
 on_begins : (k : Known) (lane : ℕ) (all : Bool) (c : Option Context) (st : State) → IsCut k st → IsCut k (begin_in lane all c st).1
-on_begins k lane all None st h = h
-on_begins k lane all (Some c) st h = record { shown = h.shown; progress = h.progress; fresh = h.fresh }
+on_begins k lane all c st h = grind arith
 
 -- a set is started: it was not cut
 found_append : (k : Known) (a : Option Agenda) (rows : List SetRow) (r : SetRow) → k r.number ≡ None → Progress k a (find (λ q. is_running q.result) rows) → Progress k a (find (λ q. is_running q.result) (rows ++ r ∷ []))
@@ -291,19 +237,13 @@ on_starts k q st h =
     less a b m e l = omega arith
 
 pub changed_number : (b : Bool) (f : SetRow → SetRow) (r : SetRow) → (f r).number ≡ r.number → (if b then f r else r).number ≡ r.number
-changed_number true f r e = e
-changed_number false f r e = refl
+changed_number b f r e = grind arith
 
 pub changed_result : (b : Bool) (f : SetRow → SetRow) (r : SetRow) → (f r).result ≡ r.result → (if b then f r else r).result ≡ r.result
-changed_result true f r e = e
-changed_result false f r e = refl
+changed_result b f r e = grind arith
 
 rows_change : (k : Known) (f : SetRow → SetRow) → ((r : SetRow) → (f r).number ≡ r.number) → ((r : SetRow) → (f r).result ≡ r.result) → (st : State) → IsCut k st → IsCut k (record st { sets = map f st.sets })
-rows_change k f number result st h = record {
-  shown = h.shown;
-  progress = subst (Progress k st.course.agenda) (sym (find-map f (λ r. ap is_running (result r)) st.sets)) (progress_same k st.course.agenda f number (in_progress st) h.progress);
-  fresh = fresh_length k (length (map f st.sets)) (length st.sets) (length-map f st.sets) h.fresh;
-}
+rows_change k f number result st h = grind (arith, find-map, progress_same, fresh_length, length-map)
 
 on_adds : (k : Known) (v n : ℕ) (st : State) → IsCut k st → IsCut k (change_set n (with_volume v) st)
 on_adds k v n st h =
@@ -317,26 +257,11 @@ shown_released k NasRollback set hs h = h
 
 on_closed : (k : Known) (q : Session) (x : State) → in_progress x ≡ None → IsCut k x → IsCut k (closed q x)
 unfolding closed released
-on_closed k q x e h = record {
-  shown = shown_released k q.context q.set x.volumes h.shown;
-  progress = subst (Progress k None) (sym e) tt;
-  fresh = h.fresh;
-}
+on_closed k q x e h = grind (arith, shown_released)
 
 on_puts : (k : Known) (v : ℕ) (w : Write) (mark : Mark) (x : State) → IsCut k x → IsCut k (put v w mark x)
 on_puts k v w Clean x h = with_volumes k _ x (all-change_at k (written w) v 0 x.volumes (λ u y e g. shown-written w k u y g) h.shown) h
 on_puts k v w _ x h = h
-
--- a kept image has the point of its set
-kept_at_parts : (r : SetRow) (o : Option ℕ) (x : Kept) → kept_at r o ≡ Some x → (r ≡ x.row) × (o ≡ Some x.point)
-kept_at_parts r None x e = absurd cc
-kept_at_parts r (Some p) x e =
-    let same : (record { row = r; point = p }) ≡ x = cc in
-    (ap (λ (y : Kept). y.row) same, ap (λ (y : Kept). Some y.point) same)
-
-kept_if_parts : (b : Bool) (r : SetRow) (o : Option ℕ) (x : Kept) → kept_if b r o ≡ Some x → (r ≡ x.row) × (o ≡ Some x.point)
-kept_if_parts true r o x e = kept_at_parts r o x e
-kept_if_parts false r o x e = absurd cc
 
 pub row_number : (n : ℕ) (rows : List SetRow) (r : SetRow) → find (λ q. q.number == n) rows ≡ Some r → r.number ≡ n
 row_number n [] r e = absurd cc
@@ -347,10 +272,7 @@ row_number n (q ∷ rows) r e = head_if (q.number == n) refl e (row_number n row
     head_if false f g ih = ih g
 
 pub kept_point : (n : ℕ) (o : Option SetRow) (p : Option ℕ) (x : Kept) → ((r : SetRow) → o ≡ Some r → r.number ≡ n) → kept_of o p ≡ Some x → (x.row.number ≡ n) × (p ≡ Some x.point)
-kept_point n None p x number e = absurd cc
-kept_point n (Some r) p x number e =
-    let parts = kept_if_parts (is_complete r.result) r p x e in
-    (ap (λ (y : SetRow). y.number) (sym parts.0) ∙ number r refl, parts.1)
+kept_point n o p x number e = grind arith
 
 on_reverts : (k : Known) (s : Plan) (n v : ℕ) (x : Kept) (mark : Mark) (st : State) → kept_image st n v ≡ Some x → IsCut k st → IsCut k (reverted_as s v x mark st).1
 on_reverts k s n v x Clean st e h =
@@ -385,10 +307,7 @@ kept_but_steps k = record {
 }
 
 kept_by_writes : (k : Known) (st : State) → IsKeptByWrites (IsCut k) st
-kept_by_writes k st = record {
-  puts = λ v e w mark x h. on_puts k v w mark x h;
-  reverts = λ s n v x mark e f h. on_reverts k s n v x mark st e h;
-}
+kept_by_writes k st = grind (arith, on_puts, on_reverts)
 
 -- ## the Cut step
 
@@ -406,19 +325,10 @@ next_known k st act n = or_else (k n) (now_if (is_cut_of n st act) st.volumes)
 
 -- more is known, and as before where nothing more is
 know_more : (k l : Known) (st : State) → ((n : ℕ) → k n ≡ l n) → IsCut k st → IsCut l st
-know_more k l st same h = record {
-  shown = all_along k l (λ n hs e. sym (same n) ∙ e) 0 st.volumes h.shown;
-  progress = along (in_progress st) h.progress;
-  fresh = λ n e. sym (same n) ∙ h.fresh n e;
-}
-  where
-    along : (o : Option SetRow) → Progress k st.course.agenda o → Progress l st.course.agenda o
-    along None g = tt
-    along (Some r) g = subst (λ x. MadeIn x st.course.agenda) (same r.number) g
+know_more k l st same h = grind arith
 
 or_none : (o : Option (List History)) → o ≡ or_else o None
-or_none None = refl
-or_none (Some hs) = refl
+or_none o = grind arith
 
 not_cut_now : (k : Known) (st : State) (act : Act) (n : ℕ) → (is_cut_of n st act ≡ false) → k n ≡ next_known k st act n
 not_cut_now k st act n e = or_none (k n) ∙ ap (λ b. or_else (k n) (now_if b st.volumes)) (sym e)
@@ -444,8 +354,7 @@ newest_number m (q ∷ p ∷ rows) r h o e =
 -- ## the images of the cut
 
 shown_cut_if : (b : Bool) (k : Known) (v n : ℕ) (hs : List History) (x : History) → k n ≡ Some hs → writes_at hs v ≡ x.writes → IsShown k v x → (IsShown k v x → b ≡ true → IsShown k v (history_cut_if true n x)) → IsShown k v (history_cut_if b n x)
-shown_cut_if true k v n hs x e f h cuts = cuts h refl
-shown_cut_if false k v n hs x e f h cuts = h
+shown_cut_if b k v n hs x e f h cuts = grind arith
 
 -- k is what was known, l has the set that is cut now
 shown_cut_each : (k l : Known) (n : ℕ) (vs : List ℕ) (all : List History) (v : ℕ) (hs : List History) → ((m : ℕ) → n ≤ m → k m ≡ None) → ((m : ℕ) (xs : List History) → k m ≡ Some xs → l m ≡ Some xs) → l n ≡ Some all
@@ -467,14 +376,7 @@ shown_cut_each k l n vs all v (x ∷ hs) none more e at h =
 -- ## what the Cut step says
 
 cut_says : (now : ℕ) (a : Agenda) → a.kind ≡ Snapshot → IsAtCut a → is_cut_made (all_say Ok now (next_member (groups_left a) ∷ []) a).log ≡ true
-cut_says now a e c =
-    let group : groups_left a ≡ cut_group ∷ left_from a later_places = ap (λ k. left_from a (places k)) e ∙ cut_is_open a c in
-    subst (λ os. is_cut_made (a.log ++ map (at_place (open_at os) Ok now) (next_member os ∷ [])) ≡ true) (sym group)
-    (list_any-append (λ (x : Entry). same_place x.place (plain Cut) && (x.who == 0)) a.log (at_place (plain Cut) Ok now 0 ∷ []) ∙ last (is_cut_made a.log))
-  where
-    last : (b : Bool) → (b || true) ≡ true
-    last true = refl
-    last false = refl
+cut_says now a e c = grind (arith, cut_is_open, list_any-append)
 
 abbrev SaysCut : Option Agenda → Type 0
 SaysCut None = Unit {0}
@@ -482,16 +384,10 @@ SaysCut (Some b) = (is_snapshot b.kind ≡ true) × (is_cut_made b.log ≡ true)
 
 says_worked : (now : ℕ) (c : Course) (a : Agenda) → c.agenda ≡ Some a → a.kind ≡ Snapshot → IsAtCut a → SaysCut (worked now c).agenda
 unfolding worked
-says_worked now c a e f g =
-    subst (λ o. SaysCut (option_map (all_say Ok now (next_member (left o) ∷ [])) o)) (sym e) (ap is_snapshot f, cut_says now a f g)
-
-says_settled_if : (done : Bool) (k : Kind) (c : Course) → SaysCut c.agenda → SaysCut (settled_if done k c).agenda
-says_settled_if true k c h = tt
-says_settled_if false k c h = h
+says_worked now c a e f g = grind (arith, cut_says)
 
 says_settled_in : (a : Option Agenda) (c : Course) → SaysCut c.agenda → SaysCut (settled_in a c).agenda
-says_settled_in None c h = h
-says_settled_in (Some a) c h = says_settled_if (is_done (groups_left a)) a.kind c h
+says_settled_in a c h = grind arith
 
 says_settled : (c : Course) → SaysCut c.agenda → SaysCut (settled c).agenda
 unfolding settled
@@ -505,13 +401,7 @@ says_stepped : (now : ℕ) (c : Course) (a : Agenda) → c.agenda ≡ Some a →
 says_stepped now c a e f g = says_posted c _ (says_settled (worked now c) (says_worked now c a e f g))
 
 says_from : (k : Known) (b : Option Agenda) (o : Option SetRow) → SaysCut b → GoesFrom k b o
-says_from k None o h = tt
-says_from k (Some b) None h = tt
-says_from k (Some b) (Some r) h = made (k r.number)
-  where
-    made : (x : Option (List History)) → MadeIn x (Some b)
-    made None = tt
-    made (Some hs) = h
+says_from k b o h = grind arith
 
 -- ## the state after the Cut step
 
@@ -520,64 +410,28 @@ record IsNewest (k : Known) (st : State) (r : SetRow) : Type 0 where
   none : (m : ℕ) → r.number ≤ m → k m ≡ None
 
 made_not : (o : Option (List History)) (a : Agenda) → is_cut_made a.log ≡ false → MadeIn o (Some a) → o ≡ None
-made_not None a e h = refl
-made_not (Some hs) a e h = absurd (true_not_false (is_cut_made a.log) h.1 e)
+made_not o a e h = grind arith
 
 newest : (k : Known) (st : State) (r : SetRow) → CutsNow st → in_progress st ≡ Some r → IsOrderly st → IsCut k st → IsNewest k st r
-newest k st r c e o h = record { number = number; none = λ m l. by_cases (nat_lt (length st.sets) m) m refl l }
-  where
-    equal_of : (a b : ℕ) → a + 1 ≡ 1 + b → a ≡ b
-    equal_of a b e = omega arith
-
-    number : r.number ≡ length st.sets
-    number = equal_of r.number (length st.sets) (newest_number 1 st.sets r o.numbered o.newest e)
-
-    own : k r.number ≡ None
-    own =
-        made_not (k r.number) c.agenda c.at.cut
-        (subst (λ x. Progress k (Some c.agenda) x) e (subst (λ a. Progress k a (in_progress st)) c.runs h.progress))
-
-    same : (a b m : ℕ) → a ≡ b → nat_lt b m ≡ false → a ≤ m → a ≡ m
-    same a b m e f l = grind arith
-
-    by_cases : (b : Bool) (m : ℕ) → nat_lt (length st.sets) m ≡ b → r.number ≤ m → k m ≡ None
-    by_cases true m f l = h.fresh m (ltb-true (length st.sets) m f)
-    by_cases false m f l = subst (λ x. k x ≡ None) (same r.number (length st.sets) m number f l) own
+newest k st r c e o h = grind (arith, newest_number, made_not, ltb-true)
 
 pub all_three : (a b c : Bool) → a ≡ true → b ≡ true → c ≡ true → (a && b && c) ≡ true
-all_three true true true e f g = refl
-all_three true true false e f g = absurd cc
-all_three true false c e f g = absurd cc
-all_three false b c e f g = absurd cc
-
-last_not : (a b c : Bool) → c ≡ false → (a && b && c) ≡ false
-last_not true true c e = e
-last_not true false c e = refl
-last_not false b c e = refl
+all_three a b c e f g = grind arith
 
 cut_now : (k : Known) (st : State) (act : Act) (r : SetRow) → is_provider act.event ≡ true → is_cut_group (open_group (left_now st)) ≡ true → in_progress st ≡ Some r → k r.number ≡ None → next_known k st act r.number ≡ Some st.volumes
-cut_now k st act r e f g h =
-    ap (λ o. or_else o (now_if (is_cut_of r.number st act) st.volumes)) h
-    ∙ ap (λ b. now_if b st.volumes) (all_three (is_provider act.event) (is_cut_group (open_group (left_now st))) (is_set r.number (in_progress st)) e f (ap (is_set r.number) g ∙ eq-eqb r.number r.number refl))
+cut_now k st act r e f g h = grind arith
 
 known_stays : (k : Known) (st : State) (act : Act) (m : ℕ) (hs : List History) → k m ≡ Some hs → next_known k st act m ≡ Some hs
 known_stays k st act m hs e = ap (λ o. or_else o (now_if (is_cut_of m st act) st.volumes)) e
 
 later_unknown : (k : Known) (st : State) (act : Act) (r : SetRow) (m : ℕ) → in_progress st ≡ Some r → r.number < m → k m ≡ None → next_known k st act m ≡ None
-later_unknown k st act r m e l f =
-    ap (λ o. or_else o (now_if (is_cut_of m st act) st.volumes)) f
-    ∙ ap (λ b. now_if b st.volumes) (last_not (is_provider act.event) (is_cut_group (open_group (left_now st))) (is_set m (in_progress st)) (ap (is_set m) e ∙ apart r.number m l))
+later_unknown k st act r m e l f = grind arith
 
 idle_none : (k : Known) (a : Option Agenda) (b : Agenda) (o : Option SetRow) → a ≡ Some b → IdleProgress k a o
-idle_none k None b o e = absurd cc
-idle_none k (Some a) b o e = tt
+idle_none k a b o e = grind arith
 
 plain_none : (k : Known) (a : Option Agenda) (b : Agenda) (o : Option SetRow) → a ≡ Some b → b.kind ≡ Snapshot → PlainUncut k a o
-plain_none k None b o e f = absurd cc
-plain_none k (Some a) b o e f = λ g. absurd (true_not_false (is_snapshot a.kind) (ap is_snapshot (kind_of e ∙ f)) g)
-  where
-    kind_of : Some a ≡ Some b → a.kind ≡ b.kind
-    kind_of e = let same : a ≡ b = cc in ap (λ (x : Agenda). x.kind) same
+plain_none k a b o e f = grind arith
 
 on_cut : (k : Known) (act : Act) (st : State) (r : SetRow) → is_provider act.event ≡ true → is_cut_group (open_group (left_now st)) ≡ true → is_working (left_now st) ≡ true → CutsNow st → in_progress st ≡ Some r → IsOrderly st → IsCut k st
     → IsCut (next_known k st act) (followed (runs st) (course_stepped true st.clock st.course) (cut_set (Some r) st))
@@ -616,9 +470,7 @@ on_steps k mark st e w h = on_stepped_as k (is_failed_step (is_flush (open_group
 -- ## every act
 
 parts_not : (a b c : Bool) → (a && b) ≡ false → (a && b && c) ≡ false
-parts_not true true c e = absurd cc
-parts_not true false c e = refl
-parts_not false b c e = refl
+parts_not a b c e = grind arith
 
 on_act_if : (b : Bool) (s : Plan) (past : List Act) (act : Act) (k : Known) → (is_provider act.event && is_cut_group (open_group (left_now (state s past)))) ≡ b → IsCut k (state s past) → IsCut (next_known k (state s past) act) (after s (state s past) act)
 on_act_if false s past act k e h =
@@ -656,9 +508,7 @@ abbrev pub volumes_then : Plan → Option (List Act) → Option (List History)
 volumes_then s o = option_map (λ before. (state s before).volumes) o
 
 known_step : (s : Plan) (o : Option (List History)) (b : Bool) (past : List Act) (later : Option (List Act)) → or_else (or_else o (now_if b (state s past).volumes)) (volumes_then s later) ≡ or_else o (volumes_then s (cut_if b past later))
-known_step s None true past later = refl
-known_step s None false past later = refl
-known_step s (Some hs) b past later = refl
+known_step s o b past later = grind arith
 
 known_is : (s : Plan) (past : List Act) (k : Known) (n : ℕ) (acts : List Act) → known_from s k (state s past) acts n ≡ or_else (k n) (volumes_then s (cut_from s n past (state s past) acts))
 known_is s past k n [] = or_none (k n)
@@ -706,9 +556,7 @@ not_cut_yet s acts r c e =
     none_then (Some acts) f = absurd cc
 
 shown_by : (s : Plan) (v p : ℕ) (ws : List Write) (o : Option (List Act)) → ShownIn (volumes_then s o) v p ws → IsShownAt s v p ws o
-shown_by s v p ws None h = absurd h
-shown_by s v p ws (Some before) h =
-    (h.0, ap (take p) h.1.is ∙ ap (λ n. take n (writes_at (state s before).volumes v ++ h.1.rest)) (sym h.0) ∙ take-append_seam (writes_at (state s before).volumes v) h.1.rest)
+shown_by s v p ws o h = grind (arith, take-append_seam)
 
 -- an image shows its volume at its set's cut
 pub image_shown : (s : Plan) (acts : List Act) (n v p : ℕ) → point_in n (history_of (state s acts) v).images ≡ Some p → IsShownAt s v p (history_of (state s acts) v).writes (cut s n acts)
@@ -726,12 +574,7 @@ image_shown s acts n v p e =
 
 cut_at_if : (b : Bool) (s : Plan) (n : ℕ) (past before : List Act) (act : Act) (later : Option (List Act)) → is_cut_of n (state s past) act ≡ b → cut_if b past later ≡ Some before
     → (later ≡ Some before → IsCutAt s n before) → IsCutAt s n before
-cut_at_if true s n past before act later e f ih =
-    let same : past ≡ before = cc in
-    let one = both (is_provider act.event && is_cut_group (open_group (left_now (state s past)))) (is_set n (in_progress (state s past))) e in
-    let two = both (is_provider act.event) (is_cut_group (open_group (left_now (state s past)))) one.0 in
-    subst (IsCutAt s n) same (record { step = two.1; set = one.1 })
-cut_at_if false s n past before act later e f ih = ih f
+cut_at_if b s n past before act later e f ih = grind (arith, both)
 
 cut_at_from : (s : Plan) (n : ℕ) (past before : List Act) (acts : List Act) → cut_from s n past (state s past) acts ≡ Some before → IsCutAt s n before
 cut_at_from s n past before [] e = absurd cc
@@ -745,8 +588,7 @@ cut_is_at s n acts before e = cut_at_from s n [] before acts e
 -- ## images in time
 
 later_of : (i : Image) (js : List Image) → Above i js → AreLater i js
-later_of i [] h = tt
-later_of i (j ∷ js) h = (h.0, h.1, later_of i js h.2)
+later_of i js h = grind arith
 
 in_time : (k : Known) (v : ℕ) (ws : List Write) (images : List Image) → Shown k v ws images → AreInTime (length ws) images
 in_time k v ws [] h = tt
@@ -768,12 +610,7 @@ all_taken ws = ap (take (length ws)) (append_none ws) ∙ take-append_seam ws []
 
 reads_at : (s : Plan) (v p b : ℕ) (ws : List Write) (o : Option (List Act)) (before : List Act) → o ≡ Some before → IsShownAt s v p ws o
     → content ws p b ≡ content (history_of (state s before) v).writes (length (history_of (state s before) v).writes) b
-reads_at s v p b ws None before e h = absurd h
-reads_at s v p b ws (Some x) before e h =
-    let same : x ≡ before = cc in
-    let old : List Act → List Write = λ y. (history_of (state s y) v).writes in
-    ap (last_bytes b zeros) (h.1 ∙ sym (all_taken (old x)))
-    ∙ ap (λ y. content (old y) (length (old y)) b) same
+reads_at s v p b ws o before e h = grind (arith, all_taken)
 
 pub image_reads : (s : Plan) (acts before : List Act) (n v p b : ℕ) → point_in n (history_of (state s acts) v).images ≡ Some p → cut s n acts ≡ Some before
     → content (history_of (state s acts) v).writes p b ≡ content (history_of (state s before) v).writes (length (history_of (state s before) v).writes) b

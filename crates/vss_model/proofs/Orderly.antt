@@ -1,7 +1,6 @@
 -- The facts that every act keeps together.
 use Rattle.std.proofs.Common.{◌≡◌, ℕ, ◌+◌, ◌==◌, zero, suc, List, [], ◌∷◌, ◌++◌, Option, Some, None, refl, Bool, true, false, map, filter, ap, sym, ◌∙◌, subst, find, length, arith}
 use Rattle.std.specs.Prelude.{option_map, ◌&&◌, ◌||◌, not, if◌then◌else◌}
-use Rattle.std.proofs.lemmas.Bool.{or_right}
 use Rattle.vss_names.specs.declared.set_outcome.SetOutcome.{SetOutcome}
 use Rattle.vss_names.specs.declared.set_outcome.SetOutcome.TheVariants.{Running}
 use Rattle.write_history.specs.History.{Image, History, dropped, without_set}
@@ -9,11 +8,9 @@ use Rattle.set_agenda.specs.Course.{change_at}
 use Rattle.vss_model.specs.State.{SetRow, is_running}
 use Rattle.vss_model.specs.Ending.{row_settled, images_dropped}
 use Rattle.vss_model.specs.Facts.{NumberedFrom, OverButNewest, has_failed, is_live, AreLive, AllLive}
-use Rattle.vss_model.proofs.ByEvent.{some_same}
 
 pub true_not_false : (b : Bool) → b ≡ true → b ≡ false → ⊥
-true_not_false true e f = cc
-true_not_false false e f = cc
+true_not_false b e f = grind arith
 
 -- ## rows that keep their numbers and results
 
@@ -28,16 +25,12 @@ numbered-map f same n [] h = tt
 numbered-map f same n (r ∷ rows) h = (same r ∙ h.0, numbered-map f same (n + 1) rows h.1)
 
 pub newest-map : (f : SetRow → SetRow) → IsSameRow f → (rows : List SetRow) → OverButNewest rows → OverButNewest (map f rows)
-newest-map f same [] h = tt
-newest-map f same (r ∷ []) h = tt
 newest-map f same (r ∷ q ∷ rows) h = (same.running r ∙ h.0, newest-map f same (q ∷ rows) h.1)
+newest-map f same _ h = tt
 
 -- the head of a search, by what the test says
 find_head : (b c : Bool) (x y : SetRow) (found other : Option SetRow) (f : SetRow → SetRow) → c ≡ b → y ≡ f x → other ≡ option_map f found → (if c then Some y else other) ≡ option_map f (if b then Some x else found)
-find_head true true x y found other f e g h = ap (λ z. Some z) g
-find_head false false x y found other f e g h = h
-find_head true false x y found other f e g h = absurd cc
-find_head false true x y found other f e g h = absurd cc
+find_head b c x y found other f e g h = grind arith
 
 pub find-map : (f : SetRow → SetRow) → ((r : SetRow) → is_running (f r).result ≡ is_running r.result) → (rows : List SetRow) → find (λ r. is_running r.result) (map f rows) ≡ option_map f (find (λ r. is_running r.result) rows)
 find-map f same [] = refl
@@ -61,8 +54,7 @@ all_live_along rows new keeps [] h = tt
 all_live_along rows new keeps (x ∷ hs) h = (are_live_along rows new keeps x.images h.0, all_live_along rows new keeps hs h.1)
 
 live_if : (b : Bool) (rows : List SetRow) (i : Image) (images : List Image) → is_live rows i.set ≡ true → AreLive rows images → AreLive rows (if b then i ∷ images else images)
-live_if true rows i images e h = (e, h)
-live_if false rows i images e h = h
+live_if b rows i images e h = grind arith
 
 -- fewer images
 pub live-filter : (test : Image → Bool) (rows : List SetRow) (images : List Image) → AreLive rows images → AreLive rows (filter test images)
@@ -86,28 +78,23 @@ all_live-change_at f rows keeps (suc v) (x ∷ hs) h = (h.0, all_live-change_at 
 -- ## a set that ends
 
 number-settled_if : (b : Bool) (p : SetOutcome) (r : SetRow) → (if b then record r { result = p } else r).number ≡ r.number
-number-settled_if true p r = refl
-number-settled_if false p r = refl
+number-settled_if b p r = grind arith
 
 pub numbered-settled : (p : SetOutcome) (n : ℕ) (rows : List SetRow) → NumberedFrom n rows → NumberedFrom n (map (row_settled p) rows)
 numbered-settled p n rows h = numbered-map (row_settled p) (λ r. number-settled_if (is_running r.result) p r) n rows h
 
 over_stays : (b : Bool) (p : SetOutcome) (r : SetRow) → is_running r.result ≡ b → b ≡ false → is_running (if b then record r { result = p } else r).result ≡ false
-over_stays true p r e f = absurd cc
-over_stays false p r e f = e
+over_stays b p r e f = grind arith
 
 pub newest-settled : (p : SetOutcome) (rows : List SetRow) → OverButNewest rows → OverButNewest (map (row_settled p) rows)
-newest-settled p [] h = tt
-newest-settled p (r ∷ []) h = tt
 newest-settled p (r ∷ q ∷ rows) h = (over_stays (is_running r.result) p r refl h.0, newest-settled p (q ∷ rows) h.1)
+newest-settled p _ h = tt
 
 settled_over : (b : Bool) (p : SetOutcome) (r : SetRow) → is_running p ≡ false → is_running r.result ≡ b → is_running (if b then record r { result = p } else r).result ≡ false
-settled_over true p r e f = e
-settled_over false p r e f = f
+settled_over b p r e f = grind arith
 
 none_if : (c : Bool) (x : SetRow) (other : Option SetRow) → c ≡ false → other ≡ None → (if c then Some x else other) ≡ None
-none_if true x other e h = absurd cc
-none_if false x other e h = h
+none_if c x other e h = grind arith
 
 -- where the outcome is no longer Running, no set is in progress any more
 pub find-settled_over : (p : SetOutcome) → is_running p ≡ false → (rows : List SetRow) → find (λ r. is_running r.result) (map (row_settled p) rows) ≡ None
@@ -119,8 +106,7 @@ abbrev with_result : SetOutcome → SetRow → SetRow
 with_result p r = record r { result = p }
 
 running_step : (b : Bool) (r : SetRow) (found other : Option SetRow) → is_running r.result ≡ b → other ≡ option_map (with_result Running) found → (if is_running (if b then record r { result = Running } else r).result then Some (if b then record r { result = Running } else r) else other) ≡ option_map (with_result Running) (if b then Some r else found)
-running_step true r found other e h = refl
-running_step false r found other e h = rw e h
+running_step b r found other e h = grind arith
 
 -- where it still is, the set in progress is the same
 pub find-settled_running : (rows : List SetRow) → find (λ r. is_running r.result) (map (row_settled Running) rows) ≡ option_map (with_result Running) (find (λ r. is_running r.result) rows)
@@ -128,18 +114,10 @@ find-settled_running [] = refl
 find-settled_running (r ∷ rows) = running_step (is_running r.result) r _ _ refl (find-settled_running rows)
 
 live_settled_if : (b : Bool) (p : SetOutcome) (r : SetRow) (n : ℕ) → has_failed p ≡ false → (r.number == n && not (has_failed r.result)) ≡ true → ((if b then record r { result = p } else r).number == n && not (has_failed (if b then record r { result = p } else r).result)) ≡ true
-live_settled_if false p r n e h = h
-live_settled_if true p r n e h = first_and (r.number == n) (has_failed r.result) (has_failed p) e h
-  where
-    first_and : (a b c : Bool) → c ≡ false → (a && not b) ≡ true → (a && not c) ≡ true
-    first_and true b true e h = absurd cc
-    first_and true b false e h = refl
-    first_and false b c e h = absurd cc
+live_settled_if b p r n e h = grind arith
 
 or_both : (a b c d : Bool) → (a ≡ true → c ≡ true) → (b ≡ true → d ≡ true) → (a || b) ≡ true → (c || d) ≡ true
-or_both true b c d f g h = rw (f refl) refl
-or_both false b true d f g h = refl
-or_both false b false d f g h = g h
+or_both a b c d f g h = grind arith
 
 -- a set that has not failed stays live where the set in progress does not fail
 pub live-settled : (p : SetOutcome) → has_failed p ≡ false → (rows : List SetRow) (n : ℕ) → is_live rows n ≡ true → is_live (map (row_settled p) rows) n ≡ true
@@ -168,8 +146,7 @@ live_fails_at true p r [] n e o other ih h = absurd (true_not_false _ h (no_head
 live_fails_at true p r (q ∷ rows) n e o other ih h = absurd (true_not_false _ e o.0)
 
 over_rest : (r : SetRow) (rows : List SetRow) → OverButNewest (r ∷ rows) → OverButNewest rows
-over_rest r [] o = tt
-over_rest r (q ∷ rows) o = o.1
+over_rest r rows o = grind arith
 
 pub live-fails : (p : SetOutcome) (rows : List SetRow) (n : ℕ) → OverButNewest rows → IsOther n (find (λ r. is_running r.result) rows) → is_live rows n ≡ true → is_live (map (row_settled p) rows) n ≡ true
 live-fails p [] n o other h = h
@@ -181,8 +158,7 @@ pub other_way : (a b : ℕ) → (a == b) ≡ false → (b == a) ≡ false
 other_way a b f = grind arith
 
 kept_where_other : (b : Bool) (new : List SetRow) (i : Image) (images : List Image) → (b ≡ false → is_live new i.set ≡ true) → AreLive new images → AreLive new (if not b then i ∷ images else images)
-kept_where_other true new i images head tail = tail
-kept_where_other false new i images head tail = (head refl, tail)
+kept_where_other b new i images head tail = grind arith
 
 are_live_without : (p : SetOutcome) (rows : List SetRow) (q : SetRow) → OverButNewest rows → find (λ r. is_running r.result) rows ≡ Some q → (images : List Image) → AreLive rows images → AreLive (map (row_settled p) rows) (without_set q.number images)
 are_live_without p rows q o e [] h = tt
@@ -209,12 +185,10 @@ numbered-append n [] r h e = (e ∙ omega arith, tt)
 numbered-append n (q ∷ rows) r h e = (h.0, numbered-append (n + 1) rows r h.1 (e ∙ omega arith))
 
 pub none_head : (b : Bool) (x : SetRow) (other : Option SetRow) → (if b then Some x else other) ≡ None → b ≡ false
-none_head true x other e = absurd cc
-none_head false x other e = refl
+none_head b x other e = grind arith
 
 pub none_tail : (b : Bool) (x : SetRow) (other : Option SetRow) → (if b then Some x else other) ≡ None → other ≡ None
-none_tail true x other e = absurd cc
-none_tail false x other e = e
+none_tail b x other e = grind arith
 
 pub newest-append : (rows : List SetRow) (r : SetRow) → find (λ q. is_running q.result) rows ≡ None → OverButNewest (rows ++ r ∷ [])
 newest-append [] r e = tt
@@ -222,8 +196,7 @@ newest-append (q ∷ []) r e = (none_head (is_running q.result) q _ e, tt)
 newest-append (q ∷ x ∷ rows) r e = (none_head (is_running q.result) q _ e, newest-append (x ∷ rows) r (none_tail (is_running q.result) q _ e))
 
 append_if : (b : Bool) (q r : SetRow) (found other : Option SetRow) → (if b then Some q else found) ≡ None → other ≡ Some r → (if b then Some q else other) ≡ Some r
-append_if true q r found other e h = absurd cc
-append_if false q r found other e h = h
+append_if b q r found other e h = grind arith
 
 pub find-append_new : (rows : List SetRow) (r : SetRow) → find (λ q. is_running q.result) rows ≡ None → is_running r.result ≡ true → find (λ q. is_running q.result) (rows ++ r ∷ []) ≡ Some r
 find-append_new [] r e f = rw f refl
@@ -236,20 +209,8 @@ live_append (q ∷ rows) r n h = or_both (q.number == n && not (has_failed q.res
 pub all_live-append : (rows : List SetRow) (r : SetRow) (hs : List History) → AllLive rows hs → AllLive (rows ++ r ∷ []) hs
 all_live-append rows r hs h = all_live_along rows (rows ++ r ∷ []) (λ n g. live_append rows r n g) hs h
 
--- the set in progress is live
-pub running_is_live : (o : SetOutcome) → is_running o ≡ true → has_failed o ≡ false
-running_is_live Running e = refl
-running_is_live _ e = absurd cc
-
 live_found_if : (b : Bool) (q r : SetRow) (rows : List SetRow) → is_running q.result ≡ b → (if b then Some q else find (λ x. is_running x.result) rows) ≡ Some r → (find (λ x. is_running x.result) rows ≡ Some r → is_live rows r.number ≡ true) → ((q.number == r.number && not (has_failed q.result)) || is_live rows r.number) ≡ true
-live_found_if true q r rows f e ih =
-    let same : q ≡ r = some_same q r e in
-    let Q : SetRow → Type 0 = λ x. ((q.number == x.number && not (has_failed q.result)) || is_live rows x.number) ≡ true in
-    subst Q same (rw (running_is_live q.result f) (own q.number (is_live rows q.number)))
-  where
-    own : (n : ℕ) (b : Bool) → ((n == n && not false) || b) ≡ true
-    own n b = grind arith
-live_found_if false q r rows f e ih = or_right (q.number == r.number && not (has_failed q.result)) _ (ih e)
+live_found_if b q r rows f e ih = grind arith
 
 pub live_found : (rows : List SetRow) (r : SetRow) → find (λ q. is_running q.result) rows ≡ Some r → is_live rows r.number ≡ true
 live_found [] r e = absurd cc

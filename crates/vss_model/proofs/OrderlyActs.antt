@@ -1,7 +1,8 @@
 -- Every act keeps the state orderly.
-use Rattle.std.proofs.Common.{◌≡◌, ℕ, ◌+◌, ◌==◌, List, [], ◌∷◌, Option, Some, None, refl, Bool, true, false, map, ap, sym, ◌∙◌, subst, find, fold, inl, inr, length}
-use Rattle.std.specs.Prelude.{option_map, is_some, ◌⊎◌, not, if◌then◌else◌, nat_lt}
+use Rattle.std.proofs.Common.{◌≡◌, ℕ, ◌+◌, ◌==◌, List, [], ◌∷◌, Option, Some, None, refl, Bool, true, false, map, ap, sym, subst, find, fold, inl, inr, length}
+use Rattle.std.specs.Prelude.{option_map, is_some, ◌⊎◌, not, if◌then◌else◌}
 use Rattle.std.proofs.lemmas.Bool.{and_parts}
+use Rattle.std.proofs.Common.{arith}
 use Rattle.vss_names.specs.declared.context.Context.{Context}
 use Rattle.vss_names.specs.declared.context.Context.TheVariants.{Backup, AppRollback, NasRollback}
 use Rattle.vss_names.specs.declared.order.Order.{Order}
@@ -12,11 +13,10 @@ use Rattle.vss_names.specs.declared.set_outcome.SetOutcome.TheVariants.{Running,
 use Rattle.writer_state.specs.declared.said.Said.{Said}
 use Rattle.writer_state.specs.declared.said.Said.TheVariants.{Ok}
 use Rattle.write_history.specs.declared.mark.Mark.{Mark}
-use Rattle.write_history.specs.declared.mark.Mark.TheVariants.{Clean, Fault, FaultAfter}
-use Rattle.write_history.specs.History.{Write, History, fresh, written, dropped, reverted, after_set}
+use Rattle.write_history.specs.History.{Write, History, fresh, dropped, after_set}
 use Rattle.write_history.specs.Slots.{Placed, gone_up_to}
 use Rattle.set_agenda.specs.declared.group.Group.{Group}
-use Rattle.set_agenda.specs.declared.group.Group.TheVariants.{Orders, PreCommit, Flush, Hold, Cut, Commit, Release, PostCommit}
+use Rattle.set_agenda.specs.declared.group.Group.TheVariants.{Cut}
 use Rattle.set_agenda.specs.declared.kind.Kind.{Kind}
 use Rattle.set_agenda.specs.declared.kind.Kind.TheVariants.{Gather, Prepare, Snapshot, Complete}
 use Rattle.set_agenda.specs.declared.member.Member.{Member}
@@ -36,7 +36,7 @@ use Rattle.vss_model.specs.Sessions.{begin_in, has_no_volume, start_set, new_set
 use Rattle.vss_model.specs.Steps.{answered, with_cut, row_cut, cut_if, cut_each, cut_set, step_made, is_flush, is_failed_step, stepped_as, stepped, ticked, later}
 use Rattle.vss_model.specs.Acts.{Act, after, state}
 use Rattle.vss_model.specs.Laws.{IsKeptByChanges, IsKeptByWrites, LetsGo}
-use Rattle.vss_model.specs.Facts.{is_early, IsOfStage, IsOfNone, IsOfSession, snapshot_stage, WaitsFor, IsAgendaOf, has_failed, is_live, AreLive, AllLive, IsOrderly}
+use Rattle.vss_model.specs.Facts.{is_early, IsOfStage, IsOfSession, snapshot_stage, WaitsFor, IsAgendaOf, has_failed, is_live, AreLive, AllLive, IsOrderly}
 use Rattle.set_agenda.proofs.CourseRule.{IsKeptFrom, from_answered, from_stepped, from_timed}
 use Rattle.vss_model.proofs.Rows.{none_runs}
 use Rattle.vss_model.proofs.Rule.{on_after}
@@ -59,12 +59,10 @@ abbrev pub MovesOn : Course → Course → Type 0
 MovesOn c d = Moves c.agenda c.outcome d.agenda d.outcome
 
 moves_same : (a : Option Agenda) (o : SetOutcome) → Moves a o a o
-moves_same None o = refl
-moves_same (Some a) o = (refl, refl)
+moves_same a o = grind arith
 
 moves_said : (said : Said) (now : ℕ) (ws : List ℕ) (a : Option Agenda) (o : SetOutcome) → Moves a o (option_map (all_say said now ws) a) o
-moves_said said now ws None o = refl
-moves_said said now ws (Some a) o = (refl, refl)
+moves_said said now ws a o = grind arith
 
 moves_told : (o : Order) (said : Said) (now : ℕ) (ws : List ℕ) (c : Course) → MovesOn c (told o said now ws c)
 unfolding told
@@ -76,16 +74,14 @@ moves_worked now c = moves_said Ok now (next_member (left c.agenda) ∷ []) c.ag
 
 moves_failed : (why : VssResult) (a : Option Agenda) (o : SetOutcome) (d : Course) → is_some a ≡ true → Moves a o (course_failed why d).agenda (course_failed why d).outcome
 unfolding course_failed
-moves_failed why None o d e = absurd cc
-moves_failed why (Some a) o d e = inr refl
+moves_failed why a o d e = grind arith
 
 moves_posted : (before c d : Course) → MovesOn c d → MovesOn c (posted before d)
 unfolding posted
 moves_posted before c d h = h
 
 ends_from : (a : Option Agenda) (o : SetOutcome) (b : Agenda) (p : SetOutcome) → Moves a o (Some b) p → Moves a o None (outcome_after b.kind p)
-ends_from None o b p h = absurd h
-ends_from (Some a) o b p h = inl (ap (λ k. outcome_after k p) h.0 ∙ ap (λ x. outcome_after a.kind x) h.1)
+ends_from a o b p h = grind arith
 
 moves_kept : (c : Course) → IsKeptFrom (MovesOn c) c
 moves_kept c = record {
@@ -110,22 +106,17 @@ moves_timed now c = from_timed (MovesOn c) c (moves_kept c) now
 
 -- the course goes on, and nothing ends
 goes_on : (c : Course) (st : State) → c.outcome ≡ st.course.outcome → IsAgendaOf c.agenda st.session → IsOrderly st → IsOrderly (record st { course = c })
-goes_on c st e f h =
-    let Q : SetOutcome → Type 0 = λ o. IsOfSession st.session o (in_progress st) in
-    record { numbered = h.numbered; newest = h.newest; session = subst Q (sym e) h.session; agenda = f; live = h.live }
+goes_on c st e f h = grind arith
 
 -- the set fails
 session_failed : (why : VssResult) (q : Option Session) (s : Session) (o p : SetOutcome) → q ≡ Some s → IsOfSession (option_map (set_failed why) q) p None
-session_failed why None s o p e = absurd cc
-session_failed why (Some q) s o p e = (refl, λ f. absurd cc)
+session_failed why q s o p e = grind arith
 
 agenda_none : (a : Option Agenda) (q : Option Session) → a ≡ None → IsAgendaOf a q
-agenda_none None q e = tt
-agenda_none (Some a) q e = absurd cc
+agenda_none a q e = grind arith
 
 pub over_failed : (o : SetOutcome) → has_failed o ≡ true → is_running o ≡ false
-over_failed Running e = absurd cc
-over_failed _ e = refl
+over_failed o e = grind arith
 
 fails : (why : VssResult) (c : Course) (st : State) (q : Session) → st.session ≡ Some q → c.agenda ≡ None → has_failed c.outcome ≡ true → IsOrderly st → IsOrderly (concluded (SetFails why) (record st { course = c }))
 fails why c st q e f g h =
@@ -147,44 +138,13 @@ found_after Snapshot found = None
 found_after _ found = option_map (λ (r : SetRow). record r { result = Running }) found
 
 find-after : (k : Kind) (rows : List SetRow) → find (λ r. is_running r.result) (map (row_settled (outcome_after k Running)) rows) ≡ found_after k (find (λ r. is_running r.result) rows)
-find-after Snapshot rows = find-settled_over CompleteSet refl rows
-find-after _ rows = find-settled_running rows
-
-gather_ends : (c : Context) (set : Option ℕ) (found : Option SetRow) → IsOfStage Opened set Running found → IsOfStage (stage_after c Opened) set Running (found_after Gather found)
-gather_ends c set None h = (refl, λ e. refl)
-gather_ends c set (Some r) h = absurd (true_not_false false h.0 refl)
-
-prepare_ends : (c : Context) (set : Option ℕ) (found : Option SetRow) → has_writers c ≡ true → IsOfStage Started set Running found → IsOfStage (stage_after c Started) set Running (found_after Prepare found)
-prepare_ends c set None w h = absurd (true_not_false true refl h.0)
-prepare_ends Backup set (Some r) w h = (refl, h.1, refl)
-prepare_ends AppRollback set (Some r) w h = (refl, h.1, refl)
-prepare_ends NasRollback set (Some r) w h = absurd (true_not_false false w refl)
-
-snapshot_ends : (c : Context) (set : Option ℕ) → IsOfStage (stage_after c (snapshot_stage (has_writers c))) set CompleteSet None
-snapshot_ends Backup set = (refl, λ e. absurd (true_not_false false e refl))
-snapshot_ends _ set = (refl, λ e. absurd (true_not_false false e refl))
-
-complete_ends : (c : Context) (set : Option ℕ) (found : Option SetRow) → IsOfStage Done set Running found → IsOfStage (stage_after c Done) set Running (found_after Complete found)
-complete_ends c set None h = (refl, λ e. refl)
-complete_ends c set (Some r) h = absurd (true_not_false false h.0 refl)
+find-after k rows = grind (arith, find-settled_over, find-settled_running)
 
 stage_ends : (k : Kind) (c : Context) (s : Stage) (set : Option ℕ) (found : Option SetRow) → WaitsFor k c s → IsOfStage s set Running found → IsOfStage (stage_after c s) set (outcome_after k Running) (found_after k found)
-stage_ends Gather c s set found w h =
-    let Q : Stage → Type 0 = λ x. IsOfStage x set Running found → IsOfStage (stage_after c x) set Running (found_after Gather found) in
-    subst Q (sym w) (gather_ends c set found) h
-stage_ends Prepare c s set found w h =
-    let Q : Stage → Type 0 = λ x. IsOfStage x set Running found → IsOfStage (stage_after c x) set Running (found_after Prepare found) in
-    subst Q (sym w.0) (prepare_ends c set found w.1) h
-stage_ends Snapshot c s set found w h =
-    let Q : Stage → Type 0 = λ x. IsOfStage (stage_after c x) set CompleteSet None in
-    subst Q (sym w) (snapshot_ends c set)
-stage_ends Complete c s set found w h =
-    let Q : Stage → Type 0 = λ x. IsOfStage x set Running found → IsOfStage (stage_after c x) set Running (found_after Complete found) in
-    subst Q (sym w) (complete_ends c set found) h
+stage_ends k c s set found w h = grind arith
 
 not_failed_after : (k : Kind) → has_failed (outcome_after k Running) ≡ false
-not_failed_after Gather = refl
-not_failed_after _ = refl
+not_failed_after k = grind arith
 
 session_along : (q : Option Session) (s : Session) (o : SetOutcome) (found : Option SetRow) → q ≡ Some s → IsOfSession q o found → IsOfStage s.stage s.set o found
 session_along q s o found e h = let Q : Option Session → Type 0 = λ x. IsOfSession x o found in subst Q e h
@@ -211,27 +171,13 @@ ends_running k c st q e w f g i h =
 
 -- the agenda ends, and the set was over
 over_found : (s : Stage) (set : Option ℕ) (o : SetOutcome) (found : Option SetRow) → is_running o ≡ false → IsOfStage s set o found → found ≡ None
-over_found s set o None e h = refl
-over_found s set o (Some r) e h = absurd (true_not_false (is_running o) (ap is_running h.2) e)
+over_found s set o found e h = grind arith
 
 over_stage : (s : Stage) (set : Option ℕ) (o : SetOutcome) (found : Option SetRow) → is_running o ≡ false → IsOfStage s set o found → IsOfStage s set o None
-over_stage s set o None e h = h
-over_stage s set o (Some r) e h = absurd (true_not_false (is_running o) (ap is_running h.2) e)
-
-early_over : (o : SetOutcome) → is_running o ≡ false → o ≡ Running → ⊥
-early_over o e f = true_not_false (is_running o) (ap is_running f) e
-
-snapshot_waits : (c : Context) → makes_set (snapshot_stage (has_writers c)) ≡ true
-snapshot_waits Backup = refl
-snapshot_waits _ = refl
+over_stage s set o found e h = grind arith
 
 stage_over : (k : Kind) (c : Context) (s : Stage) (set : Option ℕ) (o p : SetOutcome) → is_running o ≡ false → WaitsFor k c s → IsOfStage s set o None → IsOfStage (stage_after c s) set p None
-stage_over Gather c s set o p e w h = absurd (early_over o e (h.1 (ap is_early w)))
-stage_over Prepare c s set o p e w h = absurd (true_not_false (makes_set s) (ap makes_set w.0) h.0)
-stage_over Snapshot c s set o p e w h = absurd (true_not_false (makes_set s) (ap makes_set w ∙ snapshot_waits c) h.0)
-stage_over Complete c s set o p e w h =
-    let Q : Stage → Type 0 = λ x. IsOfStage (stage_after c x) set p None in
-    subst Q (sym w) (refl, λ f. absurd (true_not_false false f refl))
+stage_over k c s set o p e w h = grind arith
 
 ends_over : (k : Kind) (c : Course) (st : State) (q : Session) → st.session ≡ Some q → WaitsFor k q.context q.stage → c.agenda ≡ None → is_running st.course.outcome ≡ false → is_running c.outcome ≡ false → IsOrderly st → IsOrderly (concluded AgendaEnds (record st { course = c }))
 ends_over k c st q e w f g i h =
@@ -247,21 +193,15 @@ ends_over k c st q e w f g i h =
     }
 
 outcome_over : (k : Kind) (o p : SetOutcome) → is_running o ≡ false → EndsIn k o p → is_running p ≡ false
-outcome_over Gather o p e (inl f) = ap is_running f ∙ e
-outcome_over Prepare o p e (inl f) = ap is_running f ∙ e
-outcome_over Snapshot o p e (inl f) = ap is_running f
-outcome_over Complete o p e (inl f) = ap is_running f ∙ e
-outcome_over k o p e (inr f) = over_failed p f
+outcome_over k o p e x4 = grind arith
 
 ending_regular : (k : Kind) → ending Running (outcome_after k Running) true None ≡ AgendaEnds
-ending_regular Gather = refl
-ending_regular _ = refl
+ending_regular k = grind arith
 
 -- by how the set stood, and by what ended the agenda
 fails_at : (p : SetOutcome) (c : Course) (st : State) (q : Session) → c.outcome ≡ p → has_failed p ≡ true → st.session ≡ Some q → c.agenda ≡ None → IsOrderly st → IsOrderly (concluded (ending Running p true None) (record st { course = c }))
-fails_at Running c st q d g e f h = absurd (true_not_false false g refl)
-fails_at CompleteSet c st q d g e f h = absurd (true_not_false false g refl)
 fails_at (FailedSet why) c st q d g e f h = fails why c st q e f (ap has_failed d) h
+fails_at _ c st q d g e f h = absurd (true_not_false false g refl)
 
 ends_at : (o : SetOutcome) (k : Kind) (c : Course) (st : State) (q : Session) → st.course.outcome ≡ o → EndsIn k o c.outcome → st.session ≡ Some q → WaitsFor k q.context q.stage → c.agenda ≡ None → IsOrderly st → IsOrderly (concluded (ending o c.outcome true None) (record st { course = c }))
 ends_at Running k c st q d (inl i) e w f h =
@@ -278,27 +218,13 @@ ends_well k c st q i e w f h = ends_at st.course.outcome k c st q refl i e w f h
 -- ## the course goes on to another
 
 pub ending_idle : (o p : SetOutcome) → p ≡ o → ending o p false None ≡ NothingEnds
-ending_idle o p e = let Q : SetOutcome → Type 0 = λ x. ending o x false None ≡ NothingEnds in subst Q (sym e) (idle o)
-  where
-    idle : (x : SetOutcome) → ending x x false None ≡ NothingEnds
-    idle Running = refl
-    idle CompleteSet = refl
-    idle (FailedSet why) = refl
+ending_idle o p e = grind arith
 
 pub ending_on : (o p : SetOutcome) (ran : Bool) (b : Agenda) → p ≡ o → ending o p ran (Some b) ≡ NothingEnds
-ending_on o p ran b e = let Q : SetOutcome → Type 0 = λ x. ending o x ran (Some b) ≡ NothingEnds in subst Q (sym e) (on o ran)
-  where
-    on : (x : SetOutcome) (r : Bool) → ending x x r (Some b) ≡ NothingEnds
-    on Running true = refl
-    on Running false = refl
-    on CompleteSet true = refl
-    on CompleteSet false = refl
-    on (FailedSet why) true = refl
-    on (FailedSet why) false = refl
+ending_on o p ran b e = grind arith
 
 agenda_along : (a b : Agenda) (q : Option Session) → b.kind ≡ a.kind → IsAgendaOf (Some a) q → IsAgendaOf (Some b) q
-agenda_along a b None e h = absurd h
-agenda_along a b (Some q) e h = let Q : Kind → Type 0 = λ k. WaitsFor k q.context q.stage in subst Q (sym e) h
+agenda_along a b q e h = grind arith
 
 ends_session : (q : Option Session) (a : Agenda) (c : Course) (st : State) → st.session ≡ q → IsAgendaOf (Some a) q → EndsIn a.kind st.course.outcome c.outcome → c.agenda ≡ None → IsOrderly st → IsOrderly (concluded (ending st.course.outcome c.outcome true None) (record st { course = c }))
 ends_session None a c st e w i f h = absurd w
@@ -345,71 +271,34 @@ begun_well k ms vs now c st q f g w h =
 -- ## what the table of calls says
 
 is_opened : (s : Stage) → is_stage s Opened ≡ true → s ≡ Opened
-is_opened Opened e = refl
-is_opened _ e = absurd cc
+is_opened s e = grind arith
 
 is_started : (s : Stage) → is_stage s Started ≡ true → s ≡ Started
-is_started Started e = refl
-is_started _ e = absurd cc
-
-is_prepared : (s : Stage) → is_stage s Prepared ≡ true → s ≡ Prepared
-is_prepared Prepared e = refl
-is_prepared _ e = absurd cc
+is_started s e = grind arith
 
 is_done_stage : (s : Stage) → is_stage s Done ≡ true → s ≡ Done
-is_done_stage Done e = refl
-is_done_stage _ e = absurd cc
+is_done_stage s e = grind arith
 
 snapshot_allowed : (w : Bool) (s : Stage) → (if w then is_stage s Prepared else is_stage s Started) ≡ true → s ≡ snapshot_stage w
-snapshot_allowed true s e = is_prepared s e
-snapshot_allowed false s e = is_started s e
-
-early_gathered : (s : Stage) → is_stage s Gathered ≡ true → is_early s ≡ true
-early_gathered Gathered e = refl
-early_gathered _ e = absurd cc
+snapshot_allowed w s e = grind arith
 
 start_allowed : (w : Bool) (s : Stage) → (if w then is_stage s Gathered else is_stage s Opened) ≡ true → is_early s ≡ true
-start_allowed true s e = early_gathered s e
-start_allowed false s e = ap is_early (is_opened s e)
+start_allowed w s e = grind arith
 
 -- ## steps
 
 same_row_of_number : (q : Option Session) (o : SetOutcome) (f : SetRow → SetRow) → ((r : SetRow) → (f r).number ≡ r.number) → (found : Option SetRow) → IsOfSession q o found → IsOfSession q o (option_map f found)
-same_row_of_number None o f same None h = h
-same_row_of_number None o f same (Some r) h = absurd h
-same_row_of_number (Some q) o f same None h = h
-same_row_of_number (Some q) o f same (Some r) h = (h.0, h.1 ∙ ap (λ n. Some n) (sym (same r)), h.2)
+same_row_of_number q o f same found h = grind arith
 
 -- rows that keep number, running and failed
 rows_same : (f : SetRow → SetRow) → IsSameRow f → (hs : List History) (st : State) → AllLive st.sets hs → IsOrderly st → IsOrderly (record st { sets = map f st.sets; volumes = hs })
-rows_same f same hs st live h =
-    let Q : Option SetRow → Type 0 = λ x. IsOfSession st.session st.course.outcome x in
-    record {
-      numbered = numbered-map f same.number 1 st.sets h.numbered;
-      newest = newest-map f same st.sets h.newest;
-      session = subst Q (sym (find-map f same.running st.sets)) (same_row_of_number st.session st.course.outcome f same.number (in_progress st) h.session);
-      agenda = h.agenda;
-      live = all_live_along st.sets (map f st.sets) (λ n e. live-map f same st.sets n ∙ e) hs live;
-    }
-
-changed_number : (b : Bool) (f : SetRow → SetRow) (r : SetRow) → (f r).number ≡ r.number → (if b then f r else r).number ≡ r.number
-changed_number true f r e = e
-changed_number false f r e = refl
-
-changed_result : (b : Bool) (f : SetRow → SetRow) (r : SetRow) → (f r).result ≡ r.result → (if b then f r else r).result ≡ r.result
-changed_result true f r e = e
-changed_result false f r e = refl
+rows_same f same hs st live h = grind (arith, numbered-map, newest-map, find-map, same_row_of_number, all_live_along, live-map)
 
 pub same_changed : (n : ℕ) (f : SetRow → SetRow) → ((r : SetRow) → (f r).number ≡ r.number) → ((r : SetRow) → (f r).result ≡ r.result) → IsSameRow (row_changed n f)
-same_changed n f number result = record {
-  number = λ r. changed_number (r.number == n) f r (number r);
-  running = λ r. ap is_running (changed_result (r.number == n) f r (result r));
-  failed = λ r. ap has_failed (changed_result (r.number == n) f r (result r));
-}
+same_changed n f number result = grind arith
 
 live_cut_if : (b : Bool) (n : ℕ) (rows : List SetRow) (x : History) → is_live rows n ≡ true → AreLive rows x.images → AreLive rows (cut_if b n x).images
-live_cut_if true n rows x e h = live-append rows x.images _ h e
-live_cut_if false n rows x e h = h
+live_cut_if b n rows x e h = grind (arith, live-append)
 
 live_cut_each : (n : ℕ) (vs : List ℕ) (v : ℕ) (rows : List SetRow) (hs : List History) → is_live rows n ≡ true → AllLive rows hs → AllLive rows (cut_each n vs v hs)
 live_cut_each n vs v rows [] e h = tt
@@ -426,15 +315,8 @@ on_cut None c st e m h = orderly_followed c st m h
 on_cut (Some r) c st e m h = orderly_followed c (cut_set (Some r) st) m (orderly_cut r st e h)
 
 on_step_made : (g : Option Group) (c : Course) (st : State) → MovesOn st.course c → IsOrderly st → IsOrderly (followed (runs st) c (step_made g st))
-on_step_made None c st m h = orderly_followed c st m h
-on_step_made (Some (Orders o)) c st m h = orderly_followed c st m h
-on_step_made (Some PreCommit) c st m h = orderly_followed c st m h
-on_step_made (Some Flush) c st m h = orderly_followed c st m h
-on_step_made (Some Hold) c st m h = orderly_followed c st m h
 on_step_made (Some Cut) c st m h = on_cut (in_progress st) c st refl m h
-on_step_made (Some Commit) c st m h = orderly_followed c st m h
-on_step_made (Some Release) c st m h = orderly_followed c st m h
-on_step_made (Some PostCommit) c st m h = orderly_followed c st m h
+on_step_made _ c st m h = orderly_followed c st m h
 
 on_stepped_as : (fails : Bool) (g : Option Group) (st : State) → is_working (left_now st) ≡ true → IsOrderly st → IsOrderly (stepped_as fails g st)
 on_stepped_as true g st w h = orderly_followed _ st (moves_stepped false st.clock st.course w) h
@@ -470,8 +352,7 @@ on_failed_in (Some r) why st e h =
 
 pub none_after : (o : Option SetRow) (why : VssResult) (st : State) → in_progress st ≡ o → in_progress (failed_in o why st) ≡ None
 unfolding course_failed
-none_after None why st e = e
-none_after (Some r) why st e = find-settled_over (FailedSet why) refl st.sets
+none_after o why st e = grind (arith, find-settled_over)
 
 -- ## volumes and sessions
 
@@ -479,8 +360,7 @@ volumes_orderly : (hs : List History) (st : State) → AllLive st.sets hs → Is
 volumes_orderly hs st live h = record { numbered = h.numbered; newest = h.newest; session = h.session; agenda = h.agenda; live = live }
 
 gone_if : (b : Bool) (m : ℕ) (rows : List SetRow) (x : History) → AreLive rows x.images → AreLive rows (if b then record { writes = x.writes; images = after_set m x.images } else x).images
-gone_if true m rows x h = live-filter (λ i. nat_lt m i.set) rows x.images h
-gone_if false m rows x h = h
+gone_if b m rows x h = grind (arith, live-filter)
 
 live_gone : (m : ℕ) (rows : List SetRow) (ps : List Placed) (hs : List History) → AllLive rows hs → AllLive rows (gone_up_to m ps hs)
 live_gone m rows [] hs h = h
@@ -491,40 +371,16 @@ live_dropped : (n : ℕ) (rows : List SetRow) (x : History) → AreLive rows x.i
 live_dropped n rows x h = live-filter (λ i. not (i.set == n)) rows x.images h
 
 on_puts : (v : ℕ) (w : Write) (mark : Mark) (x : State) → IsOrderly x → IsOrderly (put v w mark x)
-on_puts v w Clean x h = volumes_orderly _ x (all_live-change_at (written w) x.sets (λ y g. g) v x.volumes h.live) h
-on_puts v w _ x h = h
+on_puts v w mark x h = grind (arith, volumes_orderly, all_live-change_at)
 
 on_reverts : (s : Plan) (v : ℕ) (k : Kept) (mark : Mark) (st : State) → IsOrderly st → IsOrderly (reverted_as s v k mark st).1
-on_reverts s v k Clean st h = volumes_orderly _ st (all_live-change_at (reverted k.row.number k.point) st.sets (λ y g. live-filter (λ i. not (nat_lt k.row.number i.set)) st.sets y.images g) v st.volumes h.live) h
-on_reverts s v k Fault st h = h
-on_reverts s v k (FaultAfter n) st h = volumes_orderly _ st (all_live-change_at _ st.sets (λ y g. live-filter (λ i. not (nat_lt k.row.number i.set)) st.sets y.images g) v st.volumes h.live) h
-
-none_of_none : (o : SetOutcome) (found : Option SetRow) → IsOfNone o found → (found ≡ None) × (o ≡ Running)
-none_of_none o None h = (refl, h)
-none_of_none o (Some r) h = absurd h
-
-agenda_of_none : (a : Option Agenda) (q : Option Session) (s : Session) → IsAgendaOf a None → IsAgendaOf a (Some s)
-agenda_of_none None q s h = tt
-agenda_of_none (Some a) q s h = absurd h
+on_reverts s v k mark st h = grind (arith, volumes_orderly, all_live-change_at, live-filter)
 
 on_begins : (lane : ℕ) (all : Bool) (c : Option Context) (st : State) → st.session ≡ None → IsOrderly st → IsOrderly (begin_in lane all c st).1
-on_begins lane all None st e h = h
-on_begins lane all (Some c) st e h =
-    let S : Option Session → Type 0 = λ x. IsOfSession x st.course.outcome (in_progress st) in
-    let A : Option Session → Type 0 = λ x. IsAgendaOf st.course.agenda x in
-    let was = none_of_none st.course.outcome (in_progress st) (subst S e h.session) in
-    let F : Option SetRow → Type 0 = λ x. IsOfStage Opened None st.course.outcome x in
-    record {
-      numbered = h.numbered;
-      newest = h.newest;
-      session = subst F (sym was.0) (refl, λ f. was.1);
-      agenda = agenda_of_none st.course.agenda None _ (subst A e h.agenda);
-      live = h.live;
-    }
+on_begins lane all c st e h = grind arith
 
 stage_none : (s : Stage) (set : Option ℕ) (o : SetOutcome) (found : Option SetRow) → makes_set s ≡ false → IsOfStage s set o found → (found ≡ None) × (is_early s ≡ true → o ≡ Running)
-stage_none s set o None e h = (refl, h.1)
-stage_none s set o (Some r) e h = absurd (true_not_false (makes_set s) h.0 e)
+stage_none s set o found e h = grind arith
 
 on_starts : (q : Session) (st : State) → LetsGo call.Start q st → makes_set q.stage ≡ false → IsOrderly st → IsOrderly (start_set q st).1
 on_starts q st g e h =
@@ -549,15 +405,7 @@ live_released NasRollback set rows hs h = h
 
 on_closed : (q : Session) (x : State) → in_progress x ≡ None → IsOrderly x → IsOrderly (closed q x)
 unfolding closed released
-on_closed q x e h =
-    let F : Option SetRow → Type 0 = λ y. IsOfNone Running y in
-    record {
-      numbered = h.numbered;
-      newest = h.newest;
-      session = subst F (sym e) refl;
-      agenda = tt;
-      live = live_released q.context q.set x.sets x.volumes h.live;
-    }
+on_closed q x e h = grind (arith, live_released)
 
 -- ## every act
 
@@ -583,10 +431,7 @@ kept_by_changes = record {
 }
 
 pub kept_by_writes : (st : State) → IsKeptByWrites IsOrderly st
-kept_by_writes st = record {
-  puts = λ v e w mark x h. on_puts v w mark x h;
-  reverts = λ s n v k mark e f h. on_reverts s v k mark st h;
-}
+kept_by_writes st = grind (arith, on_puts, on_reverts)
 
 orderly_fold : (s : Plan) (st : State) (acts : List Act) → IsOrderly st → IsOrderly (fold (after s) st acts)
 orderly_fold s st [] h = h

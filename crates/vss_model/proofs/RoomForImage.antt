@@ -1,28 +1,27 @@
 -- Each volume of the set in progress has room for its image: before the Cut step for one more, and after it that is among the most that
 -- there can be.
-use Rattle.std.proofs.Common.{◌≡◌, ℕ, zero, suc, ◌+◌, ◌==◌, ◌<◌, ◌≤◌, List, [], ◌∷◌, ◌++◌, ◌⊎◌, Option, Some, None, refl, Bool, true, false, map, length, ap, sym, ◌∙◌, subst, find, inl, inr, arith}
-use Rattle.std.specs.Prelude.{option_map, ◌&&◌, ◌||◌, if◌then◌else◌, nat_le}
+use Rattle.std.proofs.Common.{◌≡◌, ℕ, zero, suc, ◌+◌, ◌==◌, ◌<◌, ◌≤◌, List, [], ◌∷◌, ◌++◌, ◌⊎◌, Option, Some, None, refl, Bool, true, false, map, length, ap, sym, ◌∙◌, subst, find, arith}
+use Rattle.std.specs.Prelude.{option_map, ◌&&◌, if◌then◌else◌, nat_le}
 use Rattle.std.proofs.lemmas.List.{append_assoc, length-append}
 use Rattle.std.proofs.lemmas.List.Folds.{list_any-append}
 use Rattle.std.proofs.lemmas.Bool.{eq-eqb, eqb-true}
 use Rattle.vss_names.specs.declared.context.Context.{Context}
 use Rattle.vss_names.specs.declared.set_outcome.SetOutcome.{SetOutcome}
-use Rattle.vss_names.specs.declared.set_outcome.SetOutcome.TheVariants.{Running, Complete as CompleteSet, Failed as FailedSet}
 use Rattle.vss_names.specs.declared.vss_result.VssResult.{VssResult}
 use Rattle.vss_names.specs.declared.vss_result.VssResult.TheVariants.{AsyncCancelled}
 use Rattle.writer_state.specs.declared.said.Said.{Said}
 use Rattle.write_history.specs.declared.mark.Mark.{Mark}
 use Rattle.write_history.specs.declared.mark.Mark.TheVariants.{Clean, Fault, FaultAfter}
-use Rattle.write_history.specs.History.{Write, History, dropped, written, reverted, reverted_in_part}
+use Rattle.write_history.specs.History.{Write, History, dropped, reverted, reverted_in_part}
 use Rattle.set_agenda.specs.declared.group.Group.{Group}
 use Rattle.set_agenda.specs.Agenda.{open_group, is_among}
 use Rattle.set_agenda.specs.Course.{Course, failed as course_failed, stepped as course_stepped, released}
 use Rattle.requestor.specs.Session.{Session}
 use Rattle.scenario.specs.Plan.{Plan, blocks_of}
-use Rattle.vss_model.specs.State.{State, SetRow, Kept, is_running, in_progress, row_changed, left_now, history_of}
+use Rattle.vss_model.specs.State.{State, SetRow, Kept, is_running, in_progress, left_now, history_of}
 use Rattle.vss_model.specs.Ending.{Ending, NothingEnds, AgendaEnds, SetFails, ending, row_settled, concluded, followed, runs, failed_in, failed}
-use Rattle.vss_model.specs.Images.{put, reverted_as, is_in_set}
-use Rattle.vss_model.specs.Sessions.{most_volumes, most_images, begin_in, has_no_volume, new_set, new_number, with_volume, change_set, add_refusal, closed}
+use Rattle.vss_model.specs.Images.{put, reverted_as}
+use Rattle.vss_model.specs.Sessions.{most_images, begin_in, has_no_volume, new_set, new_number, with_volume, change_set, add_refusal, closed}
 use Rattle.vss_model.specs.Steps.{answered, cut_if as image_cut_if, cut_each, row_cut, cut_set, is_flush, is_failed_step, stepped_as, stepped, ticked, later}
 use Rattle.vss_model.specs.Acts.{Act, after, state}
 use Rattle.vss_model.specs.Laws.{IsKeptByWrites}
@@ -57,20 +56,13 @@ abbrev HasRoom : Cuts → State → Type 0
 HasRoom k st = Roomy k st.volumes (in_progress st)
 
 roomy_fewer : (k : Cuts) (hs ks : List History) (o : Option SetRow) → FewerIn hs ks → Roomy k hs o → Roomy k ks o
-roomy_fewer k hs ks None f h = tt
-roomy_fewer k hs ks (Some r) f h = λ v g. less (place_for (k r.number)) (length (at ks v).images) (length (at hs v).images) most_images (f.each v).count (h v g)
-  where
-    less : (p a b c : ℕ) → a ≤ b → p + b ≤ c → p + a ≤ c
-    less p a b c e f = omega (arith, e, f)
+roomy_fewer k hs ks o f h = grind arith
 
 roomy_same : (k : Cuts) (hs : List History) (f : SetRow → SetRow) → ((r : SetRow) → (f r).number ≡ r.number) → ((r : SetRow) → (f r).volumes ≡ r.volumes) → (o : Option SetRow) → Roomy k hs o → Roomy k hs (option_map f o)
-roomy_same k hs f number volumes None h = tt
-roomy_same k hs f number volumes (Some r) h = λ v g. subst (λ (n : ℕ). place_for (k n) + length (at hs v).images ≤ most_images) (sym (number r)) (h v (subst (λ vs. is_among v vs ≡ true) (volumes r) g))
+roomy_same k hs f number volumes o h = grind arith
 
 roomy_settled : (k : Cuts) (hs : List History) (p : SetOutcome) (rows : List SetRow) → Roomy k hs (find (λ r. is_running r.result) rows) → Roomy k hs (find (λ r. is_running r.result) (map (row_settled p) rows))
-roomy_settled k hs Running rows h = subst (Roomy k hs) (sym (find-settled_running rows)) (roomy_same k hs (λ (r : SetRow). record r { result = Running }) (λ r. refl) (λ r. refl) (find (λ r. is_running r.result) rows) h)
-roomy_settled k hs CompleteSet rows h = subst (Roomy k hs) (sym (find-settled_over CompleteSet refl rows)) tt
-roomy_settled k hs (FailedSet why) rows h = subst (Roomy k hs) (sym (find-settled_over (FailedSet why) refl rows)) tt
+roomy_settled k hs p rows h = grind (arith, find-settled_running, roomy_same, find-settled_over)
 
 -- a new set has no volume yet
 roomy_append : (k : Cuts) (hs : List History) (rows : List SetRow) (r : SetRow) → r.volumes ≡ [] → Roomy k hs (find (λ q. is_running q.result) rows) → Roomy k hs (find (λ q. is_running q.result) (rows ++ r ∷ []))
@@ -93,33 +85,16 @@ roomy_append k hs (q ∷ rows) r e h = head_if (is_running q.result) h (roomy_ap
 
 -- a volume that is added has room
 room_if : (a b c : Bool) (x y z : VssResult) → (if a then Some x else if b then Some y else if c then Some z else None) ≡ None → c ≡ false
-room_if true b c x y z e = absurd cc
-room_if false true c x y z e = absurd cc
-room_if false false true x y z e = absurd cc
-room_if false false false x y z e = refl
+room_if a b c x y z e = grind arith
 
 pub fewer_than : (most n : ℕ) → nat_le most n ≡ false → n < most
 fewer_than most n e = grind arith
 
 added : (vs : List ℕ) (v u : ℕ) → is_among u (vs ++ v ∷ []) ≡ true → (is_among u vs ≡ true) ⊎ (v ≡ u)
-added vs v u e = by_cases (is_among u vs) (v == u) refl (sym (list_any-append (λ (y : ℕ). y == u) vs (v ∷ [])) ∙ e)
-  where
-    by_cases : (b c : Bool) → (v == u) ≡ c → (b || (c || false)) ≡ true → (b ≡ true) ⊎ (v ≡ u)
-    by_cases true c f g = inl refl
-    by_cases false true f g = inr (eqb-true v u f)
-    by_cases false false f g = absurd cc
+added vs v u e = grind (arith, list_any-append, eqb-true)
 
 roomy_added : (b : Bool) (k : Cuts) (hs : List History) (v : ℕ) (r : SetRow) → length (at hs v).images < most_images → Roomy k hs (Some r) → Roomy k hs (Some (if b then with_volume v r else r))
-roomy_added false k hs v r room h = h
-roomy_added true k hs v r room h = λ u g. by_volume u (added r.volumes v u g)
-  where
-    fits : (o : Option (List Act)) (n m : ℕ) → n < m → place_for o + n ≤ m
-    fits None n m l = omega (arith, l)
-    fits (Some acts) n m l = omega (arith, l)
-
-    by_volume : (u : ℕ) → (is_among u r.volumes ≡ true) ⊎ (v ≡ u) → place_for (k r.number) + length (at hs u).images ≤ most_images
-    by_volume u (inl g) = h u g
-    by_volume u (inr g) = subst (λ w. place_for (k r.number) + length (at hs w).images ≤ most_images) g (fits (k r.number) (length (at hs v).images) most_images room)
+roomy_added b k hs v r room h = grind (arith, added)
 
 -- ## each change
 
@@ -147,26 +122,21 @@ module _ (k : Cuts) where
   on_fails (Some r) why st h = on_concluded (SetFails why) (record st { course = course_failed why st.course }) h
 
   on_stepped_as : (fails : Bool) (g : Option Group) (st : State) → is_cut_group g ≡ false → HasRoom k st → HasRoom k (stepped_as fails g st)
-  on_stepped_as true g st e h = on_followed (runs st) _ st h
-  on_stepped_as false g st e h = on_followed (runs st) _ _ (subst (HasRoom k) (sym (step_made_same g st e)) h)
+  on_stepped_as fails g st e h = grind (arith, on_followed, step_made_same)
 
   on_steps : (mark : Mark) (st : State) → is_cut_group (open_group (left_now st)) ≡ false → HasRoom k st → HasRoom k (stepped mark st)
   unfolding stepped
   on_steps mark st e h = on_stepped_as (is_failed_step (is_flush (open_group (left_now st))) mark) (open_group (left_now st)) st e h
 
   on_begin : (lane : ℕ) (all : Bool) (c : Option Context) (st : State) → HasRoom k st → HasRoom k (begin_in lane all c st).1
-  on_begin lane all None st h = h
-  on_begin lane all (Some c) st h = h
+  on_begin lane all c st h = grind arith
 
   on_closed : (q : Session) (st : State) → HasRoom k st → HasRoom k (closed q st)
   unfolding closed released
   on_closed q st h = roomy_fewer k st.volumes _ (in_progress st) (fewer_released q.context q.set st.volumes) h
 
   on_add : (v : ℕ) (r : SetRow) (st : State) → in_progress st ≡ Some r → add_refusal v r st ≡ None → HasRoom k st → HasRoom k (change_set r.number (with_volume v) st)
-  on_add v r st e f h =
-      let room = fewer_than most_images (length (history_of st v).images) (room_if (is_in_set v (Some r)) (nat_le most_volumes (length r.volumes)) (nat_le most_images (length (history_of st v).images)) _ _ _ f) in
-      subst (Roomy k st.volumes) (sym (find-map (row_changed r.number (with_volume v)) (λ x. ap is_running (changed_result (x.number == r.number) (with_volume v) x refl)) st.sets ∙ ap (option_map (row_changed r.number (with_volume v))) e))
-      (roomy_added (r.number == r.number) k st.volumes v r room (subst (Roomy k st.volumes) e h))
+  on_add v r st e f h = grind (arith, fewer_than, room_if, find-map, changed_result, roomy_added)
 
   fewer : (st : State) (ks : List History) → FewerIn st.volumes ks → HasRoom k st → HasRoom k (record st { volumes = ks })
   fewer st ks f h = roomy_fewer k st.volumes ks (in_progress st) f h
@@ -191,8 +161,7 @@ module _ (k : Cuts) where
   }
 
   on_puts : (v : ℕ) (w : Write) (mark : Mark) (x : State) → HasRoom k x → HasRoom k (put v w mark x)
-  on_puts v w Clean x h = fewer x _ (fewer_in_change (written w) (fewer_written w) v x.volumes) h
-  on_puts v w _ x h = h
+  on_puts v w mark x h = grind (arith, fewer, fewer_in_change, fewer_written)
 
   on_reverts : (s : Plan) (v : ℕ) (x : Kept) (mark : Mark) (st : State) → HasRoom k st → HasRoom k (reverted_as s v x mark st).1
   on_reverts s v x Clean st h = fewer st _ (fewer_in_change (reverted x.row.number x.point) (fewer_reverted x.row.number x.point) v st.volumes) h
@@ -200,46 +169,28 @@ module _ (k : Cuts) where
   on_reverts s v x (FaultAfter n) st h = fewer st _ (fewer_in_change (reverted_in_part (blocks_of s v) x.row.number x.point n) (fewer_in_part (blocks_of s v) x.row.number x.point n) v st.volumes) h
 
   kept_by_writes : (st : State) → IsKeptByWrites (HasRoom k) st
-  kept_by_writes st = record {
-    puts = λ v e w mark x h. on_puts v w mark x h;
-    reverts = λ s n v x mark e f h. on_reverts s v x mark st h;
-  }
+  kept_by_writes st = grind (arith, on_puts, on_reverts)
 
   on_after : (s : Plan) (st : State) (act : Act) → (is_provider act.event && is_cut_group (open_group (left_now st))) ≡ false → HasRoom k st → HasRoom k (after s st act)
-  on_after s st act e h =
-      on_after_steps (HasRoom k) kept_but_steps s st act (kept_by_writes st)
-      (λ f g. on_steps act.mark st (second_not (is_provider act.event) (is_cut_group (open_group (left_now st))) e g) h)
-      (λ lane all c f g. on_begin lane all c st h) h
+  on_after s st act e h = grind (arith, on_after_steps, kept_but_steps, kept_by_writes, on_steps, second_not, on_begin)
 
 -- ## every act
 
 more_known : (k l : Cuts) → ((n : ℕ) → l n ≡ None → k n ≡ None) → (hs : List History) (o : Option SetRow) → Roomy k hs o → Roomy l hs o
-more_known k l same hs None h = tt
-more_known k l same hs (Some r) h = λ v g. less (place_for (l r.number)) (place_for (k r.number)) (length (at hs v).images) most_images (taken (k r.number) (l r.number) (same r.number)) (h v g)
-  where
-    less : (p q a c : ℕ) → p ≤ q → q + a ≤ c → p + a ≤ c
-    less p q a c e f = omega (arith, e, f)
-
-    taken : (a b : Option (List Act)) → (b ≡ None → a ≡ None) → place_for b ≤ place_for a
-    taken None None f = omega arith
-    taken (Some x) None f = let e = f refl in cc
-    taken a (Some y) f = omega arith
+more_known k l same hs o h = grind arith
 
 abbrev known : Plan → List Act → Cuts
 known s acts n = cut s n acts
 
 uncut_before : (o p : Option (List Act)) → or_cut o p ≡ None → o ≡ None
-uncut_before None p e = refl
-uncut_before (Some x) p e = absurd cc
+uncut_before o p e = grind arith
 
 fewer_known : (s : Plan) (past : List Act) (act : Act) (n : ℕ) → known s (past ++ act ∷ []) n ≡ None → known s past n ≡ None
 fewer_known s past act n e = uncut_before (cut s n past) _ (sym (cut-append s n past act) ∙ e)
 
 -- the set that is cut now is cut
 cut_known : (o : Option (List Act)) (b : Bool) (past : List Act) → b ≡ true → or_cut o (cut_if b past None) ≡ None → ⊥
-cut_known None true past e f = cc
-cut_known (Some x) true past e f = cc
-cut_known o false past e f = cc
+cut_known o b past e f = grind arith
 
 at_cut : (s : Plan) (past : List Act) (act : Act) (r : SetRow) → is_provider act.event ≡ true → is_cut_group (open_group (left_now (state s past))) ≡ true → in_progress (state s past) ≡ Some r → HasRoom (known s past) (state s past)
     → HasRoom (known s (past ++ act ∷ [])) (after s (state s past) act)

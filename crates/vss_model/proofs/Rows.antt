@@ -4,7 +4,6 @@ use Rattle.std.specs.Prelude.{option_map, ◌&&◌, ◌||◌, not, is_some, if�
 use Rattle.std.specs.List.{list_any}
 use Rattle.std.proofs.lemmas.Bool.{and_left, and_right, or_left, or_parts, or_from, ne_eqb, eq-eqb, cond-true, cond-false}
 use Rattle.vss_names.specs.declared.set_outcome.SetOutcome.{SetOutcome}
-use Rattle.vss_names.specs.declared.set_outcome.SetOutcome.TheVariants.{Complete}
 use Rattle.vss_model.specs.State.{SetRow, is_running, is_complete}
 use Rattle.vss_model.specs.Ending.{row_settled}
 use Rattle.set_agenda.specs.declared.kind.Kind.{Kind}
@@ -48,8 +47,7 @@ row_running m (q ∷ rows) r h e = by_head (is_running q.result) e (row_running 
 -- ## rows that settle
 
 pub number-settled : (b : Bool) (p : SetOutcome) (r : SetRow) → (if b then record r { result = p } else r).number ≡ r.number
-number-settled true p r = refl
-number-settled false p r = refl
+number-settled b p r = grind arith
 
 pub row_settles : (p : SetOutcome) (n : ℕ) (rows : List SetRow) → find (λ q. q.number == n) (map (row_settled p) rows) ≡ option_map (row_settled p) (find (λ q. q.number == n) rows)
 row_settles p n [] = refl
@@ -63,8 +61,7 @@ row_settles p n (r ∷ rows) = by_head (r.number == n) ((row_settled p r).number
     by_head false true e ih = absurd cc
 
 pub result-settled : (b : Bool) (p : SetOutcome) (r : SetRow) → b ≡ true → (if b then record r { result = p } else r).result ≡ p
-result-settled true p r e = refl
-result-settled false p r e = absurd cc
+result-settled b p r e = grind arith
 
 -- ## sets that are complete
 
@@ -84,8 +81,7 @@ none_below k n (r ∷ rows) h l =
     or_from ((r.number == n) && is_complete r.result) (has_complete rows n) (and_left (r.number == n) (is_complete r.result) (apart_back n r.number (let e = h.0 in omega (arith, e, l)))) (none_below (k + 1) n rows h.1 (omega (arith, l)))
 
 running_not_complete : (o : SetOutcome) → is_running o ≡ true → is_complete o ≡ false
-running_not_complete Complete e = absurd cc
-running_not_complete _ e = refl
+running_not_complete o e = grind arith
 
 -- a set whose row is not complete is not complete
 row_not_complete : (k n : ℕ) (rows : List SetRow) (r : SetRow) → NumberedFrom k rows → find (λ q. q.number == n) rows ≡ Some r → is_complete r.result ≡ false → has_complete rows n ≡ false
@@ -105,8 +101,7 @@ running_incomplete rows r h e = row_not_complete 1 r.number rows r h (row_runnin
 
 complete_if : (b : Bool) (p : SetOutcome) (r : SetRow) (n : ℕ) → is_complete p ≡ false → ((r.number == n) && is_complete r.result) ≡ false
     → (((if b then record r { result = p } else r).number == n) && is_complete (if b then record r { result = p } else r).result) ≡ false
-complete_if true p r n e h = and_right (r.number == n) (is_complete p) e
-complete_if false p r n e h = h
+complete_if b p r n e h = grind arith
 
 -- no set completes where the outcome is another
 pub incomplete_settled : (p : SetOutcome) (n : ℕ) (rows : List SetRow) → is_complete p ≡ false → has_complete rows n ≡ false → has_complete (map (row_settled p) rows) n ≡ false
@@ -202,13 +197,10 @@ some_rows p [] r e = absurd cc
 some_rows p (q ∷ rows) r e = omega arith
 
 pub number-cut : (b : Bool) (now : ℕ) (r : SetRow) → (if b then record r { cut_at = Some now } else r).number ≡ r.number
-number-cut true now r = refl
-number-cut false now r = refl
+number-cut b now r = grind arith
 
 pub kind_is : (k : Kind) → is_snapshot k ≡ true → k ≡ Snapshot
-kind_is Snapshot e = refl
-kind_is _ e = absurd cc
+kind_is k e = grind arith
 
 pub none_runs : (a : Option Agenda) → is_some a ≡ false → a ≡ None
-none_runs None e = refl
-none_runs (Some a) e = absurd cc
+none_runs a e = grind arith

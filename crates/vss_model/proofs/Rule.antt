@@ -1,9 +1,9 @@
 -- The rule of cases: a fact of the state that each named change keeps is kept by every act.
-use Rattle.std.proofs.Common.{◌≡◌, ℕ, ◌==◌, List, Option, Some, None, refl, Bool, true, false, sym, subst}
+use Rattle.std.proofs.Common.{◌≡◌, ℕ, ◌==◌, List, Option, Some, None, refl, Bool, true, false, sym, subst, arith}
 use Rattle.std.specs.Prelude.{map, is_some, ◌&&◌, if◌then◌else◌}
 use Rattle.std.proofs.lemmas.Bool.{eq-eqb}
 use Rattle.vss_names.specs.declared.vss_result.VssResult.{VssResult}
-use Rattle.vss_names.specs.declared.vss_result.VssResult.TheVariants.{InsufficientStorage, AsyncCancelled}
+use Rattle.vss_names.specs.declared.vss_result.VssResult.TheVariants.{AsyncCancelled}
 use Rattle.write_history.specs.declared.mark.Mark.{Mark}
 use Rattle.write_history.specs.History.{Write}
 use Rattle.writer_calls.specs.Script.{said_of}
@@ -11,7 +11,7 @@ use Rattle.requestor.specs.declared.session_call.SessionCall.TheVariants as call
 use Rattle.requestor.specs.Session.{Session}
 use Rattle.scenario.specs.Plan.{Plan}
 use Rattle.vss_model.specs.declared.event.Event.{Event}
-use Rattle.vss_model.specs.declared.event.Event.TheVariants.{Line, Provider}
+use Rattle.vss_model.specs.declared.event.Event.TheVariants.{Line}
 use Rattle.vss_model.specs.State.{State, SetRow, Kept, in_progress, left_now}
 use Rattle.vss_model.specs.Cut.{is_provider}
 use Rattle.scenario.specs.Bounds.{is_begin}
@@ -24,16 +24,14 @@ use Rattle.vss_names.specs.declared.context.Context.{Context}
 use Rattle.component_doc.specs.Selection.{Pair}
 use Rattle.write_history.specs.History.{dropped}
 use Rattle.vss_model.specs.Ending.{failed}
-use Rattle.vss_model.specs.Images.{cleared, set_loses_image, with_room_if, put, write, is_backup, is_in_set, revert_refusal}
+use Rattle.vss_model.specs.Images.{cleared, with_room_if, put, write, is_backup, is_in_set, revert_refusal}
 use Rattle.vss_model.specs.Sessions.{begin_in, disable, gather, prepare, snapshot, complete, start_set, change_set, with_volume, end_session, add_refusal}
 use Rattle.vss_model.specs.Acts.{Act, order_of_writer, enabled, idle_now, after}
 use Rattle.vss_model.specs.Laws.{IsKeptByChanges, IsKeptByWrites, LetsGo}
 use Rattle.vss_model.proofs.ByEvent.{Covers, covered, after_by}
 
 in_no_set : (backup in_set : Bool) (x y : VssResult) → (if backup then Some x else if in_set then Some y else None) ≡ None → in_set ≡ false
-in_no_set true in_set x y e = absurd cc
-in_no_set false true x y e = absurd cc
-in_no_set false false x y e = refl
+in_no_set backup in_set x y e = grind arith
 
 -- a volume that may be reverted is in no set in progress
 pub no_set_of : (st : State) (v : ℕ) (k : Kept) → revert_refusal v (Some k) st ≡ None → is_in_set v (in_progress st) ≡ false
@@ -65,33 +63,15 @@ pub record IsKeptButSteps (P : State → Type 0) : Type 0 where
   pub ends : (q : Session) (st : State) → st.session ≡ Some q → P st → P (end_session q st).1
 
 pub but_steps : (P : State → Type 0) → IsKeptByChanges P → IsKeptButSteps P
-but_steps P k = record {
-  answers = k.answers;
-  ticks = k.ticks;
-  fails = k.fails;
-  gathers = k.gathers;
-  prepares = k.prepares;
-  snapshots = k.snapshots;
-  completes = k.completes;
-  clears = k.clears;
-  deletes_set = k.deletes_set;
-  deletes_image = k.deletes_image;
-  names = k.names;
-  disables = k.disables;
-  starts = k.starts;
-  adds = k.adds;
-  ends = k.ends;
-}
+but_steps x0 k = grind arith
 
 module _ (P : State → Type 0) (k : IsKeptButSteps P) where
   on_room : (b : Bool) (x : State) → P x → P (with_room_if b x)
-  on_room true x h = k.fails InsufficientStorage x h
-  on_room false x h = h
+  on_room b x h = grind arith
 
   on_write : (s : Plan) (v : ℕ) (w : Write) (mark : Mark) (st : State) → ((x : State) → P x → P (put v w mark x)) → P st → P (write s v w mark st).1
   unfolding write
-  on_write s v w mark st puts h =
-      puts _ (on_room (set_loses_image (in_progress st) st.volumes (cleared s v w.block st).volumes) _ (k.clears s v w.block st h))
+  on_write s v w mark st puts h = grind (arith, on_room)
 
   -- where it is this act that comes
   covers_act : (s : Plan) (st : State) (act : Act) → IsKeptByWrites P st → (enabled s st act.event ≡ true → is_provider act.event ≡ true → P (stepped act.mark st))
@@ -127,8 +107,7 @@ module _ (P : State → Type 0) (k : IsKeptButSteps P) where
       after_by P s st act (λ e. covered (λ event mark r. event ≡ act.event → mark ≡ act.mark → P r.1) s st (covers_act s st act at steps begins h) act.event act.mark e refl refl) h
 
 pub working_of : (s : Plan) (st : State) (event : Event) → enabled s st event ≡ true → is_provider event ≡ true → is_working (left_now st) ≡ true
-working_of s st Provider e f = e
-working_of s st _ e f = absurd cc
+working_of s st event e f = grind arith
 
 pub on_after : (P : State → Type 0) (k : IsKeptByChanges P) (s : Plan) (st : State) (act : Act) → IsKeptByWrites P st → P st → P (after s st act)
 on_after P k s st act at h = on_after_steps P (but_steps P k) s st act at (λ e f. k.steps act.mark st (working_of s st act.event e f) h) (λ lane all c e f. k.begins lane all c st f h) h

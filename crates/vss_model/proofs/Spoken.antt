@@ -1,19 +1,17 @@
 -- What the log of a running agenda says of who spoke: only volumes of the agenda were held, only its members froze, and once the Cut
 -- step is made the Hold group is closed.
-use Rattle.std.proofs.Common.{◌≡◌, ℕ, ◌==◌, List, [], ◌∷◌, ◌++◌, Option, Some, None, refl, Bool, true, false, map, filter, sym, ◌∙◌, subst}
+use Rattle.std.proofs.Common.{◌≡◌, ℕ, ◌==◌, List, [], ◌∷◌, ◌++◌, Option, None, refl, Bool, true, false, map, filter, sym, ◌∙◌, arith}
 use Rattle.std.specs.Prelude.{◌&&◌, ◌||◌, not, if◌then◌else◌}
 use Rattle.std.proofs.lemmas.List.Folds.{list_any-append}
 use Rattle.std.proofs.lemmas.Bool.{and_parts, or_right}
 use Rattle.vss_names.specs.declared.level.Level.{Level}
-use Rattle.vss_names.specs.declared.order.Order.TheVariants.{Identify, PrepareBackup, PrepareSnapshot, Freeze, Thaw, PostSnapshot, BackupComplete}
 use Rattle.writer_state.specs.declared.said.Said.{Said}
 use Rattle.writer_state.specs.WriterState.{is_ok}
 use Rattle.set_agenda.specs.declared.group.Group.{Group}
-use Rattle.set_agenda.specs.declared.group.Group.TheVariants.{Orders, PreCommit, Flush, Hold, Cut, Commit, Release, PostCommit}
-use Rattle.set_agenda.specs.declared.kind.Kind.{Kind}
+use Rattle.set_agenda.specs.declared.group.Group.TheVariants.{Hold, Cut}
 use Rattle.set_agenda.specs.declared.member.Member.{Member}
 use Rattle.set_agenda.specs.declared.place.Place.{Place}
-use Rattle.set_agenda.specs.Agenda.{Agenda, Entry, Open, plain, places, group_code, level_code, same_place, is_freeze, has_said, has_frozen, is_at, members_of, waited_for, with_group, left_from, groups_left, open_group, open_place, is_among, waits_now, at_place, all_say}
+use Rattle.set_agenda.specs.Agenda.{Agenda, Entry, Open, plain, places, group_code, level_code, same_place, is_freeze, has_said, has_frozen, members_of, waited_for, with_group, left_from, groups_left, open_group, open_place, is_among, waits_now, at_place, all_say}
 use Rattle.set_agenda.specs.Course.{is_member}
 use Rattle.scenario.specs.Plan.{Plan}
 use Rattle.vss_model.specs.Acts.{Act, state}
@@ -21,7 +19,6 @@ use Rattle.vss_model.specs.Cut.{is_cut_group}
 use Rattle.vss_model.proofs.Orderly.{true_not_false}
 use Rattle.vss_model.proofs.LogRule.{IsKeptInLog, Running, in_log}
 use Rattle.vss_model.proofs.CutLog.{is_cut_made, said_stays, either_way}
-use Rattle.vss_model.proofs.AtCut.{at_cut, kind_at_cut}
 
 -- ## what is said at a place
 
@@ -75,20 +72,14 @@ waits_members a (p ∷ ps) x e = at_group (waited_for a p) (left_from a ps) (λ 
 -- ## the volumes that are held
 
 hold_members : (g : Group) (k m : ℕ) (a : Agenda) (l : Option Level) (v : ℕ) → ((group_code g == group_code Hold) && (k == m)) ≡ true → is_among v (members_of a g l) ≡ true → is_among v a.volumes ≡ true
-hold_members (Orders Identify) k m a l v e h = absurd cc
-hold_members (Orders _) k m a l v e h = absurd cc
-hold_members PreCommit k m a l v e h = absurd cc
-hold_members Cut k m a l v e h = absurd cc
-hold_members PostCommit k m a l v e h = absurd cc
-hold_members _ k m a l v e h = h
+hold_members g k m a l v e h = grind arith
 
 -- only volumes of the agenda were held
 abbrev pub HoldsOwn : Agenda → Type 0
 HoldsOwn a = (v : ℕ) → has_said a.log (plain Hold) v ≡ true → is_among v a.volumes ≡ true
 
 said_more : (log new : List Entry) (p : Place) (who : ℕ) (c : Bool) → has_said (log ++ new) p who ≡ true → (has_said log p who ≡ true → c ≡ true) → (has_said new p who ≡ true → c ≡ true) → c ≡ true
-said_more log new p who c e f g =
-    either_way (has_said log p who) (has_said new p who) c (sym (list_any-append (λ (x : Entry). same_place x.place p && (x.who == who)) log new) ∙ e) f g
+said_more log new p who c e f g = grind (arith, either_way, list_any-append)
 
 holds_own : IsKeptInLog HoldsOwn
 holds_own = record {
@@ -116,9 +107,7 @@ among_members test w (m ∷ ms) e = by_test (test m) e (among_members test w ms)
     by_test false e ih = or_right (m.writer == w) (is_member ms w) (ih e)
 
 freeze_members : (g : Group) (a : Agenda) (l : Option Level) (w : ℕ) → is_freeze g ≡ true → is_among w (members_of a g l) ≡ true → is_member a.members w ≡ true
-freeze_members (Orders Freeze) a l w e h = among_members (λ m. is_at l m.level) w a.members h
-freeze_members (Orders _) a l w e h = absurd cc
-freeze_members _ a l w e h = absurd cc
+freeze_members g a l w e h = grind (arith, among_members)
 
 -- only members of the agenda froze
 abbrev pub FreezesOwn : Agenda → Type 0
@@ -153,20 +142,11 @@ fewer_wait log new p (x ∷ xs) e = by_head (has_said log p x) (has_said (log ++
     by_head true false f e ih = absurd (true_not_false false (f refl) refl)
     by_head false c f e ih = absurd cc
 
-cut_code : (g : Group) (k m : ℕ) → ((group_code g == group_code Cut) && (k == m)) ≡ true → is_cut_group (Some g) ≡ true
-cut_code (Orders Identify) k m e = absurd cc
-cut_code (Orders _) k m e = absurd cc
-cut_code Cut k m e = refl
-cut_code _ k m e = absurd cc
-
 pub cut_open : (os : List Open) → same_place (open_place os) (plain Cut) ≡ true → is_cut_group (open_group os) ≡ true
-cut_open [] e = absurd cc
-cut_open (x ∷ os) e = cut_code x.place.group (level_code x.place.level) (level_code None) e
+cut_open os e = grind arith
 
 closed_at_cut : (a : Agenda) → is_cut_group (open_group (groups_left a)) ≡ true → waited_for a (plain Hold) ≡ []
-closed_at_cut a e =
-    let R : Kind → Type 0 = λ k. is_cut_group (open_group (left_from a (places k))) ≡ true in
-    (at_cut a (subst R (kind_at_cut a.kind a e) e)).hold
+closed_at_cut a e = grind arith
 
 -- by what said the Cut
 holds_first_more : (said : Said) (now : ℕ) (ws : List ℕ) (a : Agenda) → HoldsFirst a → HoldsFirst (all_say said now ws a)

@@ -4,11 +4,10 @@ use Rattle.std.specs.Prelude.{not, slice_get, sum}
 use Rattle.std.proofs.lemmas.List.Sums.{sum_by-cons}
 use Rattle.std.proofs.lemmas.Bool.{and_parts, eq-eqb}
 use Rattle.vss_names.specs.declared.vss_result.VssResult.{VssResult}
-use Rattle.vss_names.specs.declared.vss_result.VssResult.TheVariants.{AsyncCancelled, InsufficientStorage}
+use Rattle.vss_names.specs.declared.vss_result.VssResult.TheVariants.{AsyncCancelled}
 use Rattle.write_history.specs.declared.actor.Actor.{Actor}
 use Rattle.write_history.specs.declared.actor.Actor.TheVariants.{Lane, Writer, Advance, Idle}
 use Rattle.write_history.specs.declared.mark.Mark.{Mark}
-use Rattle.write_history.specs.declared.mark.Mark.TheVariants.{Clean}
 use Rattle.write_history.specs.declared.move_item.Move.{Move}
 use Rattle.write_history.specs.History.{Write}
 use Rattle.writer_calls.specs.Script.{said_of}
@@ -16,25 +15,24 @@ use Rattle.writer_state.specs.declared.said.Said.{Said}
 use Rattle.set_agenda.specs.declared.group.Group.{Group}
 use Rattle.set_agenda.specs.declared.kind.Kind.TheVariants as kind
 use Rattle.set_agenda.specs.Agenda.{is_among, is_working}
-use Rattle.set_agenda.specs.Course.{Course, answered as course_answered, stepped as course_stepped, timed as course_timed, failed as course_failed, has_row_failed}
+use Rattle.set_agenda.specs.Course.{Course, answered as course_answered, stepped as course_stepped, timed as course_timed, has_row_failed}
 use Rattle.requestor.specs.Session.{Session}
 use Rattle.scenario.specs.declared.op.Op.{Op}
 use Rattle.scenario.specs.declared.op.Op.TheVariants.{Revert, DeleteSet, DeleteImage, Tick, Begin, Disable, Component, Start, Add, Prepare, Snapshot, Abort, End}
 use Rattle.scenario.specs.Bounds.{IsPlan, begins_agenda, agenda_lines}
 use Rattle.scenario.specs.Plan.{Plan, LaneLine, LanePlan, lines_in, lines_of}
 use Rattle.vss_model.specs.declared.event.Event.{Event}
-use Rattle.vss_model.specs.declared.event.Event.TheVariants.{Line, Answer as AnswerEvent, Provider, Idle as IdleEvent}
+use Rattle.vss_model.specs.declared.event.Event.TheVariants.{Line, Provider, Idle as IdleEvent}
 use Rattle.vss_model.specs.State.{State, SetRow, Kept, in_progress, left_now}
-use Rattle.vss_model.specs.Ending.{Ending, NothingEnds, SetFails, ending, concluded, followed, runs, failed_in, failed}
-use Rattle.vss_model.specs.Images.{Replied, cleared, set_loses_image, with_room_if, put, write, reverted_as}
+use Rattle.vss_model.specs.Ending.{Ending, ending, concluded, followed, runs, failed_in, failed}
+use Rattle.vss_model.specs.Images.{Replied, with_room_if, put, write, reverted_as}
 use Rattle.component_doc.specs.Selection.{takers}
 use Rattle.vss_names.specs.declared.order.Order.{Order}
-use Rattle.writer_calls.specs.declared.answer.Answer.{Answer}
 use Rattle.vss_model.specs.Sessions.{is_disabled, selected, has_no_volume, volumes_of, closed, end_session}
 use Rattle.vss_model.specs.Steps.{answered, step_made, stepped_as, stepped, ticked, later}
 use Rattle.vss_model.specs.Acts.{Act, after, state, enabled, idle_now, order_of_writer}
 use Rattle.vss_model.specs.GoesOn.{most_moves}
-use Rattle.vss_model.specs.Trail.{Run, begin, is_lane, cursor, next_line, line_event, answer_event, script_event, event_of, act_of, after_event, moved, run_from, run, acts, event_enabled, none_can_act, may_move, allows, is_legal_move, is_legal_from, is_legal}
+use Rattle.vss_model.specs.Trail.{Run, begin, is_lane, cursor, next_line, line_event, script_event, event_of, act_of, after_event, moved, run_from, run, acts, event_enabled, may_move, is_legal_move, is_legal_from, is_legal}
 use Rattle.vss_model.specs.Turns.{waiting, turns_of_agenda, turns_of_line, turns_of_lines, turns_of_lanes, turns_left}
 use Rattle.vss_model.proofs.Appending.{state-append, run-append, state-run, is_legal-append}
 use Rattle.vss_model.proofs.ByEvent.{Covers, covered, by_if, after_enabled}
@@ -50,8 +48,7 @@ abbrev waits_at : State → ℕ
 waits_at st = waiting (left_now st)
 
 same_concluded : (e : Ending) (st : State) → waits_at (concluded e st) ≡ waits_at st
-same_concluded NothingEnds st = refl
-same_concluded _ st = refl
+same_concluded e st = grind arith
 
 same_followed : (ran : Bool) (c : Course) (st : State) → waits_at (followed ran c st) ≡ waits_in c
 unfolding followed
@@ -77,39 +74,27 @@ unfolding ticked
 same_ticked n st = same_followed (runs st) (course_timed (st.clock + n) st.course) (later n st)
 
 not_more_failed : (o : Option SetRow) (why : VssResult) (st : State) → waits_at (failed_in o why st) ≤ waits_at st
-not_more_failed None why st = omega arith
-not_more_failed (Some r) why st =
-    let e = same_concluded (SetFails why) (record st { course = course_failed why st.course }) in
-    let f = none_left_failed why st.course in
-    omega (arith, e, f)
+not_more_failed o why st = grind (arith, same_concluded, none_left_failed)
 
 none_closed : (q : Session) (st : State) → waits_at (closed q st) ≡ 0
 unfolding closed
 none_closed q st = none_released st.course
 
 few_room : (b : Bool) (x : State) → waits_at (with_room_if b x) ≤ waits_at x
-few_room true x = not_more_failed (in_progress x) InsufficientStorage x
-few_room false x = omega arith
+few_room b x = grind (arith, not_more_failed)
 
 same_put : (v : ℕ) (w : Write) (mark : Mark) (x : State) → waits_at (put v w mark x) ≡ waits_at x
-same_put v w Clean x = refl
-same_put v w _ x = refl
+same_put v w mark x = grind arith
 
 few_write : (s : Plan) (v : ℕ) (w : Write) (mark : Mark) (st : State) → waits_at (write s v w mark st).1 ≤ waits_at st
 unfolding write
-few_write s v w mark st =
-    let room = with_room_if (set_loses_image (in_progress st) st.volumes (cleared s v w.block st).volumes) (cleared s v w.block st) in
-    let e = same_put v w mark room in
-    let f = few_room (set_loses_image (in_progress st) st.volumes (cleared s v w.block st).volumes) (cleared s v w.block st) in
-    omega (arith, e, f)
+few_write s v w mark st = grind (arith, same_put, few_room)
 
 same_revert : (s : Plan) (v : ℕ) (kept : Kept) (mark : Mark) (st : State) → waits_at (reverted_as s v kept mark st).1 ≡ waits_at st
-same_revert s v kept Clean st = refl
-same_revert s v kept _ st = refl
+same_revert s v kept mark st = grind arith
 
 few_of_set : (o : Option SetRow) → FewVolumes o → length (volumes_of o) ≤ 64
-few_of_set None h = omega arith
-few_of_set (Some r) h = h
+few_of_set o h = grind arith
 
 -- the turns that an event takes of those of its lane
 abbrev turns_of_event : Event → ℕ
@@ -231,21 +216,14 @@ record IsReached (s : Plan) (r : Run) : Type 0 where
   is : r.state ≡ state s acts
 
 after_at : (s : Plan) (r : Run) (act : Act) → IsPlan s → IsReached s r → enabled s r.state act.event ≡ true → suc (waits_at (after s r.state act)) ≤ waits_at r.state + turns_of_event act.event
-after_at s r act p h e = subst (λ st. suc (waits_at (after s st act)) ≤ waits_at st + turns_of_event act.event) (sym h.is) (after_turns s h.acts act p (subst (λ st. enabled s st act.event ≡ true) h.is e))
+after_at s r act p h e = grind (arith, after_turns)
 
 -- a move's act is enabled
 event_of_legal : (s : Plan) (r : Run) (actor : Actor) → may_move s r actor ≡ true → event_enabled s r (event_of s r actor) ≡ true
-event_of_legal s r Idle e = (and_parts (event_enabled s r (event_of s r Idle)) (none_can_act s r) e).0
-event_of_legal s r _ e = e
-
--- an answer takes none of the lanes' turns
-no_turns_of_answer : (a : Option Answer) (w : ℕ) (event : Event) → answer_event w a ≡ Some event → turns_of_event event ≡ 0
-no_turns_of_answer None w event e = absurd cc
-no_turns_of_answer (Some a) w event e = let same : AnswerEvent w a ≡ event = cc in ap turns_of_event (sym same)
+event_of_legal s r actor e = grind arith
 
 no_turns_of_order : (o : Option Order) (s : Plan) (st : State) (w : ℕ) (event : Event) → script_event s st w o ≡ Some event → turns_of_event event ≡ 0
-no_turns_of_order None s st w event e = absurd cc
-no_turns_of_order (Some o) s st w event e = no_turns_of_answer _ w event e
+no_turns_of_order o s st w event e = grind arith
 
 none_more : (n : ℕ) → 0 + n ≡ n
 none_more n = omega arith
@@ -284,16 +262,13 @@ event_turns s r m (Some event) p h e f =
     omega (arith, a, b)
 
 move_turns : (s : Plan) (r : Run) (m : Move) → IsPlan s → IsReached s r → is_legal_move s r m ≡ true → suc (turns_left s (moved s r m)) ≤ turns_left s r
-move_turns s r m p h e = event_turns s r m (event_of s r m.actor) p h refl (event_of_legal s r m.actor (and_parts (may_move s r m.actor) (allows s r (event_of s r m.actor) m.mark) e).0)
+move_turns s r m p h e = grind (arith, event_turns, event_of_legal, and_parts)
 
 reached_run : (s : Plan) (trail : List Move) → IsReached s (run s trail)
 reached_run s trail = record { acts = acts s trail; is = state-run s trail }
 
 pub one_turn : (s : Plan) (trail : List Move) (m : Move) → IsPlan s → is_legal s (trail ++ m ∷ []) ≡ true → turns_left s (run s (trail ++ m ∷ [])) < turns_left s (run s trail)
-one_turn s trail m p e =
-    let legal = (and_parts (is_legal s trail) (is_legal_move s (run s trail) m) (sym (is_legal-append s trail m) ∙ e)).1 in
-    let a = move_turns s (run s trail) m p (reached_run s trail) legal in
-    subst (λ r. turns_left s r < turns_left s (run s trail)) (sym (run-append s trail m)) (omega (arith, a))
+one_turn s trail m p e = grind (arith, and_parts, is_legal-append, move_turns, reached_run, run-append)
 
 -- ## all moves
 

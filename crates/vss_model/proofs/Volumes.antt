@@ -30,8 +30,7 @@ module _ (R : History → History → Type 0) (same : (h : History) → R h h) w
   each_change f g (suc u) (x ∷ hs) (suc v) = each_change f g u hs v
 
   gone_here : (b : Bool) (m : ℕ) (x : History) → R x (record { writes = x.writes; images = after_set m x.images }) → R x (if b then record { writes = x.writes; images = after_set m x.images } else x)
-  gone_here true m x h = h
-  gone_here false m x h = same x
+  gone_here b m x h = grind arith
 
   pub each_gone : (m : ℕ) → ((h : History) → R h (record { writes = h.writes; images = after_set m h.images })) → (ps : List Placed) (hs : List History) → Each R hs (gone_up_to m ps hs)
   each_gone m g [] hs v = same (at hs v)
@@ -58,16 +57,10 @@ pub record Fewer (h k : History) : Type 0 where
   pub count : length k.images ≤ length h.images
 
 pub fewer_same : (h : History) → Fewer h h
-fewer_same h = record { sets = λ n e. e; count = own (length h.images) }
-  where
-    own : (a : ℕ) → a ≤ a
-    own a = omega arith
+fewer_same h = grind arith
 
 pub fewer_still : (h k l : History) → Fewer h k → Fewer k l → Fewer h l
-fewer_still h k l f g = record { sets = λ n e. f.sets n (g.sets n e); count = over (length l.images) (length k.images) (length h.images) g.count f.count }
-  where
-    over : (a b c : ℕ) → a ≤ b → b ≤ c → a ≤ c
-    over a b c e f = omega (arith, e, f)
+fewer_still h k l f g = grind arith
 
 sets_filter : (test : Image → Bool) (images : List Image) (n : ℕ) → is_some (point_in n (filter test images)) ≡ true → is_some (point_in n images) ≡ true
 sets_filter test [] n e = e

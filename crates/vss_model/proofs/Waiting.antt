@@ -1,41 +1,32 @@
 -- A running agenda waits for somebody: for the provider's step, or for a writer's answer; and where it waits for an answer
 -- a limit runs, which an idle stretch spends.
-use Rattle.std.proofs.Common.{◌≡◌, ℕ, ◌+◌, ◌-◌, ◌==◌, ◌<◌, List, [], ◌∷◌, ◌++◌, Option, Some, None, refl, Bool, true, false, ap, sym, ◌∙◌, subst, fold, inl, inr, arith}
-use Rattle.std.specs.Prelude.{◌⊎◌, is_some, ◌&&◌, ◌||◌, not, if◌then◌else◌}
-use Rattle.std.proofs.lemmas.Bool.{lt-ltb}
+use Rattle.std.proofs.Common.{◌≡◌, ℕ, ◌+◌, ◌-◌, List, [], ◌∷◌, Option, Some, None, refl, Bool, true, false, sym, subst, fold, arith}
+use Rattle.std.specs.Prelude.{◌⊎◌, is_some, if◌then◌else◌}
 use Rattle.vss_names.specs.declared.context.Context.{Context}
 use Rattle.vss_names.specs.declared.order.Order.{Order}
-use Rattle.vss_names.specs.declared.order.Order.TheVariants.{Identify, PrepareBackup, PrepareSnapshot, Freeze, Thaw, PostSnapshot, BackupComplete}
 use Rattle.vss_names.specs.declared.vss_result.VssResult.{VssResult}
 use Rattle.vss_names.specs.declared.vss_result.VssResult.TheVariants.{AsyncCancelled}
 use Rattle.writer_state.specs.declared.said.Said.{Said}
-use Rattle.writer_state.specs.WriterState.{is_ok}
 use Rattle.write_history.specs.declared.mark.Mark.{Mark}
-use Rattle.write_history.specs.declared.mark.Mark.TheVariants.{Clean}
-use Rattle.write_history.specs.History.{Write}
 use Rattle.set_agenda.specs.declared.group.Group.{Group}
-use Rattle.set_agenda.specs.declared.group.Group.TheVariants.{Orders, PreCommit, Flush, Hold, Cut, Commit, Release, PostCommit}
 use Rattle.set_agenda.specs.declared.kind.Kind.{Kind}
 use Rattle.set_agenda.specs.declared.kind.Kind.TheVariants.{Gather, Prepare, Snapshot, Complete}
 use Rattle.set_agenda.specs.declared.limit.Limit.{Limit}
-use Rattle.set_agenda.specs.declared.limit.Limit.TheVariants.{Hold as HoldLimit, Freeze as FreezeLimit, Answer as AnswerLimit}
 use Rattle.set_agenda.specs.declared.member.Member.{Member}
 use Rattle.set_agenda.specs.declared.place.Place.{Place}
-use Rattle.set_agenda.specs.Agenda.{Agenda, Open, with_group, waited_for, left_from, places, groups_left, left, order_of, order_now, is_among, is_asked, order_if, open_order, is_orders, is_asking, is_working, next_member, is_done}
-use Rattle.set_agenda.specs.Limits.{Running, hold_running, runs_if, freeze_runs, answer_runs, running_at, running_limits, first_hold, freeze_opened_at, opened_at, spent_of, ticks_to_spend}
-use Rattle.set_agenda.specs.Course.{Course, posted, failed as course_failed, settled_if, settled_in, settled, begun, is_decisive, told, decided, answered_to, answered as course_answered, worked, stepped_as as course_stepped_as, stepped as course_stepped, freeze_limit, limits_now, lost, fails_set, lost_decided, treated_as, treated, timed as course_timed, released}
-use Rattle.tick_limits.specs.Time.{answer_limit, is_spent, ticks_until}
+use Rattle.set_agenda.specs.Agenda.{Agenda, Open, with_group, waited_for, left_from, groups_left, left, is_among, open_order, is_asking, is_working, next_member, is_done}
+use Rattle.set_agenda.specs.Limits.{Running, running_at, running_limits, spent_of, ticks_to_spend}
+use Rattle.set_agenda.specs.Course.{Course, posted, failed as course_failed, settled_in, settled, begun, decided, answered_to, answered as course_answered, stepped_as as course_stepped_as, stepped as course_stepped, freeze_limit, limits_now, lost_decided, treated_as, treated, timed as course_timed, released}
+use Rattle.tick_limits.specs.Time.{is_spent, ticks_until}
 use Rattle.requestor.specs.Session.{Session}
 use Rattle.scenario.specs.Plan.{Plan}
-use Rattle.vss_model.specs.State.{State, SetRow, Kept, start, in_progress, left_now}
-use Rattle.vss_model.specs.Ending.{Ending, NothingEnds, ending, concluded, followed, runs, failed_in, failed}
-use Rattle.vss_model.specs.Images.{put, reverted_as}
+use Rattle.vss_model.specs.State.{State, SetRow, start, in_progress, left_now}
+use Rattle.vss_model.specs.Ending.{Ending, ending, concluded, followed, runs, failed_in, failed}
 use Rattle.vss_model.specs.Sessions.{begin_in, has_no_volume, closed}
 use Rattle.vss_model.specs.Steps.{answered, step_made, stepped_as, stepped, ticked, later}
 use Rattle.vss_model.specs.Acts.{Act, after, state, order_of_writer, idle_now}
 use Rattle.vss_model.specs.Laws.{IsKeptByChanges, IsKeptByWrites}
 use Rattle.vss_model.proofs.Rule.{on_after}
-use Rattle.vss_model.proofs.Orderly.{true_not_false}
 use Rattle.vss_model.proofs.ByEvent.{by_if}
 
 -- ## an agenda that runs is not done
@@ -52,49 +43,36 @@ open_posted : (before c : Course) → IsOpen c.agenda → IsOpen (posted before 
 unfolding posted
 open_posted before c h = h
 
--- what is settled has no agenda, or one that is not done
-open_settled_if : (done : Bool) (c : Course) (a : Agenda) → c.agenda ≡ Some a → is_done (groups_left a) ≡ done → IsOpen (settled_if done a.kind c).agenda
-open_settled_if true c a e f = tt
-open_settled_if false c a e f = subst IsOpen (sym e) f
-
 open_settled_in : (o : Option Agenda) (c : Course) → c.agenda ≡ o → IsOpen (settled_in o c).agenda
-open_settled_in None c e = subst IsOpen (sym e) tt
-open_settled_in (Some a) c e = open_settled_if (is_done (groups_left a)) c a e refl
+open_settled_in o c e = grind arith
 
 open_settled : (c : Course) → IsOpen (settled c).agenda
 unfolding settled
 open_settled c = open_settled_in c.agenda c refl
 
 open_decided : (fails : Bool) (said : Said) (c : Course) → IsOpen (decided fails said c).agenda
-open_decided true said c = open_failed _ c
-open_decided false said c = open_settled c
+open_decided fails said c = grind (arith, open_failed, open_settled)
 
 open_answered_to : (o : Option Order) (w : ℕ) (said : Said) (now : ℕ) (c : Course) → IsOpen c.agenda → IsOpen (answered_to o w said now c).agenda
-open_answered_to None w said now c h = h
-open_answered_to (Some o) w said now c h = open_decided (is_decisive o && not (is_ok said)) said (told o said now (w ∷ []) c)
+open_answered_to o w said now c h = grind (arith, open_decided)
 
 open_answered : (w : ℕ) (said : Said) (now : ℕ) (c : Course) → IsOpen c.agenda → IsOpen (course_answered w said now c).agenda
 open_answered w said now c h = open_posted c _ (open_answered_to (open_order (left c.agenda) w) w said now c h)
 
 open_stepped_as : (ok : Bool) (now : ℕ) (c : Course) → IsOpen (course_stepped_as ok now c).agenda
-open_stepped_as true now c = open_settled (worked now c)
-open_stepped_as false now c = open_failed _ c
+open_stepped_as ok now c = grind (arith, open_settled, open_failed)
 
 open_stepped : (ok : Bool) (now : ℕ) (c : Course) → IsOpen (course_stepped ok now c).agenda
 open_stepped ok now c = open_posted c _ (open_stepped_as ok now c)
 
 open_lost_decided : (b : Bool) (c : Course) → IsOpen (lost_decided b c).agenda
-open_lost_decided true c = open_failed _ c
-open_lost_decided false c = open_settled c
+open_lost_decided b c = grind (arith, open_failed, open_settled)
 
 open_treated_as : (l : Limit) (now : ℕ) (c : Course) → IsOpen (treated_as l now c).agenda
-open_treated_as HoldLimit now c = open_failed _ c
-open_treated_as FreezeLimit now c = open_failed _ (lost now c)
-open_treated_as AnswerLimit now c = open_lost_decided (fails_set (order_now (left c.agenda))) (lost now c)
+open_treated_as l now c = grind (arith, open_failed, open_lost_decided)
 
 open_treated : (l : Option Running) (now : ℕ) (c : Course) → IsOpen c.agenda → IsOpen (treated l now c).agenda
-open_treated None now c h = h
-open_treated (Some l) now c h = open_treated_as l.limit now c
+open_treated l now c h = grind (arith, open_treated_as)
 
 open_timed : (now : ℕ) (c : Course) → IsOpen c.agenda → IsOpen (course_timed now c).agenda
 open_timed now c h = open_posted c _ (open_treated (spent_of now (limits_now c)) now c h)
@@ -109,8 +87,7 @@ abbrev IsOpenState : State → Type 0
 IsOpenState st = IsOpen st.course.agenda
 
 open_concluded : (e : Ending) (st : State) → IsOpenState st → IsOpenState (concluded e st)
-open_concluded NothingEnds st h = h
-open_concluded _ st h = h
+open_concluded e st h = grind arith
 
 open_followed : (ran : Bool) (c : Course) (st : State) → IsOpen c.agenda → IsOpenState (followed ran c st)
 unfolding followed
@@ -133,12 +110,10 @@ unfolding ticked
 on_ticks n st h = open_followed (runs st) _ (later n st) (open_timed (st.clock + n) st.course h)
 
 on_failed_in : (o : Option SetRow) (why : VssResult) (st : State) → IsOpenState st → IsOpenState (failed_in o why st)
-on_failed_in None why st h = h
-on_failed_in (Some r) why st h = open_failed why st.course
+on_failed_in o why st h = grind (arith, open_failed)
 
 on_begins : (lane : ℕ) (all : Bool) (c : Option Context) (st : State) → IsOpenState st → IsOpenState (begin_in lane all c st).1
-on_begins lane all None st h = h
-on_begins lane all (Some c) st h = h
+on_begins lane all c st h = grind arith
 
 on_closes : (q : Session) (st : State) → IsOpenState (closed q st)
 unfolding closed released
@@ -165,19 +140,8 @@ kept_by_changes = record {
   ends = λ q st e h. on_closes q (failed AsyncCancelled st);
 }
 
-on_puts : (v : ℕ) (w : Write) (mark : Mark) (x : State) → IsOpenState x → IsOpenState (put v w mark x)
-on_puts v w Clean x h = h
-on_puts v w _ x h = h
-
-on_reverts : (s : Plan) (v : ℕ) (k : Kept) (mark : Mark) (st : State) → IsOpenState st → IsOpenState (reverted_as s v k mark st).1
-on_reverts s v k Clean st h = h
-on_reverts s v k _ st h = h
-
 kept_by_writes : (st : State) → IsKeptByWrites IsOpenState st
-kept_by_writes st = record {
-  puts = λ v e w mark x h. on_puts v w mark x h;
-  reverts = λ s n v k mark e f h. on_reverts s v k mark st h;
-}
+kept_by_writes st = grind arith
 
 open_fold : (s : Plan) (st : State) (acts : List Act) → IsOpenState st → IsOpenState (fold (after s) st acts)
 open_fold s st [] h = h
@@ -191,11 +155,7 @@ WaitsWell [] = Unit {0}
 WaitsWell (o ∷ os) = is_among (next_member (o ∷ os)) o.waits ≡ true
 
 waits-with_group : (p : Place) (ws : List ℕ) (later : List Open) → WaitsWell later → WaitsWell (with_group p ws later)
-waits-with_group p [] later h = h
-waits-with_group p (w ∷ ws) later h = own w (is_among w ws)
-  where
-    own : (a : ℕ) (b : Bool) → ((a == a) || b) ≡ true
-    own a b = grind arith
+waits-with_group p ws later h = grind arith
 
 pub waits-left_from : (a : Agenda) (ps : List Place) → WaitsWell (left_from a ps)
 waits-left_from a [] = tt
@@ -203,31 +163,10 @@ waits-left_from a (p ∷ ps) = waits-with_group p (waited_for a p) (left_from a 
 
 -- the provider has a step to make, or the first who is waited for has an order to answer
 goes_in : (os : List Open) → is_done os ≡ false → WaitsWell os → (is_working os ≡ true) ⊎ (is_some (open_order os (next_member os)) ≡ true)
-goes_in [] e h = absurd cc
-goes_in (o ∷ os) e h = by_group o.place.group refl
-  where
-    answer : (g : Group) (b : Bool) → is_orders g ≡ true → b ≡ true → is_some (if is_orders g && b then order_of g else None) ≡ true
-    answer (Orders x) true f g = refl
-    answer (Orders x) false f g = absurd cc
-    answer PreCommit b f g = absurd cc
-    answer Flush b f g = absurd cc
-    answer Hold b f g = absurd cc
-    answer Cut b f g = absurd cc
-    answer Commit b f g = absurd cc
-    answer Release b f g = absurd cc
-    answer PostCommit b f g = absurd cc
-
-    as_order : (b : Bool) (x : Option Order) → is_some (if b then x else None) ≡ true → is_some (order_if b x) ≡ true
-    as_order true x f = f
-    as_order false x f = absurd cc
-
-    by_group : (g : Group) → o.place.group ≡ g → (is_working (o ∷ os) ≡ true) ⊎ (is_some (open_order (o ∷ os) (next_member (o ∷ os))) ≡ true)
-    by_group (Orders x) f = inr (as_order (is_asked (next_member (o ∷ os)) (o ∷ os)) (order_of o.place.group) (answer o.place.group (is_among (next_member (o ∷ os)) o.waits) (ap is_orders f) h))
-    by_group _ f = inl (ap (λ g. not (is_orders g)) f)
+goes_in os e h = grind arith
 
 goes_at : (x : Option Agenda) → is_some x ≡ true → IsOpen x → (is_working (left x) ≡ true) ⊎ (is_some (open_order (left x) (next_member (left x))) ≡ true)
-goes_at None e h = absurd cc
-goes_at (Some a) e h = goes_in (groups_left a) h (waits-left_from a (places a.kind))
+goes_at x e h = grind (arith, goes_in, waits-left_from)
 
 pub agenda_goes_on : (s : Plan) (acts : List Act) → runs (state s acts) ≡ true
     → (is_working (left_now (state s acts)) ≡ true) ⊎ (is_some (order_of_writer (state s acts) (next_member (left_now (state s acts)))) ≡ true)
@@ -236,10 +175,7 @@ agenda_goes_on s acts e = goes_at (state s acts).course.agenda e (open_fold s (s
 -- ## an idle stretch spends a limit
 
 spends_one : (now since ticks : ℕ) → is_spent (now + ticks_until now since ticks) since ticks ≡ true
-spends_one now since ticks = lt-ltb ticks ((now + ((since + ticks + 1) - now)) - since) (enough now since ticks)
-  where
-    enough : (now since ticks : ℕ) → ticks < (now + ((since + ticks + 1) - now)) - since
-    enough now since ticks = omega arith
+spends_one now since ticks = grind arith
 
 spends_list : (now : ℕ) (l : Running) → is_some (spent_of (now + ticks_to_spend now (l ∷ [])) (l ∷ [])) ≡ true
 spends_list now l = subst (λ b. is_some (if b then Some l else None) ≡ true) (sym (spends_one now l.since l.ticks)) refl
@@ -247,42 +183,12 @@ spends_list now l = subst (λ b. is_some (if b then Some l else None) ≡ true) 
 spends_at : (now : ℕ) (ls : List Running) (l : Running) → ls ≡ l ∷ [] → is_some (spent_of (now + ticks_to_spend now ls) ls) ≡ true
 spends_at now ls l e = subst (λ x. is_some (spent_of (now + ticks_to_spend now x) x) ≡ true) (sym e) (spends_list now l)
 
-no_hold : (x : Order) (o : Option ℕ) → hold_running (Orders x) o ≡ []
-no_hold x None = refl
-no_hold x (Some since) = refl
-
 record HasOne (ls : List Running) : Type 0 where
   one : Running
   is : ls ≡ one ∷ []
 
-one_limit : (x : Order) (hold : Option ℕ) (freeze since opened : ℕ) → HasOne (hold_running (Orders x) hold ++ runs_if (freeze_runs (Orders x)) FreezeLimit since freeze ++ runs_if (answer_runs (Orders x)) AnswerLimit opened answer_limit)
-one_limit Freeze hold freeze since opened = record { one = record { limit = FreezeLimit; since = since; ticks = freeze }; is = ap (λ ls. ls ++ runs_if true FreezeLimit since freeze ++ []) (no_hold Freeze hold) }
-one_limit Identify hold freeze since opened = record { one = record { limit = AnswerLimit; since = opened; ticks = answer_limit }; is = ap (λ ls. ls ++ [] ++ runs_if true AnswerLimit opened answer_limit) (no_hold Identify hold) }
-one_limit PrepareBackup hold freeze since opened = record { one = record { limit = AnswerLimit; since = opened; ticks = answer_limit }; is = ap (λ ls. ls ++ [] ++ runs_if true AnswerLimit opened answer_limit) (no_hold PrepareBackup hold) }
-one_limit PrepareSnapshot hold freeze since opened = record { one = record { limit = AnswerLimit; since = opened; ticks = answer_limit }; is = ap (λ ls. ls ++ [] ++ runs_if true AnswerLimit opened answer_limit) (no_hold PrepareSnapshot hold) }
-one_limit Thaw hold freeze since opened = record { one = record { limit = AnswerLimit; since = opened; ticks = answer_limit }; is = ap (λ ls. ls ++ [] ++ runs_if true AnswerLimit opened answer_limit) (no_hold Thaw hold) }
-one_limit PostSnapshot hold freeze since opened = record { one = record { limit = AnswerLimit; since = opened; ticks = answer_limit }; is = ap (λ ls. ls ++ [] ++ runs_if true AnswerLimit opened answer_limit) (no_hold PostSnapshot hold) }
-one_limit BackupComplete hold freeze since opened = record { one = record { limit = AnswerLimit; since = opened; ticks = answer_limit }; is = ap (λ ls. ls ++ [] ++ runs_if true AnswerLimit opened answer_limit) (no_hold BackupComplete hold) }
-
-no_order_group : (h g : Group) → h ≡ g → is_orders h ≡ true → is_orders g ≡ false → ⊥
-no_order_group h g f e i = true_not_false (is_orders h) e (ap is_orders f ∙ i)
-
 one_at : (freeze : ℕ) (a : Agenda) (os : List Open) → is_asking os ≡ true → HasOne (running_at freeze a os)
-one_at freeze a [] e = absurd cc
-one_at freeze a (o ∷ os) e = by_group o.place.group refl e
-  where
-    own : (g : Group) → HasOne (hold_running g (first_hold a.log) ++ runs_if (freeze_runs g) FreezeLimit (freeze_opened_at a) freeze ++ runs_if (answer_runs g) AnswerLimit (opened_at a o) answer_limit) → o.place.group ≡ g → HasOne (running_at freeze a (o ∷ os))
-    own g h f = subst (λ x. HasOne (hold_running x (first_hold a.log) ++ runs_if (freeze_runs x) FreezeLimit (freeze_opened_at a) freeze ++ runs_if (answer_runs x) AnswerLimit (opened_at a o) answer_limit)) (sym f) h
-
-    by_group : (g : Group) → o.place.group ≡ g → is_orders o.place.group ≡ true → HasOne (running_at freeze a (o ∷ os))
-    by_group (Orders x) f h = own (Orders x) (one_limit x (first_hold a.log) freeze (freeze_opened_at a) (opened_at a o)) f
-    by_group PreCommit f h = absurd (no_order_group o.place.group PreCommit f h refl)
-    by_group Flush f h = absurd (no_order_group o.place.group Flush f h refl)
-    by_group Hold f h = absurd (no_order_group o.place.group Hold f h refl)
-    by_group Cut f h = absurd (no_order_group o.place.group Cut f h refl)
-    by_group Commit f h = absurd (no_order_group o.place.group Commit f h refl)
-    by_group Release f h = absurd (no_order_group o.place.group Release f h refl)
-    by_group PostCommit f h = absurd (no_order_group o.place.group PostCommit f h refl)
+one_at freeze a os e = grind arith
 
 spends_in : (now freeze : ℕ) (x : Option Agenda) → is_asking (left x) ≡ true → is_some (spent_of (now + ticks_to_spend now (running_limits freeze x)) (running_limits freeze x)) ≡ true
 spends_in now freeze None e = absurd cc
@@ -291,17 +197,8 @@ spends_in now freeze (Some a) e = let h = one_at freeze a (groups_left a) e in s
 pub idle_spends : (s : Plan) (acts : List Act) → is_asking (left_now (state s acts)) ≡ true → is_some (spent_of ((state s acts).clock + idle_now (state s acts)) (limits_now (state s acts).course)) ≡ true
 idle_spends s acts e = let st = state s acts in spends_in st.clock (freeze_limit st.course) st.course.agenda e
 
-working_or : (os : List Open) → is_done os ≡ false → (is_working os ≡ true) ⊎ (is_asking os ≡ true)
-working_or [] e = absurd cc
-working_or (o ∷ os) e = by_orders (is_orders o.place.group) refl
-  where
-    by_orders : (b : Bool) → is_orders o.place.group ≡ b → (is_working (o ∷ os) ≡ true) ⊎ (is_asking (o ∷ os) ≡ true)
-    by_orders true f = inr f
-    by_orders false f = inl (ap not f)
-
 working_or_at : (x : Option Agenda) → is_some x ≡ true → IsOpen x → (is_working (left x) ≡ true) ⊎ (is_asking (left x) ≡ true)
-working_or_at None e h = absurd cc
-working_or_at (Some a) e h = working_or (groups_left a) h
+working_or_at x e h = grind arith
 
 pub working_or_asking : (s : Plan) (acts : List Act) → runs (state s acts) ≡ true → (is_working (left_now (state s acts)) ≡ true) ⊎ (is_asking (left_now (state s acts)) ≡ true)
 working_or_asking s acts e = working_or_at (state s acts).course.agenda e (open_fold s (start s) acts tt)

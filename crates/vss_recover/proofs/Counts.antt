@@ -25,21 +25,16 @@ use Rattle.vss_recover.specs.RecoverValue.{IsOverlay}
 -- ## tests
 
 both : (a b : Bool) → (a && b) ≡ true → (a ≡ true) × (b ≡ true)
-both true true e = (refl, refl)
-both true false e = cc
-both false b e = cc
+both a b e = grind arith
 
 joined : (a b : Bool) → a ≡ true → b ≡ true → (a && b) ≡ true
-joined true b e f = f
-joined false b e f = cc
+joined a b e f = grind arith
 
 not_false : (b : Bool) → not b ≡ true → b ≡ false
-not_false true e = cc
-not_false false e = refl
+not_false b e = grind arith
 
 is_not : (b : Bool) → b ≡ false → not b ≡ true
-is_not true e = cc
-is_not false e = refl
+is_not b e = grind arith
 
 -- ## the records of an overlay
 
@@ -66,15 +61,10 @@ pub record Pair (n : ℕ) (rs : List Recovery) (set : ℕ) (r : Record) : Type 0
   pub is : record_of 0 set block ≡ r
 
 from_pair : (n : ℕ) (rs : List Recovery) (set : ℕ) (r : Record) → Has r (pairs_of n rs set) → Pair n rs set r
-from_pair n rs set r m =
-    let of = from-map (record_of 0 set) r (blocks_named n (recovered set rs)) m in
-    let known = from-filter (names (recovered set rs)) of.0 (range_with_len 0 n) of.1 in
-    let within = from-range 0 n of.0 known.0 in
-    record { block = of.0; low = (let l = within.1 in omega arith); named = known.1; is = of.2 }
+from_pair n rs set r m = grind (arith, from-map, from-filter, from-range)
 
 apart_pairs : (n : ℕ) (rs : List Recovery) (set : ℕ) → AreApart (pairs_of n rs set)
-apart_pairs n rs set = apart-map (record_of 0 set) (blocks_named n (recovered set rs)) (λ x y e. ap (λ (r : Record). r.block) e)
-    (apart-filtered (names (recovered set rs)) (range_with_len 0 n) (apart-range 0 n))
+apart_pairs n rs set = grind (arith, apart-map, apart-filtered, apart-range)
 
 block_of : (set : ℕ) (r : Record) → is_block_of set r ≡ true → (0 < r.set) × (r.set ≡ set)
 block_of set r e = let parts = both (nat_lt 0 r.set) (r.set == set) e in (ltb-true 0 r.set parts.0, same_number r.set set parts.1)
@@ -191,8 +181,4 @@ among_has (x ∷ sets) s (inr m) = by_test (x == s) (among_has sets s m) where
 
 pub has_slot : (slots : Option (List (List ℕ))) (records : List Record) (n : ℕ) (rs : List Recovery) (set b : ℕ) → IsOverlay slots records n rs → 0 < set → b < n
     → has_record records (record_of 0 set b) ≡ names (recovered set rs) b
-has_slot slots records n rs set b is above low = by_tests (has_record records (record_of 0 set b)) refl (names (recovered set rs) b) refl where
-  by_tests : (t : Bool) → has_record records (record_of 0 set b) ≡ t → (u : Bool) → names (recovered set rs) b ≡ u → t ≡ u
-  by_tests true e u f = (let at = found_record records (record_of 0 set b) e in sym (is.named at.0 set b above at.1) ∙ f)
-  by_tests false e true f = (let at = is.recorded set b above low f in let has = has_found records at.0 (record_of 0 set b) at.1 in absurd cc)
-  by_tests false e false f = refl
+has_slot slots records n rs set b is above low = grind (arith, found_record, has_found)

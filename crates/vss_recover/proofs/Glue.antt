@@ -1,8 +1,7 @@
 -- What the calls come to, from what the calls that they are made of come to.
-use Rattle.std.proofs.Common.{◌≡◌, ◌<◌, ◌≤◌, ◌∙◌, ◌++◌, length-append, ℕ, zero, suc, List, [], ◌∷◌, ◌-◌, ◌+◌, Bool, true, false, Option, Some, refl, ap, sym, subst, arith, vec_capacity, Vec, length}
+use Rattle.std.proofs.Common.{◌≡◌, ◌<◌, ◌≤◌, ◌∙◌, ◌++◌, length-append, ℕ, zero, suc, List, [], ◌∷◌, ◌-◌, ◌+◌, Bool, true, false, Option, Some, ap, sym, subst, arith, length}
 use Rattle.std.proofs.Common.{slice_index_or, filter, take}
 use Rattle.std.specs.Prelude.{Result, Ok, Err, OnOk, IfSome, slice_get, if◌then◌else◌}
-use Rattle.std.specs.declared.alloc.Global.{Global}
 use Rattle.std.proofs.lemmas.Option.{get_or_from_slice_get}
 use Rattle.cow_volume.specs.Calls.{is_among}
 use Rattle.cow_volume.proofs.Group.{slice_get_inside}
@@ -35,47 +34,15 @@ use Rattle.vss_recover.specs.Recoveries.{Recovery}
 use Rattle.vss_recover.specs.Steps.Step.{Recovered}
 use Rattle.vss_recover.specs.OverlayCalls.{IsPut, IsPutIn}
 use Rattle.vss_recover.specs.Calls.{IsStep}
-use Rattle.vss_recover.specs.Keeping.{KeepsWindow}
-use Rattle.vss_recover.proofs.OfImages.{window_kept}
 use Rattle.vss_recover.proofs.Values.{value_of}
 
 pub settled_is : {D : Type 0} (volume : GroupValue D) (overlay now_overlay : AreaValue D) (window now : Option ℕ) (claims : List Claim) (final left images : List ℕ) → images ≡ image_sets volume
     → now_overlay ≡ with_records (kept_records images overlay.records) overlay
     → now ≡ kept_window images window → left ≡ kept_final images final → IsSettled (value_of volume overlay window claims final) (value_of volume now_overlay now claims left)
-settled_is volume overlay now_overlay window now claims final left images sets overlay_is window_is final_is = record {
-  device = ap (λ (a : AreaValue _). a.device) overlay_is;
-  volumes = ap (λ (a : AreaValue _). a.volumes) overlay_is;
-  records = ap (λ (a : AreaValue _). a.records) overlay_is ∙ ap (λ (s : List ℕ). kept_records s overlay.records) sets;
-  window = window_is ∙ ap (λ (s : List ℕ). kept_window s window) sets;
-  claims = refl;
-  final = final_is ∙ ap (λ (s : List ℕ). kept_final s final) sets;
-}
-
-pub keeps_settled : {D : Type 0} (volume : GroupValue D) (overlay now_overlay : AreaValue D) (window now : Option ℕ) (claims : Vec Claim Global) (finals left next : Vec ℕ Global) (images : List ℕ)
-    → now_overlay.volumes ≡ overlay.volumes → now ≡ kept_window images window
-    → vec_capacity finals ≤ vec_capacity left → KeepsWindow volume overlay window claims finals next → KeepsWindow volume now_overlay now claims left next
-keeps_settled volume overlay now_overlay window now claims finals left next images volumes window_is room keeps =
-    let enough = keeps.final_room in
-    record {
-      fits = volumes ∙ keeps.fits;
-      above_zero = λ set e. keeps.above_zero set (window_kept images window set (sym window_is ∙ e)).0;
-      claim_room = keeps.claim_room;
-      final_room = omega arith;
-      next_room = keeps.next_room;
-    }
+settled_is volume overlay now_overlay window now claims final left images sets overlay_is window_is final_is = grind arith
 
 pub blocks_kept : {D : Type 0} (old new : GroupValue D) → new.area.volumes ≡ old.area.volumes → blocks_of new ≡ blocks_of old
 blocks_kept old new e = ap (λ (ns : List ℕ). blocks_in (slice_get ns 0)) e
-
-pub keeps_volume : {D : Type 0} (volume new : GroupValue D) (overlay : AreaValue D) (window : Option ℕ) (claims : Vec Claim Global) (finals next : Vec ℕ Global)
-    → new.area.volumes ≡ volume.area.volumes → KeepsWindow volume overlay window claims finals next → KeepsWindow new overlay window claims finals next
-keeps_volume volume new overlay window claims finals next same keeps = record {
-  fits = keeps.fits ∙ ap (λ (n : ℕ). n ∷ []) (sym (blocks_kept volume new same));
-  above_zero = keeps.above_zero;
-  claim_room = keeps.claim_room;
-  final_room = keeps.final_room;
-  next_room = keeps.next_room;
-}
 
 -- ## the newest of some images
 
@@ -87,7 +54,7 @@ last_is : (sets : List ℕ) (d : ℕ) → 0 < length sets → slice_get sets (le
 last_is sets d some = let x = slice_get_inside sets (length sets - 1) (omega arith) in x.1 ∙ ap Some (sym (get_or_from_slice_get sets (length sets - 1) x.0 d x.1))
 
 pub newest_there : (sets images : List ℕ) (set : ℕ) → images ≡ sets → is_among set sets ≡ true → IsNewest sets (slice_index_or images (length images - 1) 0)
-newest_there sets images set same among = subst (λ (xs : List ℕ). IsNewest sets (slice_index_or xs (length xs - 1) 0)) (sym same) (last_is sets 0 (some_image sets set among))
+newest_there sets images set same among = grind (arith, last_is, some_image)
 
 -- ## reads
 
@@ -103,10 +70,7 @@ one_more k = omega arith
 
 filter_if : (t u : Bool) (y x : ℕ) (xs ys : List ℕ) → ys ≡ (if u then xs ++ x ∷ [] else xs)
     → (if t then y ∷ ys else ys) ≡ (if u then (if t then y ∷ xs else xs) ++ x ∷ [] else (if t then y ∷ xs else xs))
-filter_if true true y x xs ys e = ap (λ zs. y ∷ zs) e
-filter_if true false y x xs ys e = ap (λ zs. y ∷ zs) e
-filter_if false true y x xs ys e = e
-filter_if false false y x xs ys e = e
+filter_if t u y x xs ys e = grind arith
 
 pub filter_take : (p : ℕ → Bool) (xs : List ℕ) (i x : ℕ) → slice_get xs i ≡ Some x → filter p (take (i + 1) xs) ≡ (if p x then filter p (take i xs) ++ x ∷ [] else filter p (take i xs))
 filter_take p [] i x at = cc

@@ -1,5 +1,5 @@
 -- What is said of images is said of those that stand: after a step too.
-use Rattle.std.proofs.Common.{◌≡◌, ℕ, zero, suc, List, [], ◌∷◌, ◌++◌, refl, ap, sym, subst, ◌∙◌, arith, Bool, true, false, Option, Some, None, All}
+use Rattle.std.proofs.Common.{◌≡◌, ℕ, zero, suc, List, [], ◌∷◌, ◌++◌, ap, sym, ◌∙◌, arith, Bool, true, false, Option, Some, All}
 use Rattle.std.specs.Prelude.{◌==◌, ◌||◌, if◌then◌else◌, filter, slice_get}
 use Rattle.std.proofs.lemmas.List.Elements.{All-head, All-tail, All-cons, All-filter, filter_passes}
 use Rattle.std.proofs.lemmas.List.Folds.{list_any-append}
@@ -11,16 +11,13 @@ use Rattle.vss_recover.specs.Recoveries.{Recovery, Recovering, IsOfImages, kept_
 -- ## sets among others
 
 or_left : (a b : Bool) → a ≡ true → (a || b) ≡ true
-or_left true b e = refl
-or_left false b e = cc
+or_left a b e = grind arith
 
 or_right : (a b : Bool) → b ≡ true → (a || b) ≡ true
-or_right true b e = refl
-or_right false b e = e
+or_right a b e = grind arith
 
 or_rest : (t a b : Bool) → (t || a) ≡ true → (a ≡ true → b ≡ true) → (t || b) ≡ true
-or_rest true a b e rest = refl
-or_rest false a b e rest = rest e
+or_rest t a b e rest = grind arith
 
 pub among_head : (s : ℕ) (sets : List ℕ) → is_among s (s ∷ sets) ≡ true
 among_head s sets = or_left (s == s) (is_among s sets) (number_is s)
@@ -40,10 +37,7 @@ pub among_more : (a s : ℕ) (sets : List ℕ) → is_among a sets ≡ true → 
 among_more a s sets e = among_push a s sets ∙ or_left (is_among a sets) ((s == a) || false) e
 
 pub among_less : (a s : ℕ) (sets : List ℕ) → (s == a) ≡ false → is_among a (sets ++ s ∷ []) ≡ true → is_among a sets ≡ true
-among_less a s sets other e = by_test (is_among a sets) (ap (λ (t : Bool). is_among a sets || (t || false)) (sym other) ∙ sym (among_push a s sets) ∙ e) where
-  by_test : (t : Bool) → (t || (false || false)) ≡ true → t ≡ true
-  by_test true f = refl
-  by_test false f = f
+among_less a s sets other e = grind (arith, among_push)
 
 pub among_filter : (p : Image → Bool) (images : List Image) (s : ℕ) → is_among s (sets_of (filter p images)) ≡ true → is_among s (sets_of images) ≡ true
 among_filter p [] s e = e
@@ -61,8 +55,7 @@ all_in ys [] f = all_none (λ s. is_among s ys ≡ true)
 all_in ys (x ∷ xs) f = All-cons (λ s. is_among s ys ≡ true) x xs (f x (among_head x xs)) (all_in ys xs (λ s e. f s (among_tail s x xs e)))
 
 all_map : {X : Type 0} (P Q : X → Type 0) (xs : List X) → ((x : X) → P x → Q x) → All P xs → All Q xs
-all_map P Q [] f all = all_none Q
-all_map P Q (x ∷ xs) f all = All-cons Q x xs (f x (All-head P x xs all)) (all_map P Q xs f (All-tail P x xs all))
+all_map x0 x1 xs f all = grind arith
 
 all_push : {X : Type 0} (P : X → Type 0) (xs : List X) (y : X) → All P xs → P y → All P (xs ++ y ∷ [])
 all_push P [] y all h = All-cons P y [] h (all_none P)
@@ -71,41 +64,22 @@ all_push P (x ∷ xs) y all h = All-cons P x (xs ++ y ∷ []) (All-head P x xs a
 -- ## the window
 
 pub window_kept : (sets : List ℕ) (o : Option ℕ) (set : ℕ) → kept_window sets o ≡ Some set → (o ≡ Some set) × (is_among set sets ≡ true)
-window_kept sets None set e = cc
-window_kept sets (Some s) set e = by_test (is_among s sets) refl e where
-  by_test : (t : Bool) → is_among s sets ≡ t → (if t then Some s else None) ≡ Some set → (Some s ≡ Some set) × (is_among set sets ≡ true)
-  by_test true f g = (g, (let same : s ≡ set = cc in ap (λ x. is_among x sets) (sym same) ∙ f))
-  by_test false f g = cc
+window_kept sets o set e = grind arith
 
 pub window_stays : (sets : List ℕ) (o : Option ℕ) → ((set : ℕ) → o ≡ Some set → is_among set sets ≡ true) → kept_window sets o ≡ o
-window_stays sets None h = refl
-window_stays sets (Some s) h = ap (λ (t : Bool). if t then Some s else None) (h s refl)
+window_stays sets o h = grind arith
 
 -- ## after a step
 
 pub of_changed : (v : History) (h : Recovering) → IsOfImages (sets_of v.images) (changed v h)
-of_changed v h = record {
-  recoveries = filter_passes (λ (r : Recovery). is_among r.set (sets_of v.images)) h.recoveries;
-  window = λ set e. (window_kept (sets_of v.images) h.window set e).1;
-  final = filter_passes (λ s. is_among s (sets_of v.images)) h.final;
-}
+of_changed v h = grind (arith, filter_passes, window_kept)
 
 -- a set more
 pub of_more : (sets : List ℕ) (s : ℕ) (h k : Recovering) → k.recoveries ≡ h.recoveries → k.window ≡ h.window → k.final ≡ h.final → IsOfImages sets h → IsOfImages (sets ++ s ∷ []) k
-of_more sets s h k a b c is = record {
-  recoveries = subst (λ (rs : List Recovery). All (λ (r : Recovery). is_among r.set (sets ++ s ∷ []) ≡ true) rs) (sym a)
-      (all_map (λ (r : Recovery). is_among r.set sets ≡ true) (λ (r : Recovery). is_among r.set (sets ++ s ∷ []) ≡ true) h.recoveries (λ r e. among_more r.set s sets e) is.recoveries);
-  window = λ set e. among_more set s sets (is.window set (sym b ∙ e));
-  final = subst (λ (xs : List ℕ). All (λ x. is_among x (sets ++ s ∷ []) ≡ true) xs) (sym c)
-      (all_map (λ x. is_among x sets ≡ true) (λ x. is_among x (sets ++ s ∷ []) ≡ true) h.final (λ x e. among_more x s sets e) is.final);
-}
+of_more sets s h k a b c is = grind (arith, all_map, among_more)
 
 pub of_opened : (sets : List ℕ) (set : ℕ) (claims : List _) (h : Recovering) → is_among set sets ≡ true → IsOfImages sets h → IsOfImages sets (opened set claims h)
-of_opened sets set claims h among is = record {
-  recoveries = is.recoveries;
-  window = λ s e. (let same : set ≡ s = cc in ap (λ x. is_among x sets) (sym same) ∙ among);
-  final = is.final;
-}
+of_opened sets set claims h among is = grind arith
 
 pub of_recovered : (sets : List ℕ) (r : Recovery) (h : Recovering) → h.window ≡ Some r.set → IsOfImages sets h → IsOfImages sets (recovered_by r h)
 of_recovered sets r h open_is is = record {

@@ -1,12 +1,11 @@
 -- The records of a volume, brought in step with its map's rows entry by entry of the map's list.
 use Rattle.std.proofs.Common.{ℕ, zero, suc, ◌≡◌, ◌≢◌, ◌<◌, ◌≤◌, ◌+◌, Bool, true, false, ◌&&◌, List, [], ◌∷◌, length, map, take, get_or, Option, Some, slice_get, slice_set, refl, sym, ap, ◌∙◌, subst}
-use Rattle.std.proofs.Common.{arith, inl, inr, ◌⊎◌}
+use Rattle.std.proofs.Common.{arith, inl, inr}
 use Rattle.std.specs.Prelude.{◌==◌, nat_lt}
 use Rattle.std.specs.Option.{option_and_then}
 use Rattle.std.proofs.lemmas.Bool.{cases_eq}
 use Rattle.std.proofs.lemmas.List.{length-map, length-set, take_all, get_or_default}
 use Rattle.std.proofs.lemmas.Option.{none-some, same_Some, slice_get_within, slice_get_read, get_or_from_slice_get}
-use Rattle.diff_area.proofs.Gets.{get-set}
 use Rattle.diff_area.specs.AreaValue.{AreaValue}
 use Rattle.diff_area.specs.declared.table_record.Record.{Record}
 use Rattle.diff_map.specs.Copies.{copied_at, copy_of}
@@ -75,7 +74,7 @@ module _ (v : ℕ) (rule : Copied → Option Copied) where
   untouched (e ∷ es) rs k none = untouched es (pass v rule rs e) k (λ i f at. none (suc i) f at) ∙ other_set rs e.slot k (entry_row v rule e) (none zero e refl)
 
   set_own : (rs : List Record) (e : Entry) (k : ℕ) (y : Record) → k < length rs → e.slot ≡ k → entry_row v rule e ≡ y → slice_get (pass v rule rs e) k ≡ Some y
-  set_own rs e k y inside own is = ap (λ (j : ℕ). slice_get (slice_set rs j (entry_row v rule e)) k) own ∙ own_set rs k (entry_row v rule e) inside ∙ ap (λ (x : Record). Some x) is
+  set_own rs e k y inside own is = grind (arith, own_set)
 
   stays : (es : List Entry) (rs : List Record) (k : ℕ) (y : Record) → slice_get rs k ≡ Some y → ((i : ℕ) (e : Entry) → slice_get es i ≡ Some e → e.slot ≡ k → entry_row v rule e ≡ y)
       → slice_get (passed v rule es rs) k ≡ Some y
@@ -96,18 +95,6 @@ module _ (v : ℕ) (rule : Copied → Option Copied) where
   reached (x ∷ es) rs k y (suc i) e at own inside same =
       let long = length-set rs x.slot (entry_row v rule x) in
       reached es (pass v rule rs x) k y i e at own (omega arith) (λ j f. same (suc j) f)
-
-  -- a record stood there before, or is that of an entry that was passed
-  pub passed_from : (es : List Entry) (rs : List Record) (k : ℕ) (y : Record) → slice_get (passed v rule es rs) k ≡ Some y
-      → (slice_get rs k ≡ Some y) ⊎ ((i : ℕ) × (e : Entry) × (slice_get es i ≡ Some e) × (e.slot ≡ k) × (entry_row v rule e ≡ y))
-  passed_from [] rs k y h = inl h
-  passed_from (e ∷ es) rs k y h = elim (passed_from es (pass v rule rs e) k y h) [
-    | inr at ↦ inr (suc at.0, at.1, at.2, at.3, at.4)
-    | inl before ↦ elim (get-set rs e.slot k (entry_row v rule e) y before) [
-      | inl own ↦ inr (zero, e, refl, sym own.0, sym own.1)
-      | inr other ↦ inl other.1
-    ]
-  ]
 
 -- ## the entries of a volume's map
 
@@ -135,7 +122,7 @@ module _ (v : ℕ) (rule : Copied → Option Copied) (entries : List Entry) (rec
 
   -- until it is passed, its record stands
   pub still_there : (i : ℕ) (e : Entry) → slice_get entries i ≡ Some e → slice_get (passed v rule (take i entries) records) e.slot ≡ Some (record_of v e.set e.block)
-  still_there i e at = untouched v rule (take i entries) records e.slot (λ j f there. let was = taken_at entries i j f there in differ j i f e was.1 at was.0) ∙ record_at i e at
+  still_there i e at = grind (arith, untouched, taken_at, differ, record_at)
 
   -- an entry that is passed as it is
   pub passed_kept : (i : ℕ) (e : Entry) → slice_get entries i ≡ Some e → rule (copy_of e.set e.block) ≡ Some (copy_of e.set e.block)
@@ -193,16 +180,13 @@ entry_at entries i d inside = slice_get_read entries (length entries) i (get_or 
 pub step_set : {D : Type 0} (first old new : AreaValue D) (v : ℕ) (rule : Copied → Option Copied) (entries : List Entry) (i : ℕ) (e : Entry) (row : Record) → slice_get entries i ≡ Some e
     → old ≡ with_records (passed v rule (take i entries) first.records) first
     → new ≡ with_records (slice_set old.records e.slot row) old → entry_row v rule e ≡ row → new ≡ with_records (passed v rule (take (i + 1) entries) first.records) first
-step_set {D = D} first old new v rule entries i e row at was new_is row_is =
-    new_is ∙ ap (λ (a : AreaValue D). with_records (slice_set a.records e.slot row) a) was
-    ∙ ap (λ (r : Record). with_records (slice_set (passed v rule (take i entries) first.records) e.slot r) first) (sym row_is)
-    ∙ ap (λ rs. with_records rs first) (sym (passed_more v rule entries first.records i e at))
+step_set first old new v rule entries i e row at was new_is row_is = grind (arith, passed_more)
 
 -- the record of an entry stayed
 pub step_kept : {D : Type 0} (first old : AreaValue D) (v : ℕ) (rule : Copied → Option Copied) (entries : List Entry) (i : ℕ) (e : Entry) → IsIndex entries (map (copied_for v) first.records)
     → slice_get entries i ≡ Some e → old ≡ with_records (passed v rule (take i entries) first.records) first
     → rule (copy_of e.set e.block) ≡ Some (copy_of e.set e.block) → old ≡ with_records (passed v rule (take (i + 1) entries) first.records) first
-step_kept first old v rule entries i e index at was keeps = was ∙ ap (λ rs. with_records rs first) (sym (passed_kept v rule entries first.records index i e at keeps))
+step_kept first old v rule entries i e index at was keeps = grind (arith, passed_kept)
 
 pub slot_within : {D : Type 0} (first old : AreaValue D) (v : ℕ) (rule : Copied → Option Copied) (entries : List Entry) (i : ℕ) (e : Entry) → IsIndex entries (map (copied_for v) first.records)
     → slice_get entries i ≡ Some e → old ≡ with_records (passed v rule (take i entries) first.records) first

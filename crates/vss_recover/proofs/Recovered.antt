@@ -1,20 +1,16 @@
 -- What the recovery writes of an image are after one more, and after images went.
-use Rattle.std.proofs.Common.{◌≡◌, ◌⊎◌, ℕ, List, [], ◌∷◌, ◌++◌, refl, ap, sym, ◌∙◌, Bool, true, false, inl, inr, All}
+use Rattle.std.proofs.Common.{◌≡◌, ◌⊎◌, ℕ, List, [], ◌∷◌, ◌++◌, refl, ap, sym, ◌∙◌, Bool, true, false, All, arith}
 use Rattle.std.specs.Prelude.{◌==◌, ◌||◌, if◌then◌else◌, filter}
 use Rattle.std.proofs.lemmas.List.Elements.{All-head, All-tail}
 use Rattle.write_history.specs.History.{Write, last_bytes, names}
 use Rattle.cow_volume.specs.Calls.{is_among}
-use Rattle.cow_volume.proofs.Group.{same_number, other_number, number_is, number_is_other}
+use Rattle.cow_volume.proofs.Group.{same_number, number_is, number_is_other}
 use Rattle.vss_recover.specs.Recoveries.{Recovery, recovered, kept}
 
 -- ## two pairs of numbers are the same or not
 
 pub pair_or : (s t a b : ℕ) → ((s ≡ t) × (a ≡ b)) ⊎ (s ≡ t → a ≡ b → ⊥)
-pair_or s t a b = by_tests (s == t) refl (a == b) refl where
-  by_tests : (p : Bool) → (s == t) ≡ p → (q : Bool) → (a == b) ≡ q → ((s ≡ t) × (a ≡ b)) ⊎ (s ≡ t → a ≡ b → ⊥)
-  by_tests true e true f = inl (same_number s t e, same_number a b f)
-  by_tests true e false f = inr (λ g h. other_number a b f h)
-  by_tests false e q f = inr (λ g h. other_number s t e g)
+pair_or s t a b = grind arith
 
 -- ## the last bytes of a block
 
@@ -52,10 +48,7 @@ names-push_other b (v ∷ ws) w e = ap (λ (t : Bool). (v.block == b) || t) (nam
 
 push_if : (t u : Bool) (w v : Write) (xs ys : List Write) → ys ≡ (if u then xs ++ v ∷ [] else xs)
     → (if t then w ∷ ys else ys) ≡ (if u then (if t then w ∷ xs else xs) ++ v ∷ [] else (if t then w ∷ xs else xs))
-push_if true true w v xs ys e = ap (λ zs. w ∷ zs) e
-push_if true false w v xs ys e = ap (λ zs. w ∷ zs) e
-push_if false true w v xs ys e = e
-push_if false false w v xs ys e = e
+push_if t u w v xs ys e = grind arith
 
 pub recovered-push : (set : ℕ) (rs : List Recovery) (r : Recovery) → recovered set (rs ++ r ∷ []) ≡ (if r.set == set then recovered set rs ++ r.write ∷ [] else recovered set rs)
 recovered-push set [] r = refl
@@ -72,8 +65,7 @@ pub own_named : (rs : List Recovery) (r : Recovery) → names (recovered r.set (
 own_named rs r = ap (λ (ws : List Write). names ws r.write.block) (recovered-push_own rs r) ∙ names-push_own (recovered r.set rs) r.write
 
 pub own_bytes : (rs : List Recovery) (r : Recovery) (x : List ℕ) → last_bytes r.write.block x (recovered r.set (rs ++ r ∷ [])) ≡ r.write.bytes
-own_bytes rs r x = ap (λ (ws : List Write). last_bytes r.write.block x ws) (recovered-push_own rs r) ∙ last-push r.write.block x (recovered r.set rs) r.write
-    ∙ ap (λ (t : Bool). if t then r.write.bytes else last_bytes r.write.block x (recovered r.set rs)) (number_is r.write.block)
+own_bytes rs r x = grind (arith, recovered-push_own, last-push, number_is)
 
 -- each other block is named and has the bytes as before
 pub record Others (set b : ℕ) (rs : List Recovery) (r : Recovery) : Type 0 where
@@ -81,19 +73,7 @@ pub record Others (set b : ℕ) (rs : List Recovery) (r : Recovery) : Type 0 whe
   pub bytes : (x : List ℕ) → last_bytes b x (recovered set (rs ++ r ∷ [])) ≡ last_bytes b x (recovered set rs)
 
 pub others_same : (set b : ℕ) (rs : List Recovery) (r : Recovery) → (set ≡ r.set → b ≡ r.write.block → ⊥) → Others set b rs r
-others_same set b rs r apart = by_test (r.set == set) refl where
-  by_test : (t : Bool) → (r.set == set) ≡ t → Others set b rs r
-  by_test true e =
-      let same = same_number r.set set e in
-      let off : (r.write.block == b) ≡ false = number_is_other r.write.block b (λ f. apart (sym same) (sym f)) in
-      let is : recovered set (rs ++ r ∷ []) ≡ recovered set rs ++ r.write ∷ [] = recovered-push set rs r ∙ ap (λ (t : Bool). if t then recovered set rs ++ r.write ∷ [] else recovered set rs) e in
-      record {
-        named = ap (λ (ws : List Write). names ws b) is ∙ names-push_other b (recovered set rs) r.write off;
-        bytes = λ x. ap (λ (ws : List Write). last_bytes b x ws) is ∙ last-push b x (recovered set rs) r.write ∙ ap (λ (t : Bool). if t then r.write.bytes else last_bytes b x (recovered set rs)) off;
-      }
-  by_test false e =
-      let is = recovered-push_other set rs r e in
-      record { named = ap (λ (ws : List Write). names ws b) is; bytes = λ x. ap (λ (ws : List Write). last_bytes b x ws) is }
+others_same set b rs r apart = grind (arith, same_number, number_is_other, recovered-push, names-push_other, last-push, recovered-push_other)
 
 -- ## images that go
 

@@ -1,13 +1,12 @@
 -- What is put into a slot of an overlay.
-use Rattle.std.proofs.Common.{◌≡◌, ◌≤◌, ℕ, List, map, refl, ap, sym, subst, ◌∙◌, arith, Bool, true, false, not, ◌&&◌, Option, Some, None, inl, inr, length}
-use Rattle.std.specs.Prelude.{slice_get, slice_set, is_some, option_map, Result, Ok, Err}
+use Rattle.std.proofs.Common.{◌≡◌, ◌≤◌, ℕ, List, map, refl, ap, sym, subst, ◌∙◌, arith, Bool, true, false, not, ◌&&◌, Some, inl, inr, length}
+use Rattle.std.specs.Prelude.{slice_get, slice_set, Result, Ok, Err}
 use Rattle.slot_pool.specs.Slots.{free_count}
 use Rattle.diff_area.specs.AreaValue.{AreaValue, KeepsTable}
 use Rattle.diff_area.specs.Places.{place_of_slot}
 use Rattle.diff_area.specs.Records.{free, is_free}
 use Rattle.diff_area.specs.declared.table_record.Record.{Record}
 use Rattle.cow_volume.specs.StandsFor.{record_of}
-use Rattle.cow_volume.specs.Calls.{IsSameDevice}
 use Rattle.cow_volume.specs.Changes.{has_record}
 use Rattle.cow_volume.specs.CopiesAfter.{with_records}
 use Rattle.cow_volume.specs.Room.{is_full}
@@ -23,8 +22,7 @@ use Rattle.volume_device.specs.declared.device.Device.{Ghosts}
 -- ## there is room
 
 and_off : (t f : Bool) → f ≡ false → (t && f) ≡ false
-and_off true f e = e
-and_off false f e = refl
+and_off t f e = grind arith
 
 pub room_if_chosen : (records : List Record) (set b slot : ℕ) → IsChosen records (record_of 0 set b) slot → lacks_room records set b ≡ false
 room_if_chosen records set b slot was = elim was [
@@ -41,34 +39,14 @@ no_room records set b none full = ap (λ (t : Bool). not t && is_full records) n
 
 -- ## written
 
-tells_mapped : (o : Option (List (List ℕ))) (f : List (List ℕ) → List (List ℕ)) → is_some (option_map f o) ≡ is_some o
-tells_mapped None f = refl
-tells_mapped (Some x) f = refl
-
 module _ {D : Type 0} (ghosts : Ghosts D) (old mid : AreaValue D) where
   pub written_to : (slot : ℕ) (bytes : List ℕ) → KeepsTable ghosts.size ghosts.lending old mid → ghosts.told mid.device ≡ put (place_of_slot (length old.records) slot) bytes (ghosts.told old.device)
       → ghosts.count mid.device ≡ ghosts.count old.device → ghosts.count old.device ≤ ghosts.count mid.device
       → IsWrittenTo ghosts old mid slot bytes
-  written_to slot bytes table told_is same later = record {
-    volumes = table.volumes;
-    records = table.records;
-    device = record {
-      tells = ap is_some told_is ∙ tells_mapped (ghosts.told old.device) (λ blocks. slice_set blocks (place_of_slot (length old.records) slot) bytes);
-      size_is = table.size_is;
-      lends = table.lends;
-      later = later;
-    };
-    slots = told_is;
-    unfailed = same;
-  }
+  written_to slot bytes table told_is same later = grind arith
 
   pub not_written : KeepsTable ghosts.size ghosts.lending old mid → ghosts.count old.device ≤ ghosts.count mid.device → ghosts.told mid.device ≡ ghosts.told old.device → KeepsRecords ghosts old mid
-  not_written table later told_is = record {
-    volumes = table.volumes;
-    records = table.records;
-    device = record { tells = ap is_some told_is; size_is = table.size_is; lends = table.lends; later = later };
-    slots = told_is;
-  }
+  not_written table later told_is = grind arith
 
   -- where a fault is told, nothing was put
   pub not_put : (set b slot : ℕ) (bytes : List ℕ) (fault : RecoverFault) → lacks_room old.records set b ≡ false → IsWrittenIn ghosts old mid slot bytes (Err fault)
@@ -78,34 +56,10 @@ module _ {D : Type 0} (ghosts : Ghosts D) (old mid : AreaValue D) where
   -- the block's own slot was written
   pub put_over : (set b slot : ℕ) (bytes : List ℕ) (result : Result Unit RecoverFault) → slice_get old.records slot ≡ Some (record_of 0 set b)
       → IsWrittenIn ghosts old mid slot bytes result → IsPut ghosts old mid set b bytes result
-  put_over set b slot bytes (Ok done) own is = (
-    room_if_chosen old.records set b slot (inl own),
-    record {
-      slot = slot;
-      was = inl own;
-      volumes = is.volumes;
-      records = is.records ∙ sym (set-same old.records slot (record_of 0 set b) own);
-      device = is.device;
-      slots = is.slots;
-      unfailed = is.unfailed;
-    },
-  )
-  put_over set b slot bytes (Err fault) own is = not_put set b slot bytes fault (room_if_chosen old.records set b slot (inl own)) is
+  put_over set b slot bytes result own is = grind (arith, room_if_chosen, set-same, not_put)
 
   -- a free slot was written and noted
   pub put_first : (new : AreaValue D) (set b slot : ℕ) (bytes : List ℕ) → slice_get old.records slot ≡ Some free → has_record old.records (record_of 0 set b) ≡ false
       → IsWrittenTo ghosts old mid slot bytes
       → new ≡ with_records (slice_set mid.records slot (record_of 0 set b)) mid → IsPut ghosts old new set b bytes (Ok tt)
-  put_first new set b slot bytes empty none is new_is =
-      let device : new.device ≡ mid.device = ap (λ (a : AreaValue D). a.device) new_is in (
-        room_if_chosen old.records set b slot (inr (empty, none)),
-        record {
-          slot = slot;
-          was = inr (empty, none);
-          volumes = ap (λ (a : AreaValue D). a.volumes) new_is ∙ is.volumes;
-          records = ap (λ (a : AreaValue D). a.records) new_is ∙ ap (λ (rs : List Record). slice_set rs slot (record_of 0 set b)) is.records;
-          device = subst (λ (d : D). IsSameDevice ghosts old.device d) (sym device) is.device;
-          slots = ap ghosts.told device ∙ is.slots;
-          unfailed = ap ghosts.count device ∙ is.unfailed;
-        },
-      )
+  put_first new set b slot bytes empty none is new_is = grind (arith, room_if_chosen)

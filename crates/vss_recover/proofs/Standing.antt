@@ -74,13 +74,7 @@ same_overlay slots records n m rs e is = subst (λ (k : ℕ). IsOverlay slots re
 -- where all is of the images that stand now, nothing goes
 pub changed_alone : (v : History) (h : Recovering) → IsOfImages (sets_of v.images) h
     → changed v h ≡ record { volume = v; recoveries = h.recoveries; window = h.window; claims = h.claims; final = h.final }
-changed_alone v h of =
-    let a = filter-all (λ (r : Recovery). is_among r.set (sets_of v.images)) h.recoveries of.recoveries in
-    let b = window_stays (sets_of v.images) h.window of.window in
-    let c = filter-all (λ s. is_among s (sets_of v.images)) h.final of.final in
-    ap (λ rs. let x : Recovering = record { volume = v; recoveries = rs; window = kept_window (sets_of v.images) h.window; claims = h.claims; final = kept_final (sets_of v.images) h.final } in x) a
-    ∙ ap (λ o. let x : Recovering = record { volume = v; recoveries = h.recoveries; window = o; claims = h.claims; final = kept_final (sets_of v.images) h.final } in x) b
-    ∙ ap (λ fs. let x : Recovering = record { volume = v; recoveries = h.recoveries; window = h.window; claims = h.claims; final = fs } in x) c
+changed_alone v h of = grind (arith, filter-all, window_stays)
 
 -- the volume's history became another with images of sets of which all is said, and the overlay has what it had
 pub beside_stands : {D : Type 0} (told : D → Option (List (List ℕ))) (old new : RecoverValue D) (v : History) (h : Recovering) → StandsFor told old h → StandsForOne told new.volume v

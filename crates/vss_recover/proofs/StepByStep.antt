@@ -1,5 +1,5 @@
 -- The laws of all lists of steps, step by step.
-use Rattle.std.proofs.Common.{◌≡◌, ℕ, List, [], ◌∷◌, ◌++◌, refl, ap, sym, subst, ◌∙◌, Bool, true, false, Option, Some, None}
+use Rattle.std.proofs.Common.{◌≡◌, ℕ, List, [], ◌∷◌, ◌++◌, refl, ap, sym, subst, ◌∙◌, true, false, Option, Some, None, arith}
 use Rattle.std.specs.Prelude.{◌==◌, if◌then◌else◌, length, ◌-◌}
 use Rattle.std.proofs.lemmas.List.{map-append}
 use Rattle.write_history.specs.History.{History, Write, Image, sets_of, written, cut, dropped, reverted, reverted_in_part}
@@ -66,10 +66,7 @@ cut_sets images s p = map-append (λ (i : Image). i.set) images (record { set = 
 cut_shows : (set s : ℕ) (h : Recovering) (made : List Write) → IsOfImages (sets_of h.volume.images) h → is_among s (sets_of h.volume.images) ≡ false → Shows set h made
     → is_among set (sets_of h.volume.images ++ s ∷ []) ≡ true
     → recovered set h.recoveries ≡ (if s == set then [] else made)
-cut_shows set s h made of new shows among = by_test (s == set) refl where
-  by_test : (t : Bool) → (s == set) ≡ t → recovered set h.recoveries ≡ (if t then [] else made)
-  by_test true e = none_recovered (sets_of h.volume.images) set h.recoveries of.recoveries (ap (λ x. is_among x (sets_of h.volume.images)) (sym (same_number s set e)) ∙ new)
-  by_test false e = shows (among_less set s (sets_of h.volume.images) e among)
+cut_shows set s h made of new shows among = grind (arith, none_recovered, same_number, among_less)
 
 push_shows : (set : ℕ) (r : Recovery) (rs : List Recovery) (made : List Write) → recovered set rs ≡ made → recovered set (rs ++ r ∷ []) ≡ (if r.set == set then made ++ r.write ∷ [] else made)
 push_shows set r rs made e = recovered-push set rs r ∙ ap (λ (ws : List Write). if r.set == set then ws ++ r.write ∷ [] else ws) e

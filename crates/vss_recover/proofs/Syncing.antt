@@ -1,7 +1,6 @@
 -- What is kept where the records of an overlay are written to its device, and for what a volume stands after that.
-use Rattle.std.proofs.Common.{◌≡◌, ◌≤◌, ◌+◌, ℕ, Bool, List, ◌∷◌, [], take, length, refl, ap, sym, subst, ◌∙◌, arith, Option, Some, Vec}
-use Rattle.std.specs.Prelude.{slice_get, option_map, is_some, IfSome, Result, Ok, Err}
-use Rattle.std.specs.declared.alloc.Global.{Global}
+use Rattle.std.proofs.Common.{◌≡◌, ◌≤◌, ◌+◌, ℕ, List, ◌∷◌, [], take, length, ap, sym, subst, ◌∙◌, arith}
+use Rattle.std.specs.Prelude.{slice_get, option_map, Result}
 use Rattle.std.proofs.lemmas.List.{length-take-le}
 use Rattle.write_history.specs.History.{last_bytes}
 use Rattle.diff_area.specs.AreaValue.{AreaValue, KeepsTable, AreInPart, with_first}
@@ -15,12 +14,10 @@ use Rattle.cow_volume.specs.Ending.{IsSynced}
 use Rattle.cow_volume.specs.OneVolume.{blocks_of, IsOneSync}
 use Rattle.cow_volume.specs.declared.cause.Cause.{Cause}
 use Rattle.cow_volume.proofs.Synced.{past_first, tells_written}
-use Rattle.vss_recover.specs.Keeping.{KeepsWindow}
 use Rattle.vss_recover.specs.Recoveries.{Recovery, Recovering, recovered, IsOfImages}
 use Rattle.vss_recover.specs.RecoverValue.{RecoverValue, StandsFor, IsOverlay}
 use Rattle.vss_recover.specs.Syncing.{KeepsSlots, KeepsSaid}
-use Rattle.vss_recover.specs.declared.claim.Claim.{Claim}
-use Rattle.vss_recover.proofs.Glue.{blocks_kept, keeps_volume}
+use Rattle.vss_recover.proofs.Glue.{blocks_kept}
 use Rattle.volume_device.specs.declared.device.Device.{Ghosts}
 
 below : (a b c : ℕ) → a ≤ b → a ≤ b + c
@@ -58,18 +55,7 @@ module _ {D : Type 0} (ghosts : Ghosts D) where
   -- and then only a count may have changed
   pub slots_further : (old mid new : AreaValue D) → KeepsSlots ghosts old mid → KeepsTable ghosts.size ghosts.lending mid new → ghosts.told new.device ≡ ghosts.told mid.device
       → ghosts.count mid.device ≤ ghosts.count new.device → KeepsSlots ghosts old new
-  slots_further old mid new kept table same later = record {
-    volumes = table.volumes ∙ kept.volumes;
-    records = table.records ∙ kept.records;
-    device = record {
-      tells = ap (λ (o : Option (List (List ℕ))). is_some o) same ∙ kept.device.tells;
-      size_is = table.size_is ∙ kept.device.size_is;
-      lends = table.lends ∙ kept.device.lends;
-      later = let before = kept.device.later in omega arith;
-    };
-    slots = λ slot bytes has. subst (λ (o : Option (List (List ℕ))). IfSome o (λ blocks. slice_get blocks (place_of_slot (length old.records) slot) ≡ Some bytes)) (sym same)
-        (kept.slots slot bytes has);
-  }
+  slots_further old mid new kept table same later = grind arith
 
   -- ## the volume
 
@@ -96,20 +82,7 @@ module _ {D : Type 0} (ghosts : Ghosts D) where
   }
 
   pub same_slots : (area : AreaValue D) → KeepsSlots ghosts area area
-  same_slots area = record {
-    volumes = refl;
-    records = refl;
-    device = record { tells = refl; size_is = refl; lends = refl; later = omega arith };
-    slots = λ slot bytes has. has;
-  }
-
-  -- what the fields keep
-  pub keeps_synced : (volume new : GroupValue D) (overlay now : AreaValue D) (window : Option ℕ) (claims : Vec Claim Global) (finals next : Vec ℕ Global) → IsSynced ghosts volume new
-      → KeepsSlots ghosts overlay now → KeepsWindow volume overlay window claims finals next → KeepsWindow new now window claims finals next
-  keeps_synced volume new overlay now window claims finals next synced kept keeps =
-      let mid = keeps_volume volume new overlay window claims finals next synced.kept.volumes keeps in
-      record { fits = kept.volumes ∙ mid.fits; above_zero = mid.above_zero; claim_room = mid.claim_room; final_room = mid.final_room; next_room = mid.next_room }
+  same_slots area = grind arith
 
   pub synced_of : (old new : GroupValue D) (result : Result Unit Cause) → IsOneSync ghosts old new result → IsSynced ghosts old new
-  synced_of old new (Ok done) is = is.0
-  synced_of old new (Err cause) is = is.0
+  synced_of old new result is = grind arith

@@ -41,10 +41,7 @@ free_row (suc k) zero r e = (let same : free ≡ r = cc in sym same)
 free_row (suc k) (suc slot) r e = free_row k slot r e
 
 none_free : (k slot set b : ℕ) (records : List Record) → records ≡ replicate k free → 0 < set → slice_get records slot ≡ Some (record_of 0 set b) → ⊥
-none_free k slot set b records are l e =
-    let is = free_row k slot (record_of 0 set b) (ap (λ (rs : List Record). slice_get rs slot) (sym are) ∙ e) in
-    let none : set ≡ 0 = ap (λ (r : Record). r.set) is in
-    absurd (omega arith)
+none_free k slot set b records are l e = grind (arith, free_row)
 
 nothing : {X : Type 0} (P : X → Type 0) → All P []
 nothing P = λ k d l. absurd (omega arith)
@@ -52,30 +49,12 @@ nothing P = λ k d l. absurd (omega arith)
 pub new_stands : {D : Type 0} (told : D → Option (List (List ℕ))) (volume : GroupValue D) (overlay : AreaValue D) (h : History) → overlay.records ≡ replicate (length overlay.records) free
     → StandsForOne told volume h
     → StandsFor told (record { volume = volume; overlay = overlay; window = None; claims = []; final = [] }) (unrecovered h)
-new_stands told volume overlay h are stands = record {
-  volume = stands;
-  overlay = record {
-    named = λ slot set b l e. absurd (none_free (length overlay.records) slot set b overlay.records are l e);
-    recorded = λ set b l low e. cc;
-    copied = λ slot set b l e. absurd (none_free (length overlay.records) slot set b overlay.records are l e);
-  };
-  of_images = record {
-    recoveries = nothing (λ (r : Recovery). is_among r.set (image_sets volume) ≡ true);
-    window = λ set e. cc;
-    final = nothing (λ s. is_among s (image_sets volume) ≡ true);
-  };
-  window = refl;
-  claims = refl;
-  final = refl;
-}
+new_stands told volume overlay h are stands = grind (arith, none_free, nothing)
 
 -- ## counts
 
 stand_if_named : (sets : List ℕ) (s b : ℕ) (rs : List Recovery) → All (λ (r : Recovery). is_among r.set sets ≡ true) rs → names (recovered s rs) b ≡ true → is_among s sets ≡ true
-stand_if_named sets s b rs all e = by_test (is_among s sets) refl where
-  by_test : (t : Bool) → is_among s sets ≡ t → is_among s sets ≡ true
-  by_test true f = f
-  by_test false f = (let none : names [] b ≡ true = ap (λ (ws : List Write). names ws b) (sym (none_recovered sets s rs all f)) ∙ e in absurd cc)
+stand_if_named sets s b rs all e = grind (arith, none_recovered)
 
 pub used_pairs : {D : Type 0} (told : D → Option (List (List ℕ))) (v : RecoverValue D) (h : Recovering) → StandsFor told v h → v.overlay.volumes ≡ blocks_of v.volume ∷ []
     → AreRecords v.overlay.volumes v.overlay.records
@@ -118,16 +97,13 @@ pub image_of_point : {D : Type 0} (told : D → Option (List (List ℕ))) (g : G
 image_of_point told g h set p stands e = ap (is_among set) (sets_are told g h stands) ∙ point_among h.images set p e
 
 and_first : (s t : Bool) → (s && t) ≡ true → s ≡ true
-and_first true t e = refl
-and_first false t e = e
+and_first s t e = grind arith
 
 and_second : (s t : Bool) → (s && t) ≡ true → t ≡ true
-and_second true t e = e
-and_second false t e = cc
+and_second s t e = grind arith
 
 told_bytes : (o : Option (List (List ℕ))) (at : ℕ) (x y : List ℕ) → is_some o ≡ true → IfSome o (λ blocks. slice_get blocks at ≡ Some x) → IfSome o (λ blocks. slice_get blocks at ≡ Some y) → x ≡ y
-told_bytes None at x y some a b = cc
-told_bytes (Some blocks) at x y some a b = cc
+told_bytes o at x y some a b = grind arith
 
 -- a block that has a slot is that slot's
 pub shown_slot : {D : Type 0} (told : D → Option (List (List ℕ))) (v : RecoverValue D) (set b slot : ℕ) (bytes : List ℕ) → slice_get v.overlay.records slot ≡ Some (record_of 0 set b)

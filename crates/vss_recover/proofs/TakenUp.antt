@@ -2,11 +2,10 @@
 -- its records, with bytes of which nothing is said.
 use Rattle.std.proofs.Common.{◌≡◌, ◌<◌, ◌≤◌, ◌+◌, ℕ, zero, suc, List, [], ◌∷◌, length, map, refl, ap, sym, subst, ◌∙◌, arith, Bool, true, false, Option, Some, None, inl, inr, All}
 use Rattle.std.specs.List.{insert}
-use Rattle.std.specs.Prelude.{Result, Ok, Err, IfOk, slice_get, slice_set, if◌then◌else◌, nat_lt, ◌==◌, ◌||◌}
+use Rattle.std.specs.Prelude.{Result, IfOk, slice_get, slice_set, if◌then◌else◌, nat_lt, ◌==◌, ◌||◌}
 use Rattle.std.proofs.lemmas.Bool.{false≢true, lt-ltb}
-use Rattle.std.proofs.lemmas.Bool.Decides.{nat_tests}
 use Rattle.std.proofs.lemmas.List.Edits.{length-insert}
-use Rattle.std.proofs.lemmas.List.Elements.{All-nil, All-cons}
+use Rattle.std.proofs.lemmas.List.Elements.{All-nil}
 use Rattle.std.proofs.lemmas.Option.{none-some, same_Some}
 use Rattle.write_history.specs.History.{History, Write, names, sets_of}
 use Rattle.diff_area.specs.AreaValue.{AreaValue}
@@ -24,7 +23,7 @@ use Rattle.cow_volume.specs.StandsFor.{record_of}
 use Rattle.cow_volume.specs.TakingUp.{mixed, unnoted}
 use Rattle.cow_volume.specs.Tied.{copied_for}
 use Rattle.cow_volume.proofs.Counting.{used_record}
-use Rattle.cow_volume.proofs.Group.{same_number, number_is}
+use Rattle.cow_volume.proofs.Group.{number_is}
 use Rattle.cow_volume.proofs.MixedRows.{mixed-all, mixed-set, mixed-same, mixed-from}
 use Rattle.cow_volume.proofs.Rows.{copied_for-is, copied_for-free, record-from, same_record}
 use Rattle.cow_volume.proofs.TakingUp.{noted_before}
@@ -66,23 +65,14 @@ index_same entries records k r at empty is =
 module _ (volumes : List ℕ) (records : List Record) (one : length volumes ≡ 1) (are : AreRecords volumes records) (k : ℕ) (r : Record) (at : slice_get records k ≡ Some r)
     (is_used : is_free r ≡ false) where
   used : (0 < r.set) × (r.volume ≡ 0)
-  used = elim (each_used volumes records one are k r at) [
-    | inl empty ↦ absurd (false≢true (sym is_used ∙ ap is_free empty))
-    | inr both ↦ both
-  ]
+  used = grind (arith, each_used)
 
   row : slice_get (rows_to k records) k ≡ Some None
   row = mixed-from (copied_for 0) unnoted k records k r (omega arith) at
 
   -- no record before is of the same block of the same image
   lacks : HasCopy (rows_to k records) r.set r.block → ⊥
-  lacks has =
-      let before = noted_before 0 records k has.0 (copy_of r.set r.block) has.1 in
-      let own = record-from 0 before.0 (copy_of r.set r.block) before.3 in
-      let is : before.0 ≡ r = own.1 ∙ same_record (record_of 0 r.set r.block) r refl refl (sym used.1) in
-      let once = are.once has.0 k r (before.2 ∙ ap (λ (x : Record). Some x) is) at (used_record r is_used) in
-      let low = before.1 in
-      absurd (omega arith)
+  lacks has = grind (arith, noted_before, record-from, same_record, used, used_record)
 
   -- its slot is noted in its place
   index_noted : (entries later : List Entry) → IsIndex entries (rows_to k records) → IsNotedIn entries later k r → IsIndex later (rows_to (k + 1) records)
@@ -94,10 +84,7 @@ module _ (volumes : List ℕ) (records : List Record) (one : length volumes ≡ 
       (IsIndex-noted entries (rows_to k records) k r.set r.block is.at index row lacks is.narrow is.within is.before is.onward))
 
 one_longer : (entries later : List Entry) (k : ℕ) (r : Record) → length entries ≤ k → IsNotedIn entries later k r → length later ≤ k + 1
-one_longer entries later k r few is =
-    let long = length-insert entries is.at (record { block = r.block; set = r.set; slot = k }) is.within in
-    let same = ap length is.items in
-    omega arith
+one_longer entries later k r few is = grind (arith, length-insert)
 
 -- the entries after so many records
 pub record AreNoted (records : List Record) (k : ℕ) (entries : List Entry) : Type 0 where
@@ -136,16 +123,8 @@ abbrev made : List Record → List Recovery
 made [] = []
 made (r ∷ rs) = if nat_lt 0 r.set then one_made r ∷ made rs else made rs
 
-more_named : (t : Bool) (w : Write) (ws : List Write) (b : ℕ) → names ws b ≡ true → names (if t then w ∷ ws else ws) b ≡ true
-more_named true w ws b e = or_later (w.block == b) (names ws b) e where
-  or_later : (s t : Bool) → t ≡ true → (s || t) ≡ true
-  or_later true t f = refl
-  or_later false t f = f
-more_named false w ws b e = e
-
 more_made : (t : Bool) (r : Record) (rs : List Record) (set b : ℕ) → names (recovered set (made rs)) b ≡ true → names (recovered set (if t then one_made r ∷ made rs else made rs)) b ≡ true
-more_made true r rs set b e = more_named (r.set == set) (unknown r.block) (recovered set (made rs)) b e
-more_made false r rs set b e = e
+more_made t r rs set b e = grind arith
 
 made_named : (set b slot : ℕ) (records : List Record) → 0 < set → slice_get records slot ≡ Some (record_of 0 set b) → names (recovered set (made records)) b ≡ true
 made_named set b slot [] above at = absurd (none-some (record_of 0 set b) at)
@@ -169,11 +148,8 @@ pub record HasBlock (records : List Record) (set b : ℕ) : Type 0 where
 block_next : (r : Record) (rs : List Record) (set b : ℕ) → HasBlock rs set b → HasBlock (r ∷ rs) set b
 block_next r rs set b has = record { slot = suc has.slot; row = has.row; at = has.at; above = has.above; set_is = has.set_is; block_is = has.block_is }
 
-above_none : (n : ℕ) → nat_lt 0 n ≡ true → 0 < n
-above_none n e = grind (arith, nat_tests)
-
 block_here : (r : Record) (rs : List Record) (set b : ℕ) → nat_lt 0 r.set ≡ true → (r.set == set) ≡ true → (r.block == b) ≡ true → HasBlock (r ∷ rs) set b
-block_here r rs set b some own is = record { slot = 0; row = r; at = refl; above = above_none r.set some; set_is = same_number r.set set own; block_is = same_number r.block b is }
+block_here r rs set b some own is = grind arith
 
 -- a block that they name has a record
 made_recorded : (set b : ℕ) (records : List Record) → names (recovered set (made records)) b ≡ true → HasBlock records set b
@@ -189,8 +165,7 @@ made_recorded set b (r ∷ rs) e = by_tests (nat_lt 0 r.set) refl (r.set == set)
       ∙ more)
 
 all_if : (P : Recovery → Type 0) (t : Bool) (r : Recovery) (rs : List Recovery) → (t ≡ true → P r) → All P rs → All P (if t then r ∷ rs else rs)
-all_if P true r rs here rest = All-cons P r rs (here refl) rest
-all_if P false r rs here rest = rest
+all_if x0 t r rs here rest = grind arith
 
 made_of_images : (sets : List ℕ) (records : List Record) → ((slot : ℕ) (r : Record) → slice_get records slot ≡ Some r → nat_lt 0 r.set ≡ true → is_among r.set sets ≡ true)
     → All (λ (r : Recovery). is_among r.set sets ≡ true) (made records)
@@ -236,23 +211,13 @@ made_stand told volume overlay final h fits are of none stood =
 pub parts_stand : {D : Type 0} (told : D → Option (List (List ℕ))) (volume : GroupValue D) (overlay : AreaValue D) (final : List ℕ) (h : Recovering) → StandsForOne told volume h.volume
     → IsOverlay (told overlay.device) overlay.records (blocks_of volume) h.recoveries → IsOfImages (image_sets volume) h → h.final ≡ final
     → StandsFor told (taken_up volume overlay final) (unopened h)
-parts_stand told volume overlay final h stood held of final_is = record {
-  volume = stood;
-  overlay = held;
-  of_images = record { recoveries = of.recoveries; window = λ set e. absurd (none-some set e); final = of.final };
-  window = refl;
-  claims = refl;
-  final = sym final_is;
-}
+parts_stand told volume overlay final h stood held of final_is = grind arith
 
 -- what is said of a volume is said of its parts
 pub of_parts : {D : Type 0} (told : D → Option (List (List ℕ))) (v : RecoverValue D) (volume : GroupValue D) (overlay : AreaValue D) (h : Recovering) → volume ≡ v.volume → overlay ≡ v.overlay
     → StandsFor told v h → StandsFor told (record { volume = volume; overlay = overlay; window = v.window; claims = v.claims; final = v.final }) h
-of_parts {D = D} told v volume overlay h volume_is overlay_is stood =
-    let with_parts : GroupValue D → AreaValue D → RecoverValue D = λ g o. record { volume = g; overlay = o; window = v.window; claims = v.claims; final = v.final } in
-    subst (λ (g : GroupValue D). StandsFor told (with_parts g overlay) h) (sym volume_is) (subst (λ (o : AreaValue D). StandsFor told (with_parts v.volume o) h) (sym overlay_is) stood)
+of_parts told v volume overlay h volume_is overlay_is stood = grind arith
 
 -- what holds of a value holds of an answer that is this value
 pub of_value : {X E : Type 0} (P : X → Type 0) (r : Result X E) (x : X) → IfOk r (λ v. v ≡ x) → P x → IfOk r P
-of_value P (Ok v) x is holds = subst P (sym is) holds
-of_value P (Err e) x is holds = tt
+of_value x0 r x is holds = grind arith

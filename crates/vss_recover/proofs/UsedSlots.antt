@@ -2,7 +2,7 @@
 use Rattle.std.proofs.Common.{◌≡◌, ◌<◌, ◌≤◌, ◌+◌, ◌^◌, ◌⊎◌, ℕ, zero, suc, List, [], ◌∷◌, length, map, take, replicate, get_or, refl, ap, sym, subst, ◌∙◌, arith, Bool, true, false, cond, Option}
 use Rattle.std.proofs.Common.{Some, None, inl, inr, All, Vec, vec_capacity}
 use Rattle.std.specs.List.{AllWithin, filter, filter_map, cons_option, insert}
-use Rattle.std.specs.Option.{option_and_then, option_map}
+use Rattle.std.specs.Option.{option_and_then}
 use Rattle.std.specs.Prelude.{slice_get, slice_set, count_by, if◌then◌else◌, nat_lt, ◌==◌, ◌&&◌}
 use Rattle.std.specs.declared.alloc.Global.{Global}
 use Rattle.std.proofs.lemmas.Bool.{false≢true, cases_eq, lt-ltb}
@@ -20,22 +20,21 @@ use Rattle.diff_map.specs.Index.{IsIndex, IsNoted, entry_now, place, place_of}
 use Rattle.diff_map.specs.Rules.{renewed}
 use Rattle.diff_map.specs.declared.copied.Copied.{Copied}
 use Rattle.diff_map.specs.declared.entry.Entry.{Entry}
-use Rattle.diff_map.proofs.Kept.{KeepsOrder, IsIndex-renewed, copied_at-renewed, row_narrow}
+use Rattle.diff_map.proofs.Kept.{KeepsOrder, IsIndex-renewed, copied_at-renewed}
 use Rattle.diff_map.proofs.Noting.{IsIndex-noted, room_for_one}
 use Rattle.diff_map.proofs.Places.{past_search}
 use Rattle.cow_volume.specs.Calls.{is_among}
 use Rattle.cow_volume.specs.Changes.{has_record}
 use Rattle.cow_volume.specs.CopiesAfter.{with_records}
-use Rattle.cow_volume.specs.Followed.{followed, followed_row, record_for}
+use Rattle.cow_volume.specs.Followed.{followed, followed_row}
 use Rattle.cow_volume.specs.StandsFor.{record_of}
 use Rattle.cow_volume.specs.Tied.{copied_for}
 use Rattle.vss_recover.proofs.EntryCounts.{entries_count}
-use Rattle.cow_volume.proofs.FollowedRows.{follows-of}
 use Rattle.cow_volume.proofs.Merging.{has_found}
 use Rattle.cow_volume.proofs.NewCopies.{none_at}
 use Rattle.vss_recover.proofs.Passing.{passed, still_there, noted_at}
 use Rattle.cow_volume.proofs.Renewed.{get-map, own_map}
-use Rattle.cow_volume.proofs.Rows.{copied_for-is, has_slot, record_of_row, row_of_record, same_record, used_is}
+use Rattle.cow_volume.proofs.Rows.{copied_for-is, has_slot, record_of_row, row_of_record, used_is}
 use Rattle.cow_volume.proofs.Ties.{free_is, unnoted}
 use Rattle.vss_recover.specs.Keeping.{KeepsOverlay}
 use Rattle.vss_recover.specs.OverlayCalls.{count_in, is_block_of, kept_record, kept_records}
@@ -56,28 +55,12 @@ both_test a b c d same too = grind (arith, nat_tests)
 
 pub found_row : (entries : List Entry) (records : List Record) (set b n : ℕ) (e : Entry) → IsIndex entries (rows records) → n < length entries → e ≡ get_or entries n e → e.block ≡ b → e.set ≡ set
     → slice_get records e.slot ≡ Some (record_of 0 set b)
-found_row entries records set b n e index inside is block_is set_is =
-    let noted : IsNoted (rows records) e = subst (IsNoted (rows records)) (sym is) (index.each n e inside) in
-    (record_of_row 0 records e.slot (copy_of e.set e.block) noted.row).1 ∙ ap (λ (s : ℕ). Some (record_of 0 s e.block)) set_is ∙ ap (λ (k : ℕ). Some (record_of 0 set k)) block_is
+found_row entries records set b n e index inside is block_is set_is = grind (arith, record_of_row)
 
 pub no_row : (entries : List Entry) (records : List Record) (set b n : ℕ) → IsIndex entries (rows records) → AllWithin (λ e. place e < place_of b set) entries 0 n
     → AllWithin (λ e. place_of b set ≤ place e) entries n (length entries)
     → (n < length entries → (d : Entry) → (get_or entries n d).block ≡ b → (get_or entries n d).set ≡ set → ⊥) → 0 < set → has_record records (record_of 0 set b) ≡ false
-no_row entries records set b n index before onward apart some = by_test (has_record records (record_of 0 set b)) refl where
-  by_test : (t : Bool) → has_record records (record_of 0 set b) ≡ t → has_record records (record_of 0 set b) ≡ false
-  by_test false e = e
-  by_test true e =
-      let at = has_slot records (record_of 0 set b) e in
-      let there = index.all at.0 (copy_of set b) (row_of_record 0 records at.0 set b some at.1) in
-      let f : Entry = record { block = b; set = set; slot = at.0 } in
-      let is_f : place (get_or entries there.0 f) ≡ place f = ap place there.2 in
-      let far = past_search entries (place_of b set) there.0 n f before (omega arith) in
-      let last = there.1 in
-      elim (cases_eq n there.0) [
-        | inl same ↦ absurd (apart (omega arith) f (ap (λ (k : ℕ). (get_or entries k f).block) same ∙ ap (λ (x : Entry). x.block) there.2)
-            (ap (λ (k : ℕ). (get_or entries k f).set) same ∙ ap (λ (x : Entry). x.set) there.2))
-        | inr other ↦ (let up = index.in_order n there.0 f (omega arith) last in let high = onward n f (omega arith) (omega arith) in absurd (omega arith))
-      ]
+no_row entries records set b n index before onward apart some = grind (arith, has_slot, row_of_record, past_search, cases_eq)
 
 pub lacks_copy : (records : List Record) (set b : ℕ) → has_record records (record_of 0 set b) ≡ false → HasCopy (rows records) set b → ⊥
 lacks_copy records set b none has = false≢true (sym none ∙ has_found records has.0 (record_of 0 set b) (record_of_row 0 records has.0 (copy_of set b) has.1).1)
@@ -109,23 +92,13 @@ abbrev is_its : ℕ → Record → Bool
 is_its set r = (nat_lt 0 r.set && (r.volume == 0)) && (r.set == set)
 
 its_volume : (set : ℕ) (r : Record) → is_its set r ≡ true → (nat_lt 0 r.set && (r.volume == 0)) ≡ true
-its_volume set r e = first (nat_lt 0 r.set && (r.volume == 0)) (r.set == set) e where
-  first : (s t : Bool) → (s && t) ≡ true → s ≡ true
-  first true t e = refl
-  first false t e = e
+its_volume set r e = grind arith
 
 both_on : (s t : Bool) → s ≡ true → t ≡ true → (s && t) ≡ true
-both_on true t e f = f
-both_on false t e f = e
-
-is_zero : (n : ℕ) → n ≡ 0 → (n == 0) ≡ true
-is_zero n e = ap (λ (k : ℕ). k == 0) e
+both_on s t e f = grind arith
 
 one_test : (set : ℕ) (r : Record) → (r ≡ free) ⊎ ((0 < r.set) × (r.volume ≡ 0)) → is_its set r ≡ is_block_of set r
-one_test set r (inl e) = subst (λ (q : Record). is_its set q ≡ is_block_of set q) (sym e) refl
-one_test set r (inr used) =
-    ap (λ (t : Bool). t && (r.set == set)) (both_on (nat_lt 0 r.set) (r.volume == 0) (lt-ltb 0 r.set used.0) (is_zero r.volume used.1))
-    ∙ sym (ap (λ (t : Bool). t && (r.set == set)) (lt-ltb 0 r.set used.0))
+one_test set r x2 = grind arith
 
 abbrev keep_all : Copied → Option Copied
 keep_all c = Some c
@@ -185,20 +158,8 @@ among_goes sets c e = ap (λ (t : Bool). if t then Some c else None) e
 among_gives : (sets : List ℕ) (c d : Copied) → among sets c ≡ Some d → d ≡ c
 among_gives sets c d e = sym (cond_some (is_among c.set sets) c d e).1
 
-either_free : (t : Bool) → free ≡ (if t then free else free)
-either_free true = refl
-either_free false = refl
-
 row_kept : (sets : List ℕ) (r : Record) → (r ≡ free) ⊎ ((0 < r.set) × (r.volume ≡ 0)) → followed_row 0 (option_and_then (among sets) (copied_for 0 r)) r ≡ kept_record sets r
-row_kept sets r (inl e) = subst (λ (q : Record). followed_row 0 (option_and_then (among sets) (copied_for 0 q)) q ≡ kept_record sets q) (sym e) (either_free (is_among 0 sets))
-row_kept sets r (inr used) =
-    follows-of 0 (option_and_then (among sets) (copied_for 0 r)) r used.0 used.1
-    ∙ ap (λ (o : Option Copied). record_for 0 (option_and_then (among sets) o)) (copied_for-is 0 r used.0 used.1)
-    ∙ by_test (is_among r.set sets)
-  where
-    by_test : (t : Bool) → record_for 0 (if t then Some (copy_of r.set r.block) else None) ≡ (if t then r else free)
-    by_test true = same_record (record_of 0 r.set r.block) r refl refl (sym used.1)
-    by_test false = refl
+row_kept sets r x2 = grind arith
 
 rows_kept : (sets : List ℕ) (records : List Record) → ((k : ℕ) (r : Record) → slice_get records k ≡ Some r → (r ≡ free) ⊎ ((0 < r.set) × (r.volume ≡ 0)))
     → followed 0 (renewed (among sets) (rows records)) records ≡ kept_records sets records
@@ -212,21 +173,13 @@ pub followed_kept : (volumes : List ℕ) (records : List Record) (sets : List �
     → followed 0 (renewed (among sets) (rows records)) records ≡ kept_records sets records
 followed_kept volumes records sets one are = rows_kept sets records (each_used volumes records one are)
 
-abbrev made : ℕ → Copied → Entry
-made slot copied = record { block = copied.block; set = copied.set; slot = slot }
-
 module _ (sets : List ℕ) (copies : List (Option Copied)) where
   row_now : (e : Entry) → IsNoted copies e → copied_at (renewed (among sets) copies) e.slot ≡ among sets (copy_of e.set e.block)
   row_now e noted = copied_at-renewed (among sets) copies e.slot ∙ ap (option_and_then (among sets)) noted.row
 
   one_more : (e : Entry) (left es : List Entry) (t : Bool) → is_among e.set sets ≡ t → IsNoted copies e → left ≡ es
       → cond (is_among e.set sets) (e ∷ left) left ≡ cons_option (entry_now (renewed (among sets) copies) e) es
-  one_more e left es true test noted rest =
-      ap (λ (b : Bool). cond b (e ∷ left) left) test ∙ ap (λ (xs : List Entry). e ∷ xs) rest
-      ∙ ap (λ (o : Option Copied). cons_option (option_map (made e.slot) o) es) (sym (row_now e noted ∙ among_stays sets (copy_of e.set e.block) test))
-  one_more e left es false test noted rest =
-      ap (λ (b : Bool). cond b (e ∷ left) left) test ∙ rest
-      ∙ ap (λ (o : Option Copied). cons_option (option_map (made e.slot) o) es) (sym (row_now e noted ∙ among_goes sets (copy_of e.set e.block) test))
+  one_more e left es t test noted rest = grind (arith, row_now, among_stays, among_goes)
 
   filters : (entries : List Entry) → All (IsNoted copies) entries → filter (λ (e : Entry). is_among e.set sets) entries ≡ filter_map (entry_now (renewed (among sets) copies)) entries
   filters [] each = refl
@@ -234,15 +187,7 @@ module _ (sets : List ℕ) (copies : List (Option Copied)) where
       (All-head (IsNoted copies) e es each) (filters es (All-tail (IsNoted copies) e es each))
 
   keeps_order : (entries : List Entry) → IsIndex entries copies → KeepsOrder (among sets) copies
-  keeps_order entries index = record {
-    stays = λ slot c d row gives.
-        let is = among_gives sets c d gives in
-        (ap (λ (x : Copied). x.block) is, let e : d.set ≡ c.set = ap (λ (x : Copied). x.set) is in let narrow = row_narrow entries copies index slot c row in omega arith);
-    order = λ slot other c e d f c_row e_row same low c_gives e_gives.
-        let a : d.set ≡ c.set = ap (λ (x : Copied). x.set) (among_gives sets c d c_gives) in
-        let b : f.set ≡ e.set = ap (λ (x : Copied). x.set) (among_gives sets e f e_gives) in
-        omega arith;
-  }
+  keeps_order entries index = grind arith
 
 pub overlay_kept : (volumes : List ℕ) (records : List Record) (entries later : Vec Entry Global) (pool new_pool : List Bool) (sets : List ℕ) → KeepsOverlay volumes records entries pool
     → AreRecords volumes records → later.items ≡ filter (λ (e : Entry). is_among e.set sets) entries.items
@@ -281,15 +226,4 @@ pool_new (suc k) = ap (λ (ts : List Bool). true ∷ ts) (pool_new k)
 
 pub overlay_new : (volumes : List ℕ) (records : List Record) (entries : Vec Entry Global) (pool : List Bool) → length volumes ≡ 1 → records ≡ replicate (length records) free → entries.items ≡ []
     → length records ≤ vec_capacity entries → pool ≡ replicate (length records) true → KeepsOverlay volumes records entries pool
-overlay_new volumes records entries pool one are items room pool_is =
-    let none : rows records ≡ replicate (length records) None = ap (λ (rs : List Record). rows rs) are ∙ rows_new (length records) in
-    record {
-      one = one;
-      index = subst (λ (es : List Entry). IsIndex es (rows records)) (sym items) (record {
-        in_order = λ i j d low inside. absurd (omega arith);
-        each = λ k d inside. absurd (omega arith);
-        all = λ slot c row. absurd (none_at (length records) slot c (ap (λ (cs : List (Option Copied)). copied_at cs slot) (sym none) ∙ row));
-      });
-      room = room;
-      pool_is = pool_is ∙ pool_new (length records) ∙ ap (map is_free) (sym are);
-    }
+overlay_new volumes records entries pool one are items room pool_is = grind (arith, rows_new, none_at, pool_new)

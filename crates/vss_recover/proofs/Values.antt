@@ -1,5 +1,5 @@
 -- A volume with recovery writes in its parts.
-use Rattle.std.proofs.Common.{ℕ, zero, suc, List, Option}
+use Rattle.std.proofs.Common.{ℕ, List, Option, arith}
 use Rattle.diff_area.specs.AreaValue.{AreaValue}
 use Rattle.cow_volume.specs.GroupValue.{GroupValue}
 use Rattle.vss_recover.specs.declared.claim.Claim.{Claim}
@@ -15,5 +15,4 @@ module _ {D : Type 0} (volume middle : GroupValue D) (overlay : AreaValue D) (wi
   settled_in_all is = record { device = is.device; volumes = is.volumes; records = is.records; window = is.window; claims = is.claims; final = is.final }
 
   pub settled_up_to_in_all : (up_to : ℕ) → IsSettledUpTo up_to (value_of middle overlay window claims final) new → IsSettledUpTo up_to (value_of volume overlay window claims final) new
-  settled_up_to_in_all zero is = record { overlay = is.overlay; window = is.window; claims = is.claims; final = is.final }
-  settled_up_to_in_all (suc up_to) is = settled_in_all is
+  settled_up_to_in_all up_to is = grind arith

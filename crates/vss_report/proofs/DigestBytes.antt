@@ -1,6 +1,6 @@
 -- A digest is 32 bytes, each below 256.
-use Rattle.std.proofs.Common.{◌≡◌, ◌∙◌, ℕ, zero, suc, ◌<◌, Bool, true, false, List, [], ◌∷◌, length, take, refl, ap, sym, subst, arith}
-use Rattle.std.specs.Prelude.{nat_lt, slice_index, Option, Some, None}
+use Rattle.std.proofs.Common.{◌≡◌, ◌∙◌, ℕ, zero, suc, ◌<◌, Bool, true, false, List, [], ◌∷◌, length, refl, arith}
+use Rattle.std.specs.Prelude.{nat_lt, slice_index, Option, Some}
 use Rattle.std.specs.List.{list_all}
 use Rattle.std.specs.Int.{byte_at, bytes_high_first, to_be_bytes, w32}
 use Rattle.std.proofs.lemmas.Bool.Decides.{nat_tests}
@@ -18,8 +18,7 @@ is_byte n = nat_lt n 256
 
 a_byte : (i n : ℕ) → is_byte (byte_at i n) ≡ true
 unfolding is_byte
-a_byte zero n = grind (arith, nat_tests)
-a_byte (suc i) n = grind (arith, nat_tests)
+a_byte i n = grind arith
 
 are_bytes_high : (k n : ℕ) → list_all is_byte (bytes_high_first k n) ≡ true
 are_bytes_high zero n = refl
@@ -50,16 +49,12 @@ pub record IsDigest (digest : List ℕ) : Type 0 where
   pub bytes : IsBytes digest
 
 digest_of : (bytes digest : List ℕ) → digest ≡ sha256 bytes → IsDigest digest
-digest_of bytes digest e = record {
-  long = ap length e ∙ length-sha256 bytes;
-  bytes = λ i. subst (λ d. slice_index d i < 256) (sym e) (digest_is_bytes bytes i);
-}
+digest_of bytes digest e = grind (arith, length-sha256, digest_is_bytes)
 
 -- whether the devices tell or not
 pub digest_if : (tells : Option Bool) (bytes digest : List ℕ) → IsDigestIf tells bytes digest → IsDigest digest
-digest_if None bytes digest h = digest_of bytes digest h
 digest_if (Some false) bytes digest h = record { long = h.0; bytes = h.1 }
-digest_if (Some true) bytes digest h = digest_of bytes digest h
+digest_if _ bytes digest h = digest_of bytes digest h
 
 pub digest_told : (bytes : List ℕ) → IsDigest (sha256 bytes)
 digest_told bytes = digest_of bytes (sha256 bytes) refl
@@ -68,13 +63,5 @@ pub record IsFirst (first : List ℕ) : Type 0 where
   pub long : length first ≡ 8
   pub bytes : IsBytes first
 
-first_of_block : (block first : List ℕ) → length block ≡ 8 → IsBytes block → first ≡ block → IsFirst first
-first_of_block block first long bytes e = record {
-  long = ap length e ∙ long;
-  bytes = λ i. subst (λ d. slice_index d i < 256) (sym e) (bytes i);
-}
-
 pub first_if : (tells : Option Bool) (bytes first : List ℕ) → HasHead tells bytes → IsFirstIf tells bytes first → IsFirst first
-first_if None bytes first head h = first_of_block (take 8 bytes) first head.0 head.1 h
-first_if (Some false) bytes first head h = record { long = h.0; bytes = h.1 }
-first_if (Some true) bytes first head h = first_of_block (take 8 bytes) first head.0 head.1 h
+first_if tells bytes first head h = grind arith

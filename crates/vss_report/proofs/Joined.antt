@@ -15,20 +15,16 @@ is_free mark [] = true
 is_free mark (byte ∷ rest) = not (byte == mark) && is_free mark rest
 
 pub both : (a b : Bool) → a ≡ true → b ≡ true → (a && b) ≡ true
-both true b e f = f
-both false b e f = absurd cc
+both a b e f = grind arith
 
 pub first_of_both : (a b : Bool) → (a && b) ≡ true → a ≡ true
-first_of_both true b e = refl
-first_of_both false b e = absurd cc
+first_of_both a b e = grind arith
 
 pub second_of_both : (a b : Bool) → (a && b) ≡ true → b ≡ true
-second_of_both true b e = e
-second_of_both false b e = absurd cc
+second_of_both a b e = grind arith
 
 pub not_so : (a : Bool) → a ≡ false → not a ≡ true
-not_so false e = refl
-not_so true e = absurd cc
+not_so a e = grind arith
 
 -- ## a text without the byte
 
@@ -55,8 +51,7 @@ alone mark (byte ∷ piece) h = by_byte (byte == mark) (pieces mark piece) h (al
     by_byte false ps e later = ap (before byte) (later e)
 
 before_append : (byte : ℕ) (ps qs : List (List ℕ)) → is_over ps ≡ false → before byte (ps ++ qs) ≡ before byte ps ++ qs
-before_append byte [] qs h = absurd cc
-before_append byte (p ∷ ps) qs h = refl
+before_append byte ps qs h = grind arith
 
 -- what stands before the byte, and what stands behind it
 pub parted : (mark : ℕ) (text rest : List ℕ) → pieces mark (text ++ mark ∷ rest) ≡ pieces mark text ++ pieces mark rest

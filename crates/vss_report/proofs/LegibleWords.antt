@@ -1,6 +1,6 @@
 -- The words of a report: numbers, digits, names and codes. None of them has a space or a newline in it, and each is read as what it is.
 use Rattle.std.proofs.Common.{◌≡◌, ◌∙◌, ℕ, zero, suc, ◌+◌, ◌-◌, ◌*◌, ◌/◌, ◌%◌, ◌^◌, ◌<◌, Bool, true, false, List, [], ◌∷◌, ◌++◌, length, get_or, Some, None, refl, ap, sym, arith}
-use Rattle.std.specs.Prelude.{◌==◌, ◌&&◌, nat_le, if◌then◌else◌, is_some, slice_index}
+use Rattle.std.specs.Prelude.{◌==◌, ◌&&◌, if◌then◌else◌, is_some, slice_index}
 use Rattle.std.specs.List.{list_all}
 use Rattle.std.specs.Str.{bytes_eq}
 use Rattle.std.specs.Fmt.{decimal}
@@ -9,11 +9,8 @@ use Rattle.std.proofs.lemmas.Bool.Decides.{nat_tests}
 use Rattle.hex.specs.Hex.{IsBytes, encode_with, encode_lower, lower_digits}
 use Rattle.hex.proofs.HexLemmas.{length-encode_with}
 use Rattle.vss_names.specs.declared.writer_error.WriterError.{WriterError}
-use Rattle.vss_names.specs.declared.writer_error.WriterError.TheVariants.{InconsistentSnapshot}
 use Rattle.vss_names.specs.declared.vss_result.VssResult.{VssResult}
-use Rattle.vss_names.specs.declared.vss_result.VssResult.TheVariants.{Writer}
 use Rattle.vss_names.specs.declared.order.Order.{Order}
-use Rattle.vss_names.specs.declared.order.Order.TheVariants.{Identify}
 use Rattle.vss_names.specs.VssResult as result
 use Rattle.vss_names.specs.WriterError as error
 use Rattle.vss_names.specs.Order as order
@@ -21,7 +18,6 @@ use Rattle.vss_names.proofs.VssResultRows.{vss_result_of_name-name_of}
 use Rattle.vss_names.proofs.WriterErrorRows.{error_of_name-name_of}
 use Rattle.vss_names.proofs.OrderRows.{order_of_name-name_of}
 use Rattle.scenario.specs.Numbers.{is_digit, begins_number, value_from, number_of}
-use Rattle.std.specs.Char.{is_ascii_alphabetic}
 use Rattle.vss_names.specs.Names.{is_name_byte, is_name}
 use Rattle.vss_report.specs.Shapes.{is_number, is_hex_digit, is_hex, is_order, is_result}
 use Rattle.vss_report.proofs.Joined.{is_free, both, first_of_both, second_of_both, free_where}
@@ -68,8 +64,7 @@ begins_well : (digits : List ℕ) → 0 < length digits → 48 < get_or digits 0
 begins_well digits some h = grind (arith, nat_tests)
 
 begins_back : (n : ℕ) → n < 2 ^ 64 → begins_number (decimal n) ≡ true
-begins_back zero small = ap begins_number (decimal_digit 0 (omega arith))
-begins_back (suc n) small = begins_well (decimal (suc n)) (decimal_nonempty (suc n) small) (first_decimal (suc n) (omega arith) small)
+begins_back n small = grind (arith, decimal_digit, begins_well, decimal_nonempty, first_decimal)
 
 -- a number that was written reads back
 pub number_back : (n : ℕ) → n < 2 ^ 64 → number_of (decimal n) ≡ Some n
@@ -138,12 +133,7 @@ are_hex_digits (b ∷ bytes) h =
     (both (is_hex_digit (slice_index lower_digits (b % 16))) (list_all is_hex_digit (encode_lower bytes)) (hex_at (b % 16) (omega arith)) (are_hex_digits bytes (λ i. h (suc i))))
 
 pub is_hex_back : (count n : ℕ) (bytes : List ℕ) → length bytes ≡ n → count ≡ 2 * n → IsBytes bytes → is_hex count (encode_lower bytes) ≡ true
-is_hex_back count n bytes long twice h =
-    let wide = length-encode_with lower_digits bytes in
-    both (length (encode_lower bytes) == count) (list_all is_hex_digit (encode_lower bytes)) (is_same (length (encode_lower bytes)) count (omega arith)) (are_hex_digits bytes h)
-  where
-    is_same : (a b : ℕ) → a ≡ b → (a == b) ≡ true
-    is_same a b e = grind (arith, nat_tests)
+is_hex_back count n bytes long twice h = grind (arith, length-encode_with, both, are_hex_digits)
 
 hex_no_space : (byte : ℕ) → is_hex_digit byte ≡ true → (byte == 32) ≡ false
 hex_no_space byte h = grind (arith, nat_tests)
@@ -161,7 +151,7 @@ hex_word bytes h = record {
 
 are_name_bytes : (name : List ℕ) → is_name name ≡ true → list_all is_name_byte name ≡ true
 unfolding is_name
-are_name_bytes name h = second_of_both (nat_le 1 (length name) && nat_le (length name) 32 && is_ascii_alphabetic (slice_index name 0)) (list_all is_name_byte name) h
+are_name_bytes name h = grind arith
 
 name_no_space : (byte : ℕ) → is_name_byte byte ≡ true → (byte == 32) ≡ false
 name_no_space byte h = grind (arith, nat_tests)
@@ -183,17 +173,11 @@ name_free name h = free_where is_name_byte 61 name_no_equals name (are_name_byte
 
 -- ## names of the tables
 
-pub error_word : (e : WriterError) → IsWord (error.name_of e)
-error_word InconsistentSnapshot = record { space = refl; line = refl }
-error_word _ = record { space = refl; line = refl }
-
 pub result_word : (why : VssResult) → IsWord (result.name_of why)
-result_word (Writer e) = error_word e
-result_word _ = record { space = refl; line = refl }
+result_word why = grind arith
 
 pub order_word : (o : Order) → IsWord (order.name_of o)
-order_word Identify = record { space = refl; line = refl }
-order_word _ = record { space = refl; line = refl }
+order_word o = grind arith
 
 pub is_result_back : (why : VssResult) → is_result (result.name_of why) ≡ true
 is_result_back why = ap is_some (vss_result_of_name-name_of why)

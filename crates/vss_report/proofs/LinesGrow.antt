@@ -1,9 +1,9 @@
 -- What one more move adds to the lines of a report.
-use Rattle.std.proofs.Common.{◌≡◌, ℕ, List, [], ◌∷◌, ◌++◌, refl, Bool, ap, sym, ◌∙◌}
+use Rattle.std.proofs.Common.{◌≡◌, ℕ, List, [], ◌∷◌, ◌++◌, refl, Bool, ap, sym, ◌∙◌, arith}
 use Rattle.std.proofs.lemmas.List.{append_assoc}
 use Rattle.write_history.specs.declared.move_item.Move.{Move}
 use Rattle.scenario.specs.Plan.{Plan}
-use Rattle.vss_model.specs.Trail.{Run, begin, run, run_from, moved}
+use Rattle.vss_model.specs.Trail.{Run, run, run_from, moved}
 use Rattle.vss_report.specs.Report.{IsMoveText, IsLines, IsReportSoFar, first_line}
 
 append_nothing : (xs : List ℕ) → xs ++ [] ≡ xs
@@ -19,8 +19,4 @@ pub so_far_none : (s : Plan) (tells : List Bool) → IsReportSoFar s tells [] fi
 so_far_none s tells = record { moves = []; lines = refl; is = sym (append_nothing first_line) }
 
 pub so_far_one : (s : Plan) (tells : List Bool) (trail : List Move) (m : Move) (text own : List ℕ) → IsReportSoFar s tells trail text → IsMoveText s tells (run s trail) m own → IsReportSoFar s tells (trail ++ m ∷ []) (text ++ own)
-so_far_one s tells trail m text own h last = record {
-  moves = h.moves ++ own;
-  lines = IsLines-append s tells (begin s) trail m h.moves own h.lines last;
-  is = ap (λ xs. xs ++ own) h.is ∙ append_assoc first_line h.moves own;
-}
+so_far_one s tells trail m text own h last = grind (arith, IsLines-append, append_assoc)

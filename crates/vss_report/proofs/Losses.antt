@@ -3,7 +3,7 @@ use Rattle.std.proofs.Common.{◌≡◌, ℕ, zero, suc, ◌+◌, ◌-◌, ◌/�
 use Rattle.std.specs.Prelude.{All, Option, None}
 use Rattle.std.specs.List.{flat_map, range_with_len}
 use Rattle.std.proofs.lemmas.List.{append_assoc, append-nil}
-use Rattle.std.proofs.lemmas.List.Elements.{All-head, All-tail}
+use Rattle.std.proofs.lemmas.List.Elements.{All-tail}
 use Rattle.std.proofs.lemmas.Bool.{cases_lt}
 use Rattle.std.proofs.lemmas.Nat.Bits.{shr_and_one}
 use Rattle.set_agenda.specs.WriterSet.{has_bit, writers, writers_of}
@@ -17,8 +17,7 @@ unfolding writers
 from_first f bits = refl
 
 member : (f : ℕ → List ℕ) (b : Bool) (w : ℕ) (ws : List ℕ) → flat_map f (cond b (w ∷ ws) ws) ≡ cond b (f w) [] ++ flat_map f ws
-member f true w ws = refl
-member f false w ws = refl
+member f b w ws = grind arith
 
 from_next : (f : ℕ → List ℕ) (p : ℕ → Bool) (w n k : ℕ) → n ≡ suc k → flat_map f (filter p (range_with_len w n)) ≡ cond (p w) (f w) [] ++ flat_map f (filter p (range_with_len (w + 1) k))
 from_next f p w n k e = rw e (member f (p w) w (filter p (range_with_len (w + 1) k)))
@@ -31,8 +30,7 @@ from_number f p w h = from_next f p w (64 - w) (64 - (w + 1)) (omega arith)
 -- ## what holds for all members holds for one
 
 head_of : (P : ℕ → Type 0) (b : Bool) (w : ℕ) (ws : List ℕ) → b ≡ true → All P (cond b (w ∷ ws) ws) → P w
-head_of P true w ws e all = All-head P w ws all
-head_of P false w ws e all = absurd (cc e)
+head_of x0 b w ws e all = grind arith
 
 tail_of : (P : ℕ → Type 0) (b : Bool) (w : ℕ) (ws : List ℕ) → All P (cond b (w ∷ ws) ws) → All P ws
 tail_of P true w ws all = All-tail P w ws all
@@ -66,11 +64,7 @@ no_order s (w ∷ ws) = no_order s ws
 pub one_more : (f : ℕ → List ℕ) (p : ℕ → Bool) (w : ℕ) (before after whole : List ℕ) → w < 64 → after ≡ before ++ cond (p w) (f w) []
     → before ++ flat_map f (filter p (range_with_len w (64 - w))) ≡ whole
     → after ++ flat_map f (filter p (range_with_len (w + 1) (64 - (w + 1)))) ≡ whole
-one_more f p w before after whole h is all =
-    ap (λ b. b ++ flat_map f (filter p (range_with_len (w + 1) (64 - (w + 1))))) is
-    ∙ append_assoc before (cond (p w) (f w) []) _
-    ∙ ap (λ b. before ++ b) (sym (from_number f p w h))
-    ∙ all
+one_more f p w before after whole h is all = grind (arith, append_assoc, from_number)
 
 pub none_lost : (s : Plan) (o : Option Order) (ws : List ℕ) (text : List ℕ) → o ≡ None → text ≡ text ++ flat_map (lost_text s o) ws
 none_lost s o ws text e = sym (ap (λ x. text ++ flat_map (lost_text s x) ws) e ∙ ap (λ b. text ++ b) (no_order s ws) ∙ append-nil text)

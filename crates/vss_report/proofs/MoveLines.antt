@@ -1,31 +1,29 @@
 -- The lines that are written of what a move was told are lines of the move.
-use Rattle.std.proofs.Common.{◌≡◌, ℕ, ◌+◌, List, [], ◌++◌, length, refl, Bool, false, cond, ap, sym, ◌∙◌, subst, arith}
-use Rattle.std.specs.Prelude.{◌==◌, Option, Some, None, codes}
+use Rattle.std.proofs.Common.{◌≡◌, ℕ, ◌+◌, List, [], ◌++◌, length, Bool, ap, sym, ◌∙◌, subst, arith}
+use Rattle.std.specs.Prelude.{Option, Some}
 use Rattle.std.specs.List.{flat_map}
 use Rattle.std.specs.Fmt.{decimal}
 use Rattle.std.proofs.lemmas.List.{append_assoc}
-use Rattle.std.proofs.lemmas.Bool.Decides.{nat_tests}
 use Rattle.vss_names.specs.declared.order.Order.{Order}
 use Rattle.vss_names.specs.declared.set_outcome.SetOutcome.{SetOutcome}
 use Rattle.set_agenda.specs.WriterSet.{writers_of}
 use Rattle.writer_state.specs.declared.writer_row.WriterRow.{WriterRow}
 use Rattle.write_history.specs.declared.evicted.Evicted.{Evicted}
 use Rattle.write_history.specs.declared.actor.Actor.{Actor}
-use Rattle.write_history.specs.declared.actor.Actor.TheVariants.{Lane, Writer, Advance, Idle}
 use Rattle.write_history.specs.declared.move_item.Move.{Move}
 use Rattle.scenario.specs.Plan.{Plan}
 use Rattle.vss_model.specs.declared.event.Event.{Event}
 use Rattle.vss_model.specs.declared.outcome.Outcome.{Outcome}
 use Rattle.vss_model.specs.declared.told.Told.{Told}
-use Rattle.vss_model.specs.Reply.{Reply, BlockOf, BlocksOf, KeptSets, StatusOf}
-use Rattle.vss_model.specs.State.{State, SetRow}
+use Rattle.vss_model.specs.Reply.{Reply}
+use Rattle.vss_model.specs.State.{State}
 use Rattle.vss_model.specs.Acts.{Act, reply}
 use Rattle.vss_model.specs.Effects.{evicted, lost, lost_order, ended}
 use Rattle.vss_model.specs.Outcome.{IsOutcome, HasLists, EndsAs}
 use Rattle.vss_model.specs.Told.{Fits, mark_of}
 use Rattle.vss_model.specs.Trail.{Run, act_of}
-use Rattle.vss_report.specs.Words.{spaced, as_line, sets_text, states_text, evicted_text, lost_text, set_text}
-use Rattle.vss_report.specs.Report.{reply_with, IsShownAs, IsReplyText, IsActText, IsTextOf, actor_text, ended_text, effects_text, move_text}
+use Rattle.vss_report.specs.Words.{spaced, as_line, evicted_text, lost_text}
+use Rattle.vss_report.specs.Report.{reply_with, IsShownAs, IsReplyText, IsActText, IsTextOf, actor_text, effects_text, move_text}
 use Rattle.vss_report.specs.ToldLines.{told_text, told_actor, told_end, told_lines, IsLineOf, AreLinesOf}
 
 -- ## the reply
@@ -36,37 +34,20 @@ plain_text s tells r text shown e = record { first = []; digest = []; shown = sh
 
 reply_text : (s : Plan) (tells : List Bool) (listed : List ℕ) (rows : List WriterRow) (t : Told) (r : Reply) → Fits tells r t → HasLists r listed rows
     → IsReplyText s tells r (told_text s listed rows t)
-reply_text s tells listed rows t (BlockOf v bytes) (first, digest, is_first, is_digest, f) h = record { first = first; digest = digest; shown = (is_first, is_digest); is = ap (told_text s listed rows) f }
-reply_text s tells listed rows t (BlocksOf v blocks) (digest, is_digest, f) h = record { first = []; digest = digest; shown = is_digest; is = ap (told_text s listed rows) f }
-reply_text s tells listed rows t (KeptSets sets) f h = plain_text s tells (KeptSets sets) _ tt (ap (told_text s listed rows) f ∙ ap (λ l. codes "images" ++ sets_text l) h)
-reply_text s tells listed rows t (StatusOf now) f h = plain_text s tells (StatusOf now) _ tt (ap (told_text s listed rows) f ∙ ap (λ l. codes "status" ++ states_text s s.writers l) h)
-reply_text s tells listed rows t r f h = plain_text s tells r _ tt (ap (told_text s listed rows) f)
+reply_text s tells listed rows t r f h = grind (arith, plain_text)
 
 -- ## who moves
 
 actor_is : (s : Plan) (r : Run) (line : ℕ) (a : Actor) → IsLineOf s r a line → told_actor s line a ≡ actor_text s r a
-actor_is s r line (Lane i) e = ap (λ n. told_actor s n (Lane i)) e
-actor_is s r line (Writer w) e = refl
-actor_is s r line Advance e = refl
-actor_is s r line Idle e = refl
+actor_is s r line a e = grind arith
 
 -- ## the effects
-
-end_is : (o : Option SetRow) (n : ℕ) (end : SetOutcome) → EndsAs o n end → told_end n end ≡ ended_text o
-end_is None n end e = ap (λ k. told_end k end) e
-end_is (Some r) n end (number, is, some) =
-    let other : (n == 0) ≡ false = grind (arith, nat_tests) in
-    ap (λ b. cond b [] (set_text n end)) other ∙ ap (λ k. set_text k end) number ∙ ap (set_text r.number) is
 
 effects_are : (s : Plan) (st : State) (act : Act) (images : List Evicted) (bits : ℕ) (o : Option Order) (n : ℕ) (end : SetOutcome)
     → images ≡ evicted s st act.event → writers_of bits ≡ lost st act.event → o ≡ lost_order st act.event → EndsAs (ended s st act) n end
     → flat_map (evicted_text s) images ++ flat_map (lost_text s o) (writers_of bits) ++ told_end n end ≡ effects_text s st act
 unfolding effects_text
-effects_are s st act images bits o n end images_are lost_are order_is ends =
-    ap (λ x. flat_map (evicted_text s) x ++ flat_map (lost_text s o) (writers_of bits) ++ told_end n end) images_are
-    ∙ ap (λ x. flat_map (evicted_text s) (evicted s st act.event) ++ flat_map (lost_text s o) x ++ told_end n end) lost_are
-    ∙ ap (λ x. flat_map (evicted_text s) (evicted s st act.event) ++ flat_map (lost_text s x) (lost st act.event) ++ told_end n end) order_is
-    ∙ ap (λ x. flat_map (evicted_text s) (evicted s st act.event) ++ flat_map (lost_text s (lost_order st act.event)) (lost st act.event) ++ x) (end_is (ended s st act) n end ends)
+effects_are s st act images bits o n end images_are lost_are order_is ends = grind arith
 
 -- ## the whole
 
@@ -74,7 +55,7 @@ grouped : (a b c d : List ℕ) → a ++ b ++ c ++ d ≡ a ++ (b ++ c ++ d)
 grouped a b c d = append_assoc (a ++ b) c d ∙ append_assoc a b (c ++ d) ∙ ap (λ x. a ++ x) (sym (append_assoc b c d))
 
 first_is : (n k : ℕ) (a b text : List ℕ) → n ≡ k → a ≡ b → as_line (decimal n ++ spaced a ++ spaced text) ≡ as_line (decimal k ++ spaced b ++ spaced text)
-first_is n k a b text same actor = ap (λ x. as_line (decimal x ++ spaced a ++ spaced text)) same ∙ ap (λ x. as_line (decimal k ++ spaced x ++ spaced text)) actor
+first_is n k a b text same actor = grind arith
 
 lines_are : (s : Plan) (tells : List Bool) (n line : ℕ) (r : Run) (actor : Actor) (event : Event) (o : Outcome) (listed : List ℕ) (images : List Evicted) (rows : List WriterRow)
     → IsOutcome tells s r.state event o listed images rows → n ≡ length r.moves + 1 → IsLineOf s r actor line

@@ -1,5 +1,5 @@
 -- A text in pieces, one byte on.
-use Rattle.std.proofs.Common.{◌≡◌, ℕ, ◌+◌, ◌-◌, ◌<◌, ◌≤◌, Bool, true, false, List, [], ◌∷◌, ◌++◌, length, drop, get_or, refl, ap, ◌∙◌, arith}
+use Rattle.std.proofs.Common.{◌≡◌, ℕ, ◌+◌, ◌-◌, ◌<◌, ◌≤◌, Bool, true, false, List, [], ◌∷◌, ◌++◌, length, drop, get_or, refl, ap, arith}
 use Rattle.std.specs.Prelude.{◌==◌, if◌then◌else◌, nat_lt, slice_range}
 use Rattle.std.proofs.lemmas.Bool.Decides.{nat_tests}
 use Rattle.std.proofs.lemmas.List.{drop_more, drop_all, take_more, length-drop, length-take-le, get_or-drop}
@@ -11,8 +11,7 @@ all_before [] ps = ps
 all_before (b ∷ bs) ps = before b (all_before bs ps)
 
 not_over : (byte : ℕ) (ps : List (List ℕ)) → is_over (before byte ps) ≡ false
-not_over byte [] = refl
-not_over byte (p ∷ ps) = refl
+not_over byte ps = grind arith
 
 pub pieces_are_some : (mark : ℕ) (text : List ℕ) → is_over (pieces mark text) ≡ false
 pieces_are_some mark [] = refl
@@ -23,11 +22,7 @@ pieces_are_some mark (byte ∷ rest) =
     on (byte == mark)
 
 pub some_piece : (mark : ℕ) (text : List ℕ) (at : ℕ) → is_over (pieces_at mark text at) ≡ nat_lt (length text) at
-some_piece mark text at =
-    let on : (t : Bool) → is_over (if t then [] else pieces mark (drop at text)) ≡ t =
-    λ t. elim t as (λ v. is_over (if v then [] else pieces mark (drop at text)) ≡ v)
-    [ true ↦ refl | false ↦ pieces_are_some mark (drop at text) ] in
-    on (nat_lt (length text) at)
+some_piece mark text at = grind (arith, pieces_are_some)
 
 pub no_piece : (mark : ℕ) (text : List ℕ) (at : ℕ) → length text < at → pieces_at mark text at ≡ []
 no_piece mark text at h = let past : nat_lt (length text) at ≡ true = grind (arith, nat_tests) in rw past refl
@@ -59,32 +54,19 @@ range_one_more text at end h inside =
 pub passes : (mark : ℕ) (text : List ℕ) (at end : ℕ) (whole : List (List ℕ)) → at ≤ end → end < length text → (get_or text end 0 == mark) ≡ false
     → whole ≡ all_before (slice_range text at end) (pieces mark (drop end text))
     → whole ≡ all_before (slice_range text at (end + 1)) (pieces mark (drop (end + 1) text))
-passes mark text at end whole h inside other e =
-    rw (range_one_more text at end h inside, all_before-snoc (slice_range text at end) (get_or text end 0) (pieces mark (drop (end + 1) text)))
-    (e ∙ rw (drop_more text end 0 inside, other) refl)
+passes mark text at end whole h inside other e = grind (arith, range_one_more, all_before-snoc, drop_more)
 
 -- the byte that parts ends it
 pub ends : (mark : ℕ) (text : List ℕ) (at end : ℕ) → at ≤ end → end < length text → (get_or text end 0 == mark) ≡ true
     → pieces mark (drop at text) ≡ all_before (slice_range text at end) (pieces mark (drop end text))
     → pieces_at mark text at ≡ slice_range text at end ∷ pieces_at mark text (at + length (slice_range text at end) + 1)
-ends mark text at end h inside parts e =
-    let long : length (slice_range text at end) ≡ end - at = length-range text at end h (omega arith) in
-    let next : at + length (slice_range text at end) + 1 ≡ end + 1 = omega (arith, long) in
-    rw (next, here mark text at (omega arith), here mark text (end + 1) (omega arith))
-    (e ∙ ap (all_before (slice_range text at end)) (rw (drop_more text end 0 inside, parts) refl) ∙ all_before-whole (slice_range text at end) (pieces mark (drop (end + 1) text)))
+ends mark text at end h inside parts e = grind (arith, length-range, here, drop_more, all_before-whole)
 
 -- the text's end does too
 pub ends_text : (mark : ℕ) (text : List ℕ) (at end : ℕ) → at ≤ length text → end ≡ length text
     → pieces mark (drop at text) ≡ all_before (slice_range text at end) (pieces mark (drop end text))
     → pieces_at mark text at ≡ slice_range text at (length text) ∷ pieces_at mark text (at + length (slice_range text at (length text)) + 1)
-ends_text mark text at end h whole e =
-    let long : length (slice_range text at (length text)) ≡ length text - at = length-range text at (length text) h (omega arith) in
-    let past : length text < at + length (slice_range text at (length text)) + 1 = omega (arith, long) in
-    let last : pieces mark (drop end text) ≡ [] ∷ [] = rw (drop_all end text (omega arith)) refl in
-    let all : pieces mark (drop at text) ≡ slice_range text at end ∷ [] =
-    e ∙ ap (all_before (slice_range text at end)) last ∙ all_before-whole (slice_range text at end) [] in
-    let same : slice_range text at end ∷ [] ≡ slice_range text at (length text) ∷ [] = ap (λ n. slice_range text at n ∷ []) whole in
-    rw (here mark text at h, no_piece mark text _ past) (all ∙ same)
+ends_text mark text at end h whole e = grind (arith, length-range, drop_all, all_before-whole, here, no_piece)
 
 pub from_first : (mark : ℕ) (text : List ℕ) → pieces_at mark text 0 ≡ pieces mark text
 from_first mark text = here mark text 0 (omega arith)

@@ -22,7 +22,6 @@ use Rattle.write_history.specs.declared.mark.Mark.TheVariants.{Clean, Fault}
 use Rattle.write_history.specs.declared.move_item.Move.{Move as Step}
 use Rattle.write_history.specs.declared.trail.TheConstants.{MOST_MOVES}
 use Rattle.writer_calls.specs.declared.answer.Answer.{Answer}
-use Rattle.writer_calls.specs.declared.answer.Answer.TheVariants.{Ok, Veto}
 use Rattle.set_agenda.specs.declared.group.Group.{Group}
 use Rattle.set_agenda.specs.declared.group.Group.TheVariants.{Orders, PreCommit, Flush, Hold, Cut, Commit, Release, PostCommit}
 use Rattle.scenario.specs.Plan.{Plan}
@@ -33,7 +32,7 @@ use Rattle.vss_report.specs.Words.{spaced, volume_text, writer_text, lane_text, 
 use Rattle.vss_report.specs.Shapes.{named, writer_named, is_number, is_answer, is_order, is_volume, is_result, marked, lane_move, writer_move, are_two, mark_of_reply, mark_of_step, mark_of_idle, move_in, is_all, then_count, is_next, kind_of_move, kind_of_words, kind_of}
 use Rattle.vss_report.specs.Legible.{IsShort, AreApart, AreNames, IsLegible, IsVolumeStep, IsStep, IsLegibleImage}
 use Rattle.vss_report.proofs.Joined.{is_free, both}
-use Rattle.vss_report.proofs.LegibleWords.{IsWord, same_bytes, are_digits, no_number, is_number_back, name_word, error_word, result_word, order_word, is_result_back, is_order_back, is_error_back}
+use Rattle.vss_report.proofs.LegibleWords.{IsWord, same_bytes, are_digits, no_number, is_number_back, name_word, result_word, order_word, is_result_back, is_order_back, is_error_back}
 use Rattle.vss_report.proofs.Says.{Says, says_word, says_number, says_spaced, says_then}
 
 -- ## names
@@ -42,16 +41,13 @@ same_text : (a b : List ℕ) → bytes_eq a b ≡ true → a ≡ b
 same_text a b e = (bytes_eq-Decides a b).0 e
 
 is_false : (b : Bool) → (b ≡ true → ⊥) → b ≡ false
-is_false true f = absurd (f refl)
-is_false false f = refl
+is_false b f = grind arith
 
 first_is : (b : Bool) (x y : Option ℕ) → b ≡ true → cond b x y ≡ x
-first_is true x y e = refl
-first_is false x y e = absurd cc
+first_is b x y e = grind arith
 
 rest_is : (b : Bool) (x y : Option ℕ) → b ≡ false → cond b x y ≡ y
-rest_is true x y e = absurd cc
-rest_is false x y e = refl
+rest_is b x y e = grind arith
 
 less : (x y : ℕ) → x ≤ y → (x ≡ y → ⊥) → x + 1 ≤ y
 less x y l f = grind arith
@@ -75,8 +71,7 @@ pub found : (name_of : ℕ → List ℕ) (count i : ℕ) → AreApart name_of co
 found name_of count i apart h = found_from name_of i 0 count (omega arith) (omega arith) (λ j l e. apart j i (omega arith) h e)
 
 some_head : (b : Bool) (x : ℕ) (y : Option ℕ) → is_some y ≡ true → is_some (cond b (Some x) y) ≡ true
-some_head true x y e = refl
-some_head false x y e = e
+some_head b x y e = grind arith
 
 -- one of that name is found, where one has it
 some_from : (name_of : ℕ → List ℕ) (i a n : ℕ) → a ≤ i → i < a + n → is_some (find (λ j. bytes_eq (name_of j) (name_of i)) (range_with_len a n)) ≡ true
@@ -101,19 +96,13 @@ lane_back s i line m words apart h short e =
     ∙ ap (marked (Lane i)) e
 
 or_right : (a b : Bool) → b ≡ true → (a || b) ≡ true
-or_right true b e = refl
-or_right false b e = e
+or_right a b e = grind arith
 
 is_answer_back : (a : Answer) → is_answer (answer_text a) ≡ true
-is_answer_back Ok = refl
-is_answer_back (Veto e) = or_right (bytes_eq (error.name_of e) (codes "ok")) (is_some (error.error_of_name (error.name_of e))) (is_error_back e)
-
-answer_word : (a : Answer) → IsWord (answer_text a)
-answer_word Ok = record { space = refl; line = refl }
-answer_word (Veto e) = error_word e
+is_answer_back a = grind (arith, or_right, is_error_back)
 
 pub says_answer : (o : Order) (a : Answer) → Says (order.name_of o ++ spaced (answer_text a)) (order.name_of o ∷ answer_text a ∷ [])
-says_answer o a = says_spaced (order.name_of o) (answer_text a) (order.name_of o ∷ []) (answer_text a ∷ []) (says_word (order.name_of o) (order_word o)) (says_word (answer_text a) (answer_word a))
+says_answer o a = grind arith
 
 pub writer_back : (s : Plan) (w : ℕ) (o : Order) (a : Answer) → AreApart (writer_text s) (length s.writers) → w < length s.writers
     → move_in s (codes "writer" ∷ writer_text s w ∷ order.name_of o ∷ answer_text a ∷ []) ≡ Some (record { actor = Writer w; mark = Clean })
@@ -135,14 +124,12 @@ marked_step s text m own e h = subst (IsStepAs s text) (sym e) h
 
 -- a step without a volume
 alone_step : (s : Plan) (m : Mark) (name : List ℕ) (v : Option ℕ) (fault : Bool) → m ≡ Clean → v ≡ None → fault ≡ false → IsStepAs s (name ++ [] ++ []) Clean → IsStepAs s (name ++ of_volume s v ++ fault_if fault) m
-alone_step s m name v fault e f g h =
-    subst (λ o. IsStepAs s (name ++ of_volume s o ++ fault_if fault) m) (sym f) (subst (λ b. IsStepAs s (name ++ [] ++ fault_if b) m) (sym g) (marked_step s (name ++ [] ++ []) m Clean e h))
+alone_step s m name v fault e f g h = grind arith
 
 -- a step of a volume
 volume_step : (s : Plan) (m : Mark) (name : List ℕ) (v : Option ℕ) (fault : Bool) → m ≡ Clean → IsVolumeStep s v → fault ≡ false
     → ((u : ℕ) → u < length s.volumes → IsStepAs s (name ++ spaced (volume_text s u) ++ []) Clean) → IsStepAs s (name ++ of_volume s v ++ fault_if fault) m
-volume_step s m name None fault e f g h = absurd f
-volume_step s m name (Some u) fault e f g h = subst (λ b. IsStepAs s (name ++ spaced (volume_text s u) ++ fault_if b) m) (sym g) (marked_step s (name ++ spaced (volume_text s u) ++ []) m Clean e (h u f))
+volume_step s m name v fault e f g h = grind arith
 
 says_nothing : (a : List ℕ) (ws : List (List ℕ)) → Says a ws → Says (a ++ []) ws
 says_nothing a ws h = subst (λ text. Says text ws) (sym (append-nil a)) h
@@ -221,10 +208,7 @@ unfolding kind_of
 line_of s n line words kind h e = record { free = h.line; kind_is = ap (kind_of_words s n) h.pieces_are ∙ e }
 
 picks : (a b c : Bool) (x y z w : LineKind) → a ≡ false → b ≡ false → c ≡ true → (if a then x else if b then y else if c then z else w) ≡ z
-picks false false true x y z w e f g = refl
-picks true b c x y z w e f g = absurd cc
-picks false true c x y z w e f g = absurd cc
-picks false false false x y z w e f g = absurd cc
+picks a b c x y z w e f g = grind arith
 
 few_enough : (n most : ℕ) → n ≤ most → nat_le n most ≡ true
 few_enough n most h = grind (arith, nat_tests)

@@ -9,11 +9,7 @@ use Rattle.std.proofs.lemmas.Option.{slice_get-get_or}
 use Rattle.hex.specs.Hex.{IsBytes, encode_lower}
 use Rattle.block_data.specs.Digest.{sha256}
 use Rattle.vss_names.specs.declared.context.Context.{Context}
-use Rattle.vss_names.specs.declared.context.Context.TheVariants.{Backup}
-use Rattle.vss_names.specs.declared.writer_error.WriterError.{WriterError}
-use Rattle.vss_names.specs.declared.writer_error.WriterError.TheVariants.{InconsistentSnapshot}
 use Rattle.vss_names.specs.declared.vss_result.VssResult.{VssResult}
-use Rattle.vss_names.specs.declared.vss_result.VssResult.TheVariants.{Writer}
 use Rattle.vss_names.specs.Context as context
 use Rattle.vss_names.specs.VssResult as result
 use Rattle.write_history.specs.declared.mark.Mark.{Mark}
@@ -22,7 +18,7 @@ use Rattle.writer_state.specs.declared.writer_row.WriterRow.{WriterRow}
 use Rattle.vss_names.specs.Names.{is_name}
 use Rattle.scenario.specs.Plan.{Plan, WriterPlan, token}
 use Rattle.vss_model.specs.Reply.{Reply, Fine, Faulted, FaultedAfter, Numbered, Coded, NotSelectable, BlockOf, BlocksOf, KeptSets, PropertiesOf, Deleted, DocumentOf, StatusOf, Answered, Stepped, Idled}
-use Rattle.vss_report.specs.Words.{spaced, sets_text, states_text, writer_in, writer_text}
+use Rattle.vss_report.specs.Words.{spaced, sets_text, states_text, writer_text}
 use Rattle.vss_report.specs.Report.{IsReplyText}
 use Rattle.vss_report.specs.Shapes.{is_number, is_hex, is_result, is_all, then_count, up_to, restored, mark_of_reply}
 use Rattle.vss_report.specs.Legible.{IsShort, AreNames, HasItsCode, IsLaneReply}
@@ -72,23 +68,13 @@ read_deleted s n small = record {
   mark_is = ap (λ b. clean_if (b && true)) (is_number_back n small);
 }
 
-error_alone : (s : Plan) (e : WriterError) → mark_of_reply s (result.name_of (Writer e) ∷ []) ≡ clean_if (is_result (result.name_of (Writer e)) && true)
-unfolding clean_if
-error_alone s InconsistentSnapshot = refl
-error_alone s _ = refl
-
 result_alone : (s : Plan) (why : VssResult) → mark_of_reply s (result.name_of why ∷ []) ≡ clean_if (is_result (result.name_of why) && true)
 unfolding clean_if
-result_alone s (Writer e) = error_alone s e
-result_alone s _ = refl
+result_alone s why = grind arith
 
 read_result : (s : Plan) (why : VssResult) → IsReadAs s (result.name_of why) Clean
 unfolding clean_if
-read_result s why = record {
-  words = result.name_of why ∷ [];
-  says = says_word (result.name_of why) (result_word why);
-  mark_is = result_alone s why ∙ ap (λ b. clean_if (b && true)) (is_result_back why);
-}
+read_result s why = grind (arith, says_word, result_word, result_alone, clean_if, is_result_back)
 
 read_digest : (s : Plan) (digest : List ℕ) → IsDigest digest → IsReadAs s (codes "digest " ++ encode_lower digest) Clean
 unfolding clean_if
@@ -131,8 +117,7 @@ read_images s sets h = record {
 }
 
 context_short : (c : Context) → IsShort (context.number_of c)
-context_short Backup = omega arith
-context_short _ = omega arith
+context_short c = grind arith
 
 abbrev no_words : List (List ℕ)
 no_words = []
@@ -154,10 +139,7 @@ read_properties s c cut used a b d = record {
 }
 
 writers_named : (s : Plan) → AreNames (writer_text s) (length s.writers) → All (λ (w : WriterPlan). is_name (token s w.name) ≡ true) s.writers
-writers_named s h = from_places s.writers h
-  where
-    from_places : (ws : List WriterPlan) → ((i : ℕ) → i < length ws → is_name (writer_in s (slice_get ws i)) ≡ true) → All (λ (w : WriterPlan). is_name (token s w.name) ≡ true) ws
-    from_places ws g k d l = subst (λ o. is_name (writer_in s o) ≡ true) (slice_get-get_or ws k d l) (g k l)
+writers_named s h = grind (arith, slice_get-get_or)
 
 read_status : (s : Plan) (rows : List WriterRow) → AreNames (writer_text s) (length s.writers) → length rows ≡ length s.writers → All HasItsCode rows
     → IsReadAs s (codes "status" ++ states_text s s.writers rows) Clean

@@ -1,14 +1,12 @@
 -- The states of the writers, as they are told, are read as such.
-use Rattle.std.proofs.Common.{◌≡◌, ◌∙◌, ℕ, Bool, true, false, List, [], ◌∷◌, ◌++◌, length, Option, Some, None, refl, ap, sym, subst, arith}
-use Rattle.std.specs.Prelude.{All, ◌&&◌, not, if◌then◌else◌, codes}
+use Rattle.std.proofs.Common.{◌≡◌, ◌∙◌, ℕ, true, List, [], ◌∷◌, ◌++◌, length, Option, refl, ap, sym, subst, arith}
+use Rattle.std.specs.Prelude.{All, ◌&&◌, codes}
 use Rattle.std.specs.Str.{bytes_eq}
 use Rattle.std.proofs.lemmas.List.{append_assoc, append-nil}
 use Rattle.std.proofs.lemmas.List.Elements.{All-head, All-tail}
 use Rattle.hex.specs.Hex.{encode_with}
 use Rattle.vss_names.specs.declared.writer_error.WriterError.{WriterError}
-use Rattle.vss_names.specs.declared.writer_error.WriterError.TheVariants.{InconsistentSnapshot}
 use Rattle.vss_names.specs.declared.writer_state.WriterState.{WriterState}
-use Rattle.vss_names.specs.declared.writer_state.WriterState.TheVariants.{Unknown}
 use Rattle.vss_names.specs.WriterState as state
 use Rattle.vss_names.proofs.WriterStateRows.{state_of_name-name_of}
 use Rattle.writer_state.specs.declared.writer_row.WriterRow.{WriterRow}
@@ -16,7 +14,7 @@ use Rattle.writer_state.specs.WriterState.{is_failed}
 use Rattle.vss_names.specs.Names.{is_name}
 use Rattle.scenario.specs.Plan.{Plan, WriterPlan, token}
 use Rattle.vss_report.specs.Words.{spaced, code_word, code_text, state_text, states_text}
-use Rattle.vss_report.specs.Shapes.{is_code, is_coded, is_state, is_state_in, is_named_state, is_state_of, are_states}
+use Rattle.vss_report.specs.Shapes.{is_code, is_state, is_named_state, is_state_of, are_states}
 use Rattle.vss_report.specs.Legible.{HasItsCode, has_its_code}
 use Rattle.vss_report.proofs.Joined.{is_free, free_append, alone, joined, both}
 use Rattle.vss_report.proofs.LegibleWords.{IsWord, same_bytes, name_word, name_free}
@@ -29,46 +27,21 @@ record IsPart (part : List ℕ) : Type 0 where
   pub slash : is_free 47 part ≡ true
 
 state_part : (st : WriterState) → IsPart (state.name_of st)
-state_part Unknown = record { word = record { space = refl; line = refl }; equals = refl; slash = refl }
-state_part _ = record { word = record { space = refl; line = refl }; equals = refl; slash = refl }
+state_part st = grind arith
 
 code_part : (e : WriterError) → IsPart (code_word e)
 unfolding encode_with
-code_part InconsistentSnapshot = record { word = record { space = refl; line = refl }; equals = refl; slash = refl }
-code_part _ = record { word = record { space = refl; line = refl }; equals = refl; slash = refl }
+code_part e = grind arith
 
 is_code_back : (e : WriterError) → is_code (code_word e) ≡ true
 unfolding encode_with
-is_code_back InconsistentSnapshot = refl
-is_code_back _ = refl
+is_code_back e = grind arith
 
 -- ## a state
 
 coded : (st : WriterState) (code : Option WriterError) → has_its_code code (is_failed st) ≡ true
     → (IsWord (state.name_of st ++ code_text code)) × (is_free 61 (state.name_of st ++ code_text code) ≡ true) × (is_state (state.name_of st ++ code_text code) ≡ true)
-coded st None h = (
-  subst IsWord (sym (append-nil (state.name_of st))) (state_part st).word,
-  subst (λ t. is_free 61 t ≡ true) (sym (append-nil (state.name_of st))) (state_part st).equals,
-  ap is_state (append-nil (state.name_of st)) ∙ ap is_state_in (alone 47 (state.name_of st) (state_part st).slash) ∙ ap (λ o. is_coded o []) (state_of_name-name_of st) ∙ stands (is_failed st) h,
-)
-  where
-    stands : (b : Bool) → not b ≡ true → (if b then false else true) ≡ true
-    stands true e = absurd cc
-    stands false e = refl
-coded st (Some e) h =
-    let part = code_part e in (
-      record {
-        space = free_append 32 (state.name_of st) (codes "/" ++ code_word e) (state_part st).word.space part.word.space;
-        line = free_append 10 (state.name_of st) (codes "/" ++ code_word e) (state_part st).word.line part.word.line;
-      },
-      free_append 61 (state.name_of st) (codes "/" ++ code_word e) (state_part st).equals part.equals,
-      ap is_state_in (joined 47 (state.name_of st) (code_word e) (state_part st).slash ∙ ap (λ ps. state.name_of st ∷ ps) (alone 47 (code_word e) part.slash))
-          ∙ ap (λ o. is_coded o (code_word e ∷ [])) (state_of_name-name_of st) ∙ fails (is_failed st) h ∙ ap (λ b. b && true) (is_code_back e),
-    )
-  where
-    fails : (b : Bool) → b ≡ true → (if b then is_code (code_word e) && true else false) ≡ (is_code (code_word e) && true)
-    fails true f = refl
-    fails false f = absurd cc
+coded st code h = grind (arith, append-nil, state_part, alone, state_of_name-name_of, code_part, free_append, joined, is_code_back)
 
 -- ## the state of a writer
 

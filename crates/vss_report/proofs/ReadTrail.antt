@@ -51,15 +51,11 @@ reads_then s a b c text more f g k rest =
     (second.0, ap (λ t. read_from s k a (pieces 10 t)) (append_assoc text more rest) ∙ first.1 ∙ second.1)
 
 not_last : (b : Bool) (x y : Result (List Step) ℕ) → b ≡ false → (if b then x else y) ≡ y
-not_last true x y e = absurd cc
-not_last false x y e = refl
+not_last b x y e = grind arith
 
 one_line : (s : Plan) (k : ℕ) (before : List Step) (line rest : List ℕ) → is_free 10 line ≡ true
     → read_from s k before (pieces 10 (as_line line ++ rest)) ≡ goes_on k before (λ all. read_from s (k + 1) all (pieces 10 rest)) (kind_of s (next_number before) line)
-one_line s k before line rest h =
-    ap (λ t. read_from s k before (pieces 10 t)) (append_assoc line (10 ∷ []) rest)
-    ∙ ap (read_from s k before) (joined 10 line rest h)
-    ∙ not_last (is_over (pieces 10 rest)) (Err k) (goes_on k before (λ all. read_from s (k + 1) all (pieces 10 rest)) (kind_of s (next_number before) line)) (pieces_are_some 10 rest)
+one_line s k before line rest h = grind (arith, append_assoc, joined, not_last, pieces_are_some)
 
 reads_effect : (s : Plan) (before : List Step) (line : List ℕ) → IsReadLine s (next_number before) line Effect → Reads s before (as_line line) before
 reads_effect s before line h k rest = (k + 1, one_line s k before line rest h.free ∙ ap (goes_on k before (λ all. read_from s (k + 1) all (pieces 10 rest))) h.kind_is)
@@ -106,8 +102,7 @@ reads_effects s tells before st act actor legible h =
 -- ## a move
 
 short_number : (o : Option LaneLine) → ((l : LaneLine) → o ≡ Some l → l.number < 2 ^ 64) → IsShort (number_in o)
-short_number None h = omega arith
-short_number (Some l) h = h l refl
+short_number o h = grind arith
 
 same_words : (d : List ℕ) (a b : List ℕ) → (d ++ spaced a) ++ spaced b ≡ d ++ spaced (a ++ spaced b)
 same_words d a b = append_assoc d (spaced a) (spaced b)
@@ -199,8 +194,7 @@ reads_moves s tells r (m ∷ ms) text legible few (own, rest, is_own, is_rest, e
     (subst (Reads s (r.moves ++ m ∷ []) rest) (append_assoc r.moves (m ∷ []) ms) (reads_moves s tells (moved s r m) ms rest legible (omega (arith, long)) is_rest h.1)))
 
 not_end : (b : Bool) (x y : Result (List Step) ℕ) → b ≡ false → (if not b then x else y) ≡ x
-not_end true x y e = absurd cc
-not_end false x y e = refl
+not_end b x y e = grind arith
 
 from_start : (s : Plan) (rest : List ℕ) → after_first s (pieces 10 (first_line ++ rest)) ≡ read_from s 2 [] (pieces 10 rest)
 from_start s rest = not_end (is_over (pieces 10 rest)) (read_from s 2 [] (pieces 10 rest)) (Err 1) (pieces_are_some 10 rest)

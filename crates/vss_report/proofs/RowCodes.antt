@@ -1,37 +1,31 @@
 -- A writer that has failed has a code, and no other has one: each change of the rows keeps that.
-use Rattle.std.proofs.Common.{◌≡◌, ◌∙◌, ℕ, ◌+◌, Bool, true, false, List, [], ◌∷◌, fold, map, Option, Some, None, refl, ap, sym, subst}
-use Rattle.std.specs.Prelude.{All, ◌&&◌, not, if◌then◌else◌}
+use Rattle.std.proofs.Common.{◌≡◌, ◌∙◌, ℕ, ◌+◌, Bool, true, false, List, [], ◌∷◌, fold, map, Option, refl, ap, sym, subst, arith}
+use Rattle.std.specs.Prelude.{All, if◌then◌else◌}
 use Rattle.std.proofs.lemmas.List.Elements.{All-nil, All-cons}
 use Rattle.vss_names.specs.declared.order.Order.{Order}
-use Rattle.vss_names.specs.declared.order.Order.TheVariants.{Identify}
 use Rattle.vss_names.specs.declared.context.Context.{Context}
 use Rattle.vss_names.specs.declared.vss_result.VssResult.{VssResult}
 use Rattle.vss_names.specs.declared.vss_result.VssResult.TheVariants.{AsyncCancelled}
 use Rattle.vss_names.specs.declared.writer_state.WriterState.{WriterState}
-use Rattle.vss_names.specs.declared.writer_state.WriterState.TheVariants.{Unknown}
 use Rattle.writer_state.specs.declared.said.Said.{Said}
-use Rattle.writer_state.specs.declared.said.Said.TheVariants.{Ok, Veto, Lost}
 use Rattle.writer_state.specs.declared.writer_row.WriterRow.{WriterRow}
-use Rattle.writer_state.specs.WriterState.{after_ok, failed_at, is_failed, is_ok, stable_again}
-use Rattle.writer_state.specs.WriterRow.{row_after, row_aborted, row_gathered, row_ended, one_more}
+use Rattle.writer_state.specs.WriterState.{is_failed, stable_again}
+use Rattle.writer_state.specs.WriterRow.{row_after, row_aborted, row_gathered, row_ended}
 use Rattle.write_history.specs.declared.mark.Mark.{Mark}
-use Rattle.write_history.specs.declared.mark.Mark.TheVariants.{Clean, Fault, FaultAfter}
-use Rattle.write_history.specs.History.{Write}
 use Rattle.write_history.specs.declared.move_item.Move.{Move}
 use Rattle.set_agenda.specs.declared.group.Group.{Group}
 use Rattle.set_agenda.specs.declared.kind.Kind.{Kind}
 use Rattle.set_agenda.specs.declared.kind.Kind.TheVariants.{Gather, Prepare, Snapshot, Complete}
 use Rattle.set_agenda.specs.declared.limit.Limit.{Limit}
-use Rattle.set_agenda.specs.declared.limit.Limit.TheVariants.{Hold as HoldLimit, Freeze as FreezeLimit, Answer as AnswerLimit}
 use Rattle.set_agenda.specs.declared.member.Member.{Member}
-use Rattle.set_agenda.specs.Agenda.{Agenda, groups_left, left, is_done, is_among, open_order, order_now, waits_now}
+use Rattle.set_agenda.specs.Agenda.{Agenda, left, is_among, open_order}
 use Rattle.set_agenda.specs.Limits.{Running as RunningLimit, spent_of}
-use Rattle.set_agenda.specs.Course.{Course, row_if, rows_where, is_member, is_decisive, posted, failed as course_failed, settled_if, settled_in, settled, begun, told, decided, answered_to, answered as course_answered, worked, stepped_as as course_stepped_as, stepped as course_stepped, limits_now, lost_to, fails_set, lost_decided, treated_as, treated, timed as course_timed, released}
+use Rattle.set_agenda.specs.Course.{Course, row_if, rows_where, is_member, posted, failed as course_failed, settled_in, settled, begun, told, decided, answered_to, answered as course_answered, worked, stepped_as as course_stepped_as, stepped as course_stepped, limits_now, lost_to, lost_decided, treated_as, treated, timed as course_timed, released}
 use Rattle.requestor.specs.Session.{Session}
 use Rattle.scenario.specs.Plan.{Plan, WriterPlan}
-use Rattle.vss_model.specs.State.{State, SetRow, Kept, start, in_progress, row_of_writer}
-use Rattle.vss_model.specs.Ending.{Ending, NothingEnds, AgendaEnds, SetFails, ending, concluded, followed, runs, failed_in, failed}
-use Rattle.vss_model.specs.Images.{Replied, put, reverted_as}
+use Rattle.vss_model.specs.State.{State, SetRow, start, in_progress, row_of_writer}
+use Rattle.vss_model.specs.Ending.{Ending, ending, concluded, followed, runs, failed_in, failed}
+use Rattle.vss_model.specs.Images.{Replied}
 use Rattle.vss_model.specs.Sessions.{begin_in, has_no_volume, closed}
 use Rattle.vss_model.specs.Steps.{step_made, answered, stepped_as, stepped, ticked, later}
 use Rattle.vss_model.specs.Acts.{Act, after, state}
@@ -44,31 +38,16 @@ use Rattle.vss_report.specs.Legible.{has_its_code, HasItsCode}
 -- ## a row
 
 fails_alike : (st : WriterState) → is_failed (stable_again st) ≡ is_failed st
-fails_alike Unknown = refl
-fails_alike _ = refl
+fails_alike st = grind arith
 
 has_ended : (r : WriterRow) → HasItsCode r → HasItsCode (row_ended r)
 has_ended r h = ap (has_its_code r.code) (fails_alike r.state) ∙ h
 
 has_aborted : (r : WriterRow) → HasItsCode r → HasItsCode (row_aborted r)
-has_aborted r h = by_failure (is_failed r.state)
-  where
-    by_failure : (b : Bool) → HasItsCode (if b then r else record r { state = stable_again r.state; aborts = one_more r.aborts })
-    by_failure true = h
-    by_failure false = ap (has_its_code r.code) (fails_alike r.state) ∙ h
-
-is_well : (o : Order) → is_failed (after_ok o) ≡ false
-is_well Identify = refl
-is_well _ = refl
-
-is_ill : (o : Order) → is_failed (failed_at o) ≡ true
-is_ill Identify = refl
-is_ill _ = refl
+has_aborted r h = grind arith
 
 has_said : (o : Order) (said : Said) (r : WriterRow) → HasItsCode r → HasItsCode (row_after o said r)
-has_said o Ok r h = ap not (is_well o)
-has_said o (Veto e) r h = is_ill o
-has_said o Lost r h = is_ill o
+has_said o said r h = grind arith
 
 -- ## rows
 
@@ -77,8 +56,7 @@ AreCoded [] = Unit {0}
 AreCoded (r ∷ rows) = HasItsCode r × AreCoded rows
 
 coded_if : (b : Bool) (f : WriterRow → WriterRow) → ((r : WriterRow) → HasItsCode r → HasItsCode (f r)) → (r : WriterRow) → HasItsCode r → HasItsCode (row_if b f r)
-coded_if true f keeps r h = keeps r h
-coded_if false f keeps r h = h
+coded_if b f keeps r h = grind arith
 
 coded_where : (f : WriterRow → WriterRow) → ((r : WriterRow) → HasItsCode r → HasItsCode (f r)) → (test : ℕ → Bool) (w : ℕ) (rows : List WriterRow) → AreCoded rows → AreCoded (rows_where f test w rows)
 coded_where f keeps test w [] h = tt
@@ -106,13 +84,8 @@ coded_posted : (before c : Course) → AreCoded c.rows → AreCoded (posted befo
 unfolding posted
 coded_posted before c h = h
 
-coded_settled_if : (b : Bool) (k : Kind) (c : Course) → AreCoded c.rows → AreCoded (settled_if b k c).rows
-coded_settled_if true k c h = h
-coded_settled_if false k c h = h
-
 coded_settled_in : (o : Option Agenda) (c : Course) → AreCoded c.rows → AreCoded (settled_in o c).rows
-coded_settled_in None c h = h
-coded_settled_in (Some a) c h = coded_settled_if (is_done (groups_left a)) a.kind c h
+coded_settled_in o c h = grind arith
 
 coded_settled : (c : Course) → AreCoded c.rows → AreCoded (settled c).rows
 unfolding settled
@@ -127,39 +100,31 @@ unfolding worked
 coded_worked now c h = h
 
 coded_decided : (b : Bool) (said : Said) (c : Course) → AreCoded c.rows → AreCoded (decided b said c).rows
-coded_decided true said c h = coded_failed _ c h
-coded_decided false said c h = coded_settled c h
+coded_decided b said c h = grind (arith, coded_failed, coded_settled)
 
 coded_answered_to : (o : Option Order) (w : ℕ) (said : Said) (now : ℕ) (c : Course) → AreCoded c.rows → AreCoded (answered_to o w said now c).rows
-coded_answered_to None w said now c h = h
-coded_answered_to (Some o) w said now c h = coded_decided (is_decisive o && not (is_ok said)) said _ (coded_told o said now (w ∷ []) c h)
+coded_answered_to o w said now c h = grind (arith, coded_decided, coded_told)
 
 coded_answered : (w : ℕ) (said : Said) (now : ℕ) (c : Course) → AreCoded c.rows → AreCoded (course_answered w said now c).rows
 coded_answered w said now c h = coded_posted c _ (coded_answered_to (open_order (left c.agenda) w) w said now c h)
 
 coded_stepped_as : (ok : Bool) (now : ℕ) (c : Course) → AreCoded c.rows → AreCoded (course_stepped_as ok now c).rows
-coded_stepped_as true now c h = coded_settled _ (coded_worked now c h)
-coded_stepped_as false now c h = coded_failed _ c h
+coded_stepped_as ok now c h = grind (arith, coded_settled, coded_worked, coded_failed)
 
 coded_stepped : (ok : Bool) (now : ℕ) (c : Course) → AreCoded c.rows → AreCoded (course_stepped ok now c).rows
 coded_stepped ok now c h = coded_posted c _ (coded_stepped_as ok now c h)
 
 coded_lost_to : (o : Option Order) (now : ℕ) (c : Course) → AreCoded c.rows → AreCoded (lost_to o now c).rows
-coded_lost_to None now c h = h
-coded_lost_to (Some o) now c h = coded_told o _ now (waits_now (left c.agenda)) c h
+coded_lost_to o now c h = grind (arith, coded_told)
 
 coded_lost_decided : (b : Bool) (c : Course) → AreCoded c.rows → AreCoded (lost_decided b c).rows
-coded_lost_decided true c h = coded_failed _ c h
-coded_lost_decided false c h = coded_settled c h
+coded_lost_decided b c h = grind (arith, coded_failed, coded_settled)
 
 coded_treated_as : (l : Limit) (now : ℕ) (c : Course) → AreCoded c.rows → AreCoded (treated_as l now c).rows
-coded_treated_as HoldLimit now c h = coded_failed _ c h
-coded_treated_as FreezeLimit now c h = coded_failed _ _ (coded_lost_to (order_now (left c.agenda)) now c h)
-coded_treated_as AnswerLimit now c h = coded_lost_decided (fails_set (order_now (left c.agenda))) _ (coded_lost_to (order_now (left c.agenda)) now c h)
+coded_treated_as l now c h = grind (arith, coded_failed, coded_lost_to, coded_lost_decided)
 
 coded_treated : (l : Option RunningLimit) (now : ℕ) (c : Course) → AreCoded c.rows → AreCoded (treated l now c).rows
-coded_treated None now c h = h
-coded_treated (Some l) now c h = coded_treated_as l.limit now c h
+coded_treated l now c h = grind (arith, coded_treated_as)
 
 coded_timed : (now : ℕ) (c : Course) → AreCoded c.rows → AreCoded (course_timed now c).rows
 coded_timed now c h = coded_posted c _ (coded_treated (spent_of now (limits_now c)) now c h)
@@ -178,9 +143,7 @@ abbrev RowsAreCoded : State → Type 0
 RowsAreCoded st = AreCoded st.course.rows
 
 coded_concluded : (e : Ending) (st : State) → RowsAreCoded st → RowsAreCoded (concluded e st)
-coded_concluded NothingEnds st h = h
-coded_concluded AgendaEnds st h = h
-coded_concluded (SetFails why) st h = h
+coded_concluded e st h = grind arith
 
 coded_followed : (ran : Bool) (c : Course) (st : State) → AreCoded c.rows → RowsAreCoded (followed ran c st)
 unfolding followed
@@ -203,16 +166,13 @@ unfolding ticked
 on_ticks n st h = coded_followed (runs st) _ (later n st) (coded_timed (st.clock + n) st.course h)
 
 on_failed_in : (o : Option SetRow) (why : VssResult) (st : State) → RowsAreCoded st → RowsAreCoded (failed_in o why st)
-on_failed_in None why st h = h
-on_failed_in (Some r) why st h = coded_concluded (SetFails why) (record st { course = course_failed why st.course }) (coded_failed why st.course h)
+on_failed_in o why st h = grind (arith, coded_concluded, coded_failed)
 
 on_begins : (lane : ℕ) (all : Bool) (c : Option Context) (st : State) → RowsAreCoded st → RowsAreCoded (begin_in lane all c st).1
-on_begins lane all None st h = h
-on_begins lane all (Some c) st h = h
+on_begins lane all c st h = grind arith
 
 either_coded : (b : Bool) (x y : Replied) → RowsAreCoded x.1 → RowsAreCoded y.1 → RowsAreCoded (if b then x else y).1
-either_coded true x y h i = h
-either_coded false x y h i = i
+either_coded b x y h i = grind arith
 
 on_closes : (q : Session) (st : State) → RowsAreCoded st → RowsAreCoded (closed q st)
 unfolding closed
@@ -239,21 +199,8 @@ kept_by_changes = record {
   ends = λ q st e h. on_closes q (failed AsyncCancelled st) (on_failed_in (in_progress st) AsyncCancelled st h);
 }
 
-on_puts : (v : ℕ) (w : Write) (mark : Mark) (x : State) → RowsAreCoded x → RowsAreCoded (put v w mark x)
-on_puts v w Clean x h = h
-on_puts v w Fault x h = h
-on_puts v w (FaultAfter k) x h = h
-
-on_reverts : (s : Plan) (v : ℕ) (k : Kept) (mark : Mark) (st : State) → RowsAreCoded st → RowsAreCoded (reverted_as s v k mark st).1
-on_reverts s v k Clean st h = h
-on_reverts s v k Fault st h = h
-on_reverts s v k (FaultAfter n) st h = h
-
 kept_by_writes : (st : State) → IsKeptByWrites RowsAreCoded st
-kept_by_writes st = record {
-  puts = λ v e w mark x h. on_puts v w mark x h;
-  reverts = λ s n v k mark e f h. on_reverts s v k mark st h;
-}
+kept_by_writes st = grind arith
 
 coded_fold : (s : Plan) (st : State) (acts : List Act) → RowsAreCoded st → RowsAreCoded (fold (after s) st acts)
 coded_fold s st [] h = h

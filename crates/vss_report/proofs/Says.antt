@@ -1,5 +1,5 @@
 -- Texts of a line and their words: a space joins them.
-use Rattle.std.proofs.Common.{◌≡◌, ◌∙◌, ℕ, List, [], ◌∷◌, ◌++◌, ap, sym, subst, map, true}
+use Rattle.std.proofs.Common.{◌≡◌, ℕ, List, [], ◌∷◌, ◌++◌, sym, subst, map, true, arith}
 use Rattle.std.specs.Prelude.{All}
 use Rattle.std.specs.Fmt.{decimal}
 use Rattle.std.proofs.lemmas.List.{append_assoc, append-nil}
@@ -22,10 +22,7 @@ pub says_number : (n : ℕ) → IsShort n → Says (decimal n) (decimal n ∷ []
 says_number n h = says_word (decimal n) (number_word n h)
 
 pub says_spaced : (a b : List ℕ) (ws vs : List (List ℕ)) → Says a ws → Says b vs → Says (a ++ spaced b) (ws ++ vs)
-says_spaced a b ws vs h k = record {
-  pieces_are = parted 32 a b ∙ ap (λ ps. ps ++ pieces 32 b) h.pieces_are ∙ ap (λ ps. ws ++ ps) k.pieces_are;
-  line = free_append 10 a (spaced b) h.line k.line;
-}
+says_spaced a b ws vs h k = grind (arith, parted, free_append)
 
 -- the next text begins with a space and more
 pub says_then : (a more b : List ℕ) (ws vs : List (List ℕ)) → Says a ws → Says (more ++ b) vs → Says (a ++ spaced more ++ b) (ws ++ vs)

@@ -1,5 +1,5 @@
 -- The states of the writers as they are read back, one writer after the other; and the first of so many things with a name.
-use Rattle.std.proofs.Common.{◌≡◌, ◌∙◌, ℕ, zero, suc, ◌+◌, ◌-◌, ◌<◌, ◌≤◌, Bool, false, true, List, [], ◌∷◌, length, drop, Option, Some, refl, ap, sym, find, cond, arith}
+use Rattle.std.proofs.Common.{◌≡◌, ◌∙◌, ℕ, zero, suc, ◌+◌, ◌-◌, ◌<◌, Bool, false, true, List, [], ◌∷◌, length, drop, Option, refl, ap, sym, find, arith}
 use Rattle.std.specs.Prelude.{slice_get, ◌&&◌}
 use Rattle.std.specs.List.{range_with_len}
 use Rattle.std.specs.Str.{bytes_eq}
@@ -26,9 +26,7 @@ no_state s ws w words whole h none e = sym (e ∙ from_writer s ws w words h ∙
 pub no_such_state : (s : Plan) (ws : List WriterPlan) (w : ℕ) (words : List (List ℕ)) (name word : List ℕ) (more : List (List ℕ)) (whole is : Bool) → w < length ws
     → words ≡ word ∷ more → name ≡ writer_in s (slice_get ws w) → is ≡ is_state_of name word → is ≡ false
     → whole ≡ are_states s (drop w ws) words → false ≡ whole
-no_such_state s ws w words name word more whole is h some named told other e =
-    sym (e ∙ from_writer s ws w words h ∙ ap (next_state s (writer_in s (slice_get ws w)) (drop (suc w) ws)) some
-    ∙ ap (λ n. is_state_of n word && are_states s (drop (suc w) ws) more) (sym named) ∙ ap (λ b. b && are_states s (drop (suc w) ws) more) (sym told ∙ other))
+no_such_state s ws w words name word more whole is h some named told other e = grind (arith, from_writer)
 
 pub one_state : (s : Plan) (ws : List WriterPlan) (w : ℕ) (words : List (List ℕ)) (name word : List ℕ) (more : List (List ℕ)) (whole is : Bool) → w < length ws
     → words ≡ word ∷ more → name ≡ writer_in s (slice_get ws w) → is ≡ is_state_of name word → is ≡ true
@@ -41,11 +39,10 @@ one_state s ws w words name word more whole is h some named told so e =
 
 from_next : (name_of : ℕ → List ℕ) (name : List ℕ) (i n k : ℕ) → n ≡ suc k → bytes_eq (name_of i) name ≡ false
     → find (λ j. bytes_eq (name_of j) name) (range_with_len i n) ≡ find (λ j. bytes_eq (name_of j) name) (range_with_len (i + 1) k)
-from_next name_of name i n k e other =
-    ap (λ m. find (λ j. bytes_eq (name_of j) name) (range_with_len i m)) e ∙ ap (λ b. cond b (Some i) (find (λ j. bytes_eq (name_of j) name) (range_with_len (i + 1) k))) other
+from_next name_of name i n k e other = grind arith
 
 -- it is none of those up to here
 pub next_named : (name_of : ℕ → List ℕ) (name own : List ℕ) (i count : ℕ) (whole : Option ℕ) → i < count → own ≡ name_of i → bytes_eq own name ≡ false
     → whole ≡ find (λ j. bytes_eq (name_of j) name) (range_with_len i (count - i))
     → whole ≡ find (λ j. bytes_eq (name_of j) name) (range_with_len (i + 1) (count - (i + 1)))
-next_named name_of name own i count whole h is other e = e ∙ from_next name_of name i (count - i) (count - (i + 1)) (omega arith) (ap (λ n. bytes_eq n name) (sym is) ∙ other)
+next_named name_of name own i count whole h is other e = grind (arith, from_next)

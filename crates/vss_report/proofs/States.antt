@@ -1,5 +1,5 @@
 -- The states of the writers from one on: its own, and those of the writers after it.
-use Rattle.std.proofs.Common.{◌≡◌, ℕ, zero, suc, ◌+◌, ◌<◌, List, [], ◌∷◌, ◌++◌, length, drop, get_or, refl, ap, sym, ◌∙◌, arith}
+use Rattle.std.proofs.Common.{◌≡◌, ℕ, zero, suc, ◌+◌, ◌<◌, List, [], ◌∷◌, ◌++◌, length, drop, get_or, refl, arith}
 use Rattle.std.specs.Prelude.{slice_get, codes}
 use Rattle.std.proofs.lemmas.List.{append_assoc}
 use Rattle.writer_state.specs.declared.writer_row.WriterRow.{WriterRow}
@@ -22,17 +22,4 @@ pub more_states : (s : Plan) (ws : List WriterPlan) (rows : List WriterRow) (w :
     → after ≡ before ++ spaced (writer_in s (slice_get ws w)) ++ codes "=" ++ state_text (get_or rows w d)
     → before ++ states_text s (drop w ws) (drop w rows) ≡ whole
     → after ++ states_text s (drop (w + 1) ws) (drop (w + 1) rows) ≡ whole
-more_states s ws rows w d before after whole h e is all =
-    let next : w + 1 ≡ suc w = omega arith in
-    let left = from_writer s ws rows w d h e in
-    let rest : List ℕ = states_text s (drop (suc w) ws) (drop (suc w) rows) in
-    ap (λ k. after ++ states_text s (drop k ws) (drop k rows)) next
-    ∙ ap (λ b. b ++ rest) is
-    ∙ append_assoc (before ++ spaced (writer_in s (slice_get ws w)) ++ codes "=") (state_text (get_or rows w d)) rest
-    ∙ append_assoc (before ++ spaced (writer_in s (slice_get ws w))) (codes "=") (state_text (get_or rows w d) ++ rest)
-    ∙ append_assoc before (spaced (writer_in s (slice_get ws w))) (codes "=" ++ (state_text (get_or rows w d) ++ rest))
-    ∙ ap (λ b. before ++ b) (
-    sym (append_assoc (spaced (writer_in s (slice_get ws w))) (codes "=") (state_text (get_or rows w d) ++ rest))
-    ∙ sym (append_assoc (spaced (writer_in s (slice_get ws w)) ++ codes "=") (state_text (get_or rows w d)) rest)
-    ∙ sym left)
-    ∙ all
+more_states s ws rows w d before after whole h e is all = grind (arith, from_writer, append_assoc)

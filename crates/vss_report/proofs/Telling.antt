@@ -1,25 +1,20 @@
 -- The report of a run whose devices all tell their blocks is a report, and the only one.
-use Rattle.std.proofs.Common.{◌≡◌, ◌∙◌, ap, ℕ, ◌+◌, zero, suc, List, [], ◌∷◌, ◌++◌, length, take, map, Option, Some, None, refl, true}
-use Rattle.std.specs.Prelude.{slice_get, codes}
-use Rattle.std.specs.List.{concat}
-use Rattle.std.specs.Fmt.{decimal}
-use Rattle.hex.specs.Hex.{encode_lower}
+use Rattle.std.proofs.Common.{◌≡◌, ◌∙◌, ap, ℕ, ◌+◌, zero, suc, List, [], ◌∷◌, ◌++◌, take, map, Option, Some, None, refl, true, arith}
+use Rattle.std.specs.Prelude.{slice_get}
 use Rattle.block_data.specs.Digest.{sha256}
 use Rattle.write_history.specs.declared.actor.Actor.{Actor}
 use Rattle.write_history.specs.declared.mark.Mark.{Mark}
 use Rattle.write_history.specs.declared.move_item.Move.{Move}
-use Rattle.write_history.specs.History.{Image, History, contents}
-use Rattle.write_history.specs.Slots.{used}
+use Rattle.write_history.specs.History.{Image, History}
 use Rattle.scenario.specs.declared.volume_row.VolumeRow.{VolumeRow}
 use Rattle.scenario.specs.Plan.{Plan}
 use Rattle.vss_model.specs.declared.event.Event.{Event}
-use Rattle.vss_model.specs.Reply.{Reply, BlockOf, BlocksOf}
+use Rattle.vss_model.specs.Reply.{Reply}
 use Rattle.vss_model.specs.State.{State, kept}
 use Rattle.vss_model.specs.Acts.{reply}
 use Rattle.vss_model.specs.Told.{IsDigestIf, IsFirstIf}
 use Rattle.vss_model.specs.Trail.{Run, begin, run, event_of, act_of, moved}
-use Rattle.vss_report.specs.Words.{spaced, as_line, volume_text}
-use Rattle.vss_report.specs.Report.{reply_with, IsShownAs, IsReplyText, IsTextOf, IsLines, IsVolumeText, IsImageText, AreImageTexts, AreVolumeTexts, IsReport, first_line, move_text, end_text, writers_text}
+use Rattle.vss_report.specs.Report.{reply_with, IsShownAs, IsReplyText, IsTextOf, IsLines, IsVolumeText, IsImageText, AreImageTexts, AreVolumeTexts, IsReport, first_line, move_text}
 use Rattle.vss_report.specs.ToldReport.{first_of, digest_of, told_reply, told_event, told_move, told_moves, told_image, told_images, told_volume, told_volumes, told_closing, told_report, all_tell}
 
 digest_told : (rows : List VolumeRow) (v : ℕ) (bytes : List ℕ) → IsDigestIf (slice_get (map (λ _. true) rows) v) bytes (sha256 bytes)
@@ -35,16 +30,13 @@ first_told (r ∷ rows) zero bytes = refl
 first_told (r ∷ rows) (suc v) bytes = first_told rows v bytes
 
 is_shown : (s : Plan) (reply : Reply) → IsShownAs (all_tell s) reply (first_of reply) (digest_of reply)
-is_shown s (BlockOf v bytes) = (first_told s.volumes v bytes, digest_told s.volumes v bytes)
-is_shown s (BlocksOf v blocks) = digest_told s.volumes v (concat blocks)
-is_shown s _ = tt
+is_shown s reply = grind (arith, first_told, digest_told)
 
 is_told_reply : (s : Plan) (reply : Reply) → IsReplyText s (all_tell s) reply (told_reply s reply)
 is_told_reply s reply = record { first = first_of reply; digest = digest_of reply; shown = is_shown s reply; is = refl }
 
 is_told_event : (s : Plan) (r : Run) (actor : Actor) (event : Option Event) (mark : Mark) → IsTextOf s (all_tell s) r actor event mark (told_event s r actor event mark)
-is_told_event s r actor None mark = refl
-is_told_event s r actor (Some event) mark = record { reply_text = _; is_reply = is_told_reply s (reply s r.state (act_of mark event)); is = refl }
+is_told_event s r actor event mark = grind (arith, is_told_reply)
 
 are_told_moves : (s : Plan) (r : Run) (ms : List Move) → IsLines s (all_tell s) r ms (told_moves s r ms)
 are_told_moves s r [] = refl
@@ -91,11 +83,7 @@ first_only (r ∷ rows) zero bytes first h = h
 first_only (r ∷ rows) (suc v) bytes first h = first_only rows v bytes first h
 
 shown_only : (s : Plan) (reply : Reply) (first digest : List ℕ) → IsShownAs (all_tell s) reply first digest → reply_with s first digest reply ≡ told_reply s reply
-shown_only s (BlockOf v bytes) first digest h =
-    ap (λ x. codes "data " ++ encode_lower x ++ spaced (encode_lower digest)) (first_only s.volumes v bytes first h.0)
-    ∙ ap (λ x. codes "data " ++ encode_lower (take 8 bytes) ++ spaced (encode_lower x)) (digest_only s.volumes v bytes digest h.1)
-shown_only s (BlocksOf v blocks) first digest h = ap (λ x. codes "digest " ++ encode_lower x) (digest_only s.volumes v (concat blocks) digest h)
-shown_only s _ first digest h = refl
+shown_only s reply first digest h = grind (arith, first_only, digest_only)
 
 reply_only : (s : Plan) (reply : Reply) (text : List ℕ) → IsReplyText s (all_tell s) reply text → text ≡ told_reply s reply
 reply_only s reply text h = h.is ∙ shown_only s reply h.first h.digest h.shown
@@ -112,13 +100,10 @@ moves_only s r [] text h = h
 moves_only s r (m ∷ ms) text h = both_only text h.0 h.1 (told_move s r m) (told_moves s (moved s r m) ms) h.4 (event_only s r m.actor (event_of s r m.actor) m.mark h.0 h.2) (moves_only s (moved s r m) ms h.1 h.3)
 
 volume_only : (s : Plan) (v : ℕ) (row : VolumeRow) (h : History) (text : List ℕ) → IsVolumeText s (all_tell s) v row h text → text ≡ told_volume s v row h
-volume_only s v row h text is =
-    is.is ∙ ap (λ x. as_line (codes "volume " ++ volume_text s v ++ codes " used " ++ decimal (used row.blocks h.writes h.images) ++ codes " of " ++ decimal row.slots ++ spaced (encode_lower x)))
-    (digest_only s.volumes v (concat (contents row.blocks h.writes (length h.writes))) is.digest is.is_digest)
+volume_only s v row h text is = grind (arith, digest_only)
 
 image_only : (s : Plan) (v : ℕ) (row : VolumeRow) (h : History) (i : Image) (text : List ℕ) → IsImageText s (all_tell s) v row h i text → text ≡ told_image s v row h i
-image_only s v row h i text is =
-    is.is ∙ ap (λ x. as_line (codes "image " ++ decimal i.set ++ spaced (volume_text s v) ++ spaced (encode_lower x))) (digest_only s.volumes v (concat (contents row.blocks h.writes i.point)) is.digest is.is_digest)
+image_only s v row h i text is = grind (arith, digest_only)
 
 images_only : (s : Plan) (v : ℕ) (row : VolumeRow) (h : History) (images : List Image) (text : List ℕ) → AreImageTexts s (all_tell s) v row h images text → text ≡ told_images s v row h images
 images_only s v row h [] text are = are
@@ -133,8 +118,4 @@ volumes_only s st v (row ∷ rows) (h ∷ hs) text are =
     (volumes_only s st (v + 1) rows hs are.2 are.5)
 
 pub only_told_report : (s : Plan) (trail : List Move) (text : List ℕ) → IsReport s (all_tell s) trail text → text ≡ told_report s trail
-only_told_report s trail text h =
-    let r = run s trail in
-    both_only text h.so_far h.closing (first_line ++ told_moves s (begin s) trail) (told_closing s r) h.is
-    (h.is_so_far.is ∙ ap (λ x. first_line ++ x) (moves_only s (begin s) trail h.is_so_far.moves h.is_so_far.lines))
-    (h.is_closing.is ∙ ap (λ x. end_text r ++ x ++ writers_text s s.writers r.state.course.rows) (volumes_only s r.state 0 s.volumes r.state.volumes h.is_closing.volumes h.is_closing.are_volumes))
+only_told_report s trail text h = grind (arith, both_only, moves_only, volumes_only)

@@ -1,6 +1,6 @@
 -- Numbers by their digits: which words are numbers, and that digits past a bound stay past it.
 use Rattle.std.proofs.Common.{◌≡◌, ℕ, ◌+◌, ◌-◌, ◌*◌, ◌<◌, Bool, true, false, List, [], ◌∷◌, length, get_or, drop, None, refl, arith}
-use Rattle.std.specs.Prelude.{if◌then◌else◌, nat_lt, ◌&&◌, is_some}
+use Rattle.std.specs.Prelude.{if◌then◌else◌, ◌&&◌, is_some}
 use Rattle.std.specs.List.{list_all}
 use Rattle.std.proofs.lemmas.Bool.Decides.{nat_tests}
 use Rattle.std.proofs.lemmas.List.{drop_more}
@@ -16,11 +16,7 @@ digits_have_value n (byte ∷ rest) =
     on (is_digit byte)
 
 pub number_by_digits : (word : List ℕ) → is_number word ≡ begins_number word && list_all is_digit word
-number_by_digits word =
-    let on : (t : Bool) → is_some (if t then value_from 0 word else None) ≡ t && list_all is_digit word =
-    λ t. elim t as (λ v. is_some (if v then value_from 0 word else None) ≡ v && list_all is_digit word)
-    [ true ↦ digits_have_value 0 word | false ↦ refl ] in
-    on (begins_number word)
+number_by_digits word = grind (arith, digits_have_value)
 
 -- which value past the bound goes on does not matter
 past_alike : (digits : List ℕ) (most n m : ℕ) → most < n → most < m → up_to most (value_from n digits) ≡ up_to most (value_from m digits)
@@ -35,14 +31,9 @@ past_alike (byte ∷ rest) most n m past beyond =
     on (is_digit byte)
 
 capped_alike : (digits : List ℕ) (most n : ℕ) → up_to most (value_from n digits) ≡ up_to most (value_from (capped most n) digits)
-capped_alike digits most n =
-    let on : (t : Bool) → nat_lt most n ≡ t → up_to most (value_from n digits) ≡ up_to most (value_from (if t then most + 1 else n) digits) =
-    λ t. elim t as (λ v. nat_lt most n ≡ v → up_to most (value_from n digits) ≡ up_to most (value_from (if v then most + 1 else n) digits))
-    [ true ↦ λ e. (let past : most < n = grind (arith, nat_tests) in past_alike digits most n (most + 1) past (omega arith)) | false ↦ λ e. refl ] in
-    on (nat_lt most n) refl
+capped_alike digits most n = grind (arith, past_alike)
 
 -- one more digit
 pub digit_more : (digits : List ℕ) (most n i : ℕ) → i < length digits → is_digit (get_or digits i 0) ≡ true →
     up_to most (value_from n (drop i digits)) ≡ up_to most (value_from (capped most (n * 10 + (get_or digits i 0 - 48))) (drop (i + 1) digits))
-digit_more digits most n i inside digit =
-    rw (drop_more digits i 0 inside, digit) (capped_alike (drop (i + 1) digits) most (n * 10 + (get_or digits i 0 - 48)))
+digit_more digits most n i inside digit = grind (arith, drop_more, capped_alike)

@@ -1,11 +1,11 @@
 -- A volume that joins the set in progress, or is refused by the provider.
-use Rattle.std.proofs.Common.{◌≡◌, ℕ, ◌==◌, ◌<◌, List, [], ◌∷◌, ◌++◌, length, refl, ap, sym, ◌∙◌, subst, Bool, true, false, ◌||◌, Option, Some, None, not, nat_le, option_map, if◌then◌else◌, Result}
-use Rattle.std.proofs.Common.{Ok, Err}
-use Rattle.vss_world.proofs.Words.{AreGroups, AreKept, Evicted, Ghosts, Go, IfStandFor, IfStands, IsAt, IsInOrder, IsMove, IsMoved, IsOf, Keeps, Line, Mark, MaximumNumberOfSnapshotsReached}
-use Rattle.vss_world.proofs.Words.{MaximumNumberOfVolumesReached, MayAdd, ObjectAlreadyExists, Plan, ProviderValue, Refused, Replied, SessionsValue, SetRow, State, Told, Verdict, VssResult, add}
+use Rattle.std.proofs.Common.{◌≡◌, ℕ, ◌==◌, ◌<◌, List, [], ◌∷◌, ◌++◌, length, refl, ap, sym, ◌∙◌, subst, Bool, true, false, ◌||◌, Option, Some, None, not, Result}
+use Rattle.std.proofs.Common.{Ok, Err, arith}
+use Rattle.vss_world.proofs.Words.{AreGroups, AreKept, Evicted, Ghosts, Go, IfStandFor, IfStands, IsAt, IsInOrder, IsMove, IsMoved, IsOf, Keeps, Line, Mark}
+use Rattle.vss_world.proofs.Words.{MayAdd, Plan, ProviderValue, Refused, Replied, SessionsValue, SetRow, State, Told, Verdict, VssResult}
 use Rattle.vss_world.proofs.Words.{add_refusal, add_to, adds, adds_not, after, and_from, and_parts, are_distinct, change_set, check, counts_of, eq-eqb, eqb-false, fault_of, find-map, happens_moves}
-use Rattle.vss_world.proofs.Words.{history_at, history_of, in_progress, is_among, is_fault, is_running, judged, kept_same, line, line_of, mark_of, ne_eqb, number_prepared, or_parts, other_goes}
-use Rattle.vss_world.proofs.Words.{refusal, refused_happens, row_changed, runs, simple_outcome, state, told_act, told_alone, volumes_of, with_volume}
+use Rattle.vss_world.proofs.Words.{history_at, history_of, in_progress, is_among, is_fault, judged, kept_same, line, mark_of, ne_eqb, number_prepared, or_parts}
+use Rattle.vss_world.proofs.Words.{refusal, refused_happens, runs, simple_outcome, state, told_act, told_alone, volumes_of, with_volume}
 use Rattle.requestor.specs.declared.session_call.SessionCall.TheVariants as call
 use Rattle.scenario.specs.declared.op.Op.TheVariants as op
 use Rattle.vss_model.specs.declared.told.Told.TheVariants as told
@@ -33,18 +33,10 @@ distinct_more v (w ∷ vs) e d =
 add_line : (s : Plan) (lane v : ℕ) (mark : Mark) (st : State) (r : SetRow) → check st.session (runs st) lane call.Add ≡ Go → in_progress st ≡ Some r
     → line s lane (op.Add v) mark st ≡ add_to v r (add_refusal v r st) st
 unfolding called
-add_line s lane v mark st r goes here =
-    let owner = other_goes st.session (runs st) lane call.Add goes in
-    ap (λ (t : Verdict). judged t s lane (op.Add v) st) goes ∙ line_of s lane (op.Add v) st owner.own owner.is ∙ ap (λ (o : Option SetRow). add v o st) here
+add_line s lane v mark st r goes here = grind arith
 
 not_among : (v : ℕ) (vs : List ℕ) (n : ℕ) → None ≡ refusal v vs n → is_among v vs ≡ false
-not_among v vs n e = by_test (is_among v vs) e
-  where
-    by_test : (b : Bool)
-        → None ≡ (if b then Some ObjectAlreadyExists else if nat_le 64 (length vs) then Some MaximumNumberOfVolumesReached else if nat_le 512 n then Some MaximumNumberOfSnapshotsReached else None)
-        → b ≡ false
-    by_test true f = cc
-    by_test false f = refl
+not_among v vs n e = grind arith
 
 refused_line : (s : Plan) (lane v : ℕ) (why : VssResult) (mark : Mark) (st : State) → check st.session (runs st) lane call.Add ≡ Refused why → (line s lane (op.Add v) mark st).1 ≡ st
 unfolding called
@@ -52,18 +44,11 @@ refused_line s lane v why mark st h = ap (λ (t : Verdict). (judged t s lane (op
 
 -- the set with the volume is the one in progress
 ran_more : (v : ℕ) (r : SetRow) (st : State) → in_progress st ≡ Some r → in_progress (change_set r.number (with_volume v) st) ≡ Some (with_volume v r)
-ran_more v r st here =
-    find-map (row_changed r.number (with_volume v)) (λ (w : SetRow). same_result (w.number == r.number) w) st.sets ∙ ap (option_map (row_changed r.number (with_volume v))) here
-    ∙ ap (λ (b : Bool). Some (if b then with_volume v r else r)) (eq-eqb r.number r.number refl)
-  where
-    same_result : (b : Bool) (w : SetRow) → is_running (if b then with_volume v w else w).result ≡ is_running w.result
-    same_result true w = refl
-    same_result false w = refl
+ran_more v r st here = grind (arith, find-map, eq-eqb)
 
 -- no set is numbered where no agenda runs
 not_numbered : (o : Option SetRow) → number_prepared o None ≡ 0
-not_numbered None = refl
-not_numbered (Some w) = refl
+not_numbered o = grind arith
 
 -- a state at which the provider answers
 record IsAdding {D : Type 0} (blocks_told : D → Option (List (List ℕ))) (s : Plan) (p : ProviderValue D) (x : SessionsValue) (st : State) : Type 0 where

@@ -1,26 +1,21 @@
 -- A session line, against the acts.
-use Rattle.std.proofs.Common.{◌≡◌, ℕ, List, [], ◌∷◌, ◌++◌, refl, ap, sym, ◌∙◌, subst, Bool, true, false, Option, Some, None, ◌⊎◌, inl, inr, is_some, option_map}
-use Rattle.vss_world.proofs.Words.{Act, Agenda, AreGroups, AreKept, AsyncPending, Clean, End, EndsAs, Evicted, Fault, FaultAfter, Fits, Ghosts, IfStands, IsAtOver, IsEndPrepared, IsMove, IsMoved}
-use Rattle.vss_world.proofs.Words.{IsOf, IsOp, IsPrepared, IsSettled, IsStanding, Leaves, Line, Mark, NumberedFrom, Op, Plan, ProviderValue, Replied, SessionMove, SessionsValue, SetRow, Start, State}
-use Rattle.vss_world.proofs.Words.{Told, VssResult, after, after_move, are_distinct, begins_snapshot, call_of, counts_of, current_kept, current_of, ended_of, images_after, in_progress, is_add}
+use Rattle.std.proofs.Common.{◌≡◌, ℕ, List, [], ◌∷◌, ◌++◌, refl, ap, sym, ◌∙◌, subst, Bool, true, false, Option, Some, None, ◌⊎◌, is_some, option_map}
+use Rattle.std.proofs.Common.{arith}
+use Rattle.vss_world.proofs.Words.{Act, AreGroups, AreKept, EndsAs, Evicted, Fits, Ghosts, IfStands, IsAtOver, IsEndPrepared, IsMove, IsMoved}
+use Rattle.vss_world.proofs.Words.{IsOf, IsOp, IsPrepared, IsSettled, IsStanding, Leaves, Line, Mark, NumberedFrom, Op, Plan, ProviderValue, Replied, SessionMove, SessionsValue, SetRow, State}
+use Rattle.vss_world.proofs.Words.{Told, after, after_move, are_distinct, begins_snapshot, call_of, counts_of, current_kept, current_of, ended_of, images_after, in_progress, is_add}
 use Rattle.vss_world.proofs.Words.{is_fault, is_to_come, line, line_allows, mark_of, none_over, number_prepared, orderly, provided, state, state-append, told_act, volumes_of}
-use Rattle.vss_model.specs.Words.{Reply}
-use Rattle.scenario.specs.declared.op.Op.TheVariants.{Snapshot}
 use Rattle.vss_model.specs.declared.told.Told.TheVariants as told
 use Rattle.vss_world.proofs.Moved.{world_of, IsProviderAt, clean_devices, leaves_of, goes_on, in_order}
 use Rattle.vss_world.proofs.Simple.{after_line}
 use Rattle.vss_world.proofs.ToCome.{no_set_provided, no_agenda_provided, all_provided}
 use Rattle.vss_world.proofs.SetGoesOn.{GoesOn, BeginsSnapshot}
-use Rattle.vss_world.proofs.LinesGoOn.{LineGoes, SnapshotGoes, StartsSet, line_goes}
+use Rattle.vss_world.proofs.LinesGoOn.{LineGoes, StartsSet, line_goes}
 use Rattle.vss_world.proofs.Prepared.{runs_number, IsUnended, none_of_zero, settled_comes, settled_keeps, unended, none_ended}
 use Rattle.vss_world.proofs.Following.{at_of, course_of, set_move, ends_of, session_comes}
 
 is_clean : (s : Plan) (st : State) (op : Op) (mark : Mark) → is_some (call_of op) ≡ true → line_allows s st op mark ≡ true → is_fault mark ≡ false
-is_clean s st op Clean e f = refl
-is_clean s st End Fault e f = cc
-is_clean s st _ Fault e f = cc
-is_clean s st End (FaultAfter k) e f = cc
-is_clean s st _ (FaultAfter k) e f = cc
+is_clean s st op mark e f = grind arith
 
 pub over_at : {D : Type 0} {blocks_told : D → Option (List (List ℕ))} {s : Plan} {p : ProviderValue D} {x : SessionsValue} {l : List ℕ} {e : List Evicted}
     → IsOf (world_of p x l e) s → IfStands blocks_told (world_of p x l e) s (IsAtOver p.volumes x s)
@@ -32,39 +27,19 @@ over_at of acts stands = record { at = at_of of acts stands; volumes = stands.at
 abbrev SetGoes : State → State → Bool → Type 0
 SetGoes st next begins = (GoesOn st next × (begins ≡ false)) ⊎ ((StartsSet st next × (begins ≡ false)) ⊎ (BeginsSnapshot st next × (begins ≡ true)))
 
-not_begins : (why : VssResult) → ((why ≡ AsyncPending) → ⊥) → begins_snapshot Snapshot (told.Result why) ≡ false
-not_begins AsyncPending other = absurd (other refl)
-not_begins _ other = refl
-
-snapshot_set : (tells : List Bool) (st : State) (r : Replied) (t : Told) → Fits tells r.0 t → SnapshotGoes st r → SetGoes st r.1 (begins_snapshot Snapshot t)
-snapshot_set tells st r t fits (inl refused) =
-    let is : t ≡ told.Result refused.0 = subst (λ (z : Reply). Fits tells z t) refused.1 fits in
-    inl (refused.3, ap (begins_snapshot Snapshot) is ∙ not_begins refused.0 refused.2)
-snapshot_set tells st r t fits (inr begins) =
-    let is : t ≡ told.Result AsyncPending = subst (λ (z : Reply). Fits tells z t) begins.1 fits in
-    inr (inr (begins.0, ap (begins_snapshot Snapshot) is))
-
 set_goes : (op : Op) (tells : List Bool) (st : State) (r : Replied) (t : Told) → Fits tells r.0 t → LineGoes op st r → SetGoes st r.1 (begins_snapshot op t)
-set_goes Start tells st r t fits (inl goes) = inl (goes, refl)
-set_goes Start tells st r t fits (inr starts) = inr (inl (starts, refl))
-set_goes Snapshot tells st r t fits goes = snapshot_set tells st r t fits goes
-set_goes _ tells st r t fits goes = inl (goes, refl)
+set_goes op tells st r t fits goes = grind arith
 
 -- ## what is left of the provider
 
 same_end : {D : Type 0} (begins : Bool) (set : Option ℕ) (q r : ProviderValue D) → IsEndPrepared begins set q r → r.groups ≡ q.groups
-same_end {D = D} false set q r h = ap (λ (z : ProviderValue D). z.groups) h
-same_end {D = D} true None q r h = ap (λ (z : ProviderValue D). z.groups) h
-same_end {D = D} true (Some n) q r h = ap (λ (z : ProviderValue D). z.groups) h
+same_end begins set q r h = grind arith
 
 not_ended : {D : Type 0} (begins : Bool) (set : Option ℕ) (q r : ProviderValue D) → begins ≡ false → IsEndPrepared begins set q r → r ≡ q
-not_ended false set q r e h = h
-not_ended true set q r e h = cc
+not_ended begins set q r e h = grind arith
 
 ended_with : {D : Type 0} (begins : Bool) (set : Option ℕ) (n : ℕ) (q r : ProviderValue D) → begins ≡ true → set ≡ Some n → IsEndPrepared begins set q r → r ≡ record q { set = n }
-ended_with false set n q r e f h = cc
-ended_with true None n q r e f h = cc
-ended_with {D = D} true (Some m) n q r e f h = let same : m ≡ n = cc in h ∙ ap (λ (k : ℕ). record { groups = q.groups; set = k; volumes = q.volumes }) same
+ended_with begins set n q r e f h = grind arith
 
 module _ {D : Type 0} (device : Ghosts D) (s : Plan) (op : Op) (m : SessionMove) (p q r : ProviderValue D) (acts : List Act) (act : Act)
     (settled : IsSettled device m p q) (ended : IsEndPrepared (begins_snapshot op m.outcome.told) (current_of (state s acts).sets) q r) (prepared : IsPrepared p (state s acts))
@@ -88,18 +63,7 @@ module _ {D : Type 0} (device : Ghosts D) (s : Plan) (op : Op) (m : SessionMove)
       (none_ended (ended_of (in_progress st) next.sets) m.outcome.set m.outcome.result none ends) volumes
 
   starts_left : StartsSet st next → begins_snapshot op m.outcome.told ≡ false → IsProviderAt device.told s r next
-  starts_left starts plain =
-      let u = quiet (no_set_provided st starts.none) (ap (λ (o : Option SetRow). ended_of o next.sets) starts.none) in
-      let none : p.volumes ≡ [] = prepared.volumes ∙ ap volumes_of starts.none in
-      subst (λ (z : ProviderValue D). IsProviderAt device.told s z next) (sym (not_ended (begins_snapshot op m.outcome.told) (current_of st.sets) q r plain ended)) (
-        record {
-          volumes = u.volumes ∙ none ∙ sym (ap volumes_of starts.is ∙ starts.empty);
-          set = u.set ∙ prepared.set ∙ ap (λ (o : Option SetRow). number_prepared o st.course.agenda) starts.none
-              ∙ sym (ap (λ (o : Option SetRow). number_prepared o next.course.agenda) starts.is ∙ ap (λ (a : Option Agenda). number_prepared (Some starts.row) a) starts.rests);
-          distinct = ap are_distinct (u.volumes ∙ none);
-        },
-        subst (AreGroups device.told s q.groups) (sym (no_agenda_provided next starts.rests)) u.groups,
-      )
+  starts_left starts plain = grind (arith, quiet, no_set_provided, not_ended, no_agenda_provided)
 
   begins_left : (w : SetRow) → in_progress st ≡ Some w → BeginsSnapshot st next → begins_snapshot op m.outcome.told ≡ true → IsProviderAt device.told s r next
   begins_left w here begins plain =
@@ -117,13 +81,7 @@ module _ {D : Type 0} (device : Ghosts D) (s : Plan) (op : Op) (m : SessionMove)
       )
 
   pub line_left : SetGoes st next (begins_snapshot op m.outcome.told) → IsProviderAt device.told s r next
-  line_left (inl h) = goes_left h.0 h.1
-  line_left (inr (inl h)) = starts_left h.0 h.1
-  line_left (inr (inr h)) = by_set (in_progress st) refl
-    where
-      by_set : (o : Option SetRow) → in_progress st ≡ o → IsProviderAt device.told s r next
-      by_set (Some w) e = begins_left w e h.0 h.1
-      by_set None e = absurd (h.0.some e)
+  line_left x0 = grind (arith, goes_left, starts_left, begins_left)
 
 -- ## a session line
 

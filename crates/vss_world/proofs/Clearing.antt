@@ -73,13 +73,7 @@ gone_from m (p ∷ ps) (h ∷ hs) zero x e = (h, refl, by_test p.within e)
 gone_from m (p ∷ ps) (h ∷ hs) (suc k) x e = gone_from m ps hs k x e
 
 gone_unnamed : (test : ℕ → Bool) (n m : ℕ) (ps : List Placed) (hs : List History) → AreUnnamed test n hs → AreUnnamed test n (gone_up_to m ps hs)
-gone_unnamed test n m ps hs un k x at coming =
-    let h = gone_from m ps hs k x at in
-    by_way h.0 h.2 (un k h.0 h.1 coming)
-  where
-    by_way : (h : History) → (x ≡ h) ⊎ (x ≡ after m h) → IsUnnamed n h → IsUnnamed n x
-    by_way h (inl same) u = subst (IsUnnamed n) (sym same) u
-    by_way h (inr gone) u = subst (IsUnnamed n) (sym gone) (unnamed_after m n h u)
+gone_unnamed test n m ps hs un k x at coming = grind (arith, gone_from, unnamed_after)
 
 gone_none : (m : ℕ) (ps : List Placed) (hs : List History) (v : ℕ) → slice_get hs v ≡ None → slice_get (gone_up_to m ps hs) v ≡ None
 gone_none m [] hs v e = e

@@ -1,51 +1,19 @@
 -- What the log of a running agenda says of the Commit steps: once a Release step is made, or the agenda is over, all of them are; and
 -- where one is the next step, the Cut step is made.
-use Rattle.std.proofs.Common.{◌≡◌, ℕ, ◌==◌, List, [], ◌∷◌, refl, sym, ◌∙◌, subst, Bool, true, false, Some, map, ◌&&◌, ◌||◌}
-use Rattle.vss_world.proofs.Words.{Act, Agenda, BackEnd, BackupComplete, Commit, Cut, Entry, Flush, Freeze, FrontEnd, Gather, Group, Hold, Identify, IsKeptInLog, Kind, Open, Orders, Place, Plan}
-use Rattle.vss_world.proofs.Words.{PreCommit, Prepare, PrepareBackup, PrepareSnapshot, Release, Said, Snapshot, System, all_said, all_say, and_parts, at_level, at_place, both_ways, false_from_ne_true}
-use Rattle.vss_world.proofs.Words.{false≢true, fewer_wait, groups_left, has_said, in_log, is_among, is_done, left_from, list_any-append, new_said, open_place, places, plain, same_place, state}
-use Rattle.vss_world.proofs.Words.{waited_for, with_group}
+use Rattle.std.proofs.Common.{◌≡◌, ℕ, ◌==◌, List, [], ◌∷◌, refl, sym, ◌∙◌, subst, Bool, true, false, Some, map, ◌&&◌, ◌||◌, arith}
+use Rattle.vss_world.proofs.Words.{Act, Agenda, Commit, Cut, Entry, Group, IsKeptInLog, Kind, Plan}
+use Rattle.vss_world.proofs.Words.{Release, Said, Snapshot, all_said, all_say, and_parts, at_place, both_ways, false_from_ne_true}
+use Rattle.vss_world.proofs.Words.{fewer_wait, groups_left, has_said, in_log, is_among, is_done, left_from, list_any-append, new_said, open_place, places, plain, same_place, state}
+use Rattle.vss_world.proofs.Words.{waited_for}
 use Rattle.vss_model.proofs.Words.{Running}
-use Rattle.set_agenda.specs.declared.kind.Kind.TheVariants.{Complete}
 
 -- ## groups before the open one
 
--- at a place that is open the groups before it are closed
-closes : (q p : Place) (ws : List ℕ) (later : List Open) → same_place p q ≡ false → same_place (open_place (with_group p ws later)) q ≡ true → (ws ≡ []) × (same_place (open_place later) q ≡ true)
-closes q p [] later e h = (refl, h)
-closes q p (w ∷ ws) later e h = absurd (both_ways (same_place p q) e h)
-
--- what the open place is, where it is a place after the Cut group
-before_cut : (q : Place) (a : Agenda) (later : List Open) → same_place (plain (Orders PrepareSnapshot)) q ≡ false → same_place (at_level Freeze FrontEnd) q ≡ false
-    → same_place (at_level Freeze BackEnd) q ≡ false → same_place (at_level Freeze System) q ≡ false
-    → same_place (plain PreCommit) q ≡ false → same_place (plain Flush) q ≡ false → same_place (plain Hold) q ≡ false → same_place (plain Cut) q ≡ false
-    → same_place (open_place
-    (with_group (plain (Orders PrepareSnapshot)) (waited_for a (plain (Orders PrepareSnapshot))) (with_group (at_level Freeze FrontEnd) (waited_for a (at_level Freeze FrontEnd))
-    (with_group (at_level Freeze BackEnd) (waited_for a (at_level Freeze BackEnd))
-    (with_group (at_level Freeze System) (waited_for a (at_level Freeze System)) (with_group (plain PreCommit) (waited_for a (plain PreCommit))
-    (with_group (plain Flush) (waited_for a (plain Flush)) (with_group (plain Hold) (waited_for a (plain Hold)) (with_group (plain Cut) (waited_for a (plain Cut)) later))))))))) q ≡ true
-    → (waited_for a (plain Cut) ≡ []) × (same_place (open_place later) q ≡ true)
-before_cut q a later snapshot front back system pre flush hold cut h =
-    closes q (plain Cut) (waited_for a (plain Cut)) later cut
-    (closes q (plain Hold) (waited_for a (plain Hold)) _ hold
-    (closes q (plain Flush) (waited_for a (plain Flush)) _ flush
-    (closes q (plain PreCommit) (waited_for a (plain PreCommit)) _ pre
-    (closes q (at_level Freeze System) (waited_for a (at_level Freeze System)) _ system
-    (closes q (at_level Freeze BackEnd) (waited_for a (at_level Freeze BackEnd)) _ back
-    (closes q (at_level Freeze FrontEnd) (waited_for a (at_level Freeze FrontEnd)) _ front
-    (closes q (plain (Orders PrepareSnapshot)) (waited_for a (plain (Orders PrepareSnapshot))) _ snapshot h).1).1).1).1).1).1).1
-
 released_closed : (k : Kind) (a : Agenda) → same_place (open_place (left_from a (places k))) (plain Release) ≡ true → waited_for a (plain Commit) ≡ []
-released_closed Gather a h = absurd (false≢true (closes (plain Release) (plain (Orders Identify)) (waited_for a (plain (Orders Identify))) [] refl h).1)
-released_closed Prepare a h = absurd (false≢true (closes (plain Release) (plain (Orders PrepareBackup)) (waited_for a (plain (Orders PrepareBackup))) [] refl h).1)
-released_closed Complete a h = absurd (false≢true (closes (plain Release) (plain (Orders BackupComplete)) (waited_for a (plain (Orders BackupComplete))) [] refl h).1)
-released_closed Snapshot a h = (closes (plain Release) (plain Commit) (waited_for a (plain Commit)) _ refl (before_cut (plain Release) a _ refl refl refl refl refl refl refl refl h).1).0
+released_closed k a h = grind arith
 
 cut_closed : (k : Kind) (a : Agenda) → same_place (open_place (left_from a (places k))) (plain Commit) ≡ true → waited_for a (plain Cut) ≡ []
-cut_closed Gather a h = absurd (false≢true (closes (plain Commit) (plain (Orders Identify)) (waited_for a (plain (Orders Identify))) [] refl h).1)
-cut_closed Prepare a h = absurd (false≢true (closes (plain Commit) (plain (Orders PrepareBackup)) (waited_for a (plain (Orders PrepareBackup))) [] refl h).1)
-cut_closed Complete a h = absurd (false≢true (closes (plain Commit) (plain (Orders BackupComplete)) (waited_for a (plain (Orders BackupComplete))) [] refl h).1)
-cut_closed Snapshot a h = (before_cut (plain Commit) a _ refl refl refl refl refl refl refl refl h).0
+cut_closed k a h = grind arith
 
 -- ## once a step is made, those of the group before it are
 
@@ -86,8 +54,7 @@ unreleased s acts a v e among not_yet = false_from_ne_true (has_said a.log (plai
 
 -- no Commit step is made before the Cut step
 pub uncommitted : (s : Plan) (acts : List Act) (a : Agenda) (v : ℕ) → (state s acts).course.agenda ≡ Some a → has_said a.log (plain Cut) 0 ≡ false → has_said a.log (plain Commit) v ≡ false
-uncommitted s acts a v e none = false_from_ne_true (has_said a.log (plain Commit) v) (λ f. both_ways (has_said a.log (plain Cut) 0) none
-    (all_said a.log (plain Cut) (0 ∷ []) 0 ((subst (Running (Follows Cut Commit)) e (in_log (Follows Cut Commit) cuts_first s acts)) v f) refl))
+uncommitted s acts a v e none = grind (arith, false_from_ne_true, both_ways, all_said, in_log, cuts_first)
 
 -- ## where a Commit step is the next one
 
@@ -97,23 +64,9 @@ cut_made a e = all_said a.log (plain Cut) (0 ∷ []) 0 (cut_closed a.kind a e) r
 
 -- ## at the end
 
-none_left : (p : Place) (ws : List ℕ) (later : List Open) → is_done (with_group p ws later) ≡ true → (ws ≡ []) × (is_done later ≡ true)
-none_left p [] later e = (refl, e)
-none_left p (w ∷ ws) later e = absurd cc
-
 -- a snapshot agenda of which no group is left waits for no Cut step and no Commit step
 none_waits : (a : Agenda) → a.kind ≡ Snapshot → is_done (groups_left a) ≡ true → (waited_for a (plain Cut) ≡ []) × (waited_for a (plain Commit) ≡ [])
-none_waits a kind done =
-    let all : is_done (left_from a (places Snapshot)) ≡ true = subst (λ (k : Kind). is_done (left_from a (places k)) ≡ true) kind done in
-    let cut = none_left (plain Cut) (waited_for a (plain Cut)) _
-    (none_left (plain Hold) (waited_for a (plain Hold)) _
-    (none_left (plain Flush) (waited_for a (plain Flush)) _
-    (none_left (plain PreCommit) (waited_for a (plain PreCommit)) _
-    (none_left (at_level Freeze System) (waited_for a (at_level Freeze System)) _
-    (none_left (at_level Freeze BackEnd) (waited_for a (at_level Freeze BackEnd)) _
-    (none_left (at_level Freeze FrontEnd) (waited_for a (at_level Freeze FrontEnd)) _
-    (none_left (plain (Orders PrepareSnapshot)) (waited_for a (plain (Orders PrepareSnapshot))) _ all).1).1).1).1).1).1).1 in
-    (cut.0, (none_left (plain Commit) (waited_for a (plain Commit)) _ cut.1).0)
+none_waits a kind done = grind arith
 
 -- so it has made all its Commit steps
 pub committed_at_end : (a : Agenda) (v : ℕ) → a.kind ≡ Snapshot → is_done (groups_left a) ≡ true → is_among v a.volumes ≡ true → has_said a.log (plain Commit) v ≡ true

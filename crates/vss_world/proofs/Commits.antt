@@ -1,9 +1,9 @@
 -- At a Commit step the provider can cut the image of its set on the step's volume.
-use Rattle.std.proofs.Common.{◌≡◌, ℕ, suc, ◌<◌, ◌≤◌, ◌==◌, List, [], ◌∷◌, length, refl, ap, sym, ◌∙◌, subst, arith, Bool, true, false, Option, Some, All, IfSome, is_some, option_map, not}
+use Rattle.std.proofs.Common.{◌≡◌, ℕ, suc, ◌<◌, ◌≤◌, ◌==◌, List, [], ◌∷◌, length, refl, ap, sym, ◌∙◌, subst, arith, Bool, true, false, Option, Some, All, IfSome, is_some, not}
 use Rattle.std.proofs.Common.{if◌then◌else◌}
-use Rattle.vss_world.proofs.Words.{Act, Agenda, All-cons, All-nil, CanCutOn, Commit, Evicted, Group, History, Image, IsNextStep, NumberedFrom, OverButNewest, Plan, ProviderValue, SessionsValue}
-use Rattle.vss_world.proofs.Words.{SetRow, Stands, State, UpTo, as_many_volumes, cond_both, dropped_if, history_at, history_in, history_of, image_once_cut, images_up_to, in_progress, is_among}
-use Rattle.vss_world.proofs.Words.{is_to_come, length-filter_both, newest_number, not-true, orderly, point_in, provided, room_with_image, slice_get_inside, state, volumes_of, without_set}
+use Rattle.vss_world.proofs.Words.{Act, All-cons, All-nil, CanCutOn, Commit, Evicted, Group, Image, IsNextStep, NumberedFrom, OverButNewest, Plan, ProviderValue, SessionsValue}
+use Rattle.vss_world.proofs.Words.{SetRow, Stands, State, UpTo, as_many_volumes, cond_both, history_at, history_of, image_once_cut, images_up_to, in_progress, is_among}
+use Rattle.vss_world.proofs.Words.{length-filter_both, newest_number, not-true, orderly, point_in, provided, room_with_image, slice_get_inside, state, volumes_of, without_set}
 use Rattle.vss_world.proofs.InPlan.{volumes_below}
 use Rattle.vss_world.proofs.Moved.{world_of}
 use Rattle.vss_world.proofs.Prepared.{provided_at}
@@ -51,13 +51,7 @@ number_of st r numbered newest is = let n = newest_number 1 st.sets r numbered n
 -- what the provider has of the step's volume
 there : (s : Plan) (acts : List Act) (volume : Option ℕ) (k : IsStepping s acts Commit volume) (c : IsCommitting s acts volume k) → c.volume_at < length s.volumes
     → (history_at (provided (state s acts)) c.volume_at).images ≡ without_set k.row.number (history_of (state s acts) c.volume_at).images
-there s acts volume k c within =
-    let st = state s acts in
-    let h = slice_get_inside st.volumes c.volume_at (subst (λ (m : ℕ). c.volume_at < m) (sym (as_many_volumes s acts)) within) in
-    ap (λ (hs : List History). (history_at hs c.volume_at).images) (provided_at st k.row k.is)
-    ∙ ap (λ (o : Option History). (history_in o).images) (without_get (is_to_come st.course.agenda) k.row.number c.volume_at st.volumes ∙ ap (option_map (dropped_if _ k.row.number)) h.1)
-    ∙ ap (λ (b : Bool). (dropped_if b k.row.number h.0).images) (ap (λ (o : Option Agenda). is_to_come o c.volume_at) k.runs ∙ c.coming)
-    ∙ ap (λ (x : History). without_set k.row.number x.images) (sym (ap history_in h.1))
+there s acts volume k c within = grind (arith, slice_get_inside, as_many_volumes, provided_at, without_get)
 
 can_commit_at : {D : Type 0} (blocks_told : D → Option (List (List ℕ))) (s : Plan) (p : ProviderValue D) (x : SessionsValue) (l : List ℕ) (e : List Evicted) (acts : List Act) (volume : Option ℕ)
     → Stands blocks_told (world_of p x l e) s acts → IsNextStep x Commit volume

@@ -1,13 +1,13 @@
 -- Digests of volumes and of images: what is told of them, and that nothing but counts of devices changes.
-use Rattle.std.proofs.Common.{◌≡◌, ℕ, ◌<◌, List, length, ap, sym, ◌∙◌, subst, true, false, Option, Some, None, slice_get, is_some, Result, Ok, Err, IfOk, IfSome, All}
-use Rattle.vss_world.proofs.Words.{Act, All-weaker, AreDevicesAlone, AreGroups, Cause, Digested, Evicted, Ghosts, HasImage, IfStandFor, IfStands, IsBytes, IsDigestIf, IsDigestOf, IsDigestShown}
+use Rattle.std.proofs.Common.{◌≡◌, ℕ, ◌<◌, List, length, ap, sym, ◌∙◌, true, false, Option, Some, None, slice_get, is_some, Result, IfOk, IfSome, All}
+use Rattle.std.proofs.Common.{arith}
+use Rattle.vss_world.proofs.Words.{Act, AreDevicesAlone, AreGroups, Cause, Digested, Evicted, Ghosts, HasImage, IfStandFor, IfStands, IsBytes, IsDigestIf, IsDigestOf, IsDigestShown}
 use Rattle.vss_world.proofs.Words.{IsDigestTold, IsDigestedAt, IsDigestedIf, IsOf, IsPointOf, IsQuiet, IsStanding, Plan, ProviderValue, SessionsValue, Stands, State, WorldValue, Write, blocks_of}
-use Rattle.vss_world.proofs.Words.{concat, contents, devices_of, history_at, history_of, is_kept_set, kept, point_before as kept_point, point_in, provided, state, tells_of, true≢false}
+use Rattle.vss_world.proofs.Words.{concat, contents, devices_of, history_at, history_of, is_kept_set, kept, point_before as kept_point, point_in, provided, state, tells_of}
 use Rattle.provider.proofs.Words.{IsQuiet as IsGroupsQuiet}
 use Rattle.vss_world.proofs.Moved.{world_of, in_order, of_kept}
 use Rattle.vss_world.proofs.Options.{some_is}
 use Rattle.vss_world.proofs.OnProvided.{writes_at, kept_at}
-use Rattle.vss_world.proofs.Simple.{same_parts}
 use Rattle.vss_world.proofs.Seen.{digest_slot}
 
 -- ## nothing but counts changes
@@ -17,12 +17,7 @@ module _ {D : Type 0} (device : Ghosts D) {s : Plan} {p q : ProviderValue D} {x 
   -- the groups stand for what they stood for, and so the core does
   pub stands_still : IfStandFor device.told s p.groups (AreGroups device.told s q.groups)
       → (acts : List Act) → Stands device.told (world_of p x l e) s acts → Stands device.told (world_of q x l e) s acts
-  stands_still stand acts stands = record {
-    at = same_parts device.told p q x s (state s acts) stands.at same (stand (provided (state s acts)) stands.at.groups);
-    sets = stands.sets;
-    posts = stands.posts;
-    early = stands.early;
-  }
+  stands_still stand acts stands = grind arith
 
   pub devices_alone : AreDevicesAlone (world_of p x l e) (world_of q x l e)
   devices_alone = ap (λ (r : ProviderValue D). record { devices = devices_of q.groups; listed = l; evicted = e; provider = r; sessions = x }) same
@@ -50,10 +45,7 @@ point_stands s acts n v point e =
 pub stands_image : {D : Type 0} {told : D → Option (List (List ℕ))} {s : Plan} {w : WorldValue D} (set v : ℕ) → IsStanding told w s
     → IfStands told w s (λ st. is_some (point_in set (kept st (history_of st v))) ≡ true)
     → HasImage told s w.provider.groups v set false → ⊥
-stands_image {s = s} set v standing is none =
-    let st = state s standing.acts in
-    let k = some_is (point_in set (kept st (history_of st v))) (is standing.acts standing.stands) in
-    true≢false (sym (ap is_some (point_stands s standing.acts set v k.0 k.1)) ∙ none (provided st) standing.stands.at.groups)
+stands_image set v standing is none = grind (arith, some_is, point_stands)
 
 -- ## digests
 
@@ -63,9 +55,7 @@ module _ {D : Type 0} (told : D → Option (List (List ℕ))) {s : Plan} {p : Pr
   digest_of : {v : ℕ} (set : Option ℕ) (digest : List ℕ) (st : State) (point : ℕ) → v < length s.volumes → AreGroups told s w.provider.groups (provided st)
       → IsDigestTold told s p.groups v set digest → IsPointOf set (history_at (provided st) v) point
       → IsDigestIf (slice_get (tells_of told s w.devices) v) (concat (contents (blocks_of s v) (history_of st v).writes point)) digest
-  digest_of {v = v} set digest st point within groups seen so =
-      subst (λ (z : WorldValue D). IsDigestIf (slice_get (tells_of told s z.devices) v) (concat (contents (blocks_of s v) (history_of st v).writes point)) digest) is
-      (digest_slot told s p v set digest st point within (subst (λ (z : WorldValue D). AreGroups told s z.provider.groups (provided st)) (sym is) groups) seen so)
+  digest_of set digest st point within groups seen so = grind (arith, digest_slot)
 
   -- of a volume, or of an image on it
   pub told_of : {v : ℕ} (set : Option ℕ) (digest : List ℕ) → v < length s.volumes → IsDigestTold told s p.groups v set digest
@@ -80,15 +70,12 @@ module _ {D : Type 0} (told : D → Option (List (List ℕ))) {s : Plan} {p : Pr
   pub now_told_if : {v : ℕ} (result : Result (List ℕ) Cause) → v < length s.volumes → IfOk result (IsDigestShown told s p.groups v None)
       → IfOk result (λ (digest : List ℕ). (length digest ≡ 32) × IsBytes digest)
       → IfOk result (λ digest. IfStands told w s (λ st. IsDigestOf (tells_of told s w.devices) s st v None digest))
-  now_told_if (Ok digest) within now wide = told_of None digest within (now, wide.0, wide.1)
-  now_told_if (Err fault) within now wide = tt
+  now_told_if result within now wide = grind (arith, told_of)
 
   -- those that were made side by side
   one_digested : {v : ℕ} (set : Option ℕ) (digest : Option (List ℕ)) → IfSome digest (IsDigestTold told s p.groups v set) → v < length s.volumes
       → (acts : List Act) → Stands told w s acts → IfSome digest (IsDigestOf (tells_of told s w.devices) s (state s acts) v set)
-  one_digested set None h within acts stands = tt
-  one_digested set (Some d) h within acts stands = told_of set d within h acts stands
+  one_digested set digest h within acts stands = grind (arith, told_of)
 
   pub digested_told : (rows : List Digested) → All (IsDigestedAt told s p.groups) rows → IfStands told w s (λ st. All (IsDigestedIf (tells_of told s w.devices) s st) rows)
-  digested_told rows all acts stands =
-      All-weaker (IsDigestedAt told s p.groups) (IsDigestedIf (tells_of told s w.devices) s (state s acts)) (λ row h within. one_digested row.set row.digest h within acts stands) rows all
+  digested_told rows all acts stands = grind (arith, one_digested)

@@ -1,5 +1,5 @@
 -- The kept images that go for a write: those that the provider tells, but for sets that are not complete, are those of the definitions.
-use Rattle.std.proofs.Common.{◌≡◌, ℕ, zero, suc, ◌+◌, ◌<◌, ◌≤◌, ◌==◌, List, [], ◌∷◌, ◌++◌, length, refl, ap, sym, ◌∙◌, arith, Bool, true, false, ◌&&◌, ◌||◌, Option, Some, None, filter, is_some, not}
+use Rattle.std.proofs.Common.{◌≡◌, ℕ, zero, suc, ◌+◌, ◌<◌, ◌≤◌, ◌==◌, List, [], ◌∷◌, ◌++◌, length, refl, ap, sym, ◌∙◌, arith, Bool, true, false, ◌&&◌, Option, Some, None, filter, is_some, not}
 use Rattle.std.proofs.Common.{nat_le, nat_lt, if◌then◌else◌}
 use Rattle.vss_world.proofs.Words.{Evicted, History, Image, NumberedFrom, Placed, Plan, SetRow, State, after_set, and-true, comes, eq-eqb, evicted_for, evicted_of, filter-append, flat_map}
 use Rattle.vss_world.proofs.Words.{going_up_to, gone_up_to, group_of, has_complete, has_image, holders, images_going, in_progress, is_complete, is_kept_set, le-leb, leb-false, lt-leb, nat_tests}
@@ -87,12 +87,10 @@ abbrev of_rows : (ℕ → List Evicted) → List SetRow → List Evicted
 of_rows f rows = flat_map (λ (r : SetRow). f r.number) (completes rows)
 
 row_first : (f : ℕ → List Evicted) (r : SetRow) (rows : List SetRow) (b : Bool) → is_complete r.result ≡ b → of_rows f (r ∷ rows) ≡ (if b then f r.number else []) ++ of_rows f rows
-row_first f r rows true e = ap (λ (t : Bool). flat_map (λ (q : SetRow). f q.number) (if t then r ∷ completes rows else completes rows)) e
-row_first f r rows false e = ap (λ (t : Bool). flat_map (λ (q : SetRow). f q.number) (if t then r ∷ completes rows else completes rows)) e
+row_first f r rows b e = grind arith
 
 none_if : (b : Bool) (xs ys : List Evicted) → xs ≡ [] → (if b then xs else []) ++ ys ≡ ys
-none_if true xs ys e = ap (λ (zs : List Evicted). zs ++ ys) e
-none_if false xs ys e = refl
+none_if b xs ys e = grind arith
 
 past_rows : (f : ℕ → List Evicted) (k : ℕ) (rows : List SetRow) → NumberedFrom k rows → ((n : ℕ) → k ≤ n → f n ≡ []) → of_rows f rows ≡ []
 past_rows f k [] numbered none = refl
@@ -101,10 +99,7 @@ past_rows f k (r ∷ rows) numbered none =
     ∙ past_rows f (k + 1) rows numbered.1 (λ n l. none n (omega (arith, l)))
 
 first_row : (m : ℕ) (r : SetRow) (rows : List SetRow) → NumberedFrom m (r ∷ rows) → has_complete (r ∷ rows) r.number ≡ is_complete r.result
-first_row m r rows numbered =
-    let here = numbered.0 in
-    ap (λ (t : Bool). (t && is_complete r.result) || has_complete rows r.number) (eq-eqb r.number r.number refl)
-    ∙ ap (λ (t : Bool). is_complete r.result || t) (none_below (m + 1) r.number rows numbered.1 (omega (arith, here))) ∙ or-false (is_complete r.result)
+first_row m r rows numbered = grind (arith, eq-eqb, none_below, or-false)
 
 -- a row further on has another number
 later_rows : (m n : ℕ) (r : SetRow) (rows : List SetRow) → r.number ≡ m → m + 1 ≤ n → has_complete (r ∷ rows) n ≡ has_complete rows n

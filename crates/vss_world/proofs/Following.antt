@@ -1,9 +1,9 @@
 -- A move of the sessions, against the acts: what they come to, with the images that go.
-use Rattle.std.proofs.Common.{◌≡◌, ℕ, ◌*◌, ◌<◌, ◌≤◌, ◌^◌, ◌-◌, List, [], ◌∷◌, ◌++◌, length, refl, ap, sym, ◌∙◌, subst, arith, true, false, Bool, Option, Some, None, map}
-use Rattle.vss_world.proofs.Words.{Act, Agenda, Clean, EndsAs, Event, Evicted, Fault, FaultAfter, Ghosts, IfStands, IsAt, IsBlocked, IsMove, IsMoved, IsOf, IsOutcome, IsPrepared, IsSettled}
+use Rattle.std.proofs.Common.{◌≡◌, ℕ, ◌*◌, ◌<◌, ◌≤◌, ◌^◌, ◌-◌, List, [], ◌∷◌, ◌++◌, length, refl, ap, sym, ◌∙◌, subst, arith, true, false, Bool, Option, map}
+use Rattle.vss_world.proofs.Words.{Act, EndsAs, Event, Evicted, Fault, FaultAfter, Ghosts, IfStands, IsAt, IsBlocked, IsMove, IsMoved, IsOf, IsOutcome, IsPrepared, IsSettled}
 use Rattle.vss_world.proofs.Words.{IsStanding, IsStandingIn, IsWait, Keeps, Mark, NumberedFrom, Plan, ProviderValue, SessionMove, SessionsValue, SetRow, State, after, after_move, devices_of, dropped}
-use Rattle.vss_world.proofs.Words.{ended_of, event_volumes, images_after, in_progress, is_fault, is_snapshot, is_to_come, length_bare, mark_of, named_known_components, number_prepared, orderly}
-use Rattle.vss_world.proofs.Words.{outcome_is_running, provided, state, state-append, tells_of, told_act, volumes_of}
+use Rattle.vss_world.proofs.Words.{ended_of, event_volumes, images_after, in_progress, is_fault, is_to_come, length_bare, mark_of, named_known_components, number_prepared, orderly}
+use Rattle.vss_world.proofs.Words.{outcome_is_running, provided, state, state-append, tells_of, told_act}
 use Rattle.vss_world.specs.Words.{IsOf as IsSessionsOf, IsStanding as IsSessionsStanding}
 use Rattle.vss_world.proofs.Moved.{world_of, IsProviderAt, OfDevices, Goes, in_order, moved, clean_devices}
 use Rattle.vss_world.proofs.ToCome.{agenda_volumes, has_snapshot_set, no_set_provided}
@@ -48,22 +48,11 @@ rows_long s x st keeps of = sym (ap length keeps.course.follows.rows) ∙ of.cou
 
 -- an act at which no device can fail
 pub fault_free : (allows : Mark → Bool) → allows Fault ≡ false → ((k : ℕ) → allows (FaultAfter k) ≡ false) → (mark : Mark) → allows mark ≡ true → is_fault mark ≡ false
-fault_free allows none never Clean e = refl
-fault_free allows none never Fault e = cc
-fault_free allows none never (FaultAfter k) e = let no = never k in cc
+fault_free allows none never mark e = grind arith
 
 -- what the sets of a state are known to be
 pub course_of : (s : Plan) (acts : List Act) → IsOfAgenda (state s acts)
-course_of s acts = record {
-  numbered = (orderly s acts).numbered;
-  outcome = λ r e. outcome_is_running s acts r e;
-  volumes = λ a runs snapshot. by_set a runs snapshot (in_progress (state s acts)) refl;
-}
-  where
-    by_set : (a : Agenda) → (state s acts).course.agenda ≡ Some a → is_snapshot a.kind ≡ true → (o : Option SetRow) → in_progress (state s acts) ≡ o
-        → a.volumes ≡ volumes_of (in_progress (state s acts))
-    by_set a runs snapshot (Some r) e = agenda_volumes s acts a r runs snapshot e ∙ sym (ap volumes_of e)
-    by_set a runs snapshot None e = absurd (has_snapshot_set s acts a runs snapshot e)
+course_of s acts = grind (arith, orderly, outcome_is_running, agenda_volumes, has_snapshot_set)
 
 -- the volumes of each state, which no event changed
 pub set_move : {D : Type 0} (s : Plan) (p : ProviderValue D) (acts : List Act) (act : Act) → IsPrepared p (state s acts) → GoesOn (state s acts) (after s (state s acts) act)
@@ -129,7 +118,4 @@ module _ {D : Type 0} (device : Ghosts D) (s : Plan) (event : Event) (m : Sessio
 
 pub session_waits : {D : Type 0} {blocks_told : D → Option (List (List ℕ))} {s : Plan} {event : Event} {P : State → Type 0} {p : ProviderValue D} {x y : SessionsValue}
     {l : List ℕ} {e : List Evicted} → IsWait P s x y event → IfStands blocks_told (world_of p x l e) s P → IsBlocked blocks_told (world_of p x l e) (world_of p y l e) s event
-session_waits {s = s} {p = p} {l = l} {e = e} wait at = record {
-  same = ap (λ (z : SessionsValue). world_of p z l e) wait.same;
-  not_enabled = λ acts stands. wait.not_enabled (state s acts) (at acts stands);
-}
+session_waits wait at = grind arith

@@ -1,11 +1,11 @@
 -- The volumes of sets and agendas, and the writers that take part or are disabled, stay those of the scenario, whatever happens.
 use Rattle.std.proofs.Common.{◌≡◌, ℕ, ◌+◌, ◌<◌, ◌≤◌, ◌==◌, List, [], ◌∷◌, ◌++◌, Option, Some, None, refl, Bool, true, false, subst, length, arith, option_map, map, filter, find, if◌then◌else◌, not}
-use Rattle.vss_world.proofs.Words.{Act, Agenda, AgendaEnds, AreBelow, AsyncCancelled, Clean, Commit, Course, Covers, Cut, Ending, Event, Fault, FaultAfter, Flush, Group, History, Hold, IsAgendaIn}
-use Rattle.vss_world.proofs.Words.{IsInPlan, IsKeptInCourse, IsOp, Kept, Kind, Level, Line, Mark, Member, MembersBelow, NothingEnds, Ok, Open, Orders, Pair, Place, Plan, PostCommit, PreCommit}
-use Rattle.vss_world.proofs.Words.{Release, Said, Session, SetFails, SetOutcome, SetRow, SetsBelow, State, VssResult, Write, WriterRow, after, after_by, all_say, begun, by_if, cleared, concluded}
-use Rattle.vss_world.proofs.Words.{course_answered, course_begun, course_stepped, course_timed, covered, cut_set, ending, failed_in, has_no_volume, has_said, idle_now, in_progress, is_over_volumes}
+use Rattle.vss_world.proofs.Words.{Act, Agenda, AreBelow, AsyncCancelled, Course, Covers, Ending, Event, Group, History, IsAgendaIn}
+use Rattle.vss_world.proofs.Words.{IsInPlan, IsKeptInCourse, IsOp, Kept, Kind, Level, Line, Mark, Member, MembersBelow, Ok, Open, Pair, Place, Plan}
+use Rattle.vss_world.proofs.Words.{Said, Session, SetFails, SetOutcome, SetRow, SetsBelow, State, VssResult, Write, WriterRow, after, after_by, all_say, begun, by_if, cleared, concluded}
+use Rattle.vss_world.proofs.Words.{course_answered, course_begun, course_stepped, course_timed, covered, ending, failed_in, has_no_volume, has_said, idle_now, in_progress, is_over_volumes}
 use Rattle.vss_world.proofs.Words.{is_running, later, left, left_from, left_now, member_if, members_from, members_of, next_member, next_volume, open_group, places, put, reverted_as, row_changed}
-use Rattle.vss_world.proofs.Words.{row_cut, row_gathered, row_settled, runs, said_of, set_loses_image, step_made, stepped_as, volume_if, volumes_of, waited_for, with_cut, with_group, with_room}
+use Rattle.vss_world.proofs.Words.{row_cut, row_gathered, row_settled, runs, said_of, set_loses_image, step_made, stepped_as, volumes_of, waited_for, with_cut, with_group, with_room}
 use Rattle.vss_world.proofs.Words.{with_room_if, with_volume}
 use Rattle.set_agenda.specs.Course.{failed, posted, told, worked, released}
 use Rattle.set_agenda.specs.declared.kind.Kind.TheVariants as kind
@@ -24,8 +24,7 @@ unfolding failed
 in_failed s why c h = (tt, h.1, h.2)
 
 in_said : (s : Plan) (said : Said) (now : ℕ) (ws : List ℕ) (a : Option Agenda) → IsAgendaIn s a → IsAgendaIn s (option_map (all_say said now ws) a)
-in_said s said now ws None h = tt
-in_said s said now ws (Some a) h = h
+in_said s said now ws a h = grind arith
 
 in_worked : (s : Plan) (now : ℕ) (c : Course) → IsCourseIn s c → IsCourseIn s (worked now c)
 unfolding worked
@@ -54,8 +53,7 @@ with_course : (s : Plan) (c : Course) (st : State) → IsCourseIn s c → SetsBe
 with_course s c st h sets = record { sets = sets; agenda = h.0; members = h.1; disabled = h.2 }
 
 below_either : (b : Bool) (n : ℕ) (q r : SetRow) → AreBelow n q.volumes → AreBelow n r.volumes → AreBelow n (if b then q else r).volumes
-below_either true n q r h k = h
-below_either false n q r h k = k
+below_either b n q r h k = grind arith
 
 pub sets_map : (n : ℕ) (f : SetRow → SetRow) → ((r : SetRow) → AreBelow n r.volumes → AreBelow n (f r).volumes) → (rows : List SetRow) → SetsBelow n rows → SetsBelow n (map f rows)
 sets_map n f keeps [] h = tt
@@ -65,9 +63,7 @@ sets_settled : (n : ℕ) (o : SetOutcome) (rows : List SetRow) → SetsBelow n r
 sets_settled n o rows h = sets_map n (row_settled o) (λ r k. below_either (is_running r.result) n (record r { result = o }) r k k) rows h
 
 pub in_concluded : (s : Plan) (e : Ending) (st : State) → IsInPlan s st → IsInPlan s (concluded e st)
-in_concluded s NothingEnds st h = h
-in_concluded s AgendaEnds st h = record { sets = sets_settled (length s.volumes) st.course.outcome st.sets h.sets; agenda = h.agenda; members = h.members; disabled = h.disabled }
-in_concluded s (SetFails why) st h = record { sets = sets_settled (length s.volumes) st.course.outcome st.sets h.sets; agenda = h.agenda; members = h.members; disabled = h.disabled }
+in_concluded s e st h = grind (arith, sets_settled)
 
 pub in_followed : (s : Plan) (ran : Bool) (c : Course) (st : State) → IsCourseIn s c → SetsBelow (length s.volumes) st.sets → IsInPlan s (followed ran c st)
 unfolding followed
@@ -93,7 +89,7 @@ below_append n [] v h k = (k, tt)
 below_append n (x ∷ vs) v h k = (h.0, below_append n vs v h.1 k)
 
 pub sets_joined : (n k v : ℕ) (rows : List SetRow) → v < n → SetsBelow n rows → SetsBelow n (map (row_changed k (with_volume v)) rows)
-sets_joined n k v rows l h = sets_map n (row_changed k (with_volume v)) (λ q b. below_either (q.number == k) n (with_volume v q) q (below_append n q.volumes v b l) b) rows h
+sets_joined n k v rows l h = grind (arith, sets_map, below_either, below_append)
 
 found_below : (n : ℕ) (test : SetRow → Bool) (rows : List SetRow) (r : SetRow) → find test rows ≡ Some r → SetsBelow n rows → AreBelow n r.volumes
 found_below n test [] r e h = absurd cc
@@ -104,8 +100,7 @@ found_below n test (q ∷ rows) r e h = at_head (test q) e (λ g. found_below n 
     at_head false g later = later g
 
 set_below : (n : ℕ) (r : Option SetRow) (st : State) → in_progress st ≡ r → SetsBelow n st.sets → AreBelow n (volumes_of r)
-set_below n None st e h = tt
-set_below n (Some r) st e h = found_below n (λ q. is_running q.result) st.sets r e h
+set_below n r st e h = grind (arith, found_below)
 
 -- the volumes of the set in progress are of the scenario
 pub volumes_below : (n : ℕ) (st : State) → SetsBelow n st.sets → AreBelow n (volumes_of (in_progress st))
@@ -118,31 +113,18 @@ IsBelowIf n None = Unit {0}
 IsBelowIf n (Some v) = v < n
 
 pub below_if : (b : Bool) (n v : ℕ) (vs : List ℕ) → v < n → AreBelow n vs → AreBelow n (if b then v ∷ vs else vs)
-below_if true n v vs h k = (h, k)
-below_if false n v vs h k = k
+below_if b n v vs h k = grind arith
 
 pub below_filter : (test : ℕ → Bool) (n : ℕ) (vs : List ℕ) → AreBelow n vs → AreBelow n (filter test vs)
 below_filter test n [] h = tt
 below_filter test n (v ∷ vs) h = below_if (test v) n v (filter test vs) h.0 (below_filter test n vs h.1)
 
 pub members_below : (n : ℕ) (a : Agenda) (g : Group) (l : Option Level) → AreBelow n a.volumes → is_over_volumes g ≡ true → AreBelow n (members_of a g l)
-members_below n a (Orders o) l h e = absurd cc
-members_below n a PreCommit l h e = absurd cc
-members_below n a Flush l h e = h
-members_below n a Hold l h e = h
-members_below n a Cut l h e = absurd cc
-members_below n a Commit l h e = h
-members_below n a Release l h e = h
-members_below n a PostCommit l h e = absurd cc
-
-pub volume_below : (b : Bool) (n v : ℕ) → (b ≡ true → v < n) → IsBelowIf n (volume_if b v)
-volume_below true n v h = h refl
-volume_below false n v h = tt
+members_below n a g l h e = grind arith
 
 pub next_below_with : (n : ℕ) (p : Place) (ws : List ℕ) (later : List Open) → (is_over_volumes p.group ≡ true → AreBelow n ws) → IsBelowIf n (next_volume later)
     → IsBelowIf n (next_volume (with_group p ws later))
-next_below_with n p [] later over h = h
-next_below_with n p (w ∷ ws) later over h = volume_below (is_over_volumes p.group) n w (λ e. (over e).0)
+next_below_with n p ws later over h = grind arith
 
 pub next_below_from : (n : ℕ) (a : Agenda) (ps : List Place) → AreBelow n a.volumes → IsBelowIf n (next_volume (left_from a ps))
 next_below_from n a [] h = tt
@@ -190,8 +172,7 @@ unseen : (s : Plan) (st : State) (q : Option Session) (ps : List Pair) (hs : Lis
 unseen s st q ps hs n h = record { sets = h.sets; agenda = h.agenda; members = h.members; disabled = h.disabled }
 
 in_put : (s : Plan) (v : ℕ) (w : Write) (mark : Mark) (st : State) → IsInPlan s st → IsInPlan s (put v w mark st)
-in_put s v w Clean st h = unseen s st _ _ _ _ h
-in_put s v w _ st h = h
+in_put s v w mark st h = grind arith
 
 in_room_if : (s : Plan) (fails : Bool) (st : State) → IsInPlan s st → IsInPlan s (with_room_if fails st)
 in_room_if s true st h = in_set_failed s _ st h
@@ -204,17 +185,10 @@ in_write s v w mark st h =
     in_put s v w mark (with_room s v w.block st) (in_room_if s (set_loses_image (in_progress st) st.volumes new.volumes) new (unseen s st st.session st.explicit new.volumes st.clock h))
 
 in_reverted : (s : Plan) (v : ℕ) (k : Kept) (mark : Mark) (st : State) → IsInPlan s st → IsInPlan s (reverted_as s v k mark st).1
-in_reverted s v k Clean st h = unseen s st _ _ _ _ h
-in_reverted s v k Fault st h = h
-in_reverted s v k (FaultAfter n) st h = unseen s st _ _ _ _ h
+in_reverted s v k mark st h = grind arith
 
 made_sets : (s : Plan) (g : Option Group) (st : State) → SetsBelow (length s.volumes) st.sets → SetsBelow (length s.volumes) (step_made g st).sets
-made_sets s (Some Cut) st h = by_set (in_progress st)
-  where
-    by_set : (o : Option SetRow) → SetsBelow (length s.volumes) (cut_set o st).sets
-    by_set None = h
-    by_set (Some r) = sets_cut (length s.volumes) r.number st.clock st.sets h
-made_sets s _ st h = h
+made_sets s g st h = grind (arith, sets_cut)
 
 in_step : (s : Plan) (fails : Bool) (g : Option Group) (st : State) → IsInPlan s st → IsInPlan s (stepped_as fails g st)
 in_step s true g st h = in_followed s (runs st) _ st (course_stepped (IsCourseIn s) (in_course s) false st.clock st.course (course_of s st h)) h.sets

@@ -20,12 +20,7 @@ pub not_complete : (st : State) (n v : ℕ) → is_kept_set st n ≡ false → k
 not_complete st n v e = not_kept st.sets n (point_in n (history_of st v).images) e
 
 no_point : (o : Option SetRow) → kept_of o None ≡ None
-no_point None = refl
-no_point (Some r) = by_test (is_complete r.result)
-  where
-    by_test : (t : Bool) → kept_if t r None ≡ None
-    by_test true = refl
-    by_test false = refl
+no_point o = grind arith
 
 -- an image that does not stand is not kept
 pub not_standing : (st : State) (n v : ℕ) → is_some (point_in n (history_of st v).images) ≡ false → kept_image st n v ≡ None

@@ -1,14 +1,12 @@
 -- Which images of a volume are kept: all of them but the newest, where its set is in progress.
 use Rattle.std.proofs.Common.{◌≡◌, ℕ, zero, suc, ◌+◌, ◌<◌, List, [], ◌∷◌, length, refl, ap, sym, ◌∙◌, arith, Bool, true, false, ◌&&◌, ◌||◌, ◌==◌, take, filter, not, if◌then◌else◌, slice_index}
-use Rattle.vss_world.proofs.Words.{Act, AreInTime, AreLater, AreLive, Complete, Failed, History, Image, NumberedFrom, OverButNewest, Plan, Running, SetOutcome, SetRow, State, UpTo, both_ways}
+use Rattle.vss_world.proofs.Words.{Act, AreInTime, AreLater, AreLive, History, Image, NumberedFrom, OverButNewest, Plan, SetOutcome, SetRow, State, UpTo, both_ways}
 use Rattle.vss_world.proofs.Words.{cond-true, cond_both, eqb-true, has_failed, history_at, history_of, images_in_time, images_up_to, is_complete, is_kept_set, is_live, is_running, kept, length-map}
 use Rattle.vss_world.proofs.Words.{list_any, live-filter, live_at, no_live_below, orderly, provided, sets_of, state}
 use Rattle.vss_world.proofs.OnProvided.{on_provided, kept_at}
 
 over_live : (o : SetOutcome) → is_running o ≡ false → has_failed o ≡ false → is_complete o ≡ true
-over_live Running e f = cc
-over_live Complete e f = refl
-over_live (Failed why) e f = cc
+over_live o e f = grind arith
 
 -- a set that has not failed and is not the newest is complete
 older_complete : (m n : ℕ) (rows : List SetRow) → NumberedFrom m rows → OverButNewest rows → is_live rows n ≡ true → n + 1 < m + length rows
@@ -38,8 +36,7 @@ last_if : (t b : Bool) (i : Image) → t ≡ b → (if t then i ∷ [] else []) 
 last_if t b i e = ap (λ (u : Bool). if u then i ∷ [] else []) e
 
 behind : (b : Bool) (i : Image) (xs ys : List Image) → i ∷ (if b then xs else ys) ≡ (if b then i ∷ xs else i ∷ ys)
-behind true i xs ys = refl
-behind false i xs ys = refl
+behind b i xs ys = grind arith
 
 -- whether the newest of these is kept decides it
 pub kept_by_newest : (st : State) (writes : ℕ) (images : List Image) (k : ℕ) (b : Bool) → NumberedFrom 1 st.sets → OverButNewest st.sets → AreLive st.sets images → AreInTime writes images
@@ -63,8 +60,7 @@ sets_taken (suc k) [] = refl
 sets_taken (suc k) (i ∷ images) = ap (λ (ns : List ℕ). i.set ∷ ns) (sets_taken k images)
 
 decided : (b : Bool) (images : List Image) (k : ℕ) → sets_of (if b then images else take k images) ≡ (if b then sets_of images else take k (sets_of images))
-decided true images k = refl
-decided false images k = sets_taken k images
+decided b images k = grind (arith, sets_taken)
 
 -- ## without the images of a set
 

@@ -1,16 +1,17 @@
 -- What a session line does to the set in progress, and to its images that are still to come.
-use Rattle.std.proofs.Common.{◌≡◌, ℕ, ◌==◌, [], refl, ap, sym, ◌∙◌, subst, Bool, true, false, Option, Some, None, ◌⊎◌, inl, inr, is_some, if◌then◌else◌, ◌&&◌}
-use Rattle.vss_world.proofs.Words.{AsyncCancelled, AsyncPending, BadState, Calls, Coded, Covers, Event, Go, IsOfSession, Line, Mark, Op, Plan, Refused, Replied, Session, SetRow, Start, State, Target}
-use Rattle.vss_world.proofs.Words.{Verdict, VssResult, allows, by_if, call_in, call_of, check, check_other, covered, enabled, failed, find-append_new, has_no_volume, has_writers, in_progress, is_add}
-use Rattle.vss_world.proofs.Words.{is_to_come, judged, line, line_in, new_set, none_after, none_runs, not_started, other_goes, owner_only, runs, target_in, verdict_of, volumes_of}
-use Rattle.vss_model.specs.Words.{Blocked, Reply, line_of}
+use Rattle.std.proofs.Common.{◌≡◌, ℕ, [], refl, subst, Bool, true, false, Option, Some, None, ◌⊎◌, inr, is_some, if◌then◌else◌}
+use Rattle.std.proofs.Common.{arith}
+use Rattle.vss_world.proofs.Words.{AsyncCancelled, AsyncPending, BadState, Coded, Covers, Event, Go, IsOfSession, Line, Mark, Op, Plan, Refused, Replied, Session, SetRow, Start, State, Target}
+use Rattle.vss_world.proofs.Words.{Verdict, VssResult, by_if, call_in, call_of, check, check_other, covered, enabled, failed, find-append_new, has_no_volume, in_progress, is_add}
+use Rattle.vss_world.proofs.Words.{judged, line, line_in, new_set, none_after, none_runs, not_started, other_goes, runs, target_in}
+use Rattle.vss_model.specs.Words.{Reply, line_of}
 use Rattle.set_agenda.specs.declared.kind.Kind.TheVariants as kind
 use Rattle.set_agenda.specs.Course.{released}
 use Rattle.requestor.specs.declared.session_call.SessionCall.TheVariants as call
 use Rattle.scenario.specs.declared.op.Op.TheVariants.{Snapshot}
 use Rattle.vss_model.specs.Sessions.{closed}
 use Rattle.vss_model.specs.Lines.{called}
-use Rattle.vss_world.proofs.SetGoesOn.{GoesOn, IsSameSet, IsOverIf, IsOfAgenda, BeginsSnapshot, goes_nowhere, failed_goes, begun_goes, snapshot_begins}
+use Rattle.vss_world.proofs.SetGoesOn.{GoesOn, IsOfAgenda, BeginsSnapshot, goes_nowhere, failed_goes, begun_goes, snapshot_begins}
 use Rattle.scenario.specs.declared.line.Line.{Line as Does}
 
 -- a set starts, without a volume, where none was in progress
@@ -44,25 +45,16 @@ EventGoes st (Line lane op) mark r = is_some (call_of op) ≡ true → is_add op
 EventGoes st _ mark r = Unit {0}
 
 nothing_goes : (op : Op) (told : Reply) (st : State) → CallGoes op st (told, st)
-nothing_goes Start told st = inl (goes_nowhere st)
-nothing_goes Snapshot told st = tt
-nothing_goes _ told st = goes_nowhere st
+nothing_goes op told st = grind arith
 
 -- a write is no session line
 no_call : (l : Does) (t : Target) → target_in l ≡ Some t → is_some (call_in l) ≡ true → ⊥
-no_call (Calls c) t e f = cc
-no_call _ t e f = cc
+no_call l t e f = grind arith
 
 -- the session is over, and with it a set in progress
 closed_goes : (q : Session) (st next : State) → in_progress next ≡ None → GoesOn st next → GoesOn st (closed q next)
 unfolding closed released
-closed_goes q st next none (inl h) = inr (record { none = none; over = by_set (in_progress st) (in_progress next) none h.set })
-  where
-    by_set : (o p : Option SetRow) → p ≡ None → IsSameSet o p → IsOverIf (is_to_come st.course.agenda) o next.sets
-    by_set None p e same = tt
-    by_set (Some r) None e same = absurd same
-    by_set (Some r) (Some p) e same = cc
-closed_goes q st next none (inr h) = inr (record { none = none; over = h.over })
+closed_goes q st next none x4 = grind arith
 
 module _ (s : Plan) (lane : ℕ) (st : State) (of : IsOfAgenda st) where
   events_go : IsOfSession st.session st.course.outcome (in_progress st) → Covers (EventGoes st) s st
@@ -98,39 +90,16 @@ module _ (s : Plan) (lane : ℕ) (st : State) (of : IsOfAgenda st) where
   not_pending e = cc
 
   refused_as : (why : VssResult) → check_other st.session (runs st) lane call.Snapshot ≡ Refused why → why ≡ AsyncPending → ⊥
-  refused_as why e f = by_session st.session (e ∙ ap (λ (w : VssResult). Refused w) f)
-    where
-      by_verdict : (b c d : Bool) → verdict_of false b c d ≡ Refused AsyncPending → ⊥
-      by_verdict true c d g = cc
-      by_verdict false false d g = cc
-      by_verdict false true true g = cc
-      by_verdict false true false g = cc
-
-      by_owner : (t b c d : Bool) → owner_only t (verdict_of false b c d) ≡ Refused AsyncPending → ⊥
-      by_owner false b c d g = cc
-      by_owner true b c d g = by_verdict b c d g
-
-      by_session : (o : Option Session) → check_other o (runs st) lane call.Snapshot ≡ Refused AsyncPending → ⊥
-      by_session None g = cc
-      by_session (Some q) g = by_owner (q.owner == lane) (runs st && true) (allows q.stage (has_writers q.context) call.Snapshot) false g
+  refused_as why e f = grind arith
 
   snapshot_if : (b : Bool) (x y : Replied) → has_no_volume (in_progress st) ≡ b → SnapshotGoes st x → (((in_progress st ≡ None) → ⊥) → SnapshotGoes st y) → SnapshotGoes st (if b then x else y)
-  snapshot_if true x y e h k = h
-  snapshot_if false x y e h k = k (λ none. let f : true ≡ false = sym (ap has_no_volume none) ∙ e in cc)
+  snapshot_if b x y e h k = grind arith
 
   snapshot_in : check_other st.session (runs st) lane call.Snapshot ≡ Go → (o : Option Session) → SnapshotGoes st (line_in s lane Snapshot o st)
-  snapshot_in go None = inl (BadState, refl, not_pending, goes_nowhere st)
-  snapshot_in go (Some q) = snapshot_if (has_no_volume (in_progress st)) _ _ refl (inl (BadState, refl, not_pending, goes_nowhere st))
-      (λ some. inr (
-        snapshot_begins st.course.members (volumes_of (in_progress st)) st.clock st.course st some
-            (none_runs st.course.agenda ((other_goes st.session (runs st) lane call.Snapshot go).quiet refl)) refl,
-        refl,
-      ))
+  snapshot_in go o = grind (arith, not_pending, goes_nowhere, snapshot_if, snapshot_begins, none_runs, other_goes)
 
   judged_snapshot : (verdict : Verdict) → check_other st.session (runs st) lane call.Snapshot ≡ verdict → SnapshotGoes st (judged verdict s lane Snapshot st)
-  judged_snapshot Go e = snapshot_in e st.session
-  judged_snapshot Blocked e = inl (BadState, refl, not_pending, goes_nowhere st)
-  judged_snapshot (Refused why) e = inl (why, refl, refused_as why e, goes_nowhere st)
+  judged_snapshot verdict e = grind (arith, snapshot_in, not_pending, goes_nowhere, refused_as)
 
   -- ## every line
 

@@ -1,17 +1,11 @@
 -- The list of sets after a step: a move that lists no sets leaves it empty, and what the core stands for is as it was.
-use Rattle.std.proofs.Common.{◌≡◌, ℕ, List, [], refl, ap, ◌∙◌, Bool, true, false, Option, if◌then◌else◌}
-use Rattle.vss_world.proofs.Words.{Blocked, Ghosts, IsStepped, Moved, Reply as Answer, Stands, StatusOf, WorldValue, listed_after, lists_sets, tells_of}
-use Rattle.vss_model.specs.Words.{Act, Fits, HasLists, KeptSets, Plan, Reply, WriterRow, reply, state, told_act}
+use Rattle.std.proofs.Common.{ℕ, List, [], Bool, Option, if◌then◌else◌, arith}
+use Rattle.vss_world.proofs.Words.{Blocked, Ghosts, IsStepped, Moved, Reply as Answer, Stands, WorldValue, listed_after, lists_sets, tells_of}
+use Rattle.vss_model.specs.Words.{Act, Fits, HasLists, Plan, Reply, WriterRow, reply, state, told_act}
 use Rattle.vss_world.specs.Words.{Event, Told}
 
-if_listed : (b : Bool) (listed : List ℕ) → b ≡ true → (if b then listed else []) ≡ listed
-if_listed true listed e = refl
-if_listed false listed e = cc
-
 lists_then : (tells : List Bool) (r : Reply) (t : Told) (listed : List ℕ) (rows : List WriterRow) → Fits tells r t → HasLists r listed rows → HasLists r (if lists_sets t then listed else []) rows
-lists_then tells (KeptSets sets) t listed rows fits lists = if_listed (lists_sets t) listed (ap lists_sets fits) ∙ lists
-lists_then tells (StatusOf of_writers) t listed rows fits lists = lists
-lists_then tells _ t listed rows fits lists = tt
+lists_then tells r t listed rows fits lists = grind arith
 
 -- the core with another list stands for the same
 stands_with : {D : Type 0} (blocks_told : D → Option (List (List ℕ))) (s : Plan) (w : WorldValue D) (listed : List ℕ) (acts : List Act) → Stands blocks_told w s acts

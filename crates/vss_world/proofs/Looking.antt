@@ -1,8 +1,8 @@
 -- Each line that looks at volumes or images, against the definitions.
-use Rattle.std.proofs.Common.{◌≡◌, ℕ, ◌<◌, List, [], length, refl, ap, sym, ◌∙◌, subst, Bool, true, false, Option, Some, None, is_some, option_map}
+use Rattle.std.proofs.Common.{◌≡◌, ℕ, ◌<◌, List, [], length, refl, ap, sym, ◌∙◌, subst, Bool, true, false, Option, Some, None, is_some, option_map, arith}
 use Rattle.vss_world.proofs.Words.{Act, Clean, Coded, Evicted, Ghosts, HasImage, IfStandFor, IfStands, ImageBlock, ImageDigest, IsBlock, IsBlockSeen, IsDigestSeen, IsMoved, IsOf, Keeps, Kept}
 use Rattle.vss_world.proofs.Words.{KeptSets, Line, ObjectNotFound, Op, Plan, Properties, PropertiesOf, ProviderValue, Query, Read, SessionsValue, SetFacts, SetRow, Stands, State, Told, WorldValue}
-use Rattle.vss_world.proofs.Words.{Write, blocks_of, facts_of, history_at as provided_at, history_of, image_block, image_blocks, is_complete, is_kept_set, kept, kept_if, kept_image, kept_of, line}
+use Rattle.vss_world.proofs.Words.{Write, blocks_of, facts_of, history_at as provided_at, history_of, image_block, image_blocks, is_complete, is_kept_set, kept, kept_image, kept_of, line}
 use Rattle.vss_world.proofs.Words.{none-some, point_in, properties, provided, row_number, row_of, sets_of, simple_outcome, state, true_from_ne_false, unwrap_or, used_by}
 use Rattle.vss_model.specs.declared.told.Told.TheVariants as told
 use Rattle.vss_world.proofs.Options.{none_is, some_is}
@@ -21,15 +21,7 @@ pub record IsOfImage (st : State) (n v : ℕ) (k : Kept) : Type 0 where
   pub point : point_in n (history_of st v).images ≡ Some k.point
 
 image_parts : (st : State) (n v : ℕ) (o : Option SetRow) (p : Option ℕ) (k : Kept) → row_of st n ≡ o → point_in n (history_of st v).images ≡ p → kept_of o p ≡ Some k → IsOfImage st n v k
-image_parts st n v None p k e f g = cc
-image_parts st n v (Some r) p k e f g = by_test (is_complete r.result) p refl f g
-  where
-    by_test : (t : Bool) (p : Option ℕ) → is_complete r.result ≡ t → point_in n (history_of st v).images ≡ p → kept_if t r p ≡ Some k → IsOfImage st n v k
-    by_test true None h f g = cc
-    by_test true (Some point) h f g =
-        let same : (record { row = r; point = point }) ≡ k = cc in
-        subst (IsOfImage st n v) same (record { row_is = e; complete = h; point = f })
-    by_test false p h f g = cc
+image_parts st n v o p k e f g = grind arith
 
 pub of_image : (st : State) (n v : ℕ) (k : Kept) → kept_image st n v ≡ Some k → IsOfImage st n v k
 of_image st n v k e = image_parts st n v (row_of st n) (point_in n (history_of st v).images) k refl refl e
@@ -40,9 +32,7 @@ set_complete st n v k e = true_from_ne_false (is_kept_set st n) (λ f. none-some
 
 -- the provider has an image that is kept
 pub provided_point : (s : Plan) (acts : List Act) (n v : ℕ) (k : Kept) → kept_image (state s acts) n v ≡ Some k → point_in n (provided_at (provided (state s acts)) v).images ≡ Some k.point
-provided_point s acts n v k e =
-    let st = state s acts in
-    point_at st n v (in_order s acts).numbered (set_complete st n v k e) ∙ (of_image st n v k e).point
+provided_point s acts n v k e = grind (arith, point_at, in_order, set_complete, of_image)
 
 -- at each state, whether the image is kept
 abbrev pub IsKeptIf : {D : Type 0} → (D → Option (List (List ℕ))) → WorldValue D → Plan → ℕ → ℕ → Bool → Type 0
@@ -68,23 +58,12 @@ kept_if_stands {s = s} {has = has} n v is stood acts stands =
 
 -- an image that does not stand is not kept
 none_stands : {D : Type 0} {told : D → Option (List (List ℕ))} {s : Plan} {w : WorldValue D} (n v : ℕ) → HasImage told s w.provider.groups v n false → IsKeptIf told w s n v false
-none_stands {s = s} n v stood acts stands = by_test (is_kept_set (state s acts) n) refl
-  where
-    by_test : (t : Bool) → is_kept_set (state s acts) n ≡ t → is_some (kept_image (state s acts) n v) ≡ false
-    by_test false complete = ap is_some (not_complete (state s acts) n v complete)
-    by_test true complete =
-        let st = state s acts in
-        ap is_some (not_standing st n v (ap is_some (sym (point_at st n v (in_order s acts).numbered complete)) ∙ stood (provided st) stands.at.groups))
+none_stands n v stood acts stands = grind (arith, not_complete, not_standing, point_at, in_order)
 
 -- a set of which nothing is told keeps no image
 pub without_facts : {D : Type 0} {told : D → Option (List (List ℕ))} {s : Plan} {w : WorldValue D} {facts : Option SetFacts} (n v : ℕ) → facts ≡ None
     → ((st : State) → Keeps w.sessions st → facts ≡ option_map facts_of (row_of st n)) → IsKeptIf told w s n v false
-without_facts {s = s} n v none is acts stands =
-    ap (λ (o : Option SetRow). is_some (kept_of o (point_in n (history_of (state s acts) v).images))) (no_row (row_of (state s acts) n) (sym (is (state s acts) stands.at.sessions) ∙ none))
-  where
-    no_row : (o : Option SetRow) → option_map facts_of o ≡ None → o ≡ None
-    no_row None e = refl
-    no_row (Some r) e = cc
+without_facts n v none is acts stands = grind arith
 
 -- ## lines on one image
 
@@ -94,22 +73,13 @@ pub record IsOnImage (s : Plan) (lane n v : ℕ) (op : Op) : Type 0 where
   pub absent : (st : State) → kept_image st n v ≡ None → line s lane op Clean st ≡ (Coded ObjectNotFound, st)
 
 pub block_line : {s : Plan} {lane n v b : ℕ} → IsOnImage s lane n v (ImageBlock n v b)
-block_line {v = v} {b = b} = record {
-  plain = record { on = λ st. refl; clean = λ st. refl; none = λ st. refl; nobody = λ st. refl };
-  absent = λ st e. ap (λ (o : Option Kept). image_block v b o Clean st) e;
-}
+block_line = grind arith
 
 pub digest_line : {s : Plan} {lane n v : ℕ} → IsOnImage s lane n v (ImageDigest n v)
-digest_line {s = s} {v = v} = record {
-  plain = record { on = λ st. refl; clean = λ st. refl; none = λ st. refl; nobody = λ st. refl };
-  absent = λ st e. ap (λ (o : Option Kept). image_blocks s v o Clean st) e;
-}
+digest_line = grind arith
 
 pub properties_line : {s : Plan} {lane n v : ℕ} → IsOnImage s lane n v (Properties n v)
-properties_line {s = s} {v = v} = record {
-  plain = record { on = λ st. refl; clean = λ st. refl; none = λ st. refl; nobody = λ st. refl };
-  absent = λ st e. ap (λ (o : Option Kept). properties s v o st) e;
-}
+properties_line = grind arith
 
 -- ## moves
 

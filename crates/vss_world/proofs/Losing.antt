@@ -18,9 +18,7 @@ all_gone n (i ∷ images) up = cond-false (nat_lt n i.set) (i ∷ after_set n im
 
 if_kept : (b c : Bool) (p : ℕ) (i : Image) (n : ℕ) (xs : List Image) (o : Option ℕ) → (i.set == n) ≡ c → (c ≡ true → b ≡ true) → point_in n xs ≡ o
     → point_in n (if b then i ∷ xs else xs) ≡ (if c then Some i.point else o)
-if_kept true c p i n xs o e f g = ap (λ (t : Bool). if t then Some i.point else point_in n xs) e ∙ ap (λ (q : Option ℕ). if c then Some i.point else q) g
-if_kept false true p i n xs o e f g = let t : false ≡ true = f refl in cc
-if_kept false false p i n xs o e f g = g
+if_kept b c p i n xs o e f g = grind arith
 
 -- the image of a later set stays
 pub stays : (m n : ℕ) (images : List Image) → m < n → point_in n (after_set m images) ≡ point_in n images
@@ -30,8 +28,7 @@ stays m n (i ∷ images) l =
     (stays m n images l)
 
 none_if : (b : Bool) (p : ℕ) (o : Option ℕ) → is_some (if b then Some p else o) ≡ false → (b ≡ false) × (is_some o ≡ false)
-none_if true p o e = absurd cc
-none_if false p o e = (refl, e)
+none_if b p o e = grind arith
 
 -- where no image is of the next set, one more set takes nothing
 no_more : (k : ℕ) (images : List Image) → is_some (point_in (suc k) images) ≡ false → after_set (suc k) images ≡ after_set k images
@@ -58,16 +55,14 @@ no_more k (i ∷ images) e =
 -- ## all of them
 
 pub and_not : (x : Bool) → (x && not x) ≡ false
-and_not true = refl
-and_not false = refl
+and_not x = grind arith
 
 lost_itself : (n : ℕ) (hs : List History) → has_lost_image n hs hs ≡ false
 lost_itself n [] = refl
 lost_itself n (h ∷ hs) = or_from (has_image n h && not (has_image n h)) (has_lost_image n hs hs) (and_not (has_image n h)) (lost_itself n hs)
 
 kept_if : (b : Bool) (m n : ℕ) (h : History) → m < n → (has_image n h && not (has_image n (if b then record { writes = h.writes; images = after_set m h.images } else h))) ≡ false
-kept_if true m n h l = ap (λ (o : Option ℕ). has_image n h && not (is_some o)) (stays m n h.images l) ∙ and_not (has_image n h)
-kept_if false m n h l = and_not (has_image n h)
+kept_if b m n h l = grind (arith, stays, and_not)
 
 -- the image of a later set is not lost
 pub not_lost : (m n : ℕ) (ps : List Placed) (hs : List History) → m < n → has_lost_image n hs (gone_up_to m ps hs) ≡ false
@@ -78,10 +73,7 @@ not_lost m n (p ∷ ps) (h ∷ hs) l = or_from _ (has_lost_image n hs (gone_up_t
 lost_if : (b : Bool) (k : ℕ) (h : History) → UpTo (suc k) h.images
     → (has_image (suc k) h && not (has_image (suc k) (if b then record { writes = h.writes; images = after_set (suc k) h.images } else h))) ≡ false
     → (if b then record { writes = h.writes; images = after_set (suc k) h.images } else h) ≡ (if b then record { writes = h.writes; images = after_set k h.images } else h)
-lost_if true k h up e =
-    let t : (has_image (suc k) h && true) ≡ false = ap (λ (xs : List Image). has_image (suc k) h && not (is_some (point_in (suc k) xs))) (sym (all_gone (suc k) h.images up)) ∙ e in
-    ap (λ (xs : List Image). record { writes = h.writes; images = xs }) (no_more k h.images (sym (and-true (has_image (suc k) h)) ∙ t))
-lost_if false k h up e = refl
+lost_if b k h up e = grind (arith, all_gone, no_more, and-true)
 
 -- where the image of the greatest set is not lost, it is on no volume of the group
 same_gone : (k : ℕ) (ps : List Placed) (hs : List History) → AllUpTo (suc k) hs → has_lost_image (suc k) hs (gone_up_to (suc k) ps hs) ≡ false → gone_up_to (suc k) ps hs ≡ gone_up_to k ps hs
@@ -95,8 +87,7 @@ same_gone k (p ∷ ps) (h ∷ hs) up e =
 
 -- no slot is needed where all images of the volume are gone
 needs_if : (b c : Bool) (n b_ : ℕ) (h : History) → b ≡ true → UpTo n h.images → needs_slot_in (Some (if b then record { writes = h.writes; images = after_set n h.images } else h)) b_ ≡ false
-needs_if true c n b h e up = ap (λ (xs : List Image). needs_slot_in (Some (record { writes = h.writes; images = xs })) b) (all_gone n h.images up)
-needs_if false c n b h e up = cc
+needs_if b c n b_ h e up = grind (arith, all_gone)
 
 needs_none : (n v b : ℕ) (ps : List Placed) (hs : List History) (p : Placed) → slice_get ps v ≡ Some p → p.within ≡ true → AllUpTo n hs → needs_slot_in (slice_get (gone_up_to n ps hs) v) b ≡ false
 needs_none n v b [] hs p e w up = cc
@@ -108,31 +99,21 @@ needs_none n (suc v) b (q ∷ ps) (h ∷ hs) p e w up = needs_none n v b ps hs p
 -- ## the least number
 
 below_if : (t : Bool) (a n x : ℕ) (o : Option ℕ) → (if t then Some a else o) ≡ Some x → (o ≡ Some x → x < (a + 1) + n) → x < a + suc n
-below_if true a n x o g h = let same : a ≡ x = cc in omega (arith, same)
-below_if false a n x o g h = let l = h g in omega (arith, l)
+below_if t a n x o g h = grind arith
 
 found_below : (f : ℕ → Bool) (a n x : ℕ) → find f (range_with_len a n) ≡ Some x → x < a + n
 found_below f a zero x e = cc
 found_below f a (suc n) x e = below_if (f a) a n x (find f (range_with_len (a + 1) n)) e (found_below f (a + 1) n x)
 
-more : (a k : ℕ) → a ≤ k → (a == k) ≡ false → a + 1 ≤ k
-more a k l i = grind (arith, nat_tests)
-
 none_by : (t u : Bool) (f : ℕ → Bool) (a n k : ℕ) (o : Option ℕ) → f a ≡ t → (a == k) ≡ u → (if t then Some a else o) ≡ None → a ≤ k → (o ≡ None → a + 1 ≤ k → f k ≡ false) → f k ≡ false
-none_by true u f a n k o g i e l h = absurd cc
-none_by false true f a n k o g i e l h = ap f (sym (eqb-true a k i)) ∙ g
-none_by false false f a n k o g i e l h = h e (more a k l i)
+none_by t u f a n k o g i e l h = grind arith
 
 none_found : (f : ℕ → Bool) (a n k : ℕ) → find f (range_with_len a n) ≡ None → a ≤ k → k < a + n → f k ≡ false
 none_found f a zero k e l m = absurd (omega arith)
 none_found f a (suc n) k e l m = none_by (f a) (a == k) f a n k (find f (range_with_len (a + 1) n)) refl refl e l (λ h i. none_found f (a + 1) n k h i (omega (arith, m)))
 
 pub up_to_most : (f : ℕ → Bool) (n : ℕ) → unwrap_or (find f (range_with_len 0 n)) n ≤ n
-up_to_most f n = by_found (find f (range_with_len 0 n)) (λ x e. found_below f 0 n x e)
-  where
-    by_found : (o : Option ℕ) → ((x : ℕ) → o ≡ Some x → x < 0 + n) → unwrap_or o n ≤ n
-    by_found None h = omega arith
-    by_found (Some x) h = let l = h x refl in omega (arith, l)
+up_to_most f n = grind (arith, found_below)
 
 -- where sets go up to the greatest, its image goes
 pub is_lost : (k slots v b : ℕ) (ps : List Placed) (hs : List History) (p : Placed) → slice_get ps v ≡ Some p → p.within ≡ true → AllUpTo (suc k) hs → evicted_up_to (suc k) slots ps v b hs ≡ suc k
@@ -159,5 +140,4 @@ is_lost k slots v b ps hs p at within up e = by_test (has_lost_image (suc k) hs 
 
 pub lost_at : (n slots v b : ℕ) (ps : List Placed) (hs : List History) (p : Placed) → 0 < n → slice_get ps v ≡ Some p → p.within ≡ true → AllUpTo n hs → evicted_up_to n slots ps v b hs ≡ n
     → has_lost_image n hs (gone_up_to n ps hs) ≡ true
-lost_at zero slots v b ps hs p l at within up e = absurd (omega arith)
-lost_at (suc k) slots v b ps hs p l at within up e = is_lost k slots v b ps hs p at within up e
+lost_at n slots v b ps hs p l at within up e = grind (arith, is_lost)

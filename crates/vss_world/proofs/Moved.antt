@@ -1,7 +1,7 @@
 -- A move, from what it does to the devices and what it comes to at each state.
-use Rattle.std.proofs.Common.{◌≡◌, ℕ, ◌+◌, ◌≤◌, List, [], ◌∷◌, ◌++◌, length, refl, ap, sym, ◌∙◌, subst, arith, Bool, true, false, Option, map, Some, inl, inr}
-use Rattle.vss_world.proofs.Words.{Act, AreGroups, AreKept, Area, Cause, Event, Evicted, Ghosts, GroupValue, HasCause, IsInOrder, IsMoved, IsOf, IsOutcome, IsPrepared, Leaves, NoSuchBlock, Outcome}
-use Rattle.vss_world.proofs.Words.{Plan, ProviderValue, Registered, RoseFor, SessionsValue, Stands, StandsAt, State, Volume, WorldValue, WriterRow, after, counts_of, devices_of, enabled, event_allows}
+use Rattle.std.proofs.Common.{◌≡◌, ℕ, ◌+◌, ◌≤◌, List, [], ◌∷◌, ◌++◌, length, refl, sym, ◌∙◌, subst, arith, Bool, true, false, Option, map, Some}
+use Rattle.vss_world.proofs.Words.{Act, AreGroups, AreKept, Cause, Event, Evicted, Ghosts, GroupValue, HasCause, IsInOrder, IsMoved, IsOf, IsOutcome, IsPrepared, Leaves, Outcome}
+use Rattle.vss_world.proofs.Words.{Plan, ProviderValue, RoseFor, SessionsValue, Stands, StandsAt, State, WorldValue, WriterRow, after, counts_of, devices_of, enabled, event_allows}
 use Rattle.vss_world.proofs.Words.{is_fault, later_by, later_same, length-append, mark_of, orderly, provided, state, state-append, tells_of, told_act, true_not_false, volume_of}
 use Rattle.vss_world.specs.Words.{IsOf as IsSessionsOf}
 use Rattle.provider.proofs.Words.{AreLater}
@@ -34,16 +34,13 @@ goes_on x y leaves = let same = leaves.clock in record { sets = leaves.sets; pos
 
 -- time goes by
 pub goes_later : (ticks : ℕ) (x y : SessionsValue) → ticks ≤ 1000000000 → Leaves (later_by ticks x) y → Goes x y
-goes_later ticks x y few leaves = let same : y.clock ≡ x.clock + ticks = leaves.clock in record { sets = leaves.sets; posts = leaves.posts; clock = omega (arith, same, few) }
+goes_later ticks x y few leaves = grind arith
 
 pub later_of : (s : Plan) (ticks : ℕ) (x : SessionsValue) → IsSessionsOf x s → IsSessionsOf (later_by ticks x) s
 later_of s ticks x of = record { classes = of.classes; count = of.count }
 
 pub leaves_of : (s : Plan) (x y : SessionsValue) → IsSessionsOf x s → Leaves x y → IsSessionsOf y s
-leaves_of s x y of leaves = record {
-  classes = ap (λ ws. map (λ (r : Registered). r.class) ws) leaves.writers ∙ of.classes;
-  count = leaves.count ∙ of.count;
-}
+leaves_of s x y of leaves = grind arith
 
 -- ## the devices
 
@@ -56,9 +53,7 @@ pub record OfDevices {D : Type 0} (device : Ghosts D) (s : Plan) (event : Event)
 
 pub rose_for : {D : Type 0} (count : D → ℕ) (s : Plan) (v : ℕ) (fault : Cause) (old new : List (GroupValue D)) → HasCause count s v (Some fault) old new
     → RoseFor s (Some v) (counts_of count old) (counts_of count new)
-rose_for count s v NoSuchBlock old new cause = absurd cause
-rose_for count s v Volume old new cause = inl cause
-rose_for count s v Area old new cause = inr cause
+rose_for count s v fault old new cause = grind arith
 
 -- the groups go on to others of the same devices
 pub of_kept : {D : Type 0} (device : Ghosts D) (s : Plan) (p q : ProviderValue D) (x y : SessionsValue) (l k : List ℕ) (e f : List Evicted)

@@ -1,6 +1,7 @@
 -- What is asked of the histories of the definitions, by those that the provider has: the writes of each volume are the same, and so are
 -- the images that are kept, since the set in progress is not complete.
-use Rattle.std.proofs.Common.{◌≡◌, ℕ, ◌==◌, List, [], ◌∷◌, refl, ap, sym, ◌∙◌, subst, Bool, true, false, Option, Some, None, filter, slice_get, not, is_some, option_map, if◌then◌else◌}
+use Rattle.std.proofs.Common.{◌≡◌, ℕ, ◌==◌, List, [], ◌∷◌, refl, ap, sym, ◌∙◌, Bool, true, false, Option, Some, filter, slice_get, not, option_map, if◌then◌else◌}
+use Rattle.std.proofs.Common.{arith}
 use Rattle.vss_world.proofs.Words.{Agenda, History, Image, NumberedFrom, SetRow, State, both_ways, comes, cond-false, dropped, dropped_if, eqb-true, has_image, history_at, history_in, history_of}
 use Rattle.vss_world.proofs.Words.{in_progress, is_kept_set, is_to_come, kept, ne_eqb, number_of, point_in, provided, provided_of, running_incomplete, without, without_set}
 use Rattle.vss_world.proofs.WithoutImages.{without_get}
@@ -8,26 +9,12 @@ use Rattle.vss_world.proofs.WithoutImages.{without_get}
 -- ## one volume
 
 without_in : (test : ℕ → Bool) (n k : ℕ) (hs : List History) → history_in (slice_get (without test n hs) k) ≡ dropped_if (test k) n (history_in (slice_get hs k))
-without_in test n k hs = ap history_in (without_get test n k hs) ∙ by_place (test k) (slice_get hs k)
-  where
-    by_place : (b : Bool) (o : Option History) → history_in (option_map (dropped_if b n) o) ≡ dropped_if b n (history_in o)
-    by_place true None = refl
-    by_place false None = refl
-    by_place b (Some h) = refl
+without_in test n k hs = grind (arith, without_get)
 
 -- what holds of a volume's history, also without the image that is to come, holds of that which the provider has
 pub on_provided : (P : History → Type 0) (st : State) (v : ℕ) → P (history_of st v)
     → ((r : SetRow) → in_progress st ≡ Some r → is_to_come st.course.agenda v ≡ true → P (dropped r.number (history_of st v))) → P (history_at (provided st) v)
-on_provided P st v as_is without_it =
-    subst P (sym (without_in (comes (in_progress st) st.course.agenda) (number_of (in_progress st)) v st.volumes)) (by_set (in_progress st) refl)
-  where
-    by_test : (r : SetRow) → in_progress st ≡ Some r → (b : Bool) → is_to_come st.course.agenda v ≡ b → P (dropped_if b r.number (history_of st v))
-    by_test r e true f = without_it r e f
-    by_test r e false f = as_is
-
-    by_set : (o : Option SetRow) → in_progress st ≡ o → P (dropped_if (comes o st.course.agenda v) (number_of o) (history_of st v))
-    by_set None e = as_is
-    by_set (Some r) e = by_test r e (is_to_come st.course.agenda v) refl
+on_provided x0 st v as_is without_it = grind (arith, without_in)
 
 -- ## its writes
 
@@ -69,19 +56,14 @@ point_without n k (i ∷ images) e = by_test (i.set == n) refl (point_without n 
 
 -- without the image of another set as many stand
 pub has_if : (b : Bool) (r n : ℕ) (h : History) → (b ≡ true → (r == n) ≡ false) → has_image n (dropped_if b r h) ≡ has_image n h
-has_if true r n h e = ap is_some (point_without r n h.images (e refl))
-has_if false r n h e = refl
+has_if b r n h e = grind (arith, point_without)
 
 pub apart_of : (st : State) (n k : ℕ) → is_kept_set st n ≡ false → is_kept_set st k ≡ true → (n == k) ≡ false
 apart_of st n k e f = ne_eqb n k (λ same. both_ways (is_kept_set st n) e (ap (is_kept_set st) same ∙ f))
 
 -- the image that is to come is not of a complete set
 pub other_set : (st : State) (n : ℕ) → NumberedFrom 1 st.sets → is_kept_set st n ≡ true → (k : ℕ) → comes (in_progress st) st.course.agenda k ≡ true → (number_of (in_progress st) == n) ≡ false
-other_set st n numbered is k coming = by_set (in_progress st) refl coming
-  where
-    by_set : (o : Option SetRow) → in_progress st ≡ o → comes o st.course.agenda k ≡ true → (number_of o == n) ≡ false
-    by_set None e coming = cc
-    by_set (Some r) e coming = apart_of st r.number n (progress_not_kept st r numbered e) is
+other_set st n numbered is k coming = grind (arith, apart_of, progress_not_kept)
 
 pub kept_at : (st : State) (v : ℕ) → NumberedFrom 1 st.sets → kept st (history_at (provided st) v) ≡ kept st (history_of st v)
 kept_at st v numbered =

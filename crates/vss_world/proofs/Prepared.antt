@@ -1,9 +1,9 @@
 -- The set that the provider prepares is the one in progress, after each move of the sessions too.
 use Rattle.std.proofs.Common.{◌≡◌, ℕ, zero, suc, ◌+◌, ◌<◌, ◌≤◌, ◌==◌, List, [], ◌∷◌, ◌++◌, refl, ap, sym, ◌∙◌, subst, arith, Bool, true, false, Option, Some, None, inl, inr, map, slice_get, find, not}
-use Rattle.std.proofs.Common.{◌&&◌, if◌then◌else◌}
-use Rattle.vss_world.proofs.Words.{Act, Agenda, AllLive, AreGroups, AreKept, AreLive, Commit, Complete, Cut, EndsAs, Failed, Ghosts, History, Image, IsEnded, IsEndedAs, IsPrepared, IsReleased}
-use Rattle.vss_world.proofs.Words.{IsSettled, NumberedFrom, Plan, ProviderValue, Running, SessionMove, SetOutcome, SetRow, State, are_distinct, comes, counts_of, cut_each, cut_if, devices_of, dropped}
-use Rattle.vss_world.proofs.Words.{ended_of, eqb-true, failed_set, has_failed, has_said, history_in, image_runs, images_after, in_progress, is_among, is_live, is_running, is_snapshot, is_to_come}
+use Rattle.std.proofs.Common.{◌&&◌}
+use Rattle.vss_world.proofs.Words.{Act, Agenda, AllLive, AreGroups, AreKept, AreLive, Complete, EndsAs, Failed, Ghosts, History, Image, IsEnded, IsEndedAs, IsPrepared, IsReleased}
+use Rattle.vss_world.proofs.Words.{IsSettled, NumberedFrom, Plan, ProviderValue, Running, SessionMove, SetOutcome, SetRow, State, comes, counts_of, cut_each, cut_if, devices_of, dropped}
+use Rattle.vss_world.proofs.Words.{ended_of, eqb-true, failed_set, has_failed, history_in, image_runs, images_after, in_progress, is_among, is_live, is_running, is_snapshot, is_to_come}
 use Rattle.vss_world.proofs.Words.{kept_same, kept_trans, nat_tests, none_over, number_of, number_prepared, orderly, plain, point_in, provided, provided_of, state, true_not_false, volumes_of, without}
 use Rattle.vss_world.proofs.Words.{without_images, without_set}
 use Rattle.vss_world.proofs.Options.{none_from}
@@ -15,37 +15,17 @@ use Rattle.vss_world.proofs.ToCome.{all_provided}
 -- ## where nothing changes
 
 pub prepared_same : {D : Type 0} (p q : ProviderValue D) (st : State) → q ≡ record p { groups = q.groups } → IsPrepared p st → IsPrepared q st
-prepared_same {D = D} p q st same h = subst (λ (z : ProviderValue D). IsPrepared z st) (sym same) (record { volumes = h.volumes; set = h.set; distinct = h.distinct })
+prepared_same p q st same h = grind arith
 
 pub prepared_none : {D : Type 0} (p : ProviderValue D) (st : State) → p.volumes ≡ [] → p.set ≡ 0 → in_progress st ≡ None → IsPrepared p st
-prepared_none p st volumes set none = record {
-  volumes = volumes ∙ sym (ap volumes_of none);
-  set = set ∙ sym (ap (λ (o : Option SetRow). number_prepared o st.course.agenda) none);
-  distinct = ap are_distinct volumes;
-}
-
-number_same : (o p : Option SetRow) (a b : Option Agenda) → IsSameSet o p → runs_snapshot b ≡ runs_snapshot a → number_prepared o a ≡ number_prepared p b
-number_same None None a b same e = refl
-number_same None (Some q) a b same e = absurd same
-number_same (Some r) None a b same e = absurd same
-number_same (Some r) (Some q) None None same e = refl
-number_same (Some r) (Some q) None (Some b) same e = ap (λ (t : Bool). if t then q.number else 0) (sym e)
-number_same (Some r) (Some q) (Some a) None same e = ap (λ (t : Bool). if t then r.number else 0) (sym e)
-number_same (Some r) (Some q) (Some a) (Some b) same e = ap (λ (t : Bool). if t then r.number else 0) (sym e) ∙ ap (λ (n : ℕ). if is_snapshot b.kind then n else 0) (sym same.0)
+prepared_none p st volumes set none = grind arith
 
 pub volumes_same : (o p : Option SetRow) → IsSameSet o p → volumes_of o ≡ volumes_of p
-volumes_same None None same = refl
-volumes_same None (Some q) same = absurd same
-volumes_same (Some r) None same = absurd same
-volumes_same (Some r) (Some q) same = sym same.1
+volumes_same o p same = grind arith
 
 pub prepared_stays : {D : Type 0} (p : ProviderValue D) (st next : State) (test : ℕ → Bool) → StaysOn test st.course.agenda next.course.agenda (in_progress st) (in_progress next) → IsPrepared p st
     → IsPrepared p next
-prepared_stays p st next test stays h = record {
-  volumes = h.volumes ∙ volumes_same (in_progress st) (in_progress next) stays.set;
-  set = h.set ∙ number_same (in_progress st) (in_progress next) st.course.agenda next.course.agenda stays.set stays.snapshot;
-  distinct = h.distinct;
-}
+prepared_stays p st next test stays h = grind arith
 
 -- ## images of no set
 
@@ -125,27 +105,13 @@ before_snapshot s acts r e plain = nothing_dropped r.number (state s acts).volum
 -- the provider's number names the images of the set in progress, where it has any
 pub number_dropped : (s : Plan) (acts : List Act) (r : SetRow) → in_progress (state s acts) ≡ Some r
     → map (dropped (number_prepared (Some r) (state s acts).course.agenda)) (state s acts).volumes ≡ map (dropped r.number) (state s acts).volumes
-number_dropped s acts r e = by_agenda (state s acts).course.agenda refl
-  where
-    plainly : runs_snapshot (state s acts).course.agenda ≡ false → map (dropped 0) (state s acts).volumes ≡ map (dropped r.number) (state s acts).volumes
-    plainly plain = zero_dropped (state s acts).volumes (none_of_zero s acts) ∙ sym (before_snapshot s acts r e plain)
-
-    by_kind : (a : Agenda) (b : Bool) → (state s acts).course.agenda ≡ Some a → is_snapshot a.kind ≡ b
-        → map (dropped (if b then r.number else 0)) (state s acts).volumes ≡ map (dropped r.number) (state s acts).volumes
-    by_kind a true f k = refl
-    by_kind a false f k = plainly (ap runs_snapshot f ∙ k)
-
-    by_agenda : (o : Option Agenda) → (state s acts).course.agenda ≡ o → map (dropped (number_prepared (Some r) o)) (state s acts).volumes ≡ map (dropped r.number) (state s acts).volumes
-    by_agenda None f = plainly (ap runs_snapshot f)
-    by_agenda (Some a) f = by_kind a (is_snapshot a.kind) f refl
+number_dropped s acts r e = grind (arith, zero_dropped, none_of_zero, before_snapshot)
 
 pub runs_number : (r : SetRow) (a : Option Agenda) → runs_snapshot a ≡ true → number_prepared (Some r) a ≡ r.number
-runs_number r None e = cc
-runs_number r (Some a) e = ap (λ (t : Bool). if t then r.number else 0) e
+runs_number r a e = grind arith
 
 plain_coming : (a : Option Agenda) → runs_snapshot a ≡ false → (v : ℕ) → is_to_come a v ≡ false
-plain_coming None e v = refl
-plain_coming (Some a) e v = ap (λ (t : Bool). t && has_said a.log (plain Cut) 0 && not (has_said a.log (plain Commit) v)) e
+plain_coming a e v = grind arith
 
 -- where no snapshot's agenda runs the provider has all images
 pub plain_provided : (st : State) → runs_snapshot st.course.agenda ≡ false → provided st ≡ st.volumes
@@ -154,15 +120,7 @@ plain_provided st e = all_provided (in_progress st) st.course.agenda st.volumes 
 -- it names them among those that the provider has, too
 pub provided_dropped : (s : Plan) (acts : List Act) (r : SetRow) → in_progress (state s acts) ≡ Some r
     → map (dropped (number_prepared (Some r) (state s acts).course.agenda)) (provided (state s acts)) ≡ map (dropped r.number) (state s acts).volumes
-provided_dropped s acts r e = by_snapshot (runs_snapshot (state s acts).course.agenda) refl
-  where
-    by_snapshot : (b : Bool) → runs_snapshot (state s acts).course.agenda ≡ b
-        → map (dropped (number_prepared (Some r) (state s acts).course.agenda)) (provided (state s acts)) ≡ map (dropped r.number) (state s acts).volumes
-    by_snapshot true f =
-        ap (λ (n : ℕ). map (dropped n) (provided (state s acts))) (runs_number r (state s acts).course.agenda f)
-        ∙ ap (λ (o : Option SetRow). map (dropped r.number) (provided_of o (state s acts).course.agenda (state s acts).volumes)) e
-        ∙ dropped_without (is_to_come (state s acts).course.agenda) r.number (state s acts).volumes
-    by_snapshot false f = ap (λ (hs : List History). map (dropped (number_prepared (Some r) (state s acts).course.agenda)) hs) (plain_provided (state s acts) f) ∙ number_dropped s acts r e
+provided_dropped s acts r e = grind (arith, runs_number, dropped_without, plain_provided, number_dropped)
 
 -- the set in progress has images on its volumes alone
 pub no_image_elsewhere : (s : Plan) (acts : List Act) (r : SetRow) (k : ℕ) (h : History) → in_progress (state s acts) ≡ Some r → slice_get (state s acts).volumes k ≡ Some h
@@ -218,33 +176,13 @@ module _ {D : Type 0} (device : Ghosts D) (s : Plan) (p : ProviderValue D) (st n
       ∙ sym (ap (λ (o : Option SetRow). provided_of o next.course.agenda made) f)
 
   zero_ends : (x : Option SetRow) (result : SetOutcome) → EndsAs x 0 result → x ≡ None
-  zero_ends None result h = refl
-  zero_ends (Some r) result h = absurd (let l : 0 < 0 = h.2 in omega (arith, l))
+  zero_ends x result h = grind arith
 
   none_ends_here : (o : Option SetRow) → in_progress st ≡ o → IsOverIf test o next.sets → ended_of o next.sets ≡ None → o ≡ None
-  none_ends_here None e over none = refl
-  none_ends_here (Some r) e over none = absurd (let f : Some over.row ≡ None = sym over.ended ∙ none in cc)
+  none_ends_here o e over none = grind arith
 
   nothing_ends : (result : SetOutcome) (q : ProviderValue D) → q ≡ p → EndsAs (ended_of (in_progress st) next.sets) 0 result → Comes result 0 q
-  nothing_ends result q same ends = subst (λ (z : ProviderValue D). Comes result 0 z) (sym same) (by_way is.goes, by_result result)
-    where
-      all : GoesBy test st next → base ≡ kept_of made
-      all (inl stays) = same_there (in_progress st) (in_progress next) refl refl stays.set stays.coming
-      all (inr over) = is.none (none_ends_here (in_progress st) refl over.over (zero_ends (ended_of (in_progress st) next.sets) result ends)) ∙ sym (none_left over.none made)
-
-      stand : AreGroups device.told s p.groups (kept_of made)
-      stand = subst (AreGroups device.told s p.groups) (all is.goes) groups
-
-      by_way : GoesBy test st next → IsPrepared p next
-      by_way (inl stays) = prepared_stays p st next test stays is.prepared
-      by_way (inr over) =
-          let none = none_ends_here (in_progress st) refl over.over (zero_ends (ended_of (in_progress st) next.sets) result ends) in
-          prepared_none p next (is.prepared.volumes ∙ ap volumes_of none) (is.prepared.set ∙ ap (λ (o : Option SetRow). number_prepared o st.course.agenda) none) over.none
-
-      by_result : (o : SetOutcome) → AreGroups device.told s p.groups (kept_of (without_images (failed_set o 0) made))
-      by_result Running = stand
-      by_result Complete = stand
-      by_result (Failed why) = subst (λ (hs : List History). AreGroups device.told s p.groups (kept_of hs)) (sym (zero_dropped made is.above)) stand
+  nothing_ends result q same ends = grind (arith, same_there, none_ends_here, zero_ends, none_left, prepared_stays, prepared_none, zero_dropped)
 
   -- a set that ends is not in progress any more
   gone_from : (n : ℕ) (result : SetOutcome) (o : Option SetRow) → in_progress st ≡ o → EndsAs (ended_of o next.sets) (suc n) result → EndsHere st next test n result
@@ -320,13 +258,10 @@ pub record IsUnended {D : Type 0} (told : D → Option (List (List ℕ))) (s : P
 
 module _ {D : Type 0} (device : Ghosts D) (s : Plan) (p : ProviderValue D) (made : List History) (above : NoneOfZero made) (groups : AreGroups device.told s p.groups made) where
   fails_none : (n : ℕ) (result : SetOutcome) → n ≡ 0 → AreGroups device.told s p.groups (without_images (failed_set result n) made)
-  fails_none n Running e = groups
-  fails_none n Complete e = groups
-  fails_none n (Failed why) e = subst (λ (k : ℕ). AreGroups device.told s p.groups (map (dropped k) made)) (sym e) (subst (AreGroups device.told s p.groups) (sym (zero_dropped made above)) groups)
+  fails_none n result e = grind (arith, zero_dropped)
 
   ends_nothing : (n : ℕ) (result : SetOutcome) (q : ProviderValue D) → n ≡ 0 → IsEnded device n result p q → q ≡ p
-  ends_nothing zero result q e h = h
-  ends_nothing (suc n) result q e h = cc
+  ends_nothing n result q e h = grind arith
 
   releases : (o : Option ℕ) (q : ProviderValue D) (hs : List History) → IsReleased device o p q → AreGroups device.told s p.groups hs → IsUnended device.told s p q (without_images o hs)
   releases None q hs h stand = subst (λ (z : ProviderValue D). IsUnended device.told s p z hs) (sym h) (record { volumes = refl; set = refl; groups = stand })
@@ -340,8 +275,7 @@ module _ {D : Type 0} (device : Ghosts D) (s : Plan) (p : ProviderValue D) (made
       (fails_none m.outcome.set m.outcome.result none))
 
 pub none_ended : (x : Option SetRow) (n : ℕ) (result : SetOutcome) → x ≡ None → EndsAs x n result → n ≡ 0
-none_ended None n result e h = h
-none_ended (Some r) n result e h = cc
+none_ended x n result e h = grind arith
 
 -- ## the devices stay
 
@@ -360,13 +294,7 @@ module _ {D : Type 0} (device : Ghosts D) where
   released_keeps (Some n) p q h = (h.1.kept, h.1.devices)
 
   settled_as : (m : SessionMove) (p q : ProviderValue D) → IsSettled device m p q → AreKept device p.groups q.groups × (devices_of q.groups ≡ devices_of p.groups)
-  settled_as m p q h =
-      let a = ended_keeps m.outcome.set m.outcome.result p h.0 h.1 in
-      let b = released_keeps m.released h.0 q h.2 in
-      (kept_trans device p.groups h.0.groups q.groups a.0 b.0, b.1 ∙ a.1)
+  settled_as m p q h = grind (arith, ended_keeps, released_keeps, kept_trans)
 
   pub settled_keeps : (m : SessionMove) (p q : ProviderValue D) → IsSettled device m p q → AreKept device p.groups q.groups × (counts_of device.count q.groups ≡ counts_of device.count p.groups)
   settled_keeps m p q h = let a = settled_as m p q h in (a.0, ap (map device.count) a.1)
-
-  pub settled_devices : (m : SessionMove) (p q : ProviderValue D) → IsSettled device m p q → devices_of q.groups ≡ devices_of p.groups
-  settled_devices m p q h = (settled_as m p q h).1

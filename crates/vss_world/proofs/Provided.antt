@@ -1,5 +1,5 @@
 -- The number of the set in progress, and the volume of the provider's next step.
-use Rattle.std.proofs.Common.{◌≡◌, ℕ, ◌<◌, ◌==◌, List, [], ◌∷◌, length, refl, sym, ◌∙◌, subst, arith, Bool, true, false, ◌||◌, Option, Some, None, IfSome}
+use Rattle.std.proofs.Common.{◌≡◌, ℕ, ◌<◌, ◌==◌, List, [], ◌∷◌, length, refl, subst, arith, Bool, true, false, ◌||◌, Option, Some, IfSome}
 use Rattle.vss_world.proofs.Words.{Act, AreBelow, Evicted, IsInPlan, Plan, ProviderValue, SessionsValue, SetRow, Stands, State, current_kept, current_of, eqb-true, found_above, in_progress, is_among}
 use Rattle.vss_world.proofs.Words.{left_now, next_volume, orderly, state}
 use Rattle.vss_world.proofs.Moved.{world_of}
@@ -14,19 +14,15 @@ number_above s acts r is = let l = found_above 1 (state s acts).sets r (orderly 
 
 pub set_above : {D : Type 0} (blocks_told : D → Option (List (List ℕ))) (s : Plan) (p : ProviderValue D) (x : SessionsValue) (l : List ℕ) (e : List Evicted) (acts : List Act)
     → Stands blocks_told (world_of p x l e) s acts → (n : ℕ) → current_of x.sets ≡ Some n → 0 < n
-set_above blocks_told s p x l e acts stands n is =
-    let r = some_current (in_progress (state s acts)) n (sym is ∙ current_kept x (state s acts) stands.at.sessions) in
-    subst (λ (k : ℕ). 0 < k) r.2 (number_above s acts r.0 r.1)
+set_above blocks_told s p x l e acts stands n is = grind (arith, some_current, current_kept, number_above)
 
 -- ## its volume
 
 below_some : (n : ℕ) (o : Option ℕ) → IsBelowIf n o → IfSome o (λ v. v < n)
-below_some n None h = tt
-below_some n (Some v) h = h
+below_some n o h = grind arith
 
 pub volume_within : (s : Plan) (st : State) (volume : Option ℕ) (n : ℕ) → IsInPlan s st → n ≡ length s.volumes → next_volume (left_now st) ≡ volume → IfSome volume (λ v. v < n)
-volume_within s st volume n plan long is = subst (λ o. IfSome o (λ v. v < n)) is
-    (subst (λ k. IfSome (next_volume (left_now st)) (λ v. v < k)) (sym long) (below_some (length s.volumes) (next_volume (left_now st)) (next_below s st.course.agenda plan.agenda)))
+volume_within s st volume n plan long is = grind (arith, below_some, next_below)
 
 pub below_among : (n v : ℕ) (vs : List ℕ) → AreBelow n vs → is_among v vs ≡ true → v < n
 below_among n v [] h e = cc

@@ -1,24 +1,24 @@
 -- A write, against the acts: the images that it needs gone, and the set in progress that fails where its own goes.
-use Rattle.std.proofs.Common.{◌≡◌, ℕ, zero, suc, ◌<◌, ◌≤◌, ◌==◌, List, [], ◌∷◌, length, refl, ap, sym, ◌∙◌, subst, arith, Bool, true, false, Option, Some, None, map, filter, slice_get}
+use Rattle.std.proofs.Common.{◌≡◌, ℕ, zero, suc, ◌<◌, ◌≤◌, ◌==◌, List, [], ◌∷◌, length, refl, ap, sym, ◌∙◌, subst, arith, Bool, true, false, Option, Some, None, map, slice_get}
 use Rattle.std.specs.Prelude.{option_map, is_some, not, ◌&&◌, ◌||◌, if◌then◌else◌, Result, Ok, Err}
-use Rattle.std.proofs.lemmas.Bool.{and_parts, eqb-true, not-true}
+use Rattle.std.proofs.lemmas.Bool.{and_parts, not-true}
 use Rattle.vss_model.specs.Words.{Act, Agenda, EndsAs, Evicted, Failed, Fits, HasLists, History, Image, InsufficientStorage, IsBlock, Mark, Op, Placed, Plan, Replied, Reply, Running, SetOutcome}
-use Rattle.vss_model.specs.Words.{SetRow, State, Write, WriterRow, Writes, act_of, acts_as, after, allows_by, change_at, cleared, does, dropped, ended_of, evicted, evicted_at, evicted_for, failed_in}
-use Rattle.vss_model.specs.Words.{going_up_to, gone_up_to, group_of, has_image, has_lost_image, history_in, history_of, images_dropped, in_progress, is_free, is_held, is_kept_set, is_running}
-use Rattle.vss_model.specs.Words.{left_now, line, line_allows, line_enabled, line_of, lost, lost_after, lost_order_if, mark_of, may_do, may_write, order_now, placed, placed_in, point_in, put}
-use Rattle.vss_model.specs.Words.{reply_of_mark, set_loses_image, slots_of, state, target_in, ticks_by, with_room, with_room_if, written}
+use Rattle.vss_model.specs.Words.{SetRow, State, Write, WriterRow, act_of, acts_as, after, change_at, cleared, dropped, ended_of, evicted, evicted_for, failed_in}
+use Rattle.vss_model.specs.Words.{going_up_to, gone_up_to, group_of, has_image, has_lost_image, history_in, history_of, images_dropped, in_progress, is_free, is_held, is_running}
+use Rattle.vss_model.specs.Words.{left_now, line, line_allows, line_enabled, line_of, lost, lost_order_if, mark_of, may_write, order_now, placed, placed_in, point_in, put}
+use Rattle.vss_model.specs.Words.{reply_of_mark, set_loses_image, slots_of, state, with_room, with_room_if, written}
 use Rattle.vss_world.specs.Words.{IsFailed, IsInOrder, IsOf as IsSessionsOf, Keeps, Leaves, Line, Outcome, SessionsValue, current_of}
-use Rattle.provider.specs.Words.{Cause, Ghosts, Payload}
+use Rattle.provider.specs.Words.{Cause, Ghosts}
 use Rattle.vss_model.proofs.Words.{UpTo, image_runs, images_up_to, new-is, newest_number, none_after, orderly, some_rows}
 use Rattle.provider.proofs.Kept.{kept_same, kept_trans}
-use Rattle.provider.proofs.Words.{AreGroups, AreKept, AreWithout, HasCause, IsLastSet, IsPut, ProviderValue, counts_of, devices_of, fault_of, images_going}
+use Rattle.provider.proofs.Words.{AreGroups, AreKept, AreWithout, HasCause, IsLastSet, IsPut, ProviderValue, counts_of, devices_of, fault_of}
 use Rattle.provider.proofs.Words.{number_is as own_number, put_if, slice_get_inside, slice_get_map}
 use Rattle.vss_world.proofs.Words.{IfStands, IsBlocked, IsInPlan, IsMoved, IsOf, IsPrepared, IsWriteBy, IsWriteLine, MakesRoom, RoseFor, Stands, StandsAt, WorldValue, comes, current_kept, is_to_come}
 use Rattle.vss_world.proofs.Words.{no_row as none_current, number_of, number_prepared, provided, provided_of, simple_outcome, tells_of, told_if, volume_by}
 use Rattle.scenario.specs.declared.line.Line.{Line as Does}
 use Rattle.vss_model.specs.Images.{write}
 use Rattle.vss_world.proofs.Moved.{world_of, OfDevices, Comes, goes_on, leaves_of, in_order, moved, clean_devices, failed_devices, rose_for}
-use Rattle.vss_world.proofs.Simple.{LineComes, with_volumes, line_moves, after_line}
+use Rattle.vss_world.proofs.Simple.{LineComes, line_moves, after_line}
 use Rattle.vss_world.proofs.InPlan.{in_failed_in}
 use Rattle.vss_world.proofs.Losing.{AllUpTo, not_lost, lost_at, up_to_most}
 use Rattle.vss_world.proofs.KeptSets.{up_to_filter}
@@ -40,8 +40,7 @@ all_up : (s : Plan) (acts : List Act) → AllUpTo (length (state s acts).sets) (
 all_up s acts = let o = orderly s acts in all_of _ _ (λ v. images_up_to (state s acts).sets (state s acts).volumes v o.numbered o.live)
 
 in_if : (b : Bool) (n m p : ℕ) (s : ℕ) (o : Option ℕ) → (s == n) ≡ b → s ≤ m → is_some (if b then Some p else o) ≡ true → (is_some o ≡ true → n ≤ m) → n ≤ m
-in_if true n m p s o e l h f = let same = eqb-true s n e in omega (arith, same, l)
-in_if false n m p s o e l h f = f h
+in_if b n m p s o e l h f = grind arith
 
 in_up_to : (n m : ℕ) (images : List Image) → UpTo m images → is_some (point_in n images) ≡ true → n ≤ m
 in_up_to n m [] up h = absurd cc
@@ -66,34 +65,17 @@ pub record IsWriting (s : Plan) (lane : ℕ) (op : Op) (v : ℕ) (w : Write) : T
   pub nobody : (st : State) → lost st (Line lane op) ≡ []
   pub of_volume : volume_by (line_of op) ≡ Some v
 
-allowed_by : (s : Plan) (v b : ℕ) (payload : Payload) (done : Result Unit Cause) (st : State) → allows_by s st (Writes v b payload) (mark_of (told_if done)) ≡ true
-allowed_by s v b payload (Ok done) st = refl
-allowed_by s v b payload (Err cause) st = refl
-
 writing_by : (s : Plan) (lane : ℕ) (op : Op) (l : Does) (v : ℕ) (w : Write) → line_of op ≡ l → IsWriteBy l v w → IsWriting s lane op v w
-writing_by s lane op (Writes u b payload) v w is h =
-    subst (λ (z : ℕ). IsWriting s lane op z w) h.0
-    (subst (λ (z : Write). IsWriting s lane op u z) (sym h.1)
-    (record {
-      is_write = λ mark st. ap (λ l. does s lane op l mark st) is;
-      on = λ st. ap (may_do s st lane) is;
-      allowed = λ done st. ap (λ l. allows_by s st l (mark_of (told_if done))) is ∙ allowed_by s u b payload done st;
-      target = λ st. ap (λ l. evicted_at s st (target_in l)) is;
-      nobody = λ st. ap (λ l. lost_after (ticks_by l) st) is;
-      of_volume = ap volume_by is;
-    }))
-writing_by s lane op _ v w is h = absurd h
+writing_by s lane op l v w is h = grind arith
 
 pub writing : (s : Plan) (lane : ℕ) (op : Op) (v : ℕ) (w : Write) → IsWriteLine op v w → IsWriting s lane op v w
 writing s lane op v w h = writing_by s lane op (line_of op) v w refl h
 
 said_fits : (tells : List Bool) (done : Result Unit Cause) → Fits tells (reply_of_mark (mark_of (told_if done))) (told_if done)
-said_fits tells (Ok done) = refl
-said_fits tells (Err cause) = refl
+said_fits tells done = grind arith
 
 said_lists : (done : Result Unit Cause) (listed : List ℕ) (rows : List WriterRow) → HasLists (reply_of_mark (mark_of (told_if done))) listed rows
-said_lists (Ok done) listed rows = tt
-said_lists (Err cause) listed rows = tt
+said_lists done listed rows = grind arith
 
 written_is : (s : Plan) (v : ℕ) (w : Write) (mark : Mark) (st next : State) → with_room s v w.block st ≡ next → write s v w mark st ≡ (reply_of_mark mark, put v w mark next)
 unfolding write
@@ -146,19 +128,16 @@ put_devices {device = device} {s = s} {lane = lane} {op = op} {v = v} {p = p} {q
 -- ## histories
 
 put_sets : (done : Result Unit Cause) (v : ℕ) (w : Write) (st : State) → (put v w (mark_of (told_if done)) st).sets ≡ st.sets
-put_sets (Ok done) v w st = refl
-put_sets (Err cause) v w st = refl
+put_sets done v w st = grind arith
 
 -- what the provider has of what was written
 put_provided : (done : Result Unit Cause) (v : ℕ) (w : Write) (o : Option SetRow) (a : Option Agenda) (hs : List History) → put_if done v w (provided_of o a hs) ≡ provided_of o a (put_if done v w hs)
-put_provided (Ok done) v w o a hs = change_without (comes o a) (number_of o) (written w) (written_apart w (number_of o)) v hs
-put_provided (Err cause) v w o a hs = refl
+put_provided done v w o a hs = grind (arith, change_without, written_apart)
 
 put_parts : {D : Type 0} (blocks_told : D → Option (List (List ℕ))) (q : ProviderValue D) (x : SessionsValue) (s : Plan) (done : Result Unit Cause) (v : ℕ) (w : Write) (st : State)
     → Keeps x st → IsInPlan s st → IsPrepared q st → AreGroups blocks_told s q.groups (provided_of (in_progress st) st.course.agenda (put_if done v w st.volumes))
     → StandsAt blocks_told q x s (put v w (mark_of (told_if done)) st)
-put_parts blocks_told q x s (Ok done) v w st k plan prepared groups = with_volumes blocks_told q x s st (put_if (Ok done) v w st.volumes) k plan prepared groups
-put_parts blocks_told q x s (Err cause) v w st k plan prepared groups = record { groups = groups; prepared = prepared; sessions = k; plan = plan }
+put_parts blocks_told q x s done v w st k plan prepared groups = grind arith
 
 map_put : (done : Result Unit Cause) (v : ℕ) (w : Write) (n : ℕ) (hs : List History) → map (dropped n) (put_if done v w hs) ≡ put_if done v w (map (dropped n) hs)
 map_put (Err cause) v w n hs = refl
@@ -172,8 +151,7 @@ map_put (Ok done) v w n hs = changed v hs
 -- ## which set is in progress
 
 pub some_current : (o : Option SetRow) (n : ℕ) → Some n ≡ option_map (λ (r : SetRow). r.number) o → (r : SetRow) × (o ≡ Some r) × (r.number ≡ n)
-some_current None n e = cc
-some_current (Some r) n e = (r, refl, cc)
+some_current o n e = grind arith
 
 -- an image that is lost stood
 lost_stood : (n : ℕ) (hs ks : List History) → has_lost_image n hs ks ≡ true → (k p : ℕ) × (point_in n (history_in (slice_get hs k)).images ≡ Some p)
@@ -216,29 +194,22 @@ module _ {D : Type 0} {device : Ghosts D} {s : Plan} {lane : ℕ} {op : Op} {v :
       (all_unnamed s acts) (free_volume s acts v unheld)
 
   cleared_groups : AreGroups device.told s q.groups (of base.volumes)
-  cleared_groups = subst (AreGroups device.told s q.groups)
-      (ap (λ (k : ℕ). gone_up_to k (group_of s v) (provided st)) far
-      ∙ gone_without (comes (in_progress st) st.course.agenda) (number_of (in_progress st)) (going_up_to s v w.block st) (group_of s v) st.volumes)
-      (h.makes.stands (provided st) stands.at.groups)
+  cleared_groups = grind (arith, far, gone_without)
 
   put_groups : AreGroups device.told s r.groups (of (put_if done v w base.volumes))
-  put_groups = subst (AreGroups device.told s r.groups) (put_provided done v w (in_progress st) st.course.agenda base.volumes) (h.puts.stands (of base.volumes) cleared_groups)
+  put_groups = grind (arith, put_provided, cleared_groups)
 
   prepares : IsPrepared r st
   prepares = prepared_same q r st h.rest (prepared_same p q st h.makes.rest stands.at.prepared)
 
   cleared_keeps : Keeps x base
-  cleared_keeps =
-      let k = stands.at.sessions in
-      record { session = k.session; made = k.made; course = k.course; sets = k.sets; clock = k.clock; explicit = k.explicit; over = k.over; on_time = k.on_time; disabled = k.disabled }
+  cleared_keeps = grind arith
 
   cleared_plan : IsInPlan s base
   cleared_plan = let k = stands.at.plan in record { sets = k.sets; agenda = k.agenda; members = k.members; disabled = k.disabled }
 
   gone : f ≡ evicted_for s st v w.block
-  gone = h.makes.kept st stands.at.sessions (provided st) stands.at.groups
-      ∙ ap (λ (k : ℕ). filter (λ (i : Evicted). is_kept_set st i.set) (images_going k (group_of s v) (provided st))) far
-      ∙ evicted_is s v w.block st (orderly s acts).numbered (up_to_most _ (length st.sets))
+  gone = grind (arith, far, evicted_is, orderly, up_to_most)
 
   abbrev IsAnswered : Type 0
   IsAnswered = LineComes device.told s lane op (told_if done) tells r x l f st

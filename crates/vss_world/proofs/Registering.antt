@@ -2,7 +2,7 @@
 use Rattle.std.proofs.Common.{◌≡◌, ℕ, zero, suc, ◌+◌, ◌≤◌, List, [], ◌∷◌, ◌++◌, length, refl, ap, sym, ◌∙◌, subst, arith, take, Bool, false, Option, Some, None, map, slice_get, option_map, Result}
 use Rattle.std.proofs.Common.{if◌then◌else◌}
 use Rattle.vss_world.proofs.Words.{AreFirst, CoordinatorState, Course, Differ, Distinct, HasNames, HasRegistered, IsOnTime, Keeps, Meta, Metadata, Plan, RegisterFault, Registered, SessionsValue, Span}
-use Rattle.vss_world.proofs.Words.{WriterPlan, WriterRow, bytes_eq, bytes_eq-Decides, bytes_of, classes_registered, course_start, double_of, false_from_ne_true, first_row, map-append, map-map}
+use Rattle.vss_world.proofs.Words.{WriterPlan, WriterRow, bytes_eq, bytes_eq-Decides, bytes_of, course_start, double_of, false_from_ne_true, first_row, map-append, map-map}
 use Rattle.vss_world.proofs.Words.{meta_of, place_of, position_from, position_from-zero, registered_as, registered_in, row_of_writer, start, take_all, token, true_not_false, writer_count}
 use Rattle.vss_world.proofs.Words.{writer_spans}
 use Rattle.vss_world.specs.Words.{Stands}
@@ -16,8 +16,7 @@ record IsWriterAt (s : Plan) (k : ℕ) (span : Span) : Type 0 where
   name : writer.name ≡ span
 
 writer_at : (s : Plan) (k : ℕ) (span : Span) (found : Option WriterPlan) → slice_get s.writers k ≡ found → option_map (λ (w : WriterPlan). w.name) found ≡ Some span → IsWriterAt s k span
-writer_at s k span None at e = cc
-writer_at s k span (Some w) at e = record { writer = w; at = at; name = cc }
+writer_at s k span found at e = grind arith
 
 meta_at : (found : Option WriterPlan) (w : WriterPlan) (m : Meta) → found ≡ Some w → option_map (λ (x : WriterPlan). x.meta) found ≡ Some m → m ≡ w.meta
 meta_at found w m at e = let same : Some m ≡ Some w.meta = sym e ∙ ap (option_map (λ (x : WriterPlan). x.meta)) at in cc
@@ -87,15 +86,4 @@ registers s k old new span name found given before e meta copied is stands write
 -- after the last
 pub all_registered : (s : Plan) (k : ℕ) (x : SessionsValue) (c : CoordinatorState) → length s.writers ≤ k → k ≤ length s.writers → HasRegistered s k c
     → ((t : Plan) → Stands c (start t).course → Keeps x (start t)) → x.coordinator ≡ c → x.clock ≡ 0 → AreFirst s x
-all_registered s k x c past within has keeps same clock =
-    let all : take k s.writers ≡ s.writers = take_all k s.writers past in
-    record {
-      keeps = keeps s (subst (λ (ws : List WriterPlan). Stands c (course_start (map row_of_writer ws))) all has.stands);
-      writers = record {
-        classes = ap (λ (z : CoordinatorState). classes_registered z.writers) same ∙ ap classes_registered (has.writers ∙ ap (map (registered_as s)) all)
-            ∙ map-map (λ (r : Registered). r.class) (registered_as s) s.writers;
-        count = ap writer_count same ∙ (let count = has.count in omega (arith, count, past, within));
-      };
-      posts = ap (λ (z : CoordinatorState). z.posts) same ∙ has.posts;
-      clock = clock;
-    }
+all_registered s k x c past within has keeps same clock = grind (arith, take_all, map-map)

@@ -1,11 +1,11 @@
 -- Images that are deleted, and volumes that are brought back to one, against the definitions.
-use Rattle.std.proofs.Common.{◌≡◌, ℕ, suc, ◌+◌, ◌<◌, ◌≤◌, ◌==◌, List, [], ◌∷◌, length, refl, ap, sym, ◌∙◌, subst, arith, Bool, true, false, ◌&&◌, Option, Some, None, map, take, is_none, nat_lt, not}
+use Rattle.std.proofs.Common.{◌≡◌, ℕ, suc, ◌+◌, ◌<◌, ◌≤◌, ◌==◌, List, [], ◌∷◌, length, refl, ap, sym, ◌∙◌, subst, arith, Bool, true, false, ◌&&◌, Option, Some, None, map, nat_lt}
 use Rattle.std.proofs.Common.{option_map, if◌then◌else◌, Ok, Err}
 use Rattle.vss_world.proofs.Words.{Act, AreGroups, AreWithout, Cause, Clean, DeleteImage, DeleteSet, Deleted, Evicted, FaultAfter, FaultedAfter, Fine, Ghosts, GroupValue, HasGroups, History}
-use Rattle.vss_world.proofs.Words.{Image, IsDropped, IsMoved, IsOf, IsPlan, IsRevert, Keeps, Kept, Line, Mark, ObjectNotFound, Plan, ProviderValue, Revert, SessionsValue, SetFacts, SetRow}
+use Rattle.vss_world.proofs.Words.{IsDropped, IsMoved, IsOf, IsPlan, IsRevert, Keeps, Kept, Line, Mark, ObjectNotFound, Plan, ProviderValue, Revert, SessionsValue, SetFacts, SetRow}
 use Rattle.vss_world.proofs.Words.{SnapshotSetInProgress, Stands, State, UnsupportedContext, VssResult, Write, blocks_of, change_at, comes, count_images, count_within as few_images, delete_kept}
 use Rattle.vss_world.proofs.Words.{dropped, facts_of, has_image, history_at, history_of, in_progress, is_among, is_backup, is_in_set, is_kept_set, kept_image, lt-ltb, may_stop_after, number_of}
-use Rattle.vss_world.proofs.Words.{point_in, provided, refused, restorable, revert_refusal, revert_to, reverted, reverted_in_part, row_number, row_of, simple_outcome, state, to_restore, volumes_of}
+use Rattle.vss_world.proofs.Words.{point_in, provided, refused, revert_refusal, revert_to, reverted, reverted_in_part, row_number, row_of, simple_outcome, state, to_restore, volumes_of}
 use Rattle.vss_world.proofs.Words.{without}
 use Rattle.provider.specs.Words.{Fault}
 use Rattle.vss_model.specs.declared.told.Told.TheVariants as told
@@ -22,15 +22,13 @@ use Rattle.vss_world.proofs.Looking.{IsKeptIf, IsOnImage, of_image, provided_poi
 -- a volume was changed, whether the image that is to come is there or not
 changed_groups : {D : Type 0} {told : D → Option (List (List ℕ))} {s : Plan} {groups : List (GroupValue D)} (st : State) (v : ℕ) (f : History → History) → ((n : ℕ) → LeavesApart n f)
     → AreGroups told s groups (change_at v f (provided st)) → AreGroups told s groups (provided (record st { volumes = change_at v f st.volumes }))
-changed_groups {told = told} {s = s} {groups = groups} st v f apart are =
-    subst (AreGroups told s groups) (change_without (comes (in_progress st) st.course.agenda) (number_of (in_progress st)) f (apart (number_of (in_progress st))) v st.volumes) are
+changed_groups st v f apart are = grind (arith, change_without)
 
 reverted_apart : (m point n : ℕ) → LeavesApart n (reverted m point)
-reverted_apart m point n h = ap (λ (is : List Image). record { writes = take point h.writes; images = is }) (filter_twice (λ i. not (nat_lt m i.set)) (λ i. not (i.set == n)) h.images)
+reverted_apart m point n h = grind (arith, filter_twice)
 
 in_part_apart : (blocks m point k n : ℕ) → LeavesApart n (reverted_in_part blocks m point k)
-in_part_apart blocks m point k n h = ap (λ (is : List Image). record { writes = (reverted_in_part blocks m point k h).writes; images = is })
-    (filter_twice (λ i. not (nat_lt m i.set)) (λ i. not (i.set == n)) h.images)
+in_part_apart blocks m point k n h = grind (arith, filter_twice)
 
 count_without : (test : ℕ → Bool) (r n : ℕ) (hs : List History) → ((k : ℕ) → test k ≡ true → (r == n) ≡ false) → count_images n (without test r hs) ≡ count_images n hs
 count_without test r n [] apart = refl
@@ -40,9 +38,7 @@ count_without test r n (h ∷ hs) apart =
 
 -- as many images of a complete set
 count_at : (s : Plan) (acts : List Act) (n : ℕ) → is_kept_set (state s acts) n ≡ true → count_images n (provided (state s acts)) ≡ count_images n (state s acts).volumes
-count_at s acts n complete =
-    let st = state s acts in
-    count_without (comes (in_progress st) st.course.agenda) (number_of (in_progress st)) n st.volumes (other_set st n (in_order s acts).numbered complete)
+count_at s acts n complete = grind (arith, count_without, other_set, in_order)
 
 -- ## a set
 
@@ -50,9 +46,7 @@ count_at s acts n complete =
 deleted_if : (n : ℕ) (st : State) (complete some : Bool) → is_kept_set st n ≡ complete → nat_lt 0 (count_images n st.volumes) ≡ some
     → delete_set n st ≡ (if complete && some then (Deleted (count_images n st.volumes), record st { volumes = map (dropped n) st.volumes }) else refused ObjectNotFound st)
 unfolding delete_set
-deleted_if n st complete some e f = ap
-    (λ (t : Bool). if t && nat_lt 0 (count_images n st.volumes) then (Deleted (count_images n st.volumes), record st { volumes = map (dropped n) st.volumes }) else refused ObjectNotFound st) e
-    ∙ ap (λ (t : Bool). if complete && t then (Deleted (count_images n st.volumes), record st { volumes = map (dropped n) st.volumes }) else refused ObjectNotFound st) f
+deleted_if n st complete some e f = grind arith
 
 pub few_gone : {D : Type 0} (device : Ghosts D) (s : Plan) (old new : List (GroupValue D)) (set stood : ℕ) (hs : List History) → IsPlan s → HasGroups s old → AreGroups device.told s old hs
     → AreWithout device old new set stood → stood < 4294967296
@@ -69,31 +63,24 @@ unfolding delete_image
 image_deleted n v st o e = ap (λ (q : Option Kept). delete_kept v q st) e
 
 pub delete_line : {s : Plan} {lane n v : ℕ} → IsOnImage s lane n v (DeleteImage n v)
-delete_line {n = n} {v = v} = record {
-  plain = record { on = λ st. refl; clean = λ st. refl; none = λ st. refl; nobody = λ st. refl };
-  absent = λ st e. image_deleted n v st None e;
-}
+delete_line = grind (arith, image_deleted)
 
 -- ## revert
 
 pub revert_is : (s : Plan) (n v : ℕ) (mark : Mark) (st : State) (o : Option Kept) (why : Option VssResult) → kept_image st n v ≡ o → revert_refusal v o st ≡ why
     → revert s n v mark st ≡ revert_to s v why o mark st
 unfolding revert
-revert_is s n v mark st o why e f = ap (λ (q : Option Kept). revert_to s v (revert_refusal v q st) q mark st) e ∙ ap (λ (w : Option VssResult). revert_to s v w o mark st) f
+revert_is s n v mark st o why e f = grind arith
 
 pub revert_line : {s : Plan} {lane n v : ℕ} → IsOnImage s lane n v (Revert n v)
-revert_line {s = s} {n = n} {v = v} = record {
-  plain = record { on = λ st. refl; clean = λ st. refl; none = λ st. refl; nobody = λ st. refl };
-  absent = λ st e. revert_is s n v Clean st None (Some ObjectNotFound) e refl;
-}
+revert_line = grind (arith, revert_is)
 
 -- the facts are those of the image's row
 row_facts : (st : State) (x : SessionsValue) (n : ℕ) (facts : SetFacts) (r : SetRow) → Some facts ≡ option_map facts_of (row_of st n) → row_of st n ≡ Some r → facts.context ≡ r.context
-row_facts st x n facts r e f = let same : Some facts ≡ Some (facts_of r) = e ∙ ap (option_map facts_of) f in let is : facts ≡ facts_of r = cc in ap (λ (z : SetFacts). z.context) is
+row_facts st x n facts r e f = grind arith
 
 in_set_is : (v : ℕ) (o : Option SetRow) → is_in_set v o ≡ is_among v (volumes_of o)
-in_set_is v None = refl
-in_set_is v (Some r) = refl
+in_set_is v o = grind arith
 
 -- why a revert to a kept image is refused: whether its set has writers, and whether the volume is in the set in progress
 abbrev refusal_if : Bool → Bool → Option VssResult
@@ -109,10 +96,7 @@ record There (n v : ℕ) (backup preparing : Bool) (st : State) : Type 0 where
 
 may_stop : (s : Plan) (n v m : ℕ) (st : State) (k : Kept) → kept_image st n v ≡ Some k → revert_refusal v (Some k) st ≡ None → m < length (to_restore (blocks_of s v) (history_of st v).writes k.point)
     → may_stop_after s st v (kept_image st n v) m ≡ true
-may_stop s n v m st k e f l =
-    ap (λ (o : Option Kept). is_none (revert_refusal v o st) && nat_lt m (restorable s st v o)) e
-    ∙ ap (λ (w : Option VssResult). is_none w && nat_lt m (restorable s st v (Some k))) f
-    ∙ lt-ltb m (length (to_restore (blocks_of s v) (history_of st v).writes k.point)) l
+may_stop s n v m st k e f l = grind arith
 
 -- ## the moves
 
@@ -177,19 +161,7 @@ module _ {D : Type 0} (device : Ghosts D) {s : Plan} {p : ProviderValue D} {x : 
       (is : (st : State) → Keeps x st → Some facts ≡ option_map facts_of (row_of st n))
       (backup preparing : Bool) (has_writers : is_backup facts.context ≡ backup) (within : is_among v p.volumes ≡ preparing) where
     there : (acts : List Act) → Stands device.told (world_of p x l e) s acts → There n v backup preparing (state s acts)
-    there acts stands =
-        let st = state s acts in
-        let k = some_is (kept_image st n v) (kept acts stands ∙ so) in
-        let of_it = of_image st n v k.0 k.1 in
-        let context = row_facts st x n facts k.0.row (is st stands.at.sessions) of_it.row_is in
-        record {
-          kept = k.0;
-          is = k.1;
-          refusal = ap (λ (t : Bool). refusal_if t (is_in_set v (in_progress st))) (ap is_backup (sym context) ∙ has_writers)
-              ∙ ap (refusal_if backup) (in_set_is v (in_progress st) ∙ ap (is_among v) (sym stands.at.prepared.volumes) ∙ within);
-          number = row_number n st.sets k.0.row of_it.row_is;
-          point = provided_point s acts n v k.0 k.1;
-        }
+    there acts stands = grind (arith, some_is, of_image, row_facts, in_set_is, row_number, provided_point)
 
     pub revert_refused : {lane : ℕ} (why : VssResult) → refusal_if backup preparing ≡ Some why
         → IsMoved device (world_of p x l e) (world_of p x l f) s (Line lane (Revert n v)) (simple_outcome (told.Result why))

@@ -1,9 +1,9 @@
 -- What is read of volumes and images, against the definitions.
-use Rattle.std.proofs.Common.{◌≡◌, ℕ, ◌<◌, List, [], length, refl, ap, sym, ◌∙◌, subst, Bool, true, false, Option, Some, slice_get, is_some}
+use Rattle.std.proofs.Common.{◌≡◌, ℕ, ◌<◌, List, [], length, refl, sym, ◌∙◌, subst, Bool, true, false, Option, Some, slice_get, arith}
 use Rattle.vss_world.proofs.Words.{AreGroups, AreKept, BlockOf, BlocksOf, Cause, Clean, Coded, Evicted, Fault, Faulted, Fits, Ghosts, HasCause, HasLists, History, IfStands, IsBlockSeen, IsBlockTold}
 use Rattle.vss_world.proofs.Words.{IsBytes, IsDigestIf, IsDigestSeen, IsDigestTold, IsFingerprint, IsFirstIf, IsMoved, IsOf, IsPointOf, IsReading, IsWide, Line, Mark, Op, Plan, ProviderValue, RoseFor}
 use Rattle.vss_world.proofs.Words.{SessionsValue, State, Told, VssResult, Write, WriterRow, blocks_of, concat, content, contents, counts_of, devices_of, evicted, history_at, history_of, is_fault}
-use Rattle.vss_world.proofs.Words.{kept_same, line, line_allows, line_enabled, lost, mark_of, provided, read_as, sha256, simple_outcome, state, tells_of, tells_of-at, told_at, volume_by}
+use Rattle.vss_world.proofs.Words.{kept_same, line, line_allows, line_enabled, lost, mark_of, provided, read_as, sha256, simple_outcome, state, tells_of, tells_of-at, volume_by}
 use Rattle.vss_model.specs.Words.{line_of, Reply}
 use Rattle.vss_model.specs.declared.told.Told.TheVariants as told
 use Rattle.vss_world.proofs.OnProvided.{writes_at}
@@ -14,32 +14,20 @@ use Rattle.vss_world.proofs.Simple.{line_moves, volumes_parts}
 
 fits_seen : (t : Bool) (o : Option Bool) (bytes first digest : List ℕ) → o ≡ Some t → (t ≡ true → IsFingerprint bytes (record { first = first; digest = digest }))
     → IsWide (record { first = first; digest = digest }) → IsFirstIf o bytes first × IsDigestIf o bytes digest
-fits_seen true o bytes first digest is shows wide = subst (λ (p : Option Bool). IsFirstIf p bytes first × IsDigestIf p bytes digest) (sym is) ((shows refl).first, (shows refl).digest)
-fits_seen false o bytes first digest is shows wide = subst (λ (p : Option Bool). IsFirstIf p bytes first × IsDigestIf p bytes digest) (sym is)
-    ((wide.first, wide.first_bytes), (wide.digest, wide.digest_bytes))
+fits_seen t o bytes first digest is shows wide = grind arith
 
 block_fits : {D : Type 0} (blocks_told : D → Option (List (List ℕ))) (s : Plan) (p : ProviderValue D) (v : ℕ) (set : Option ℕ) (b : ℕ) (first digest : List ℕ) (st : State) (point : ℕ)
     → v < length s.volumes → AreGroups blocks_told s p.groups (provided st) → IsBlockTold blocks_told s p v set b first digest → IsPointOf set (history_at (provided st) v) point
     → Fits (tells_of blocks_told s (devices_of p.groups)) (BlockOf v (content (history_of st v).writes point b)) (told.Block first digest)
-block_fits blocks_told s p v set b first digest st point within groups seen is =
-    let tells = tells_of blocks_told s (devices_of p.groups) in
-    let both = fits_seen (is_some (told_at blocks_told s (devices_of p.groups) v)) (slice_get tells v) (content (history_of st v).writes point b) first digest
-    (tells_of-at blocks_told s (devices_of p.groups) v within)
-    (λ t. subst (λ (ws : List Write). IsFingerprint (content ws point b) (record { first = first; digest = digest })) (writes_at st v) (seen.exact t (provided st) groups point is)) seen.wide in
-    (first, digest, both.0, both.1, refl)
+block_fits blocks_told s p v set b first digest st point within groups seen is = grind (arith, fits_seen, tells_of-at, writes_at)
 
 pub fits_digest : (t : Bool) (o : Option Bool) (bytes digest : List ℕ) → o ≡ Some t → (t ≡ true → digest ≡ sha256 bytes) → length digest ≡ 32 → IsBytes digest → IsDigestIf o bytes digest
-fits_digest true o bytes digest is shows long are = subst (λ (p : Option Bool). IsDigestIf p bytes digest) (sym is) (shows refl)
-fits_digest false o bytes digest is shows long are = subst (λ (p : Option Bool). IsDigestIf p bytes digest) (sym is) (long, are)
+fits_digest t o bytes digest is shows long are = grind arith
 
 pub digest_slot : {D : Type 0} (blocks_told : D → Option (List (List ℕ))) (s : Plan) (p : ProviderValue D) (v : ℕ) (set : Option ℕ) (digest : List ℕ) (st : State) (point : ℕ)
     → v < length s.volumes → AreGroups blocks_told s p.groups (provided st) → IsDigestTold blocks_told s p.groups v set digest → IsPointOf set (history_at (provided st) v) point
     → IsDigestIf (slice_get (tells_of blocks_told s (devices_of p.groups)) v) (concat (contents (blocks_of s v) (history_of st v).writes point)) digest
-digest_slot blocks_told s p v set digest st point within groups seen is =
-    fits_digest (is_some (told_at blocks_told s (devices_of p.groups) v)) (slice_get (tells_of blocks_told s (devices_of p.groups)) v)
-    (concat (contents (blocks_of s v) (history_of st v).writes point)) digest
-    (tells_of-at blocks_told s (devices_of p.groups) v within)
-    (λ t. seen.0 t (provided st) groups point is ∙ ap (λ (ws : List Write). sha256 (concat (contents (blocks_of s v) ws point))) (writes_at st v)) seen.1 seen.2
+digest_slot blocks_told s p v set digest st point within groups seen is = grind (arith, fits_digest, tells_of-at, writes_at)
 
 -- ## lines that change at most the volumes
 

@@ -1,13 +1,13 @@
 -- What becomes of the set in progress and of its images that are still to come, as the course goes on: it stays, with its number, its
 -- volumes and its snapshot's agenda; or it is in progress no more, and its row says how it ended. What writers say and what time brings
 -- adds no step of the provider to the log.
-use Rattle.std.proofs.Common.{◌≡◌, ℕ, ◌==◌, List, [], ◌∷◌, ◌++◌, refl, ap, sym, ◌∙◌, subst, Bool, true, false, Option, Some, None, ◌⊎◌, inl, inr, map, find, is_some, not, ◌&&◌, ◌||◌, option_map}
-use Rattle.std.proofs.Common.{if◌then◌else◌}
-use Rattle.vss_world.proofs.Words.{Agenda, AgendaEnds, Call, Commit, Complete as CompleteSet, Course, Cut, Ending, Entry, Failed, Gather, Group, Identify, IsCall, Kind, Member, NothingEnds}
-use Rattle.vss_world.proofs.Words.{NumberedFrom, Orders, Place, Prepare, Running, Said, SetFails, SetOutcome, SetRow, Settles, Snapshot, State, VssResult, all_say, at_place, concluded, cut_set}
-use Rattle.vss_world.proofs.Words.{ended_of, ending, ending_idle, ending_on, ends_settle, failed, failed_in, find-row_cut, find-settled_over, find-settled_running, group_code, groups_left, has_failed}
-use Rattle.vss_world.proofs.Words.{has_said, in_progress, is_among, is_done, is_orders, is_running, is_snapshot, is_to_come, level_code, none_after, number-cut, open_place, outcome_after, plain}
-use Rattle.vss_world.proofs.Words.{row_cut, row_settled, runs, same_place, settled_if, settled_row, step_made, true_not_false, unspoken, volumes-row_cut_if, volumes_of}
+use Rattle.std.proofs.Common.{◌≡◌, ℕ, ◌==◌, List, [], ◌∷◌, ◌++◌, refl, ap, sym, ◌∙◌, subst, Bool, true, false, Option, Some, None, ◌⊎◌, inl, inr, map, find, is_some, not, ◌&&◌, ◌||◌}
+use Rattle.std.proofs.Common.{if◌then◌else◌, arith}
+use Rattle.vss_world.proofs.Words.{Agenda, Call, Commit, Complete as CompleteSet, Course, Cut, Ending, Entry, Failed, Gather, Group, IsCall, Kind, Member}
+use Rattle.vss_world.proofs.Words.{NumberedFrom, Place, Prepare, Running, Said, SetOutcome, SetRow, Settles, Snapshot, State, VssResult, all_say, at_place, concluded, cut_set}
+use Rattle.vss_world.proofs.Words.{ended_of, ending, ending_idle, ending_on, ends_settle, failed, failed_in, find-row_cut, find-settled_over, find-settled_running, groups_left, has_failed}
+use Rattle.vss_world.proofs.Words.{has_said, in_progress, is_among, is_done, is_orders, is_running, is_snapshot, is_to_come, none_after, number-cut, open_place, outcome_after, plain}
+use Rattle.vss_world.proofs.Words.{row_settled, runs, same_place, settled_row, step_made, true_not_false, unspoken, volumes-row_cut_if, volumes_of}
 use Rattle.set_agenda.specs.declared.kind.Kind.TheVariants.{Complete}
 use Rattle.set_agenda.specs.Course.{begun, posted, settled, failed as course_failed}
 use Rattle.vss_model.specs.Ending.{followed}
@@ -17,18 +17,10 @@ use Rattle.vss_world.proofs.CommitLog.{committed_at_end, never_done}
 
 -- a place of writers is no place of the provider
 not_there : (cut : Bool) (p : Place) → is_orders p.group ≡ true → same_place p (plain (if cut then Cut else Commit)) ≡ false
-not_there cut p e = by_group cut p.group e
-  where
-    by_group : (cut : Bool) (g : Group) → is_orders g ≡ true → ((group_code g == group_code (if cut then Cut else Commit)) && (level_code p.level == 0)) ≡ false
-    by_group true (Orders Identify) e = refl
-    by_group true (Orders _) e = refl
-    by_group false (Orders Identify) e = refl
-    by_group false (Orders _) e = refl
-    by_group cut _ e = cc
+not_there cut p e = grind arith
 
 pub skip : (t u b : Bool) → t ≡ false → ((t && u) || b) ≡ b
-skip false u b e = refl
-skip true u b e = cc
+skip t u b e = grind arith
 
 pub none_new : (p q : Place) (said : Said) (now who : ℕ) (ws : List ℕ) → same_place p q ≡ false → has_said (map (at_place p said now) ws) q who ≡ false
 none_new p q said now who [] e = refl
@@ -39,11 +31,7 @@ said_same [] new q who e = e
 said_same (x ∷ log) new q who e = ap (λ (t : Bool). (same_place x.place q && (x.who == who)) || t) (said_same log new q who e)
 
 writers_say : (a : Agenda) (said : Said) (now : ℕ) (ws : List ℕ) → is_orders (open_place (groups_left a)).group ≡ true → (v : ℕ) → is_to_come (Some (all_say said now ws a)) v ≡ is_to_come (Some a) v
-writers_say a said now ws e v =
-    let p = open_place (groups_left a) in
-    let new = map (at_place p said now) ws in
-    ap (λ (t : Bool). is_snapshot a.kind && t && not (has_said (a.log ++ new) (plain Commit) v)) (said_same a.log new (plain Cut) 0 (none_new p (plain Cut) said now 0 ws (not_there true p e)))
-    ∙ ap (λ (t : Bool). is_snapshot a.kind && has_said a.log (plain Cut) 0 && not t) (said_same a.log new (plain Commit) v (none_new p (plain Commit) said now v ws (not_there false p e)))
+writers_say a said now ws e v = grind (arith, said_same, none_new, not_there)
 
 -- ## a set that fails
 
@@ -66,15 +54,7 @@ IsSameSet (Some r) (Some q) = (q.number ≡ r.number) × (q.volumes ≡ r.volume
 IsSameSet _ _ = ⊥
 
 pub same_set : (o : Option SetRow) → IsSameSet o o
-same_set None = tt
-same_set (Some r) = (refl, refl)
-
-same_on : (o p q : Option SetRow) → IsSameSet o p → IsSameSet p q → IsSameSet o q
-same_on None None q h k = k
-same_on None (Some b) q h k = absurd h
-same_on (Some a) None q h k = absurd h
-same_on (Some a) (Some b) None h k = absurd k
-same_on (Some a) (Some b) (Some c) h k = (k.0 ∙ h.0, k.1 ∙ h.1)
+same_set o = grind arith
 
 abbrev pub runs_snapshot : Option Agenda → Bool
 runs_snapshot None = false
@@ -111,13 +91,8 @@ GoesBy test st next = StaysOn test st.course.agenda next.course.agenda (in_progr
 abbrev pub GoesOn : State → State → Type 0
 GoesOn st next = GoesBy (is_to_come st.course.agenda) st next
 
-over_like : (t u : ℕ → Bool) (o : Option SetRow) (rows : List SetRow) → ((v : ℕ) → t v ≡ u v) → IsOverIf t o rows → IsOverIf u o rows
-over_like t u None rows e h = tt
-over_like t u (Some r) rows e h = record { row = h.row; over = h.over; number = h.number; ended = h.ended; committed = λ f v among. sym (e v) ∙ h.committed f v among }
-
 goes_like : (t u : ℕ → Bool) (st next : State) → ((v : ℕ) → t v ≡ u v) → GoesBy t st next → GoesBy u st next
-goes_like t u st next e (inl h) = inl (record { set = h.set; coming = λ v. h.coming v ∙ e v; snapshot = h.snapshot })
-goes_like t u st next e (inr h) = inr (record { none = h.none; over = over_like t u (in_progress st) next.sets e h.over })
+goes_like t u st next e x5 = grind arith
 
 pub goes_nowhere : (st : State) → GoesOn st st
 goes_nowhere st = inl (record { set = same_set (in_progress st); coming = λ v. refl; snapshot = refl })
@@ -139,9 +114,7 @@ settled_over test st result rows numbered over is committed = by_set (in_progres
 -- ## a call of the course
 
 not_running : (o : SetOutcome) → has_failed o ≡ true → is_running o ≡ false
-not_running Running e = cc
-not_running CompleteSet e = refl
-not_running (Failed why) e = refl
+not_running o e = grind arith
 
 -- in a state whose set in progress is that of its snapshot agenda, and has no outcome yet
 pub record IsOfAgenda (st : State) : Type 0 where
@@ -153,10 +126,7 @@ plain_to_come : (a : Agenda) (v : ℕ) → is_snapshot a.kind ≡ false → is_t
 plain_to_come a v e = ap (λ (t : Bool). t && has_said a.log (plain Cut) 0 && not (has_said a.log (plain Commit) v)) e
 
 said_none : (s t c : Bool) → c ≡ true → (s && t && not c) ≡ false
-said_none true true true e = refl
-said_none true false true e = refl
-said_none false t true e = refl
-said_none s t false e = cc
+said_none s t c e = grind arith
 
 module _ (c : Course) (st : State) (of : IsOfAgenda st) where
   abbrev next : State
@@ -167,23 +137,14 @@ module _ (c : Course) (st : State) (of : IsOfAgenda st) where
   over_none o e = ends_settle o c.outcome next ∙ find-settled_over c.outcome e st.sets
 
   sets_settled : (o p : SetOutcome) → (concluded (ending o p true None) next).sets ≡ map (row_settled c.outcome) st.sets
-  sets_settled Running Running = refl
-  sets_settled Running CompleteSet = refl
-  sets_settled Running (Failed why) = refl
-  sets_settled CompleteSet p = refl
-  sets_settled (Failed why) p = refl
+  sets_settled o p = grind arith
 
   ends_over : (test : ℕ → Bool) → is_running c.outcome ≡ false → (has_failed c.outcome ≡ false → (v : ℕ) → is_among v (volumes_of (in_progress st)) ≡ true → test v ≡ false)
       → GoesBy test st (concluded (ending st.course.outcome c.outcome true None) next)
-  ends_over test e committed = inr (record {
-    none = over_none st.course.outcome e;
-    over = settled_over test st c.outcome _ of.numbered e (sets_settled st.course.outcome c.outcome) committed;
-  })
+  ends_over test e committed = grind (arith, over_none, settled_over, sets_settled)
 
   agenda_same : (e : Ending) → (concluded e next).course.agenda ≡ c.agenda
-  agenda_same NothingEnds = refl
-  agenda_same AgendaEnds = refl
-  agenda_same (SetFails why) = refl
+  agenda_same e = grind arith
 
   abbrev ends : Ending
   ends = ending st.course.outcome c.outcome true None
@@ -194,38 +155,12 @@ module _ (c : Course) (st : State) (of : IsOfAgenda st) where
   -- the agenda of a snapshot is over, and its set with it
   complete_goes : (a x : Agenda) → st.course.agenda ≡ Some a → x.kind ≡ a.kind → x.volumes ≡ a.volumes → is_done (groups_left x) ≡ true → x.kind ≡ Snapshot → c.outcome ≡ CompleteSet
       → GoesBy (is_to_come (Some x)) st (concluded ends next)
-  complete_goes a x runs like over done kind is =
-      ends_over (is_to_come (Some x)) (ap is_running is)
-      (λ fine v among.
-      let own : x.volumes ≡ volumes_of (in_progress st) = over ∙ of.volumes a runs (ap is_snapshot (sym like ∙ kind)) in
-      said_none (is_snapshot x.kind) (has_said x.log (plain Cut) 0) (has_said x.log (plain Commit) v) (committed_at_end x v kind done (ap (is_among v) own ∙ among)))
+  complete_goes a x runs like over done kind is = grind (arith, ends_over, said_none, committed_at_end)
 
   -- another agenda is over
   plain_goes : (test : ℕ → Bool) (o : Option SetRow) → in_progress st ≡ o → ((v : ℕ) → test v ≡ false) → runs_snapshot st.course.agenda ≡ false → c.agenda ≡ None → c.outcome ≡ st.course.outcome
       → GoesBy test st (concluded ends next)
-  plain_goes test None found quiet plain none is = none_over test st (concluded ends next) found (ends_settle st.course.outcome c.outcome next ∙ none_then (is_running c.outcome) refl)
-    where
-      running_is : (p : SetOutcome) → is_running p ≡ true → p ≡ Running
-      running_is Running e = refl
-      running_is CompleteSet e = cc
-      running_is (Failed why) e = cc
-
-      none_then : (b : Bool) → is_running c.outcome ≡ b → find (λ r. is_running r.result) (map (row_settled c.outcome) st.sets) ≡ None
-      none_then false e = find-settled_over c.outcome e st.sets
-      none_then true e =
-          ap (λ (p : SetOutcome). find (λ r. is_running r.result) (map (row_settled p) st.sets)) (running_is c.outcome e)
-          ∙ find-settled_running st.sets ∙ ap (option_map (λ (r : SetRow). record r { result = Running })) found
-  plain_goes test (Some r) found quiet plain none is =
-      let running : c.outcome ≡ Running = is ∙ of.outcome r found in
-      let ran : in_progress (concluded ends next) ≡ Some (record r { result = Running }) =
-      ends_settle st.course.outcome c.outcome next
-      ∙ ap (λ (p : SetOutcome). find (λ r. is_running r.result) (map (row_settled p) st.sets)) running
-      ∙ find-settled_running st.sets ∙ ap (option_map (λ (r : SetRow). record r { result = Running })) found in
-      inl (record {
-        set = subst (λ (q : Option SetRow). IsSameSet (in_progress st) q) (sym ran) (subst (λ (q : Option SetRow). IsSameSet q (Some (record r { result = Running }))) (sym found) (refl, refl));
-        coming = λ v. ap (λ (y : Option Agenda). is_to_come y v) (agenda_then none) ∙ sym (quiet v);
-        snapshot = ap runs_snapshot (agenda_then none) ∙ sym plain;
-      })
+  plain_goes test o found quiet plain none is = grind (arith, none_over, ends_settle, find-settled_over, find-settled_running, agenda_then)
 
   -- the agenda goes on as this one, or ends where no group is left of it
   settled_goes : (a x : Agenda) (done : Bool) (b : Option Agenda) → st.course.agenda ≡ Some a → c.agenda ≡ b → x.kind ≡ a.kind → x.volumes ≡ a.volumes → (done ≡ true → is_done (groups_left x) ≡ true)
@@ -286,62 +221,26 @@ stepped_goes a x c st of runs like over settles =
 -- ## the set fails
 
 pub failed_goes : (why : VssResult) (st : State) → NumberedFrom 1 st.sets → GoesOn st (failed why st)
-failed_goes why st numbered = by_set (in_progress st) refl
-  where
-    by_set : (o : Option SetRow) → in_progress st ≡ o → GoesOn st (failed_in o why st)
-    by_set None e = goes_nowhere st
-    by_set (Some r) e = inr (record {
-      none = none_after (Some r) why st e;
-      over = settled_over (is_to_come st.course.agenda) st (Failed why) _ numbered refl (ap (λ (o : SetOutcome). map (row_settled o) st.sets) (failed_course why st.course).1) (λ fine. cc);
-    })
+failed_goes why st numbered = grind (arith, goes_nowhere, none_after, settled_over, failed_course)
 
 -- ## a step of the provider, before what follows
 
 cut_same : (o : Option SetRow) (st : State) → in_progress st ≡ o → IsSameSet (in_progress st) (in_progress (cut_set o st))
-cut_same None st e = same_set (in_progress st)
-cut_same (Some r) st e =
-    subst (λ (q : Option SetRow). IsSameSet (in_progress st) q) (sym (find-row_cut r.number st.clock st.sets)) (by_set (in_progress st))
-  where
-    by_set : (x : Option SetRow) → IsSameSet x (option_map (row_cut r.number st.clock) x)
-    by_set None = tt
-    by_set (Some q) = (number-cut (q.number == r.number) st.clock q, volumes-row_cut_if (q.number == r.number) st.clock q)
+cut_same o st e = grind (arith, same_set, find-row_cut, number-cut, volumes-row_cut_if)
 
 pub step_same : (g : Group) (st : State) → IsSameSet (in_progress st) (in_progress (step_made (Some g) st))
-step_same Cut st = cut_same (in_progress st) st refl
-step_same _ st = same_set (in_progress st)
-
-over_on : (test : ℕ → Bool) (o p : Option SetRow) (rows : List SetRow) → IsSameSet o p → IsOverIf test p rows → IsOverIf test o rows
-over_on test None p rows h k = tt
-over_on test (Some r) None rows h k = absurd h
-over_on test (Some r) (Some q) rows h k = record {
-  row = k.row;
-  over = k.over;
-  number = k.number ∙ h.0;
-  ended = ap (λ (n : ℕ). find (λ (z : SetRow). (z.number == n) && not (is_running z.result)) rows) (sym h.0) ∙ k.ended;
-  committed = λ fine v among. k.committed fine v (ap (is_among v) h.1 ∙ among);
-}
+step_same g st = grind (arith, cut_same, same_set)
 
 -- what follows of a state with the same set and agenda
 pub goes_from : (test : ℕ → Bool) (st x next : State) → x.course ≡ st.course → IsSameSet (in_progress st) (in_progress x) → GoesBy test x next → GoesBy test st next
-goes_from test st x next course same (inl stays) = inl (record {
-  coming = stays.coming;
-  set = same_on (in_progress st) (in_progress x) (in_progress next) same stays.set;
-  snapshot = stays.snapshot ∙ ap (λ (c : Course). runs_snapshot c.agenda) course;
-})
-goes_from test st x next course same (inr none) = inr (record { none = none.none; over = over_on test (in_progress st) (in_progress x) next.sets same none.over })
+goes_from test st x next course same x6 = grind arith
 
 -- ## an agenda begins
 
 begun_settles : (k : Kind) (ms : List Member) (vs : List ℕ) (now : ℕ) (c : Course)
     → Settles (is_done (groups_left (unspoken k ms vs now))) (unspoken k ms vs now) c.outcome (begun k ms vs now c).agenda (begun k ms vs now c).outcome
 unfolding begun posted settled
-begun_settles k ms vs now c = by_done (is_done (groups_left (unspoken k ms vs now)))
-  where
-    by_done : (done : Bool)
-        → Settles done (unspoken k ms vs now) c.outcome (settled_if done k (record c { agenda = Some (unspoken k ms vs now) })).agenda
-        (settled_if done k (record c { agenda = Some (unspoken k ms vs now) })).outcome
-    by_done true = (refl, refl)
-    by_done false = (refl, refl)
+begun_settles k ms vs now c = grind arith
 
 -- one of writers alone, where none ran
 pub begun_goes : (k : Kind) (ms : List Member) (vs : List ℕ) (now : ℕ) (c : Course) (st : State) → IsOfAgenda st → st.course.agenda ≡ None → is_snapshot k ≡ false → c.outcome ≡ st.course.outcome

@@ -1,8 +1,8 @@
 -- Lines that begin or end nothing: they are answered, and at most the volumes change.
-use Rattle.std.proofs.Common.{◌≡◌, ℕ, List, [], refl, ap, sym, ◌∙◌, subst, Bool, true, Option}
-use Rattle.vss_world.proofs.Words.{Act, AreGroups, EndsAs, Event, Evicted, Fits, Ghosts, HasLists, History, IsInPlan, IsMoved, IsPrepared, Keeps, Line, Mark, NumberedFrom, Op, Plan, ProviderValue}
-use Rattle.vss_world.proofs.Words.{Replied, Running, SessionsValue, SetRow, Stands, StandsAt, State, Told, WriterRow, act_of, after_if, devices_of, enabled, ended_of, evicted, happens, in_progress}
-use Rattle.vss_world.proofs.Words.{left_now, line, line_allows, line_enabled, lost, lost_order_if, mark_of, new-is, none_ends, order_now, provided, reply, simple_outcome, state, tells_of, told_act}
+use Rattle.std.proofs.Common.{◌≡◌, ℕ, List, [], ap, Bool, true, Option, arith}
+use Rattle.vss_world.proofs.Words.{Act, AreGroups, Event, Evicted, Fits, Ghosts, HasLists, History, IsInPlan, IsMoved, IsPrepared, Keeps, Line, Mark, NumberedFrom, Op, Plan, ProviderValue}
+use Rattle.vss_world.proofs.Words.{SessionsValue, Stands, StandsAt, State, Told, WriterRow, act_of, after_if, devices_of, enabled, evicted, happens}
+use Rattle.vss_world.proofs.Words.{line, line_allows, line_enabled, lost, mark_of, new-is, none_ends, provided, simple_outcome, state, tells_of}
 use Rattle.vss_model.specs.Words.{Reply}
 use Rattle.vss_model.specs.Acts.{after}
 use Rattle.vss_world.proofs.Prepared.{prepared_same}
@@ -33,22 +33,7 @@ pub record LineComes {D : Type 0} (told : D → Option (List (List ℕ))) (s : P
 comes_so : {D : Type 0} (told : D → Option (List (List ℕ))) (s : Plan) (lane : ℕ) (op : Op) (answer : Told) (tells : List Bool) (q : ProviderValue D) (x : SessionsValue) (l : List ℕ)
     (e : List Evicted) (st : State)
     → NumberedFrom 1 st.sets → LineComes told s lane op answer tells q x l e st → Comes told s (Line lane op) (simple_outcome answer) tells q x l e st
-comes_so told s lane op answer tells q x l e st numbered c =
-    let to : after s st (told_act (Line lane op) answer) ≡ c.next = after_line s st lane op (mark_of answer) c.on ∙ ap (λ (r : Replied). r.1) c.is in
-    let answered : reply s st (told_act (Line lane op) answer) ≡ c.said = ap (λ (r : Replied). r.0) c.is in
-    record {
-      is_enabled = c.on;
-      is_allowed = c.allowed;
-      outcome = λ rows are. record {
-        fits = subst (λ (r : Reply). Fits tells r answer) (sym answered) c.fits;
-        lists = subst (λ (r : Reply). HasLists r l rows) (sym answered) (c.lists rows (are ∙ ap (λ (z : State). z.course.rows) to));
-        evicts = c.evicts;
-        loses = new-is ∙ sym c.nobody;
-        order = sym (ap (λ (ws : List ℕ). lost_order_if ws (order_now (left_now st))) c.nobody);
-        ends = subst (λ (o : Option SetRow). EndsAs o 0 Running) (sym (ap (ended_of (in_progress st)) (ap (λ (z : State). z.sets) to ∙ c.sets) ∙ none_ends st.sets numbered)) refl;
-      };
-      parts = subst (λ (z : State). StandsAt told q x s z) (sym to) c.parts;
-    }
+comes_so told s lane op answer tells q x l e st numbered c = grind (arith, after_line, new-is, none_ends)
 
 pub line_moves : {D : Type 0} (device : Ghosts D) (s : Plan) (lane : ℕ) (op : Op) (answer : Told) (p q : ProviderValue D) (x : SessionsValue) (l k : List ℕ)
     (e f : List Evicted)
@@ -65,17 +50,8 @@ line_moves device s lane op answer p q x l k e f devices comes =
 
 pub with_volumes : {D : Type 0} (told : D → Option (List (List ℕ))) (q : ProviderValue D) (x : SessionsValue) (s : Plan) (st : State) (hs : List History) → Keeps x st → IsInPlan s st → IsPrepared q st
     → AreGroups told s q.groups (provided (record st { volumes = hs })) → StandsAt told q x s (record st { volumes = hs })
-with_volumes told q x s st hs k plan d groups = record {
-  groups = groups;
-  prepared = record { volumes = d.volumes; set = d.set; distinct = d.distinct };
-  sessions = record { session = k.session; made = k.made; course = k.course; sets = k.sets; clock = k.clock; explicit = k.explicit; over = k.over; on_time = k.on_time; disabled = k.disabled };
-  plan = record { sets = plan.sets; agenda = plan.agenda; members = plan.members; disabled = plan.disabled };
-}
+with_volumes told q x s st hs k plan d groups = grind arith
 
 pub volumes_parts : {D : Type 0} (told : D → Option (List (List ℕ))) (p q : ProviderValue D) (x : SessionsValue) (s : Plan) (st : State) (hs : List History) → StandsAt told p x s st
     → q ≡ record p { groups = q.groups } → AreGroups told s q.groups (provided (record st { volumes = hs })) → StandsAt told q x s (record st { volumes = hs })
 volumes_parts told p q x s st hs parts same groups = with_volumes told q x s st hs parts.sessions parts.plan (prepared_same p q st same parts.prepared) groups
-
-pub same_parts : {D : Type 0} (told : D → Option (List (List ℕ))) (p q : ProviderValue D) (x : SessionsValue) (s : Plan) (st : State) → StandsAt told p x s st → q ≡ record p { groups = q.groups }
-    → AreGroups told s q.groups (provided st) → StandsAt told q x s st
-same_parts told p q x s st parts same groups = record { groups = groups; prepared = prepared_same p q st same parts.prepared; sessions = parts.sessions; plan = parts.plan }

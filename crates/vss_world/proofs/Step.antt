@@ -1,21 +1,21 @@
 -- A step of the provider, made or failed: what it comes to.
-use Rattle.std.proofs.Common.{◌≡◌, ℕ, ◌<◌, ◌==◌, List, [], ◌∷◌, ◌++◌, refl, ap, sym, ◌∙◌, subst, Bool, true, false, ◌&&◌, Option, Some, None, inl, map, not, is_ok, IfSome, OnOk, Result, Ok, Err}
-use Rattle.std.proofs.Common.{slice_get}
-use Rattle.vss_world.proofs.Words.{Act, Agenda, AreGroups, AreKept, BackupComplete, Call, Cause, Clean, Course, Cut, Evicted, Fault, Flush, Ghosts, Group, HasStepCause, History, Identify, IfStandFor}
-use Rattle.vss_world.proofs.Words.{IfStands, IsAt, IsMove, IsMoved, IsNextStep, IsOf, IsPrepared, IsSettled, Keeps, Kind, LastsAt, Leaves, Mark, NumberedFrom, Orders, Place, Plan, PrepareBackup}
-use Rattle.vss_world.proofs.Words.{Provider, ProviderValue, RoseAlone, RoseFor, Running, SessionMove, SessionsValue, SetOutcome, SetRow, Settles, Stands, State, Told, UnexpectedProviderError, after}
+use Rattle.std.proofs.Common.{◌≡◌, ℕ, ◌<◌, List, [], ◌∷◌, ◌++◌, refl, ap, sym, ◌∙◌, subst, Bool, true, false, ◌&&◌, Option, Some, None, inl, map, not, is_ok, IfSome, OnOk, Result, Ok, Err}
+use Rattle.std.proofs.Common.{slice_get, arith}
+use Rattle.vss_world.proofs.Words.{Act, Agenda, AreGroups, AreKept, Call, Cause, Clean, Course, Evicted, Fault, Flush, Ghosts, Group, HasStepCause, History, IfStandFor}
+use Rattle.vss_world.proofs.Words.{IfStands, IsAt, IsMove, IsMoved, IsNextStep, IsOf, IsPrepared, IsSettled, Keeps, Kind, LastsAt, Leaves, Mark, NumberedFrom, Plan}
+use Rattle.vss_world.proofs.Words.{Provider, ProviderValue, RoseAlone, RoseFor, SessionMove, SessionsValue, SetOutcome, SetRow, Settles, Stands, State, Told, UnexpectedProviderError, after}
 use Rattle.vss_world.proofs.Words.{after_move, after_provider, counts_of, course-step_made, cut_set, devices_of, dropped, event_volumes, false≢true, followed, groups_left, has_failed, images_after}
-use Rattle.vss_world.proofs.Words.{in_progress, is_done, is_failed_step, is_fault, is_flush, is_snapshot, is_to_come, is_working, kept_trans, left, left-is, left_from, left_now, mark_if, mark_of}
-use Rattle.vss_world.proofs.Words.{next_volume, number-cut, number_prepared, numbered-map, open_group, orderly, places, plain, provided, row_cut, runs, state, state-append, step_made, step_taken}
-use Rattle.vss_world.proofs.Words.{stepped as course_stepped, stepped_as, told_act, true≢false, volume_of_step, volume_place, waited_for, with_group, without}
+use Rattle.vss_world.proofs.Words.{in_progress, is_done, is_fault, is_flush, is_snapshot, is_to_come, is_working, kept_trans, left, left-is, left_now, mark_if, mark_of}
+use Rattle.vss_world.proofs.Words.{next_volume, number-cut, numbered-map, open_group, orderly, provided, runs, state, state-append, step_made, step_taken}
+use Rattle.vss_world.proofs.Words.{stepped as course_stepped, told_act, volume_of_step, volume_place, without}
 use Rattle.set_agenda.specs.declared.kind.Kind.TheVariants as kind
 use Rattle.set_agenda.specs.Course.{posted}
 use Rattle.vss_model.specs.declared.told.Told.TheVariants as told
 use Rattle.vss_world.proofs.Moved.{world_of, IsProviderAt, clean_devices, failed_devices, goes_on, leaves_of}
 use Rattle.vss_world.proofs.Following.{at_of, course_of, set_move, ends_of, session_comes}
-use Rattle.vss_world.proofs.Prepared.{volumes_same, IsSetMove, NoneOfZero, none_of_zero, cut_above, runs_number, prepared_same, settled_comes, settled_keeps, settled_devices}
+use Rattle.vss_world.proofs.Prepared.{volumes_same, IsSetMove, NoneOfZero, none_of_zero, cut_above, prepared_same, settled_comes, settled_keeps}
 use Rattle.vss_world.proofs.Provided.{number_above}
-use Rattle.vss_world.proofs.SetGoesOn.{GoesBy, GoesOn, IsOfAgenda, IsSameSet, runs_snapshot, followed_goes, stepped_goes, goes_from, step_same, failed_course}
+use Rattle.vss_world.proofs.SetGoesOn.{GoesBy, GoesOn, IsOfAgenda, runs_snapshot, followed_goes, stepped_goes, goes_from, step_same, failed_course}
 use Rattle.vss_world.proofs.StepComes.{IsStepping, with_step, step_settles, step_leaves, made_elsewhere}
 use Rattle.vss_world.proofs.ToCome.{has_snapshot_set}
 use Rattle.vss_world.proofs.WithoutImages.{dropped_without}
@@ -29,57 +29,32 @@ working x group volume st next keeps = sym (ap is_working (left-is x.coordinator
 pub stepped_made : (g : Group) (mark : Mark) (st : State) → open_group (left_now st) ≡ Some g → mark ≡ mark_if (not true && is_flush (open_group (left_now st)))
     → stepped mark st ≡ followed (runs st) (course_stepped true st.clock st.course) (step_made (Some g) st)
 unfolding stepped
-stepped_made g mark st e f =
-    ap (λ (m : Mark). stepped_as (is_failed_step (is_flush (open_group (left_now st))) m) (open_group (left_now st)) st) f ∙ ap (λ (o : Option Group). stepped_as false o st) e
+stepped_made g mark st e f = grind arith
 
 pub stepped_fails : (mark : Mark) (st : State) → open_group (left_now st) ≡ Some Flush → mark ≡ mark_if (not false && is_flush (open_group (left_now st)))
     → stepped mark st ≡ followed (runs st) (course_stepped false st.clock st.course) st
 unfolding stepped
-stepped_fails mark st e f =
-    ap (λ (m : Mark). stepped_as (is_failed_step (is_flush (open_group (left_now st))) m) (open_group (left_now st)) st) f
-    ∙ ap (λ (o : Option Group). stepped_as (is_failed_step (is_flush o) (mark_if (is_flush o))) o st) e
+stepped_fails mark st e f = grind arith
 
 -- ## the agenda that works is a snapshot's
 
-works_only : (p : Place) (ws : List ℕ) → is_working (with_group p ws []) ≡ true → is_working (record { place = p; waits = ws } ∷ []) ≡ true
-works_only p [] e = cc
-works_only p (w ∷ ws) e = e
-
-works_kind : (a : Agenda) (k : Kind) → is_working (left_from a (places k)) ≡ true → runs_snapshot (Some (record a { kind = k })) ≡ true
-works_kind a kind.Gather e = absurd (false≢true (works_only (plain (Orders Identify)) (waited_for a (plain (Orders Identify))) e))
-works_kind a kind.Prepare e = absurd (false≢true (works_only (plain (Orders PrepareBackup)) (waited_for a (plain (Orders PrepareBackup))) e))
-works_kind a kind.Snapshot e = refl
-works_kind a kind.Complete e = absurd (false≢true (works_only (plain (Orders BackupComplete)) (waited_for a (plain (Orders BackupComplete))) e))
-
 works_snapshot : (o : Option Agenda) → is_working (left o) ≡ true → runs_snapshot o ≡ true
-works_snapshot None e = cc
-works_snapshot (Some a) e = works_kind a a.kind e
+works_snapshot o e = grind arith
 
 -- so the provider has the number of the set in progress
 pub step_number : {D : Type 0} (p : ProviderValue D) (st : State) (r : SetRow) → IsPrepared p st → is_working (left_now st) ≡ true → in_progress st ≡ Some r → p.set ≡ r.number
-step_number p st r prepared works is = prepared.set ∙ ap (λ (o : Option SetRow). number_prepared o st.course.agenda) is ∙ runs_number r st.course.agenda (works_snapshot st.course.agenda works)
+step_number p st r prepared works is = grind arith
 
 -- ## what becomes of the set
 
 cut_numbered : (o : Option SetRow) (st : State) → NumberedFrom 1 st.sets → NumberedFrom 1 (cut_set o st).sets
-cut_numbered None st h = h
-cut_numbered (Some r) st h = numbered-map (row_cut r.number st.clock) (λ q. number-cut (q.number == r.number) st.clock q) 1 st.sets h
+cut_numbered o st h = grind (arith, numbered-map, number-cut)
 
 step_numbered : (g : Group) (st : State) → NumberedFrom 1 st.sets → NumberedFrom 1 (step_made (Some g) st).sets
-step_numbered Cut st h = cut_numbered (in_progress st) st h
-step_numbered _ st h = h
+step_numbered g st h = grind (arith, cut_numbered)
 
 step_course : (g : Group) (st : State) → IsOfAgenda st → IsOfAgenda (step_made (Some g) st)
-step_course g st of = record {
-  numbered = step_numbered g st of.numbered;
-  outcome = λ r e. ap (λ (c : Course). c.outcome) (course-step_made (Some g) st) ∙ from_set (in_progress st) refl r (subst (λ (q : Option SetRow). IsSameSet (in_progress st) q) e (step_same g st));
-  volumes = λ a runs snapshot. of.volumes a (sym (ap (λ (c : Course). c.agenda) (course-step_made (Some g) st)) ∙ runs) snapshot
-      ∙ volumes_same (in_progress st) (in_progress (step_made (Some g) st)) (step_same g st);
-}
-  where
-    from_set : (o : Option SetRow) → in_progress st ≡ o → (r : SetRow) → IsSameSet (in_progress st) (Some r) → st.course.outcome ≡ Running
-    from_set None e r same = absurd (subst (λ (q : Option SetRow). IsSameSet q (Some r)) e same)
-    from_set (Some w) e r same = of.outcome w e
+step_course g st of = grind (arith, step_numbered, course-step_made, step_same, volumes_same)
 
 -- the set goes on, or is over, with what is to come after the step
 made_goes : (g : Group) (a : Agenda) (st : State) → IsOfAgenda st → st.course.agenda ≡ Some a
@@ -96,12 +71,7 @@ made_goes g a st of runs_it =
     (step_settles st.clock st.course a runs_it))))
 
 made_above : (g : Group) (st : State) → ((r : SetRow) → in_progress st ≡ Some r → 0 < r.number) → NoneOfZero st.volumes → NoneOfZero (step_made (Some g) st).volumes
-made_above Cut st l h = by_set (in_progress st) l
-  where
-    by_set : (o : Option SetRow) → ((r : SetRow) → o ≡ Some r → 0 < r.number) → NoneOfZero (cut_set o st).volumes
-    by_set None k = h
-    by_set (Some r) k = cut_above r.number r.volumes 0 st.volumes (k r refl) h
-made_above _ st l h = h
+made_above g st l h = grind (arith, cut_above)
 
 -- the agenda that makes the step, and its set
 pub stepping : (s : Plan) (x : SessionsValue) (acts : List Act) (group : Group) (volume : Option ℕ) → IsNextStep x group volume → Keeps x (state s acts) → IsStepping s acts group volume
@@ -248,16 +218,4 @@ pub step_lasts : {D : Type 0} (device : Ghosts D) (s : Plan) (group : Group) (vo
     → m.outcome.told ≡ told.Step group volume (not ok && is_flush (Some group)) → ok ≡ is_ok made → IsSettled device m q r
     → (group ≡ Flush → OnOk made (IfSome volume (λ v. LastsAt device (volume_place s v) (devices_of q.groups))))
     → (v : ℕ) (d : D) → m.outcome.told ≡ told.Step Flush (Some v) false → slice_get (devices_of r.groups) (volume_place s v) ≡ Some d → device.lasting d ≡ device.told d
-step_lasts device s group volume (Ok done) true m q r told_is is settled lasts v d said here =
-    let t : told.Step group volume false ≡ told.Step Flush (Some v) false = sym told_is ∙ said in
-    let flush : group ≡ Flush = cc in
-    let at : volume ≡ Some v = cc in
-    (subst (λ (o : Option ℕ). IfSome o (λ u. LastsAt device (volume_place s u) (devices_of q.groups))) at (lasts flush)) d
-    (ap (λ ds. slice_get ds (volume_place s v)) (sym (settled_devices device m q r settled)) ∙ here)
-step_lasts device s group volume (Ok done) false m q r told_is is settled lasts v d said here = cc
-step_lasts device s group volume (Err fault) true m q r told_is is settled lasts v d said here = cc
-step_lasts device s group volume (Err fault) false m q r told_is is settled lasts v d said here =
-    let t : told.Step group volume (is_flush (Some group)) ≡ told.Step Flush (Some v) false = sym told_is ∙ said in
-    let flush : group ≡ Flush = cc in
-    let fails : is_flush (Some group) ≡ false = cc in
-    absurd (true≢false (sym (ap (λ (w : Group). is_flush (Some w)) flush) ∙ fails))
+step_lasts device s group volume made ok m q r told_is is settled lasts v d said here = grind arith

@@ -1,12 +1,12 @@
 -- What a step of the provider makes of the images that are still to come: the Cut step leaves all of them to come, and a Commit step cuts
 -- that of its volume. No other step has to do with them.
 use Rattle.std.proofs.Common.{◌≡◌, ℕ, zero, suc, ◌+◌, ◌<◌, ◌==◌, List, [], ◌∷◌, ◌++◌, length, refl, ap, sym, ◌∙◌, subst, arith, Bool, true, false, ◌&&◌, ◌||◌, Option, Some, None, inl, inr, map}
-use Rattle.std.proofs.Common.{filter, slice_get, not, is_some, if◌then◌else◌, option_map}
+use Rattle.std.proofs.Common.{filter, slice_get, not, is_some, if◌then◌else◌}
 use Rattle.vss_world.proofs.Words.{Act, Agenda, Commit, Course, Cut, Entry, Flush, Group, History, Hold, Identify, Image, IsAtCut, Kind, Open, Order, Orders, Place, Plan, PostCommit, PreCommit}
 use Rattle.vss_world.proofs.Words.{Release, SetRow, Settles, Snapshot, State, all_say, and_three, as_many_volumes, at_place, change_at, cut as history_cut, cut_each, cut_if, cut_is_open, cut_set}
 use Rattle.vss_world.proofs.Words.{cuts, dropped, dropped_if, eq-eqb, group_code, groups_left, has_said, head_or_0, history_in, history_of, image_once_cut, in_progress, is_among, is_cut_group}
 use Rattle.vss_world.proofs.Words.{is_done, is_over_volumes, is_snapshot, is_to_come, kind_is, left, left_from, level_code, list_any-append, ne_eqb, next_member, next_volume, not-true, open_group}
-use Rattle.vss_world.proofs.Words.{open_place, or-false, or_left, or_right, places, plain, point_in, provided, same_place, settled_if, settled_in, slice_get_within, state, step_made, step_taken}
+use Rattle.vss_world.proofs.Words.{open_place, or-false, or_left, or_right, places, plain, point_in, provided, same_place, slice_get_within, state, step_made, step_taken}
 use Rattle.vss_world.proofs.Words.{stepped as course_stepped, uncut_at_cut, volume_if, waited_for, with_group, without, without_set}
 use Rattle.writer_state.specs.declared.said.Said.TheVariants as said
 use Rattle.set_agenda.specs.Course.{posted, settled, worked}
@@ -27,21 +27,7 @@ with_step now a = all_say said.Ok now (next_member (groups_left a) ∷ []) a
 pub step_settles : (now : ℕ) (c : Course) (a : Agenda) → c.agenda ≡ Some a
     → Settles (is_done (groups_left (with_step now a))) (with_step now a) c.outcome (course_stepped true now c).agenda (course_stepped true now c).outcome
 unfolding posted settled worked
-step_settles now c a runs =
-    by_agenda (worked now c).agenda (ap (λ (o : Option Agenda). option_map (all_say said.Ok now (next_member (left o) ∷ [])) o) runs)
-  where
-    by_done : (done : Bool) (x : Agenda) (w : Course) → w.agenda ≡ Some x → Settles done x w.outcome (settled_if done x.kind w).agenda (settled_if done x.kind w).outcome
-    by_done true x w e = (refl, refl)
-    by_done false x w e = (e, refl)
-
-    by_agenda : (b : Option Agenda) → b ≡ Some (with_step now a)
-        → Settles (is_done (groups_left (with_step now a))) (with_step now a) c.outcome (settled_in b (worked now c)).agenda (settled_in b (worked now c)).outcome
-    by_agenda None e = cc
-    by_agenda (Some x) e =
-        let same : x ≡ with_step now a = cc in
-        subst (λ (z : Agenda). Settles (is_done (groups_left (with_step now a))) (with_step now a) c.outcome (settled_in (Some z) (worked now c)).agenda (settled_in (Some z) (worked now c)).outcome)
-        (sym same)
-        (by_done (is_done (groups_left (with_step now a))) (with_step now a) (worked now c) (ap (λ (o : Option Agenda). option_map (all_say said.Ok now (next_member (left o) ∷ [])) o) runs))
+step_settles now c a runs = grind arith
 
 -- ## numbers
 
@@ -75,17 +61,16 @@ open_is a (p ∷ ps) g h e = by_waits (waited_for a p) refl e (λ f. open_is a p
     by_waits (w ∷ ws) i f later = let same : p.group ≡ g = cc in record { place = h.0 same; first = w; rest = ws; waited = ap (waited_for a) (sym (h.0 same)) ∙ i; next = refl }
 
 cut_plain : IsPlain Cut (places Snapshot)
-cut_plain = (λ e. cc, (λ e. cc, (λ e. cc, (λ e. cc, (λ e. cc, (λ e. cc, (λ e. cc, (λ e. refl, (λ e. cc, (λ e. cc, (λ e. cc, (λ e. cc, (λ e. cc, (λ e. cc, (λ e. cc, tt)))))))))))))))
+cut_plain = grind arith
 
 commit_plain : IsPlain Commit (places Snapshot)
-commit_plain = (λ e. cc, (λ e. cc, (λ e. cc, (λ e. cc, (λ e. cc, (λ e. cc, (λ e. cc, (λ e. cc, (λ e. refl, (λ e. cc, (λ e. cc, (λ e. cc, (λ e. cc, (λ e. cc, (λ e. cc, tt)))))))))))))))
+commit_plain = grind arith
 
 open_at : (a : Agenda) (g : Group) → is_snapshot a.kind ≡ true → IsPlain g (places Snapshot) → open_group (groups_left a) ≡ Some g → IsOpen a (groups_left a) g
 open_at a g snapshot h e = open_is a (places a.kind) g (subst (λ (k : Kind). IsPlain g (places k)) (sym (kind_is a.kind snapshot)) h) e
 
 group_at : (os : List Open) (g : Group) → open_group os ≡ Some g → (open_place os).group ≡ g
-group_at [] g e = cc
-group_at (o ∷ os) g e = cc
+group_at os g e = grind arith
 
 same_code : (p q : Place) → (group_code p.group == group_code q.group) ≡ false → same_place p q ≡ false
 same_code p q e = ap (λ (t : Bool). t && (level_code p.level == level_code q.level)) e
@@ -93,21 +78,15 @@ same_code p q e = ap (λ (t : Bool). t && (level_code p.level == level_code q.le
 -- ## what is said
 
 said_one : (log : List Entry) (p q : Place) (now who u : ℕ) → has_said (log ++ map (at_place p said.Ok now) (who ∷ [])) q u ≡ (has_said log q u || (same_place p q && (who == u)))
-said_one log p q now who u =
-    list_any-append (λ (x : Entry). same_place x.place q && (x.who == u)) log (map (at_place p said.Ok now) (who ∷ []))
-    ∙ ap (λ (t : Bool). has_said log q u || t) (or-false (same_place p q && (who == u)))
+said_one log p q now who u = grind (arith, list_any-append, or-false)
 
 -- a step of another group
 other_said : (now : ℕ) (a : Agenda) (q : Place) (u : ℕ) → same_place (open_place (groups_left a)) q ≡ false → has_said (with_step now a).log q u ≡ has_said a.log q u
-other_said now a q u e =
-    let p = open_place (groups_left a) in
-    said_same a.log (map (at_place p said.Ok now) (next_member (groups_left a) ∷ [])) q u (none_new p q said.Ok now u (next_member (groups_left a) ∷ []) e)
+other_said now a q u e = grind (arith, said_same, none_new)
 
 other_coming : (now : ℕ) (a : Agenda) → same_place (open_place (groups_left a)) (plain Cut) ≡ false → same_place (open_place (groups_left a)) (plain Commit) ≡ false → (u : ℕ)
     → is_to_come (Some (with_step now a)) u ≡ is_to_come (Some a) u
-other_coming now a cut commit u =
-    ap (λ (t : Bool). is_snapshot a.kind && t && not (has_said (with_step now a).log (plain Commit) u)) (other_said now a (plain Cut) 0 cut)
-    ∙ ap (λ (t : Bool). is_snapshot a.kind && has_said a.log (plain Cut) 0 && not t) (other_said now a (plain Commit) u commit)
+other_coming now a cut commit u = grind (arith, other_said)
 
 -- ## the Cut step
 
@@ -157,9 +136,7 @@ committed_at t u n f (suc v) (h ∷ hs) same off on =
 -- ## what the provider has after it
 
 said_so : (b t : Bool) (w u : ℕ) → t ≡ true → w ≡ u → (b || (t && (w == u))) ≡ true
-said_so true t w u e f = refl
-said_so false true w u e f = ap (λ (k : ℕ). k == u) f ∙ eq-eqb u u refl
-said_so false false w u e f = cc
+said_so b t w u e f = grind arith
 
 next_is : (a : Agenda) → a.kind ≡ Snapshot → IsAtCut a → next_member (groups_left a) ≡ 0
 next_is a kind at = ap (λ (k : Kind). next_member (left_from a (places k))) kind ∙ ap next_member (cut_is_open a at)
@@ -199,19 +176,9 @@ module _ (s : Plan) (acts : List Act) where
   abbrev st : State
   st = state s acts
 
-  -- what is asked of the images that are left to come
-  abbrev Leaves : Group → Option ℕ → Type 0
-  Leaves g volume = (k : IsStepping s acts g volume)
-      → step_taken g k.row.number volume (provided st) ≡ without (is_to_come (Some (with_step st.clock k.agenda))) k.row.number (step_made (Some g) st).volumes
-
   other_leaves : (g : Group) (volume : Option ℕ) (k : IsStepping s acts g volume) → (group_code g == 10) ≡ false → (group_code g == 11) ≡ false
       → provided st ≡ without (is_to_come (Some (with_step st.clock k.agenda))) k.row.number st.volumes
-  other_leaves g volume k cut commit =
-      let p = open_place (groups_left k.agenda) in
-      let at = group_at (groups_left k.agenda) g k.opens in
-      provided_at st k.row k.is ∙ ap (λ (o : Option Agenda). without (is_to_come o) k.row.number st.volumes) k.runs
-      ∙ sym (without_like (is_to_come (Some (with_step st.clock k.agenda))) (is_to_come (Some k.agenda)) k.row.number st.volumes
-      (other_coming st.clock k.agenda (same_code p (plain Cut) (ap (λ (h : Group). group_code h == 10) at ∙ cut)) (same_code p (plain Commit) (ap (λ (h : Group). group_code h == 11) at ∙ commit))))
+  other_leaves g volume k cut commit = grind (arith, group_at, provided_at, without_like, other_coming, same_code)
 
   cut_leaves : (volume : Option ℕ) (k : IsStepping s acts Cut volume) → provided st ≡ without (is_to_come (Some (with_step st.clock k.agenda))) k.row.number (cut_set (in_progress st) st).volumes
   cut_leaves volume k =
@@ -333,7 +300,4 @@ module _ (s : Plan) (acts : List Act) where
   -- the set has images on its volumes alone, after the step too
   pub made_elsewhere : (g : Group) (r : SetRow) (k : ℕ) (h : History) → in_progress st ≡ Some r → slice_get (step_made (Some g) st).volumes k ≡ Some h → is_among k r.volumes ≡ false
       → without_set r.number h.images ≡ h.images
-  made_elsewhere Cut r k h e at out =
-      no_image_elsewhere s acts r k h e
-      (cut_elsewhere r.number r.volumes 0 k st.volumes h (ap (λ (o : Option SetRow). slice_get (cut_set o st).volumes k) (sym e) ∙ at) (ap (λ (u : ℕ). is_among u r.volumes) (from_zero k) ∙ out)) out
-  made_elsewhere _ r k h e at out = no_image_elsewhere s acts r k h e at out
+  made_elsewhere g r k h e at out = grind (arith, no_image_elsewhere, cut_elsewhere, from_zero)

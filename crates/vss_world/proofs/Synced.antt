@@ -1,9 +1,9 @@
 -- A group's area is brought to where it lasts: every other device is as it was, and the area's holds the copies.
-use Rattle.std.proofs.Common.{◌≡◌, ℕ, suc, ◌<◌, ◌==◌, List, [], ◌∷◌, length, refl, ap, sym, ◌∙◌, subst, arith, Bool, true, false, Option, Some, map, slice_get, None, slice_set, is_some, option_map}
+use Rattle.std.proofs.Common.{◌≡◌, ℕ, suc, ◌<◌, ◌==◌, List, [], ◌∷◌, length, refl, ap, sym, ◌∙◌, subst, arith, Bool, true, false, Option, Some, map, slice_get, slice_set, is_some}
 use Rattle.std.proofs.Common.{Result, Ok, Err, OnOk, IfErr, IsErr}
 use Rattle.vss_world.proofs.Words.{Act, AllTell as AllDevicesTell, AreLasting, AreStored, Area, Cause, Evicted, Ghosts, GroupValue, HasGroups, HasSyncCause, IsAreaHeld, IsOf, IsSynced, LastsAt, Plan}
-use Rattle.vss_world.proofs.Words.{ProviderValue, RoseAlone, SessionsValue, WorldValue, area_device_at, area_is_set, area_place, blocks_in_group, comes, copies, copies_in_group, device_at, devices_of}
-use Rattle.vss_world.proofs.Words.{eqb-false, eqb-true, in_progress, number_of, of_group, placed, provided, slice_get-map, slice_get-set_other, slice_get-set_same, slice_get_inside, slice_get_within}
+use Rattle.vss_world.proofs.Words.{ProviderValue, RoseAlone, SessionsValue, WorldValue, area_device_at, area_is_set, area_place, blocks_in_group, copies, copies_in_group, device_at, devices_of}
+use Rattle.vss_world.proofs.Words.{eqb-false, eqb-true, of_group, placed, provided, slice_get-map, slice_get-set_other, slice_get-set_same, slice_get_inside, slice_get_within}
 use Rattle.vss_world.proofs.Words.{state, told_by, told_of}
 use Rattle.provider.specs.Words.{placed as all_placed}
 use Rattle.provider.proofs.Words.{IsSynced as AreSynced}
@@ -33,13 +33,7 @@ one_set old new g x y was is same = all_alike new (slice_set old g y) (λ k. by_
     by_test k false e = let apart = eqb-false g k e in same k (λ i. apart (sym i)) ∙ sym (slice_get-set_other old g k y apart)
 
 told_as : {D : Type 0} (told : D → Option (List (List ℕ))) (ds es : List D) (place : ℕ) → slice_get (map told ds) place ≡ slice_get (map told es) place → told_by told ds place ≡ told_by told es place
-told_as told ds es place e = by_place (slice_get ds place) (slice_get es place) (sym (slice_get-map told ds place) ∙ e ∙ slice_get-map told es place)
-  where
-    by_place : (o p : Option _) → option_map told o ≡ option_map told p → told_of told o ≡ told_of told p
-    by_place None None e = refl
-    by_place None (Some d) e = cc
-    by_place (Some d) None e = cc
-    by_place (Some c) (Some d) e = cc
+told_as told ds es place e = grind (arith, slice_get-map)
 
 -- ## the call
 
@@ -68,9 +62,7 @@ synced_is device {s = s} {group = group} {p = p} {q = q} {x = x} {l = l} {e = e}
 -- a group's copies are those of the histories that the provider has
 copies_same : (s : Plan) (acts : List Act) (g : ℕ)
     → copies (map (placed g) s.volumes) (provided (state s acts)) ≡ copies (all_placed (blocks_in_group g s.volumes)) (of_group g s.volumes (state s acts).volumes)
-copies_same s acts g =
-    let st = state s acts in
-    copies_without_all (comes (in_progress st) st.course.agenda) (number_of (in_progress st)) 0 (map (placed g) s.volumes) st.volumes (all_unnamed s acts) ∙ copies_in_group g 0 s.volumes st.volumes
+copies_same s acts g = grind (arith, copies_without_all, all_unnamed, copies_in_group)
 
 -- what a sync comes to, whatever it answers
 pub record IsSyncOf {D : Type 0} (device : Ghosts D) (s : Plan) (group : ℕ) (result : Result Unit Cause) (old new : WorldValue D) : Type 0 where

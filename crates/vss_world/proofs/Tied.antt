@@ -1,13 +1,12 @@
 -- The devices against the groups: they hold the content of the volumes.
-use Rattle.std.proofs.Common.{◌≡◌, ℕ, List, length, refl, ap, sym, ◌∙◌, subst, arith, Option, Some, None, slice_get, IfSome}
+use Rattle.std.proofs.Common.{◌≡◌, ℕ, List, length, refl, ap, sym, ◌∙◌, subst, arith, Option, Some, slice_get, IfSome}
 use Rattle.vss_world.proofs.Words.{AllTied, AreGroups, GroupValue, HasGroups, History, IsOf, Plan, StandsAt, State, WorldValue, Write, blocks_there, contents, devices_of, found_row, in_progress}
 use Rattle.vss_world.proofs.Words.{inside, of_group, provided, slice_get_inside, told_here, told_in}
 use Rattle.provider.proofs.InGroup.{at_place}
 use Rattle.vss_world.proofs.OnProvided.{there}
 
 if_told : (o : Option (List (List ℕ))) (blocks : List (List ℕ)) (want : List (List ℕ)) → IfSome o (λ bs. bs ≡ want) → o ≡ Some blocks → blocks ≡ want
-if_told None blocks want h e = cc
-if_told (Some bs) blocks want h e = let same : bs ≡ blocks = cc in sym same ∙ h
+if_told o blocks want h e = grind arith
 
 tied : {D : Type 0} (told : D → Option (List (List ℕ))) (s : Plan) (groups : List (GroupValue D)) (hs : List History) → HasGroups s groups → AreGroups told s groups hs
     → AllTied told s hs (devices_of groups)

@@ -5,7 +5,6 @@ use Rattle.vss_world.proofs.Words.{ProviderValue, SessionMove, SessionsValue, St
 use Rattle.vss_world.proofs.Words.{later_by, mark_of, said_of, state, timed as course_timed}
 use Rattle.vss_world.specs.Words.{IsOf as IsSessionsOf}
 use Rattle.writer_calls.specs.declared.answer.Answer.{Answer}
-use Rattle.set_agenda.specs.Course.{answered as course_answered}
 use Rattle.vss_model.specs.Steps.{answered, ticked}
 use Rattle.vss_world.proofs.Moved.{world_of, Goes, leaves_of, later_of, goes_on, goes_later}
 use Rattle.vss_world.proofs.Simple.{after_on}
@@ -25,9 +24,7 @@ ticked_goes s acts n =
 
 said_goes : (s : Plan) (w : ℕ) (answer : Answer) (acts : List Act) → GoesOn (state s acts) (answered w (said_of answer) (state s acts))
 unfolding answered
-said_goes s w answer acts =
-    let st = state s acts in
-    followed_goes (course_answered w (said_of answer) st.clock st.course) st (course_of s acts) (call_answered w (said_of answer) st.clock st.course)
+said_goes s w answer acts = grind (arith, followed_goes, course_of, call_answered)
 
 -- ## the moves
 

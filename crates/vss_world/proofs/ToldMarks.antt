@@ -1,12 +1,12 @@
 -- Moves whose mark is told: a line that looks at a volume, a write, a flush and a revert.
-use Rattle.std.proofs.Common.{◌≡◌, ℕ, ◌<◌, ◌≤◌, List, [], ◌∷◌, length, refl, ap, sym, ◌∙◌, subst, arith, Bool, true, false, Option, Some, None}
-use Rattle.std.specs.Prelude.{is_some, is_none, nat_lt, IfSome, Result, Ok, Err}
-use Rattle.vss_world.proofs.Words.{Act, Blocked, Cause, Clean, Evicted, Fault, FaultAfter, Faulted, Fits, Flush, Ghosts, Group, HasGroups, IfStands, IsAt, IsMove, IsMoved}
+use Rattle.std.proofs.Common.{◌≡◌, ℕ, ◌<◌, ◌≤◌, List, [], length, refl, ap, sym, ◌∙◌, subst, arith, Bool, true, false, Option, Some, None}
+use Rattle.std.specs.Prelude.{is_some, nat_lt, IfSome, Result, Ok, Err}
+use Rattle.vss_world.proofs.Words.{Act, Blocked, Cause, Evicted, Fault, FaultAfter, Faulted, Fits, Flush, Ghosts, Group, HasGroups, IfStands, IsAt, IsMove, IsMoved}
 use Rattle.vss_world.proofs.Words.{IsNextStep, IsOf, IsOp, IsSettled, IsStepped, Kept, Leaves, Line, Mark, Moved, Op, Open, Outcome, Plan, Provider, ProviderValue}
-use Rattle.vss_world.proofs.Words.{Replied, Revert, SessionMove, SessionsValue, Stands, State, Told, Volume, VssResult, WorldValue, Write, after, and_parts, blocks_of, head_or_0, image_block}
-use Rattle.vss_world.proofs.Words.{image_blocks, is_flush, is_over_volumes, kept_image, kept_same, line, line_allows, mark_of, may_stop_after, nat_tests, next_volume, open_group}
-use Rattle.vss_world.proofs.Words.{provided, restorable, revert_refusal, reverted_as, simple_outcome, state, target_in, tells_of, to_restore, told_act, told_if, volume_by, volume_if}
-use Rattle.vss_model.specs.Words.{Reads, ShowsBlock, ShowsImage, allows_by, does, evicted_at, line_of, lost_after, may_do, ticks_by}
+use Rattle.vss_world.proofs.Words.{Revert, SessionMove, SessionsValue, Stands, State, Told, Volume, WorldValue, Write, after}
+use Rattle.vss_world.proofs.Words.{is_flush, kept_image, kept_same, line, line_allows, mark_of, may_stop_after, nat_tests, next_volume, open_group}
+use Rattle.vss_world.proofs.Words.{restorable, revert_refusal, reverted_as, simple_outcome, state, tells_of, told_act, told_if, volume_by}
+use Rattle.vss_model.specs.Words.{Reads, ShowsBlock, ShowsImage, allows_by, line_of}
 use Rattle.provider.specs.Words.{counted_as}
 use Rattle.provider.proofs.Words.{IsPut}
 use Rattle.scenario.specs.declared.line.Line.{Line as Does}
@@ -20,7 +20,6 @@ use Rattle.vss_world.specs.Moves.{HasMark, StopsAs, StopsAfter}
 use Rattle.vss_world.proofs.Moved.{world_of}
 use Rattle.vss_world.proofs.OnProvided.{writes_at}
 use Rattle.vss_world.proofs.Seen.{IsPlain, failed_moves}
-use Rattle.vss_world.proofs.Options.{some_is}
 use Rattle.vss_world.proofs.Looking.{provided_point}
 use Rattle.vss_world.proofs.Removed.{revert_is}
 use Rattle.vss_world.proofs.Step.{failed_moves as step_failed}
@@ -35,41 +34,18 @@ LooksAt v (ShowsImage n u) = u ≡ v
 LooksAt v (ShowsBlock n u b) = u ≡ v
 LooksAt v _ = ⊥
 
-plain_if : (s : Plan) (lane : ℕ) (op : Op) (l : Does) → line_of op ≡ l → ((st : State) → may_do s st lane l ≡ true) → ((st : State) → allows_by s st l Clean ≡ true)
-    → ((st : State) → evicted_at s st (target_in l) ≡ []) → ((st : State) → lost_after (ticks_by l) st ≡ []) → IsPlain s lane op
-plain_if s lane op l e on clean none nobody = record {
-  on = λ st. ap (may_do s st lane) e ∙ on st;
-  clean = λ st. ap (λ (x : Does). allows_by s st x Clean) e ∙ clean st;
-  none = λ st. ap (λ (x : Does). evicted_at s st (target_in x)) e ∙ none st;
-  nobody = λ st. ap (λ (x : Does). lost_after (ticks_by x) st) e ∙ nobody st;
-}
-
 look_plain : (s : Plan) (lane : ℕ) (op : Op) (v : ℕ) (l : Does) → line_of op ≡ l → LooksAt v l → IsPlain s lane op
-look_plain s lane op v (Reads u b) e look = plain_if s lane op (Reads u b) e (λ st. refl) (λ st. refl) (λ st. refl) (λ st. refl)
-look_plain s lane op v (ShowsImage n u) e look = plain_if s lane op (ShowsImage n u) e (λ st. refl) (λ st. refl) (λ st. refl) (λ st. refl)
-look_plain s lane op v (ShowsBlock n u b) e look = plain_if s lane op (ShowsBlock n u b) e (λ st. refl) (λ st. refl) (λ st. refl) (λ st. refl)
-look_plain s lane op v _ e look = absurd look
+look_plain s lane op v l e look = grind arith
 
 look_volume : (v : ℕ) (l : Does) → LooksAt v l → volume_by l ≡ Some v
-look_volume v (Reads u b) look = ap Some look
-look_volume v (ShowsImage n u) look = ap Some look
-look_volume v (ShowsBlock n u b) look = ap Some look
-look_volume v _ look = absurd look
+look_volume v l look = grind arith
 
 look_within : (s : Plan) (op : Op) (v : ℕ) (l : Does) → LooksAt v l → IsRangedBy (length s.source) s.volumes (length s.writers) op l → v < length s.volumes
-look_within s op v (Reads u b) look range = subst (λ (n : ℕ). n < length s.volumes) look range.0
-look_within s op v (ShowsImage n u) look range = subst (λ (n : ℕ). n < length s.volumes) look range
-look_within s op v (ShowsBlock n u b) look range = subst (λ (n : ℕ). n < length s.volumes) look range.0
-look_within s op v _ look range = absurd look
+look_within s op v l look range = grind arith
 
 look_faults : (s : Plan) (lane : ℕ) (op : Op) (v : ℕ) (l : Does) → line_of op ≡ l → LooksAt v l → (st : State)
     → allows_by s st l Fault ≡ true → line s lane op Fault st ≡ (Faulted, st)
-look_faults s lane op v (Reads u b) e look st allowed = ap (λ (x : Does). does s lane op x Fault st) e
-look_faults s lane op v (ShowsImage n u) e look st allowed =
-    ap (λ (x : Does). does s lane op x Fault st) e ∙ ap (λ (o : Option Kept). image_blocks s u o Fault st) (some_is (kept_image st n u) allowed).1
-look_faults s lane op v (ShowsBlock n u b) e look st allowed =
-    ap (λ (x : Does). does s lane op x Fault st) e ∙ ap (λ (o : Option Kept). image_block u b o Fault st) (some_is (kept_image st n u) allowed).1
-look_faults s lane op v _ e look st allowed = absurd look
+look_faults s lane op v l e look st allowed = grind arith
 
 module _ {D : Type 0} (device : Ghosts D) {s : Plan} {p : ProviderValue D} {x : SessionsValue} {l : List ℕ} {e f : List Evicted} (of : IsOf (world_of p x l e) s) where
   pub look_fails : {lane : ℕ} {op : Op} (none : f ≡ []) (v : ℕ) (looks : Does) → line_of op ≡ looks → LooksAt v looks → v < length s.volumes
@@ -116,15 +92,11 @@ fault_told put e = ap (λ (r : Result Unit Cause). mark_of (told_if r)) e
 -- ## steps
 
 pub flush_is : (g : Group) → is_flush (Some g) ≡ true → g ≡ Flush
-flush_is Flush e = refl
-flush_is _ e = cc
+flush_is g e = grind arith
 
 -- a Flush step has a volume
 pub flush_volume : (os : List Open) (volume : Option ℕ) → open_group os ≡ Some Flush → next_volume os ≡ volume → is_some volume ≡ true
-flush_volume [] volume e f = cc
-flush_volume (o ∷ os) volume e f =
-    let same : o.place.group ≡ Flush = cc in
-    sym (ap is_some f) ∙ ap (λ (g : Group). is_some (volume_if (is_over_volumes g) (head_or_0 o.waits))) same
+flush_volume os volume e f = grind arith
 
 module _ {D : Type 0} (device : Ghosts D) (s : Plan) {m : SessionMove} {p r : ProviderValue D} {x y : SessionsValue} {l : List ℕ} {e f : List Evicted}
     (of : IsOf (world_of p x l e) s) (none : f ≡ [])
@@ -141,10 +113,7 @@ module _ {D : Type 0} (device : Ghosts D) (s : Plan) {m : SessionMove} {p r : Pr
 -- all that there were to restore are few enough
 pub stops_in_world : {D : Type 0} (blocks_told : D → Option (List (List ℕ))) (s : Plan) (p : ProviderValue D) (x : SessionsValue) (l : List ℕ) (e : List Evicted) (n v k : ℕ)
     → StopsInGroups blocks_told s p.groups v n k (Ok tt) → StopsAs blocks_told (world_of p x l e) s n v k told.Ok
-stops_in_world blocks_told s p x l e n v k stops = λ acts image stands kept.
-    let st = state s acts in
-    subst (λ (ws : List Write). length (to_restore (blocks_of s v) ws image.point) ≤ k) (writes_at st v)
-    (stops (provided st) stands.at.groups image.point (provided_point s acts n v image kept))
+stops_in_world blocks_told s p x l e n v k stops = grind (arith, writes_at, provided_point)
 
 -- of an image that is kept and a revert that is not refused
 record MayStop (s : Plan) (st : State) (n v k : ℕ) : Type 0 where
@@ -153,15 +122,8 @@ record MayStop (s : Plan) (st : State) (n v k : ℕ) : Type 0 where
   free : revert_refusal v (Some image) st ≡ None
   more : nat_lt k (restorable s st v (Some image)) ≡ true
 
-none_is : (o : Option VssResult) → is_none o ≡ true → o ≡ None
-none_is None e = refl
-none_is (Some why) e = cc
-
 may_stop : (s : Plan) (st : State) (n v k : ℕ) (o : Option Kept) → kept_image st n v ≡ o → may_stop_after s st v o k ≡ true → MayStop s st n v k
-may_stop s st n v k None e allowed = cc
-may_stop s st n v k (Some image) e allowed =
-    let all = and_parts (is_none (revert_refusal v (Some image) st)) (nat_lt k (restorable s st v (Some image))) allowed in
-    record { image = image; is = e; free = none_is (revert_refusal v (Some image) st) all.0; more = all.1 }
+may_stop s st n v k o e allowed = grind arith
 
 too_few : (k n : ℕ) → nat_lt k n ≡ true → n ≤ k → ⊥
 too_few k n e l = grind (arith, nat_tests)
@@ -189,13 +151,7 @@ module _ {D : Type 0} (device : Ghosts D) (s : Plan) (old new : WorldValue D) (l
 
   by_mark : (mark : Mark) → mark_of o.told ≡ mark → line_allows s st (Revert n v) (mark_of o.told) ≡ true → Fits tells (revert s n v (mark_of o.told) st).0 o.told
       → mark_of o.told ≡ FaultAfter k
-  by_mark Clean e may said =
-      let is : o.told ≡ told.Ok = subst (λ (r : Replied). Fits tells r.0 o.told) (ap (λ (m : Mark). revert s n v m st) e ∙ reverts Clean) said in
-      absurd (too_few k (restorable s st v (Some free.image)) free.more (as_told told.Ok is acts free.image stands free.is))
-  by_mark Fault e may said = absurd (clash (sym (ap (line_allows s st (Revert n v)) e) ∙ may))
-  by_mark (FaultAfter m) e may said =
-      let is : o.told ≡ told.FaultAfter m = subst (λ (r : Replied). Fits tells r.0 o.told) (ap (λ (x : Mark). revert s n v x st) e ∙ reverts (FaultAfter m)) said in
-      e ∙ ap (λ (i : ℕ). FaultAfter i) (as_told (told.FaultAfter m) is)
+  by_mark mark e may said = grind (arith, reverts, too_few, free, as_told, clash)
 
   has_stopped : mark_of o.told ≡ FaultAfter k
   has_stopped =

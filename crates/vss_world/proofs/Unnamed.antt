@@ -1,5 +1,5 @@
 -- An image that is the newest of its volume and names no block: without it the volume's images use the same slots, and need as many.
-use Rattle.std.proofs.Common.{◌≡◌, ℕ, ◌+◌, ◌<◌, ◌≤◌, ◌==◌, List, [], ◌∷◌, ◌++◌, length, refl, ap, sym, ◌∙◌, subst, arith, Bool, true, false, Option, Some, None, ◌⊎◌, inl, inr, map, drop, not}
+use Rattle.std.proofs.Common.{◌≡◌, ℕ, ◌+◌, ◌<◌, ◌≤◌, ◌==◌, List, [], ◌∷◌, ◌++◌, length, refl, ap, sym, ◌∙◌, arith, Bool, true, false, Option, Some, None, ◌⊎◌, map, drop, not}
 use Rattle.std.proofs.Common.{if◌then◌else◌, slice_range}
 use Rattle.vss_world.proofs.Words.{AreInTime, AreLater, Copy, History, Image, IsNewest, Write, append-nil, blocks_named, copies_of, copy_of, drop-length, drop_split, eq-eqb, named, ne_eqb, no_names}
 use Rattle.vss_world.proofs.Words.{point_in, range_with_len, used, used_by, without_set, writes_since}
@@ -41,8 +41,7 @@ named_last : (b n : ℕ) (ws : List Write) → named b ws (last n ws) [] ≡ []
 named_last b n ws = ap (blocks_named b) (drop-length ws) ∙ no_names (range_with_len 0 b)
 
 since_before : (n : ℕ) (ws : List Write) (j : Image) (older : List Image) → j.point ≤ length ws → writes_since ws j.point (older ++ last n ws ∷ []) ≡ writes_since ws j.point older
-since_before n ws j [] l = to_the_end ws j.point l
-since_before n ws j (k ∷ older) l = refl
+since_before n ws j older l = grind (arith, to_the_end)
 
 named_before : (b n : ℕ) (ws : List Write) (j : Image) (older : List Image) → j.point ≤ length ws → named b ws j (older ++ last n ws ∷ []) ≡ named b ws j older
 named_before b n ws j older l = ap (blocks_named b) (since_before n ws j older l)
@@ -72,11 +71,7 @@ copies_before v b n ws (j ∷ older) h =
 without_it : {X : Type 0} (f : List Image → X) (n : ℕ) (h : History)
     → ((older : List Image) → AreInTime (length h.writes) (older ++ last n h.writes ∷ []) → f (older ++ last n h.writes ∷ []) ≡ f older)
     → IsUnnamed n h → f (without_set n h.images) ≡ f h.images
-without_it f n h same (inl none) = ap f (without_none n h.images none)
-without_it f n h same (inr new) =
-    let older = new.0.older in
-    let time : AreInTime (length h.writes) (older ++ last n h.writes ∷ []) = subst (AreInTime (length h.writes)) new.0.is new.1 in
-    ap (λ (is : List Image). f (without_set n is)) new.0.is ∙ ap f (without_last n (length h.writes) (length h.writes) older time) ∙ sym (same older time) ∙ ap f (sym new.0.is)
+without_it f n h same x4 = grind (arith, without_none, without_last)
 
 pub used_without : (b n : ℕ) (h : History) → IsUnnamed n h → used b h.writes (without_set n h.images) ≡ used b h.writes h.images
 used_without b n h un = without_it (used b h.writes) n h (used_before b n h.writes) un
@@ -89,8 +84,4 @@ copies_without v b n h un = without_it (copies_of v b h.writes) n h (copies_befo
 
 -- its Commit step makes it: cut at the present end, the history without it is the history
 pub cut_again : (n : ℕ) (h : History) → IsNewest n (length h.writes) h.images → AreInTime (length h.writes) h.images → without_set n h.images ++ last n h.writes ∷ [] ≡ h.images
-cut_again n h new time =
-    let older = new.older in
-    ap (λ (is : List Image). without_set n is ++ last n h.writes ∷ []) new.is
-    ∙ ap (λ (is : List Image). is ++ last n h.writes ∷ []) (without_last n (length h.writes) (length h.writes) older (subst (AreInTime (length h.writes)) new.is time))
-    ∙ sym new.is
+cut_again n h new time = grind (arith, without_last)

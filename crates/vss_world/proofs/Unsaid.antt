@@ -1,9 +1,9 @@
 -- A move, by counts of devices that say nothing of their faults.
-use Rattle.std.proofs.Common.{◌≡◌, ℕ, zero, suc, List, [], ◌∷◌, refl, ap, Bool, true, false, Option, Some, None, map, inl, inr}
-use Rattle.std.specs.Prelude.{Result, Ok, Err, IfOk}
-use Rattle.vss_world.proofs.Words.{AreKept, AreWithout, Blocked, Clean, Complete, Event, Evicted, Failed, Fault, FaultAfter, Ghosts, GroupValue, IsEnded, IsReleased, IsSettled}
-use Rattle.vss_world.proofs.Words.{IsStepped, MakesRoom, Mark, Moved, Plan, ProviderValue, Reply, RoseAlone, RoseFor, Running, SessionMove, SessionsValue, SetOutcome, WorldValue, counts_of}
-use Rattle.vss_world.proofs.Words.{devices_of, is_fault, later_same, mark_of}
+use Rattle.std.proofs.Common.{ℕ, zero, suc, List, [], ◌∷◌, Bool, true, false, Option, Some, None, map, arith}
+use Rattle.std.specs.Prelude.{Result, IfOk}
+use Rattle.vss_world.proofs.Words.{AreKept, AreWithout, Blocked, Clean, Complete, Event, Evicted, Failed, Ghosts, GroupValue, IsEnded, IsReleased, IsSettled}
+use Rattle.vss_world.proofs.Words.{IsStepped, MakesRoom, Moved, Plan, ProviderValue, Reply, RoseAlone, RoseFor, Running, SessionMove, SessionsValue, SetOutcome, WorldValue, counts_of}
+use Rattle.vss_world.proofs.Words.{devices_of, later_same}
 use Rattle.vss_names.specs.declared.out_of_memory.OutOfMemory.{OutOfMemory}
 use Rattle.provider.specs.Words.{NeverFails, uncounted}
 use Rattle.cow_volume.proofs.Uncounted.{same_counts, kept_uncounted, no_rise}
@@ -71,11 +71,7 @@ module _ {D : Type 0} (device : Ghosts D) where
   released_unsaid (Some n) old new released = (released.0, without_unsaid released.1, released.2)
 
   pub settled_unsaid : (m : SessionMove) (old new : ProviderValue D) → IsSettled device m old new → IsSettled (unsaid device) m old new
-  settled_unsaid m old new settled = (
-    settled.0,
-    ended_unsaid m.outcome.set m.outcome.result old settled.0 settled.1,
-    released_unsaid m.released settled.0 new settled.2,
-  )
+  settled_unsaid m old new settled = grind (arith, ended_unsaid, released_unsaid)
 
 -- ## moves
 
@@ -90,9 +86,7 @@ never_alone count (x ∷ xs) (y ∷ ys) (suc k) never rose = never_alone count x
 module _ {D : Type 0} (device : Ghosts D) where
   rose_for : (s : Plan) (v : Option ℕ) (xs ys : List D) → RoseFor s v (map device.count xs) (map device.count ys)
       → RoseFor s v (map (λ (d : D). uncounted d) xs) (map (λ (d : D). uncounted d) ys)
-  rose_for s None xs ys rose = rose
-  rose_for s (Some v) xs ys (inl rose) = inl (rose_unsaid device.count xs ys _ rose)
-  rose_for s (Some v) xs ys (inr rose) = inr (rose_unsaid device.count xs ys _ rose)
+  rose_for s v xs ys rose = grind (arith, rose_unsaid)
 
   pub step_unsaid : (old new : WorldValue D) (s : Plan) (event : Event) (reply : Reply) → IsStepped device old new s event reply
       → IsStepped (unsaid device) old new s event reply
@@ -114,26 +108,13 @@ module _ {D : Type 0} (device : Ghosts D) where
   -- over devices of which no call fails it is clean
   pub step_clean : (old new : WorldValue D) (s : Plan) (event : Event) (reply : Reply) → NeverFails device.count → IsStepped device old new s event reply
       → HasMark Clean reply
-  step_clean old new s event Blocked never step = tt
-  step_clean old new s event (Moved o) never moves = by_mark (mark_of o.told) refl
-    where
-      none : (v : Option ℕ) → RoseFor s v (map device.count old.devices) (map device.count new.devices) → ⊥
-      none None rose = rose
-      none (Some v) (inl rose) = never_alone device.count old.devices new.devices _ never rose
-      none (Some v) (inr rose) = never_alone device.count old.devices new.devices _ never rose
-
-      by_mark : (mark : Mark) → mark_of o.told ≡ mark → mark_of o.told ≡ Clean
-      by_mark Clean e = e
-      by_mark Fault e = absurd (none _ (moves.rose (ap is_fault e)))
-      by_mark (FaultAfter k) e = absurd (none _ (moves.rose (ap is_fault e)))
+  step_clean old new s event reply never step = grind (arith, never_alone)
 
   -- the same where memory may be wanting
   pub made_unsaid : (old new : WorldValue D) (s : Plan) (event : Event) (r : Result Reply OutOfMemory) → IfOk r (IsStepped device old new s event)
       → IfOk r (IsStepped (unsaid device) old new s event)
-  made_unsaid old new s event (Ok reply) step = step_unsaid old new s event reply step
-  made_unsaid old new s event (Err e) step = tt
+  made_unsaid old new s event r step = grind (arith, step_unsaid)
 
   pub made_clean : (old new : WorldValue D) (s : Plan) (event : Event) (r : Result Reply OutOfMemory) → NeverFails device.count
       → IfOk r (IsStepped device old new s event) → IfOk r (HasMark Clean)
-  made_clean old new s event (Ok reply) never step = step_clean old new s event reply never step
-  made_clean old new s event (Err e) never step = tt
+  made_clean old new s event r never step = grind (arith, step_clean)

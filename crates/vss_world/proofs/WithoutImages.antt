@@ -1,5 +1,6 @@
 -- Histories without the image of a set on some volumes: what is done to the volumes is done to these likewise.
-use Rattle.std.proofs.Common.{◌≡◌, ℕ, zero, suc, ◌+◌, ◌==◌, List, [], ◌∷◌, ◌++◌, refl, ap, sym, ◌∙◌, Bool, true, false, Some, map, filter, slice_get, not, nat_lt, if◌then◌else◌, option_map}
+use Rattle.std.proofs.Common.{◌≡◌, ℕ, zero, suc, ◌+◌, ◌==◌, List, [], ◌∷◌, ◌++◌, refl, ap, sym, ◌∙◌, Bool, true, false, Some, map, filter, slice_get, not, if◌then◌else◌, option_map}
+use Rattle.std.proofs.Common.{arith}
 use Rattle.vss_world.proofs.Words.{Copy, History, Image, Placed, Write, after_set, change_at, copies_from, copies_of, dropped, dropped_if, gone_up_to, group_used, true≢false, used, without}
 use Rattle.vss_world.proofs.Words.{without_set, written}
 use Rattle.vss_world.proofs.Unnamed.{IsUnnamed, used_without, copies_without}
@@ -24,11 +25,10 @@ abbrev pub LeavesApart : ℕ → (History → History) → Type 0
 LeavesApart n f = (h : History) → f (dropped n h) ≡ dropped n (f h)
 
 changed_if : (b : Bool) (n : ℕ) (f : History → History) (h : History) → LeavesApart n f → f (dropped_if b n h) ≡ dropped_if b n (f h)
-changed_if true n f h apart = apart h
-changed_if false n f h apart = refl
+changed_if b n f h apart = grind arith
 
 pub dropped_apart : (m n : ℕ) → LeavesApart n (dropped m)
-dropped_apart m n h = ap (λ (is : List Image). record { writes = h.writes; images = is }) (filter_twice (λ i. not (i.set == m)) (λ i. not (i.set == n)) h.images)
+dropped_apart m n h = grind (arith, filter_twice)
 
 pub written_apart : (w : Write) (n : ℕ) → LeavesApart n (written w)
 written_apart w n h = refl
@@ -43,8 +43,7 @@ dropped_twice n (i ∷ images) = by_test (i.set == n) refl (dropped_twice n imag
     by_test false e rest = rw e (ap (λ (is : List Image). i ∷ is) rest)
 
 dropped_so : (b : Bool) (n : ℕ) (h : History) → dropped n (dropped_if b n h) ≡ dropped n h
-dropped_so true n h = ap (λ (is : List Image). record { writes = h.writes; images = is }) (dropped_twice n h.images)
-dropped_so false n h = refl
+dropped_so b n h = grind (arith, dropped_twice)
 
 -- ## all of them
 
@@ -56,10 +55,7 @@ without_get test n zero (h ∷ hs) = refl
 without_get test n (suc k) (h ∷ hs) = without_get (λ v. test (suc v)) n k hs
 
 pub without_like : (t u : ℕ → Bool) (n : ℕ) (hs : List History) → ((k : ℕ) → t k ≡ u k) → without t n hs ≡ without u n hs
-without_like t u n [] e = refl
-without_like t u n (h ∷ hs) e =
-    ap (λ (b : Bool). dropped_if b n h ∷ without (λ v. t (suc v)) n hs) (e 0)
-    ∙ ap (λ (ks : List History). dropped_if (u 0) n h ∷ ks) (without_like (λ v. t (suc v)) (λ v. u (suc v)) n hs (λ k. e (suc k)))
+without_like t u n hs e = grind arith
 
 -- on the volumes that pass no image of the set stands
 pub nothing_without : (test : ℕ → Bool) (n : ℕ) (hs : List History) → ((k : ℕ) (h : History) → slice_get hs k ≡ Some h → test k ≡ true → without_set n h.images ≡ h.images) → without test n hs ≡ hs
@@ -97,9 +93,7 @@ dropped_without test n (h ∷ hs) =
 gone_one : (within b : Bool) (n m : ℕ) (h : History)
     → (let g = dropped_if b n h in if within then record { writes = g.writes; images = after_set m g.images } else g)
     ≡ dropped_if b n (if within then record { writes = h.writes; images = after_set m h.images } else h)
-gone_one true true n m h = ap (λ (is : List Image). record { writes = h.writes; images = is }) (filter_twice (λ i. nat_lt m i.set) (λ i. not (i.set == n)) h.images)
-gone_one true false n m h = refl
-gone_one false b n m h = refl
+gone_one within b n m h = grind (arith, filter_twice)
 
 pub gone_without : (test : ℕ → Bool) (n m : ℕ) (ps : List Placed) (hs : List History) → gone_up_to m ps (without test n hs) ≡ without test n (gone_up_to m ps hs)
 gone_without test n m [] hs = refl
@@ -114,8 +108,7 @@ abbrev pub AreUnnamed : (ℕ → Bool) → ℕ → List History → Type 0
 AreUnnamed test n hs = (k : ℕ) (h : History) → slice_get hs k ≡ Some h → test k ≡ true → IsUnnamed n h
 
 used_one : (b : Bool) (n blocks : ℕ) (h : History) → (b ≡ true → IsUnnamed n h) → used blocks (dropped_if b n h).writes (dropped_if b n h).images ≡ used blocks h.writes h.images
-used_one true n blocks h un = used_without blocks n h (un refl)
-used_one false n blocks h un = refl
+used_one b n blocks h un = grind (arith, used_without)
 
 pub group_used_without : (test : ℕ → Bool) (n : ℕ) (ps : List Placed) (hs : List History) → AreUnnamed test n hs → group_used ps (without test n hs) ≡ group_used ps hs
 group_used_without test n [] hs un = refl
@@ -125,8 +118,7 @@ group_used_without test n (p ∷ ps) (h ∷ hs) un =
     ∙ ap (λ (k : ℕ). (if p.within then used p.blocks h.writes h.images else 0) + k) (group_used_without (λ v. test (suc v)) n ps hs (λ k. un (suc k)))
 
 copies_one : (b : Bool) (n u blocks : ℕ) (h : History) → (b ≡ true → IsUnnamed n h) → copies_of u blocks (dropped_if b n h).writes (dropped_if b n h).images ≡ copies_of u blocks h.writes h.images
-copies_one true n u blocks h un = copies_without u blocks n h (un refl)
-copies_one false n u blocks h un = refl
+copies_one b n u blocks h un = grind (arith, copies_without)
 
 pub copies_without_all : (test : ℕ → Bool) (n u : ℕ) (ps : List Placed) (hs : List History) → AreUnnamed test n hs → copies_from u ps (without test n hs) ≡ copies_from u ps hs
 copies_without_all test n u [] hs un = refl

@@ -69,14 +69,6 @@ IsAreaHeld told w s g = (acts : List Act) → Stands told w s acts → AreaHolds
 
 -- ## what is told of a volume
 
-abbrev pub blocks_at : Option VolumeRow → History → ℕ → List (List ℕ)
-blocks_at None h k = []
-blocks_at (Some r) h k = contents r.blocks h.writes k
-
-abbrev pub used_at : Option VolumeRow → History → ℕ
-used_at None h = 0
-used_at (Some r) h = used r.blocks h.writes h.images
-
 -- these are the sets whose images are kept on volume v, at each list of acts for which both parts stand
 abbrev pub AreKeptSets : {D : Type 0} → (D → Option (List (List ℕ))) → ProviderValue D → SessionsValue → Plan → ℕ → List ℕ → Type 0
 AreKeptSets told p x s v sets = (acts : List Act) → Keeps x (state s acts) → AreGroups told s p.groups (provided (state s acts)) → sets ≡ sets_of (kept (state s acts) (history_of (state s acts) v))

@@ -1,10 +1,11 @@
-ghost use Rattle.std.specs.Prelude.{ℕ, ◌≡◌, ◌<◌, ◌≤◌, Bool, true, List, [], length, map, slice_get, Option, Some, None, is_some, OnErr, OnOk, IfOk, IfErr, IsErr, IsOk, All};
+ghost use Rattle.std.specs.Prelude.{ℕ, ◌≡◌, ◌<◌, ◌≤◌, Bool, true, List, [], length, map, slice_get, Option, Some, None, is_some, OnErr, OnOk, IfOk, IfErr, IfSome, IsErr, IsOk, All};
 ghost use Rattle.std.specs.List.{concat};
 ghost use Rattle.write_history.specs.History.{contents, point_in, sets_of};
 ghost use Rattle.write_history.specs.Slots.{used};
 ghost use Rattle.scenario.specs.Plan.{blocks_of};
 ghost use Rattle.scenario.specs.declared.op.Op.TheVariants as op;
 ghost use Rattle.coordinator.specs.OpenOrders.{standing_in};
+ghost use Rattle.sessions.specs.Moves.{IsNextStep};
 ghost use Rattle.vss_model.specs.Acts.{Act, state, enabled};
 ghost use Rattle.vss_model.specs.State.{history_of, kept};
 ghost use Rattle.vss_model.specs.Told.{IsDigestIf};
@@ -26,6 +27,7 @@ use cow_volume::{Cause, CowGroup, ImageFault};
 use provider::{DigestsOf, Provider, ReadyDigests};
 use scenario::Scenario;
 use sessions::Sessions;
+use set_agenda::Group;
 use std::alloc::Global;
 use std::marker::Model;
 use std::thread::Threads;
@@ -164,6 +166,13 @@ impl<D: Device> World<D> {
         ensures { IfStands D.told self.now scenario.now (λ st. result ≡ standing_in st.course writer) }
     {
         self.sessions.poll(writer)
+    }
+
+    /// The provider's next step and its volume; none if the provider has no step to make.
+    pub fn next_step(&self) -> Option<(Group, Option<u32>)>
+        ensures { IfSome result (λ step. IsNextStep self.now.sessions step.0 step.1) }
+    {
+        self.sessions.next_step()
     }
 
     /// The writers' rows, in the order of their numbers.

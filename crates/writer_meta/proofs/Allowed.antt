@@ -1,6 +1,6 @@
 -- When metadata are allowed, from the tests that are made of them.
-use Rattle.std.proofs.Common.{◌≡◌, ◌↔◌, ◌<◌, ◌^◌, ◌∙◌, Bool, true, List, [], ◌∷◌, map, ap, refl, sym}
-use Rattle.std.specs.Prelude.{◌&&◌, Result, Ok, Err, IfOk}
+use Rattle.std.proofs.Common.{◌≡◌, ◌↔◌, ◌<◌, ◌^◌, Bool, true, List, [], ◌∷◌, map, ap, refl, arith}
+use Rattle.std.specs.Prelude.{◌&&◌, Result, IfOk}
 use Rattle.std.specs.List.{list_all}
 use Rattle.writer_meta.specs.declared.component.Component.{Component}
 use Rattle.writer_meta.specs.Metadata.{Meta, part_of}
@@ -14,16 +14,8 @@ all-parts (c ∷ components) = ap (λ (t : Bool). is_allowed_part (part_of c) &&
 
 -- ## metadata
 
-by_parts : (m : Meta) (named timed are : Bool) → m.class < 2 ^ 128 → named ≡ is_writer_name m.name → named ≡ true → timed ≡ is_freeze_timeout m.freeze_timeout → timed ≡ true
-    → (are ≡ true) ↔ AreAllowedParts m.parts → (are ≡ true) ↔ IsAllowed m
-by_parts m named timed are narrow is_name name is_timed time parts = (
-  λ e. let all = parts.0 e in record { class = narrow; name = sym is_name ∙ name; freeze_timeout = sym is_timed ∙ time; few = all.few; parts = all.each; distinct = all.distinct },
-  λ allowed. parts.1 (record { few = allowed.few; each = allowed.parts; distinct = allowed.distinct }),
-)
-
 -- what the components' test answers is what the metadata's does
 pub parts_if_ok : {E : Type 0} (m : Meta) (named timed : Bool) (result : Result Bool E) → m.class < 2 ^ 128 → named ≡ is_writer_name m.name → named ≡ true → timed ≡ is_freeze_timeout m.freeze_timeout
     → timed ≡ true
     → IfOk result (λ are. (are ≡ true) ↔ AreAllowedParts m.parts) → IfOk result (λ are. (are ≡ true) ↔ IsAllowed m)
-parts_if_ok m named timed (Ok are) narrow is_name name is_timed time parts = by_parts m named timed are narrow is_name name is_timed time parts
-parts_if_ok m named timed (Err e) narrow is_name name is_timed time parts = tt
+parts_if_ok m named timed result narrow is_name name is_timed time parts = grind arith

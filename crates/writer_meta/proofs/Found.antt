@@ -1,10 +1,9 @@
 -- The values of a component's members, one member after another.
-use Rattle.std.proofs.Common.{◌≡◌, ℕ, List, ◌∷◌, Option, Some, None, Bool, true, false, true≢false, ◌||◌, Ordering, Less, Equal, Greater, string_bytes, nat_cmp, codes, refl, sym, ◌∙◌}
+use Rattle.std.proofs.Common.{◌≡◌, ℕ, List, ◌∷◌, Option, Bool, false, ◌||◌, string_bytes, codes, refl}
 use Rattle.std.proofs.lemmas.Slice.Eq.{bytes_eq-Decides}
-use Rattle.std.specs.Cmp.Lexicographic.{slice_cmp}
 use Rattle.std.specs.Option.{option_or}
 use Rattle.std.specs.Str.{bytes_eq}
-use Rattle.std.specs.Ordering.{match_ordering}
+use Rattle.std.proofs.Common.{arith}
 use Rattle.serde_json.specs.Data.{Data, Members, no_members, member}
 use Rattle.serde_json.specs.Find.{get_member}
 use Rattle.serde_json.specs.View.{view, members_view}
@@ -21,10 +20,7 @@ same_rows a b c d = cc
 -- ## a member that no component has
 
 turned : (a b : List ℕ) → bytes_eq a b ≡ false → bytes_eq b a ≡ false
-turned a b apart = by_test (bytes_eq b a) refl where
-  by_test : (t : Bool) → bytes_eq b a ≡ t → t ≡ false
-  by_test false e = refl
-  by_test true e = absurd (true≢false (sym ((bytes_eq-Decides a b).1 (sym ((bytes_eq-Decides b a).0 e))) ∙ apart))
+turned a b apart = grind (arith, bytes_eq-Decides)
 
 none_of : {a b c d : Bool} → a ≡ false → b ≡ false → c ≡ false → d ≡ false → (a || (b || (c || (d || false)))) ≡ false
 none_of e f g h = rw (e, f, g, h) refl
@@ -35,15 +31,9 @@ not-known name n p s t = none_of (turned name (codes "name") n) (turned name (co
 
 -- ## all members
 
-here_or_further : (o : Ordering) (d : Data) (more : Option Data) → option_or (match_ordering o None (Some d) None) more ≡ match_ordering o more (Some d) more
-here_or_further Less d more = refl
-here_or_further Equal d more = refl
-here_or_further Greater d more = refl
-
 found_further : (found : Option Data) (k name : List ℕ) (d : Data) (ms : Members)
     → option_or (option_or found (get_member k (member name d no_members))) (get_member k ms) ≡ option_or found (get_member k (member name d ms))
-found_further None k name d ms = here_or_further (slice_cmp nat_cmp k name) d (get_member k ms)
-found_further (Some x) k name d ms = refl
+found_further found k name d ms = grind arith
 
 pub rows-further : (k p n s : Option Data) (left more : List Entry) (e : Entry) → left ≡ e ∷ more
     → rows_or (rows_with (rows_of k p n s) (string_bytes e.0) (view e.1)) (rows_in (members_view more)) ≡ rows_or (rows_of k p n s) (rows_in (members_view left))

@@ -1,16 +1,15 @@
 -- What a document says is allowed.
-use Rattle.std.proofs.Common.{◌≡◌, ℕ, ◌+◌, ◌≤◌, ◌&&◌, List, [], ◌∷◌, length, Bool, true, false, Option, Some, None, Result, Ok, Err, ok_or, codes, nat_le, if◌then◌else◌, refl, sym, subst, arith}
+use Rattle.std.proofs.Common.{◌≡◌, ℕ, ◌+◌, ◌≤◌, ◌&&◌, List, [], ◌∷◌, length, Bool, true, Option, Some, None, Result, Ok, Err, nat_le, if◌then◌else◌, refl, subst, arith}
 use Rattle.std.proofs.lemmas.Bool.Decides.{nat_tests}
 use Rattle.std.specs.List.{list_all}
-use Rattle.serde_json.specs.Data.{Data, null, boolean, number, string, array, object, Num, unsigned, negative, float, Items, no_items, item, Members}
-use Rattle.serde_json.specs.Find.{get, as_object}
-use Rattle.tick_limits.specs.Time.{default_freeze}
+use Rattle.serde_json.specs.Data.{Data, null, boolean, number, string, array, object, Items, no_items, item, Members}
+use Rattle.serde_json.specs.Find.{as_object}
 use Rattle.writer_meta.specs.declared.field.Field.{Field}
 use Rattle.writer_meta.specs.declared.field.Field.TheVariants as field
 use Rattle.writer_meta.specs.Metadata.{Part}
 use Rattle.writer_meta.specs.Refusal.{Refusal}
-use Rattle.writer_meta.specs.Values.{is_writer_name, is_component_name, is_path, is_freeze_timeout, some_if, string_value, freeze_timeout_value, name_value, path_value, component_name_value}
-use Rattle.writer_meta.specs.Document.{then_on, value_at, required, optional, name_in, freeze_timeout_in, path_in, component_name_in, kind_in, selectable_in, PartRows, rows_in, rows_of_part, part_of_members, part_in, parts_in, count_of, double_after, unless_double, unless_unknown, list_of_parts}
+use Rattle.writer_meta.specs.Values.{is_writer_name, is_component_name, is_path, is_freeze_timeout, some_if, string_value, path_value}
+use Rattle.writer_meta.specs.Document.{then_on, optional, name_in, freeze_timeout_in, path_in, component_name_in, kind_in, selectable_in, PartRows, rows_in, rows_of_part, part_of_members, part_in, parts_in, count_of, double_after, unless_double, unless_unknown, list_of_parts}
 use Rattle.writer_meta.specs.Allowed.{is_allowed_part}
 
 both : (a b : Bool) → a ≡ true → b ≡ true → (a && b) ≡ true
@@ -20,8 +19,7 @@ same_value : {A : Type 0} (x y : A) → ◌≡◌ {A = Result A Refusal} (Ok x) 
 same_value x y e = cc
 
 some_if-passes : {A : Type 0} (passes : A → Bool) (b : Bool) (x y : A) → b ≡ passes x → some_if b x ≡ Some y → passes y ≡ true
-some_if-passes passes true x y is e = let same : x ≡ y = cc in subst (λ z. passes z ≡ true) same (sym is)
-some_if-passes passes false x y is e = absurd (cc)
+some_if-passes passes b x y is e = grind arith
 
 string_value-passes : (passes : List ℕ → Bool) (d : Data) (text : List ℕ) → string_value passes d ≡ Some text → passes text ≡ true
 string_value-passes passes null text e = absurd (cc)
@@ -31,46 +29,20 @@ string_value-passes passes (string s) text e = some_if-passes passes (passes s) 
 string_value-passes passes (array ds) text e = absurd (cc)
 string_value-passes passes (object ms) text e = absurd (cc)
 
-number-passes : (n : Num) (ticks : ℕ) → freeze_timeout_value (number n) ≡ Some ticks → is_freeze_timeout ticks ≡ true
-number-passes (unsigned t) ticks e = some_if-passes is_freeze_timeout (is_freeze_timeout t) t ticks refl e
-number-passes (negative z) ticks e = absurd (cc)
-number-passes (float x) ticks e = absurd (cc)
-
-freeze_timeout_value-passes : (d : Data) (ticks : ℕ) → freeze_timeout_value d ≡ Some ticks → is_freeze_timeout ticks ≡ true
-freeze_timeout_value-passes null ticks e = absurd (cc)
-freeze_timeout_value-passes (boolean b) ticks e = absurd (cc)
-freeze_timeout_value-passes (number n) ticks e = number-passes n ticks e
-freeze_timeout_value-passes (string s) ticks e = absurd (cc)
-freeze_timeout_value-passes (array ds) ticks e = absurd (cc)
-freeze_timeout_value-passes (object ms) ticks e = absurd (cc)
-
-from_ok_or : {A : Type 0} (found : Option A) (refusal : Refusal) (x : A) → ok_or found refusal ≡ Ok x → found ≡ Some x
-from_ok_or None refusal x e = absurd (cc)
-from_ok_or (Some y) refusal x e = cc
-
 then_on-Ok : {A B : Type 0} (said : Result A Refusal) (more : A → Result B Refusal) (y : B) → then_on said more ≡ Ok y → (x : A) × (said ≡ Ok x) × (more x ≡ Ok y)
-then_on-Ok (Ok x) more y e = (x, refl, e)
-then_on-Ok (Err refusal) more y e = absurd (cc)
-
-required-Ok : {A : Type 0} (value : Data → Option A) (place : Field) (found : Option Data) (x : A) → required value place found ≡ Ok x → (v : Data) × (value v ≡ Some x)
-required-Ok value place found x e =
-    let there = then_on-Ok _ (value_at value place) x e in
-    (there.0, from_ok_or (value there.0) _ x there.2)
+then_on-Ok said more y e = grind arith
 
 optional-Ok : {A : Type 0} (default : A) (value : Data → Option A) (place : Field) (passes : A → Bool) (found : Option Data) (x : A) → passes default ≡ true
     → ((v : Data) (y : A) → value v ≡ Some y → passes y ≡ true) → optional default value place found ≡ Ok x → passes x ≡ true
-optional-Ok default value place passes None x usual good e = subst (λ z. passes z ≡ true) (same_value default x e) usual
-optional-Ok default value place passes (Some v) x usual good e = good v x (from_ok_or (value v) _ x e)
+optional-Ok default value place passes found x usual good e = grind arith
 
 pub name_in-allowed : (d : Data) (name : List ℕ) → name_in d ≡ Ok name → is_writer_name name ≡ true
 unfolding name_in
-name_in-allowed d name e =
-    let found = required-Ok name_value field.Name (get (codes "name") d) name e in
-    string_value-passes is_writer_name found.0 name found.1
+name_in-allowed d name e = grind arith
 
 pub freeze_timeout_in-allowed : (d : Data) (ticks : ℕ) → freeze_timeout_in d ≡ Ok ticks → is_freeze_timeout ticks ≡ true
 unfolding freeze_timeout_in
-freeze_timeout_in-allowed d ticks e = optional-Ok default_freeze freeze_timeout_value field.FreezeTimeout is_freeze_timeout (get (codes "freeze_timeout") d) ticks refl freeze_timeout_value-passes e
+freeze_timeout_in-allowed d ticks e = grind arith
 
 path_in-allowed : (found : Option Data) (path : List ℕ) → path_in found ≡ Ok path → is_path path ≡ true
 unfolding path_in
@@ -78,9 +50,7 @@ path_in-allowed found path e = optional-Ok [] path_value field.Path is_path foun
 
 component_name_in-allowed : (found : Option Data) (name : List ℕ) → component_name_in found ≡ Ok name → is_component_name name ≡ true
 unfolding component_name_in
-component_name_in-allowed found name e =
-    let there = required-Ok component_name_value field.Name found name e in
-    string_value-passes is_component_name there.0 name there.1
+component_name_in-allowed found name e = grind arith
 
 rows_of_part-allowed : (rows : PartRows) (part : Part) → rows_of_part rows ≡ Ok part → is_allowed_part part ≡ true
 unfolding rows_of_part
@@ -93,8 +63,7 @@ rows_of_part-allowed rows part e =
     (both _ _ (path_in-allowed rows.path path.0 path.1) (component_name_in-allowed rows.name name.0 name.1))
 
 from_unless_unknown : {A : Type 0} (unknown : Option (List ℕ)) (said : Result A Refusal) (x : A) → unless_unknown unknown said ≡ Ok x → said ≡ Ok x
-from_unless_unknown None said x e = e
-from_unless_unknown (Some name) said x e = absurd (cc)
+from_unless_unknown unknown said x e = grind arith
 
 part_of_members-allowed : (members : Option Members) (part : Part) → part_of_members members ≡ Ok part → is_allowed_part part ≡ true
 part_of_members-allowed None part e = absurd (cc)
@@ -117,12 +86,10 @@ parts_in-allowed (item d more) parts e =
     (both _ _ (part_in-allowed d part.0 part.1) rest.0, omega (arith, rest.1))
 
 from_unless_double : (double : Option (List ℕ)) (parts found : List Part) → unless_double double parts ≡ Ok found → (double ≡ None) × (parts ≡ found)
-from_unless_double None parts found e = (refl, same_value parts found e)
-from_unless_double (Some name) parts found e = absurd (cc)
+from_unless_double double parts found e = grind arith
 
 from_limit : {A : Type 0} (b : Bool) (said : Result A Refusal) (refusal : Refusal) (x : A) → (if b then said else Err refusal) ≡ Ok x → (b ≡ true) × (said ≡ Ok x)
-from_limit true said refusal x e = (refl, e)
-from_limit false said refusal x e = absurd (cc)
+from_limit b said refusal x e = grind arith
 
 le_limit : (n : ℕ) → nat_le n 1024 ≡ true → n ≤ 1024
 le_limit n passes = grind (arith, nat_tests)

@@ -13,24 +13,21 @@ use Rattle.vss_names.proofs.UsageRows.{usage_of_number-number_of}
 use Rattle.vss_names.proofs.SourceKindRows.{source_kind_of_number-number_of}
 use Rattle.vss_names.proofs.ComponentTypeRows.{component_type_of_number-number_of}
 use Rattle.writer_meta.specs.Metadata.{Part, Meta}
-use Rattle.writer_meta.specs.Values.{is_writer_name, is_component_name, is_path, is_freeze_timeout}
+use Rattle.writer_meta.specs.Values.{is_writer_name, is_freeze_timeout}
 use Rattle.writer_meta.specs.Document.{class_in, name_in, level_in, usage_in, source_in, freeze_timeout_in, components_in, kind_in, path_in, component_name_in, selectable_in, rows_of_part, part_in, parts_in, count_of, double_after, list_of_parts, unknown_in, rows_of_meta, meta_in}
 use Rattle.writer_meta.specs.Allowed.{IsAllowed, is_allowed_part}
 use Rattle.writer_meta.specs.Written.{class_text, part_data, parts_data, meta_data}
 
 pub and_left : (a b : Bool) → (a && b) ≡ true → a ≡ true
-and_left true b h = refl
-and_left false b h = h
+and_left a b h = grind arith
 
 pub and_right : (a b : Bool) → (a && b) ≡ true → b ≡ true
-and_right true b h = h
-and_right false b h = absurd (cc)
+and_right a b h = grind arith
 
 -- ## the class
 
 byte_small : (i n : ℕ) → byte_at i n < 256
-byte_small zero n = omega arith
-byte_small (suc i) n = omega arith
+byte_small i n = grind arith
 
 bytes_small : (k n j d : ℕ) → j < length (bytes_high_first k n) → get_or (bytes_high_first k n) j d < 256
 bytes_small zero n j d h = absurd (omega arith)
@@ -74,10 +71,7 @@ components_row m = refl
 
 part_in-part_data : (part : Part) → is_allowed_part part ≡ true → part_in (part_data part) ≡ Ok part
 unfolding part_in part_data unknown_in rows_of_part kind_in path_in component_name_in selectable_in
-part_in-part_data part allowed =
-    let path : is_path part.path ≡ true = and_left _ _ allowed in
-    let name : is_component_name part.name ≡ true = and_right (is_path part.path) _ allowed in
-    rw (component_type_of_number-number_of part.kind, path, name) refl
+part_in-part_data part allowed = grind (arith, and_left, and_right, component_type_of_number-number_of)
 
 parts_in-parts_data : (parts : List Part) → list_all is_allowed_part parts ≡ true → parts_in (parts_data parts) ≡ Ok parts
 unfolding parts_in

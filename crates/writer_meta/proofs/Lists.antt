@@ -1,5 +1,5 @@
 -- The lists of a JSON value, step by step.
-use Rattle.std.proofs.Common.{◌≡◌, ◌↔◌, ℕ, ◌+◌, ◌<◌, ◌≤◌, List, [], ◌∷◌, ◌++◌, length, get_or, drop, map, Option, Some, None, Result, Ok, Err, IsOk, refl, sym, ap, ◌∙◌, arith, append_assoc, append-nil, Bool, true, false, true≢false, ◌||◌, cond, nat_le, string_bytes}
+use Rattle.std.proofs.Common.{◌≡◌, ◌↔◌, ℕ, ◌+◌, ◌<◌, ◌≤◌, List, [], ◌∷◌, ◌++◌, length, get_or, drop, map, Option, Some, None, Result, Ok, Err, IsOk, refl, sym, ap, ◌∙◌, arith, append_assoc, append-nil, Bool, true, false, ◌||◌, cond, nat_le, string_bytes}
 use Rattle.std.proofs.lemmas.Bool.Decides.{nat_tests}
 use Rattle.std.proofs.lemmas.List.{drop_more, drop_all, map-append}
 use Rattle.std.specs.List.{list_any}
@@ -16,8 +16,7 @@ use Rattle.writer_meta.specs.Document.{then_on, part_in, parts_in, list_of_parts
 
 -- a text that is no identifier parses to none
 pub none_parsed : {E : Type 0} (e : E) (found : Option (List ℕ)) → (IsOk {T = List ℕ} (Err e) ↔ ((u : List ℕ) × (found ≡ Some u))) → found ≡ None
-none_parsed e None same = refl
-none_parsed e (Some u) same = absurd (true≢false (sym (same.1 (u, refl))))
+none_parsed e found same = grind arith
 
 pub count_of-items_view : (vs : List Value) → count_of (items_view vs) ≡ length vs
 count_of-items_view [] = refl
@@ -49,17 +48,13 @@ after_one_more parts part (Err refusal) = refl
 pub after-more : (values : List Value) (i : ℕ) (v : Value) (parts : List Part) (part : Part) → i < length values → v ≡ get_or values i v → part_in (view v) ≡ Ok part
     → after parts (parts_in (items_view (drop i values))) ≡ after (parts ++ part ∷ []) (parts_in (items_view (drop (i + 1) values)))
 unfolding parts_in
-after-more values i v parts part within is read =
-    let here : drop i values ≡ v ∷ drop (i + 1) values = drop_more values i v within ∙ ap (λ w. w ∷ drop (i + 1) values) (sym is) in
-    rw here (rw read (after_one_more parts part (parts_in (items_view (drop (i + 1) values)))))
+after-more values i v parts part within is read = grind (arith, drop_more, after_one_more)
 
 -- a value that is no component
 pub Tells-after : (fault : MetaFault) (values : List Value) (i : ℕ) (v : Value) (parts : List Part) → i < length values → v ≡ get_or values i v → Tells fault (part_in (view v))
     → Tells fault (after parts (parts_in (items_view (drop i values))))
 unfolding parts_in
-Tells-after fault values i v parts within is refused =
-    let here : drop i values ≡ v ∷ drop (i + 1) values = drop_more values i v within ∙ ap (λ w. w ∷ drop (i + 1) values) (sym is) in
-    rw here (Tells-then_on fault (then_on (part_in (view v)) _) _ (Tells-then_on fault (part_in (view v)) _ refused))
+Tells-after fault values i v parts within is refused = grind (arith, drop_more, Tells-then_on)
 
 -- the end
 pub after-all : (values : List Value) (i : ℕ) (parts : List Part) → length values ≤ i → after parts (parts_in (items_view (drop i values))) ≡ Ok parts
@@ -67,10 +62,6 @@ unfolding parts_in
 after-all values i parts past = rw (drop_all i values past) (ap Ok (append-nil parts))
 
 -- ## unknown members
-
-pub unknown-here : (known : List ℕ → Bool) (left more : List Entry) (e : Entry) → left ≡ e ∷ more → known (string_bytes e.0) ≡ false → unknown_in known (members_view left) ≡ Some (string_bytes e.0)
-unfolding unknown_in
-unknown-here known left more e step absent = rw step (rw absent refl)
 
 pub unknown-further : (known : List ℕ → Bool) (left more : List Entry) (e : Entry) → left ≡ e ∷ more → known (string_bytes e.0) ≡ true → unknown_in known (members_view left) ≡ unknown_in known (members_view more)
 unfolding unknown_in
@@ -99,14 +90,9 @@ pub double-none : (so_far : List (List ℕ)) (components : List Component) (i : 
 unfolding double_after
 double-none so_far components i past = rw (drop_all i components past) refl
 
-or_cond : (b x : Bool) → cond b true x ≡ (b || x)
-or_cond true x = refl
-or_cond false x = refl
-
 -- a set with one name more
 pub has-one_more : (same old new among : Bool) (x y : List ℕ) → new ≡ cond same true old → same ≡ bytes_eq x y → old ≡ among → new ≡ (bytes_eq x y || among)
-has-one_more same old new among x y updated is had =
-    updated ∙ ap (λ b. cond b true old) is ∙ ap (λ b. cond (bytes_eq x y) true b) had ∙ or_cond (bytes_eq x y) among
+has-one_more same old new among x y updated is had = grind arith
 
 -- ## copies
 

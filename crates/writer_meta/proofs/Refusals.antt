@@ -1,7 +1,8 @@
 -- A refusal that a part of a document has is the document's, where the parts before it have none.
-use Rattle.std.proofs.Common.{◌≡◌, ◌↔◌, ◌∙◌, ℕ, Bool, true, false, true≢false, IsTrue, if◌then◌else◌, List, Option, Some, None, Result, Ok, Err, IfErr, IsErrAnd, IsUtf8, refl, sym, subst}
+use Rattle.std.proofs.Common.{◌≡◌, ◌↔◌, ◌∙◌, ℕ, Bool, true, false, true≢false, IsTrue, if◌then◌else◌, List, Option, Some, None, Result, IfErr, IsErrAnd, IsUtf8, sym}
 use Rattle.std.proofs.lemmas.Str.{IsUtf8-from_is_utf8, is_utf8-from_IsUtf8}
 use Rattle.std.specs.Str.{is_utf8}
+use Rattle.std.proofs.Common.{arith}
 use Rattle.serde_json.specs.Data.{Data}
 use Rattle.serde_json.specs.Read.{read}
 use Rattle.writer_meta.specs.declared.meta_fault.MetaFault.{MetaFault}
@@ -9,20 +10,17 @@ use Rattle.writer_meta.specs.Refusal.{Refusal, refusal_of, IsRefused, Tells}
 use Rattle.writer_meta.specs.Document.{then_on, value_of_text}
 
 IsRefused-then_on : {A B : Type 0} (refusal : Option Refusal) (said : Result A Refusal) (more : A → Result B Refusal) → IsRefused refusal said → IsRefused refusal (then_on said more)
-IsRefused-then_on None said more h = tt
-IsRefused-then_on (Some refusal) said more h = rw h refl
+IsRefused-then_on refusal said more h = grind arith
 
 pub Tells-then_on : {A B : Type 0} (fault : MetaFault) (said : Result A Refusal) (more : A → Result B Refusal) → Tells fault said → Tells fault (then_on said more)
 Tells-then_on fault said more h = IsRefused-then_on (refusal_of fault) said more h
 
 -- the same where a call's error is handed on
 pub Tells-handed_on : {T A : Type 0} (r : Result T MetaFault) (fault : MetaFault) (said : Result A Refusal) → IsErrAnd r (λ f. f ≡ fault) → Tells fault said → IfErr r (λ f. Tells f said)
-Tells-handed_on (Ok x) fault said is h = tt
-Tells-handed_on (Err f) fault said is h = subst (λ (g : MetaFault). Tells g said) (sym is) h
+Tells-handed_on r fault said is h = grind arith
 
 none_if : {A : Type 0} (b : Bool) (found : Option A) → (b ≡ true → found ≡ None) → (if b then found else None) ≡ None
-none_if true found h = h refl
-none_if false found h = refl
+none_if b found h = grind arith
 
 -- a text that is refused, and not for want of memory, has no value
 pub no_value : {M : Type 0} (text : List ℕ) (memory : Bool) → memory ≡ false → (IsTrue memory ↔ M) → (¬ M → IsUtf8 text → read text ≡ None) → value_of_text text ≡ None

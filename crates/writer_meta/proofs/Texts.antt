@@ -1,5 +1,5 @@
 -- Texts that the format allows are UTF-8.
-use Rattle.std.proofs.Common.{◌&&◌, Result, Ok, Err, IsOk, MatchResult, refl, ◌≡◌, ℕ, zero, suc, ◌<◌, List, [], ◌∷◌, true, IsUtf8, nat_le, arith}
+use Rattle.std.proofs.Common.{◌&&◌, Result, IsOk, MatchResult, ◌≡◌, ℕ, zero, suc, ◌<◌, List, [], ◌∷◌, true, IsUtf8, nat_le, arith}
 use Rattle.std.proofs.lemmas.Bool.Decides.{nat_tests}
 use Rattle.std.proofs.lemmas.Str.{IsUtf8-from_ascii}
 use Rattle.std.specs.Str.{IsAscii}
@@ -29,8 +29,7 @@ IsUtf8-path path allowed = IsUtf8-printable path (and_right _ (list_all is_print
 
 -- a text that is UTF-8 is read as a string
 pub IsOk-utf8 : {T E : Type 0} (r : Result T E) (P : T → Type 0) (Utf8 : Type 0) (Q : E → Type 0) → MatchResult r P (λ e. (¬ Utf8) × Q e) → Utf8 → IsOk r
-IsOk-utf8 (Ok x) P Utf8 Q cases is = refl
-IsOk-utf8 (Err e) P Utf8 Q cases is = absurd (cases.0 is)
+IsOk-utf8 r x1 x2 x3 cases is = grind arith
 
 pub IsUtf8-part_name : (path name : List ℕ) → (is_path path && is_component_name name) ≡ true → IsUtf8 name
 IsUtf8-part_name path name allowed = IsUtf8-component_name name (and_right (is_path path) _ allowed)

@@ -1,5 +1,5 @@
 -- The lists of the values that are written, step by step.
-use Rattle.std.proofs.Common.{◌≡◌, ◌∙◌, ℕ, zero, suc, ◌+◌, ◌<◌, ◌≤◌, List, [], ◌∷◌, ◌++◌, length, get_or, drop, map, true, refl, sym, ap, arith}
+use Rattle.std.proofs.Common.{◌≡◌, ℕ, zero, suc, ◌+◌, ◌<◌, ◌≤◌, List, [], ◌∷◌, ◌++◌, length, get_or, drop, map, true, refl, ap, arith}
 use Rattle.std.proofs.lemmas.List.{drop_more, drop_all}
 use Rattle.std.specs.List.{list_all}
 use Rattle.serde_json.specs.Data.{Items, no_items, item}
@@ -27,17 +27,11 @@ with_items-none (v ∷ vs) = ap (item (view v)) (with_items-none vs)
 pub written-more : (components : List Component) (values : List Value) (i : ℕ) (c : Component) (v : Value) → i < length components → c ≡ get_or components i c → view v ≡ part_data (part_of c)
     → with_items values (parts_data (map part_of (drop i components))) ≡ parts_data (map part_of components)
     → with_items (values ++ v ∷ []) (parts_data (map part_of (drop (i + 1) components))) ≡ parts_data (map part_of components)
-written-more components values i c v within is seen so_far =
-    let here : drop i components ≡ c ∷ drop (i + 1) components = drop_more components i c within ∙ ap (λ w. w ∷ drop (i + 1) components) (sym is) in
-    with_items-one_more values v _
-    ∙ ap (λ d. with_items values (item d (parts_data (map part_of (drop (i + 1) components))))) seen
-    ∙ ap (λ cs. with_items values (parts_data (map part_of cs))) (sym here)
-    ∙ so_far
+written-more components values i c v within is seen so_far = grind (arith, drop_more, with_items-one_more)
 
 pub written-all : (components : List Component) (values : List Value) (i : ℕ) → length components ≤ i
     → with_items values (parts_data (map part_of (drop i components))) ≡ parts_data (map part_of components) → items_view values ≡ parts_data (map part_of components)
-written-all components values i past so_far =
-    sym (with_items-none values) ∙ ap (λ cs. with_items values (parts_data (map part_of cs))) (sym (drop_all i components past)) ∙ so_far
+written-all components values i past so_far = grind (arith, with_items-none, drop_all)
 
 allowed_within : (components : List Component) (i : ℕ) (d : Component) → list_all is_allowed_part (map part_of components) ≡ true → i < length components → is_allowed_part (part_of (get_or components i d)) ≡ true
 allowed_within [] i d allowed within = absurd (omega arith)
