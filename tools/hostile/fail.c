@@ -1,7 +1,8 @@
-/* Fails calls of the system, for tools/failing-calls and checks/images/failing.py: those of FAIL_CALL whose numbers lie between FAIL_FIRST and
+/* Fails calls of the C library, for tools/failing and checks/images/failing.py: those of FAIL_CALL whose numbers lie between FAIL_FIRST and
    FAIL_LAST, counted from 1, fail with EIO; with FAIL_SHORT, reads and writes among them do half of what they are asked for. At the end it says
    on the standard error how many calls there were and how many of them it failed. `read` and `write` are those on the standard input and output;
-   on other files, but for the standard error, they are `read_file` and `write_file`. */
+   on other files, but for the standard error, they are `read_file` and `write_file`. `malloc` is `realloc` too, and gets no memory: REFUSE_FIRST and
+   REFUSE_LAST say the same of it, and with COUNT_ALLOCATIONS how many calls there were comes last. */
 #define _GNU_SOURCE
 #include <dlfcn.h>
 #include <errno.h>
@@ -20,19 +21,31 @@
 static atomic_long calls, failed;
 static long first = 0, last = -1;
 static const char *which = "";
-static int is_short;
+static int is_short, is_counting;
+
+extern void *__libc_malloc(size_t);
+extern void *__libc_realloc(void *, size_t);
 
 __attribute__((constructor)) static void begin(void) {
     const char *name = getenv("FAIL_CALL"), *from = getenv("FAIL_FIRST"), *to = getenv("FAIL_LAST");
-    if (name && from && to) {
+    if (getenv("REFUSE_FIRST") || getenv("COUNT_ALLOCATIONS")) {
+        name = "malloc";
+        from = getenv("REFUSE_FIRST");
+        to = getenv("REFUSE_LAST");
+        is_counting = getenv("COUNT_ALLOCATIONS") != NULL;
+    }
+    if (from && to) {
         first = atol(from);
         last = atol(to);
-        which = name;
     }
     is_short = getenv("FAIL_SHORT") != NULL;
+    if (name) which = name;
 }
 
-static void tell(void) { dprintf(2, "calls %ld failed %ld\n", atomic_load(&calls), atomic_load(&failed)); }
+static void tell(void) {
+    if (is_counting) dprintf(2, "allocations %ld\n", atomic_load(&calls));
+    else dprintf(2, "calls %ld failed %ld\n", atomic_load(&calls), atomic_load(&failed));
+}
 
 /* Programs end by _exit, or return from main. */
 __attribute__((destructor)) static void end(void) { tell(); }
@@ -50,6 +63,18 @@ static int fails(const char *name) {
     atomic_fetch_add(&failed, 1);
     errno = EIO;
     return 1;
+}
+
+void *malloc(size_t size) {
+    if (!fails("malloc")) return __libc_malloc(size);
+    errno = ENOMEM;
+    return NULL;
+}
+
+void *realloc(void *at, size_t size) {
+    if (!fails("malloc")) return __libc_realloc(at, size);
+    errno = ENOMEM;
+    return NULL;
 }
 
 static size_t half(size_t size) { return size > 1 ? size / 2 : size; }

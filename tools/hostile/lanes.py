@@ -7,8 +7,8 @@ import tempfile
 
 TOP = os.path.dirname(os.path.dirname(os.path.dirname(os.path.realpath(__file__))))
 PROVED = f"{TOP}/crates/vss/out/vss"
-TRIAL = f"{TOP}/crates/service_trial/out/service_trial"
-ORDERS = f"{TOP}/crates/vss_orders/out/vss_orders"
+TRIAL = f"{TOP}/crates/trials_in_threads/out/trials_in_threads"
+ORDERS = f"{TOP}/crates/vss_tools/out/vss_tools"
 
 
 class Hung(Exception):
@@ -123,7 +123,7 @@ def lane_numbers(report):
 
 
 def order_of(report):
-    """Returns the moves of a report, or of its first lines, as the order that vss_orders takes."""
+    """Returns the moves of a report, or of its first lines, as the order that `orders` takes."""
     order = []
     for line in report.split(b"\n")[1:]:
         words = line.split(b" ")

@@ -1,7 +1,10 @@
 ghost use Rattle.std.specs.Prelude.{true, ◌≡◌, ◌<◌, ◌≤◌, ◌+◌, [], Some, length, slice_get, OnOk, OnErr, IfOk, IfSome, IsErrOf};
 ghost use Rattle.vss_names.specs.Faults.{Rose};
+ghost use Rattle.cow_volume.specs.Calls.{counted_as};
 ghost use Rattle.coordinator.specs.OpenOrders.{standing_in};
+ghost use Rattle.sessions.specs.Moves.{IsNextStep};
 ghost use Rattle.vss_model.specs.Acts.{enabled};
+ghost use Rattle.vss_model.specs.declared.event.Event.TheVariants as event;
 ghost use Rattle.vss_world.specs.Moves.{IsEvent, IsStepped, AreListed, takes_memory};
 ghost use Rattle.vss_world.specs.Stands.{IsOf, Stands, IsStanding, IfStands};
 ghost use Rattle.vss_world.specs.declared.reply.Reply.TheVariants.{Moved};
@@ -15,13 +18,14 @@ use crate::play_fault::PlayFault;
 use crate::step_fault::StepFault;
 use crate::turn::{bytes_for, mark_of, write_lines};
 use scenario::Scenario;
+use set_agenda::Group;
 use std::alloc::Global;
 use std::marker::Model;
 use volume_device::{Device, Maker, Store};
 use vss_model::{Event, Outcome};
 use vss_names::{OutOfMemory, Text};
 use vss_world::{Reply, World};
-use write_history::{Actor, Move};
+use write_history::{Actor, Mark, Move};
 use writer_calls::{Standing, VssWriter};
 use writer_state::WriterRow;
 
@@ -202,6 +206,58 @@ impl<D: Device> Service<D> {
             return Ok(Reply::Blocked);
         };
         self.add_lines(event, line, &outcome, out);
+        Ok(Reply::Moved(outcome))
+    }
+
+    /// The provider's next step and its volume; none if it has no step to make.
+    pub fn next_step(&self) -> Option<(Group, Option<u32>)>
+        ensures { IfSome result (λ step. IsNextStep self.now.world.sessions step.0 step.1) }
+    {
+        self.world.next_step()
+    }
+
+    /// Makes the provider's step as one in which its device failed, where it may fail.
+    fn fail(&mut self, alloc: Global) -> Result<Reply, StepFault>
+        ensures same { OnErr result (self.new ≡ self.old) }
+        ensures plan { self.new.plan ≡ self.old.plan }
+        ensures full { IsErrOf result StepFault.TrailFull → self.old.moves ≡ 2097151 }
+        ensures stepped { IfOk result (IsStepped (counted_as D.Device true) self.old.world self.new.world self.old.plan event.Provider) }
+    {
+        if self.moves >= MOST_MOVES {
+            return Err(StepFault::TrailFull);
+        }
+        match self
+            .world
+            .step_marked(alloc, &self.scenario, Event::Provider, Mark::Fault)
+        {
+            Err(OutOfMemory) => Err(StepFault::OutOfMemory),
+            Ok(Reply::Blocked) => Ok(Reply::Blocked),
+            Ok(Reply::Moved(outcome)) => {
+                self.moves += 1;
+                Ok(Reply::Moved(outcome))
+            }
+        }
+    }
+
+    /// Makes the provider's step as one in which its device failed, though no such call is made, and appends its lines as `step_into` does. A step
+    /// that cannot fail is made as it is.
+    pub fn fail_into(&mut self, alloc: Global, out: &mut Text) -> Result<Reply, StepFault>
+        ensures same { OnErr result (self.new ≡ self.old) }
+        ensures untold { OnErr result (out.new.bytes ≡ out.old.bytes) }
+        ensures plan { self.new.plan ≡ self.old.plan }
+        ensures full { IsErrOf result StepFault.TrailFull → self.old.moves ≡ 2097151 }
+        ensures stepped { IfOk result (IsStepped (counted_as D.Device true) self.old.world self.new.world self.old.plan event.Provider) }
+        ensures lines { IfOk result (λ reply. AreToldOf D.told self.new.plan self.new.world self.new.moves 0 event.Provider reply out.old.bytes out.new.bytes) }
+    {
+        let _kept = self.world();
+        let event = Event::Provider;
+        if out.reserve(bytes_for(&self.scenario, event)).is_err() {
+            return Err(StepFault::OutOfMemory);
+        }
+        let Reply::Moved(outcome) = self.fail(alloc)? else {
+            return Ok(Reply::Blocked);
+        };
+        self.add_lines(event, 0, &outcome, out);
         Ok(Reply::Moved(outcome))
     }
 
