@@ -7,6 +7,7 @@ pub mod Numbers
 pub mod Order
 pub mod Places
 pub mod ReadBack
+pub mod Same
 pub mod Takers
 pub mod Told
 pub mod Values

@@ -1,7 +1,7 @@
 -- The selection of a session: the components that the requestor named, or all of them; who takes part, and which
 -- components the backup takes. (After the SDK's rules on selectability and logical paths: a component is chosen with
 -- its descendants, and one that is not selectable and has no selectable ancestor comes with its writer.)
-use Rattle.std.specs.Prelude.{ℕ, ◌+◌, Bool, true, false, List, [], ◌∷◌, ◌++◌, filter, nat_lt, ◌==◌, ◌&&◌, ◌||◌, not, if◌then◌else◌, Option, Some, None, slice_get}
+use Rattle.std.specs.Prelude.{◌≡◌, ℕ, ◌+◌, Bool, true, false, List, [], ◌∷◌, ◌++◌, filter, nat_lt, ◌==◌, ◌&&◌, ◌||◌, not, if◌then◌else◌, Option, Some, None, slice_get}
 use Rattle.std.specs.List.{list_any, range_with_len}
 use Rattle.std.specs.Str.{bytes_eq}
 use Rattle.writer_meta.specs.Metadata.{Part, Meta, full_name, is_ancestor}
@@ -25,6 +25,10 @@ is_pair w i p = (p.writer == w) && (p.component == i)
 
 abbrev pub has_pair : List Pair → ℕ → ℕ → Bool
 has_pair ps w i = list_any (is_pair w i) ps
+
+-- two lists have the same pairs of a writer
+abbrev pub HaveSame : ℕ → List Pair → List Pair → Type 0
+HaveSame w ps qs = (i : ℕ) → has_pair ps w i ≡ has_pair qs w i
 
 abbrev pub comes_before : Pair → Pair → Bool
 comes_before q p = nat_lt q.writer p.writer || ((q.writer == p.writer) && nat_lt q.component p.component)

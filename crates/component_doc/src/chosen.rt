@@ -31,7 +31,10 @@ pub(crate) fn choose_of_writer(
     }
     let components = metadata.components.items();
     match taken {
-        Taken::Named(pairs) => choose_by_names(pairs, writer, components, choices),
+        Taken::Named(named) => {
+            let pairs = pairs::around_writer(named, writer);
+            choose_by_names(pairs, writer, components, choices)
+        }
         Taken::AllOf(_) => choose_all(writer, components, choices),
     }
 }

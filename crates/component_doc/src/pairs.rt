@@ -3,7 +3,7 @@ ghost use Rattle.std.specs.Prelude.{◌≡◌, ◌&&◌, ◌<◌, ◌≤◌, ◌
 ghost use Rattle.std.specs.List.{list_all};
 ghost use Rattle.component_doc.specs.Held.{metas_of};
 ghost use Rattle.component_doc.specs.Over.{is_ascending, is_before_next, names_selectable};
-ghost use Rattle.component_doc.specs.Selection.{Named, has_pair, is_taker, with_pair};
+ghost use Rattle.component_doc.specs.Selection.{HaveSame, Named, has_pair, is_taker, with_pair};
 
 use crate::both::are_both;
 use crate::metas::Metas;
@@ -22,6 +22,38 @@ pub(crate) fn has_writer(pairs: &[Pair], writer: u32) -> bool
     ensures { result ≡ is_taker (Named pairs.now) writer }
 {
     pairs.iter().any(|p| p.writer == writer)
+}
+
+/// Some of the pairs, and all of the writer among them: from its first one to its last one.
+pub(crate) fn around_writer(pairs: &[Pair], writer: u32) -> &[Pair]
+    ensures { HaveSame writer result.now pairs.now }
+{
+    up_to_last(from_first(pairs, writer), writer)
+}
+
+/// The pairs from the first one of the writer on.
+fn from_first(pairs: &[Pair], writer: u32) -> &[Pair]
+    ensures { HaveSame writer result.now pairs.now }
+{
+    for (i, pair) in pairs.iter().enumerate() {
+        if pair.writer == writer {
+            return &pairs[i..];
+        }
+    }
+    &[]
+}
+
+/// The pairs up to the last one of the writer.
+fn up_to_last(pairs: &[Pair], writer: u32) -> &[Pair]
+    ensures { HaveSame writer result.now pairs.now }
+{
+    let mut end = 0;
+    for (i, pair) in pairs.iter().enumerate() {
+        if pair.writer == writer {
+            end = i + 1;
+        }
+    }
+    &pairs[..end]
 }
 
 /// Whether each of the pairs names a selectable component, in order of writers and then of components.

@@ -49,14 +49,19 @@ fn fail(row: &mut Planned, kind: &str, numbers: Numbers) -> Done {
 
 /// The row of `DEVICE CALL NUMBERS ..`.
 fn row_of(alloc: Global, words: &str) -> Result<Planned, Stopped> {
-    let (device, mut rest) = words.split_once(' ').ok_or(Stopped)?;
-    let mut row = unfailing(alloc, device)?;
-    while let Some((kind, behind)) = rest.split_once(' ') {
-        let (numbers, more) = behind.split_once(' ').unwrap_or((behind, ""));
-        fail(&mut row, kind, numbers_of(alloc, numbers)?)?;
-        rest = more;
+    let mut words = words.split(' ');
+    let mut row = unfailing(alloc, words.next().ok_or(Stopped)?)?;
+    let mut kind = None;
+    for word in words {
+        match kind.take() {
+            Some(kind) => fail(&mut row, kind, numbers_of(alloc, word)?)?,
+            None => kind = Some(word),
+        }
     }
-    Ok(row)
+    match kind {
+        Some(_) => Err(Stopped),
+        None => Ok(row),
+    }
 }
 
 impl Plan {
