@@ -31,12 +31,23 @@ pub(crate) fn choose_of_writer(
     }
     let components = metadata.components.items();
     match taken {
-        Taken::Named(named) => {
-            let pairs = pairs::around_writer(named, writer);
-            choose_by_names(pairs, writer, components, choices)
-        }
+        Taken::Named(named) => choose_named(named, writer, components, choices),
         Taken::AllOf(_) => choose_all(writer, components, choices),
     }
+}
+
+fn choose_named(
+    named: &[Pair],
+    writer: u32,
+    components: &[Component],
+    choices: &mut Vec<Choice>,
+) -> Result<(), OutOfMemory>
+    requires { length components.now ≤ 1024 }
+    ensures { OnOk result (choices.new.items ≡ choices.old.items
+        ++ choices_from (Named named.now) (map part_of components.now) writer 0 (map part_of components.now)) }
+{
+    let pairs = pairs::around_writer(named, writer);
+    choose_by_names(pairs, writer, components, choices)
 }
 
 fn choose_by_names(
