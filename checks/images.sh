@@ -11,7 +11,7 @@ if [ -w /dev/shm ]; then
   room="$(mktemp -d -p /dev/shm)" || exit 70
 fi
 
-mkdir "$room/lists" "$room/kills" "$room/power" "$room/damage" "$room/terminal" "$room/torn" "$room/sqlite"
+mkdir "$room/lists" "$room/kills" "$room/power" "$room/damage" "$room/terminal" "$room/torn" "$room/sqlite" "$room/words"
 python3 checks/images/lists.py "$images" "$room/lists" 0 80 > "$room/said" 2>&1 || wrong "$(cat "$room/said")"
 
 if command -v cc > /dev/null; then
@@ -26,6 +26,7 @@ else
 fi
 
 python3 checks/images/damage.py "$images" "$room/damage" > "$room/said" 2>&1 || wrong "$(cat "$room/said")"
+python3 checks/images/words.py "$images" "$room/words" > "$room/said" 2>&1 || wrong "$(cat "$room/said")"
 python3 checks/images/torn.py "$images" "$room/torn" 20 > "$room/said" 2>&1 || wrong "$(cat "$room/said")"
 python3 checks/images/terminal.py "$images" "$room/terminal" > "$room/said" 2>&1 || wrong "$(cat "$room/said")"
 

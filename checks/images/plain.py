@@ -11,11 +11,13 @@ BLOCK = 16384
 FORMS = {
     "create": "create [--tries N] F SLOTS NAME[:BLOCKS]=FILE ..",
     "cut": "cut F NAME ..",
-    "update": "update [--tries N] F NAME=FILE ..",
+    "update": "update [--tries N] [--keep N] F NAME=FILE ..",
     "list": "list F",
     "show": "show F [SET] NAME",
+    "restore": "restore [--over] F [SET] NAME FILE",
     "digest": "digest F [SET] NAME",
     "delete": "delete F SET [NAME]",
+    "prune": "prune --keep N F",
     "revert": "revert F SET NAME",
     "check": "check F",
 }
@@ -137,7 +139,7 @@ class Plain:
         try:
             task, rest = (words[0], words[1:]) if words else ("", [])
             if task not in FORMS:
-                raise Ends(2, "usage: " + " | ".join(FORMS.values()))
+                raise Ends(2, "usage: " + " | ".join(FORMS.values()) + "; --wait SECONDS may stand before F")
             if rest[:1] == ["--tries"]:
                 rest = rest[2:] if task in ("create", "update") and number("".join(rest[1:2]), 1) else []
             done = getattr(self, task)(rest, out)

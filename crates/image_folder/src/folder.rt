@@ -12,7 +12,8 @@ use std::alloc::AllocError;
 use std::fs::{File, TryLockError};
 use std::io::{ErrorKind, Write};
 use std::os::unix::fs::FileExt;
-use std::{fs, io};
+use std::time::Duration;
+use std::{fs, io, thread};
 use volume_device::FileDevice;
 use vss_names::MOST_SLOTS;
 
@@ -30,6 +31,9 @@ pub const TOGETHER: &str = "images.together";
 
 /// What becomes the state's file by a rename.
 const STATE_NEW: &str = "images.state.new";
+
+/// How long it waits between two looks at a lock, in milliseconds.
+const PAUSE: u64 = 100;
 
 /// The most bytes of a marker, and of the list of what was brought together.
 const MOST_SMALL: u64 = 8192;
@@ -109,21 +113,31 @@ fn check_state(program: &Program, path: &str) -> Result<(), Status> {
 }
 
 impl Folder {
-    /// Opens a folder of images that is there, and locks it.
-    pub fn open(program: &Program, path: &str, way: Way) -> Result<Folder, Status> {
+    /// Opens a folder of images that is there, and locks it. For one that another process has it waits so many seconds.
+    pub fn open(program: &Program, path: &str, way: Way, wait: u32) -> Result<Folder, Status> {
         check_state(program, path)?;
         let folder = Folder::hold(program, path)?;
+        for _time in 0..u64::from(wait) * 10 {
+            if !matches!(folder.try_lock(way), Err(TryLockError::WouldBlock)) {
+                break;
+            }
+            thread::sleep(&program.rt, Duration::from_millis(PAUSE));
+        }
         folder.lock(way)?;
         Ok(folder)
     }
 
-    /// Locks it: alone to write, beside others to read.
-    pub fn lock(&self, way: Way) -> Result<(), Status> {
-        let locked = match way {
+    /// Tries to lock it: alone to write, beside others to read.
+    fn try_lock(&self, way: Way) -> Result<(), TryLockError> {
+        match way {
             Way::Writing => self.held.try_lock(),
             _ => self.held.try_lock_shared(),
-        };
-        match locked {
+        }
+    }
+
+    /// Locks it.
+    pub fn lock(&self, way: Way) -> Result<(), Status> {
+        match self.try_lock(way) {
             Ok(()) => Ok(()),
             Err(TryLockError::WouldBlock) => {
                 Err(ended!(self.program, InUse; "{}: in use by another process", self.path))

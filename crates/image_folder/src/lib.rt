@@ -39,7 +39,7 @@ pub use creating::{create, make_new};
 pub use ended::{note, said, say};
 pub use file_input::{ABSENT, FileInput};
 pub use folder::{AREA, Folder, STATE};
-pub use job::Job;
+pub use job::{Job, sets_of};
 pub use marker::Marker;
 pub use naming::{check_once, may_name, name_in, which_at};
 pub use opened::{Files, Opened, open};

@@ -124,9 +124,9 @@ fn end_store(
     }
 }
 
-/// Opens a folder.
-pub fn open(program: &Program, path: &str, way: Way) -> Result<Opened, Status> {
-    let folder = Folder::open(program, path, way)?;
+/// Opens a folder. For one that another process has it waits so many seconds.
+pub fn open(program: &Program, path: &str, way: Way, wait: u32) -> Result<Opened, Status> {
+    let folder = Folder::open(program, path, way, wait)?;
     let store = store_of(&folder, way)?;
     let marker = match folder.small(MARKER)? {
         Some(bytes) => Some(Marker::of(program.alloc(), &bytes, &store)?),

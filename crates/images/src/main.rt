@@ -2,20 +2,24 @@
 //!
 //!     images create [--tries N] F SLOTS NAME[:BLOCKS]=FILE ..   makes the folder F: a volume for each file, and a diff area of so many slots
 //!     images cut F NAME ..                          cuts one set over these volumes, and prints its number
-//!     images update [--tries N] F NAME=FILE ..      brings each volume to the file's contents; prints what was evicted, written and copied
+//!     images update [--tries N] [--keep N] F NAME=FILE ..   brings each volume to the file's contents; prints what was evicted, written and copied
 //!     images list F                                 prints the volumes, their images, and the slots in use
 //!     images show F [SET] NAME                      writes the file that the image, or the volume, has
+//!     images restore [--over] F [SET] NAME FILE     makes FILE of it, whole or not at all
 //!     images digest F [SET] NAME                    prints its SHA-256
 //!     images delete F SET [NAME]                    deletes the images of a set, or that of one volume
+//!     images prune --keep N F                       deletes the images of all sets but the N newest
 //!     images revert F SET NAME                      brings a volume back to its image of a set
 //!     images check F                                reads everything, and prints what is wrong
 //!
-//! For a status other than 0 it prints one line to the standard error: the file, the field and what was found.
+//! `--wait SECONDS` before F waits for a folder that another process has. For a status other than 0 it prints one line to the standard error: the file, the field and what was found.
 #![tactic(auto)]
 
 mod check;
 mod list;
+mod options;
 mod request;
+mod restoring;
 mod sets;
 mod show;
 mod shown_sink;
@@ -40,13 +44,16 @@ fn words_given(program: &Program) -> io::Result<Vec<String>> {
 fn call_on(opened: &mut Opened, task: Task<'_>) -> Result<(), Status> {
     match task {
         Task::Cut { names } => sets::cut(opened, names),
-        Task::Update { tries, pairs } => {
+        Task::Update { tries, keep, pairs } => {
+            opened.least = keep;
             let pairs = pairs_of(opened.folder.program.alloc(), pairs)?;
             update(opened, &pairs, tries)
         }
         Task::List => list::list(opened),
         Task::Show(of) => show::show(opened, of),
         Task::Digest(of) => show::digest(opened, of),
+        Task::Restore { of, target } => restoring::restore(opened, of, target),
+        Task::Prune { keep } => sets::prune(opened, keep),
         Task::Delete { set, name } => sets::delete(opened, set, name),
         Task::Revert { set, name } => sets::revert(opened, set, name),
         Task::Check => check::check(opened),
@@ -65,7 +72,8 @@ fn run(program: &Program, request: Request<'_>) -> Result<(), Status> {
         let pairs = pairs_of(program.alloc(), pairs)?;
         return create(program, request.folder, slots, &pairs, tries);
     }
-    let mut opened = open(program, request.folder, request.task.way())?;
+    let (folder, way) = (request.folder, request.task.way());
+    let mut opened = open(program, folder, way, request.wait)?;
     let done = call_on(&mut opened, request.task);
     opened.end(done)
 }

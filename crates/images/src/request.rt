@@ -1,15 +1,17 @@
+use crate::options::Options;
 use crate::task::Task;
-use image_folder::number_of;
 
 /// What the words of the program ask for: a task, and the folder that it is of.
 #[derive(Clone, Copy)]
 pub struct Request<'a> {
     pub folder: &'a str,
+    /// How long to wait for the folder, in seconds.
+    pub wait: u32,
     pub task: Task<'a>,
 }
 
 const ALL: &str =
-    "create [--tries N] F SLOTS NAME[:BLOCKS]=FILE .. | cut F NAME .. | update [--tries N] F NAME=FILE .. | list F | show F [SET] NAME | digest F [SET] NAME | delete F SET [NAME] | revert F SET NAME | check F";
+    "create [--tries N] F SLOTS NAME[:BLOCKS]=FILE .. | cut F NAME .. | update [--tries N] [--keep N] F NAME=FILE .. | list F | show F [SET] NAME | restore [--over] F [SET] NAME FILE | digest F [SET] NAME | delete F SET [NAME] | prune --keep N F | revert F SET NAME | check F; --wait SECONDS may stand before F";
 
 /// The form that words should have, by the first of them.
 pub fn form_of(words: &[String]) -> &'static str {
@@ -19,25 +21,16 @@ pub fn form_of(words: &[String]) -> &'static str {
     match word.as_str() {
         "create" => "create [--tries N] F SLOTS NAME[:BLOCKS]=FILE ..",
         "cut" => "cut F NAME ..",
-        "update" => "update [--tries N] F NAME=FILE ..",
+        "update" => "update [--tries N] [--keep N] F NAME=FILE ..",
         "list" => "list F",
         "show" => "show F [SET] NAME",
+        "restore" => "restore [--over] F [SET] NAME FILE",
         "digest" => "digest F [SET] NAME",
         "delete" => "delete F SET [NAME]",
+        "prune" => "prune --keep N F",
         "revert" => "revert F SET NAME",
         "check" => "check F",
         _ => ALL,
-    }
-}
-
-/// The number behind `--tries`, where that comes first, and the words behind it.
-fn tries_of(words: &[String]) -> Option<(Option<u32>, &[String])> {
-    match words {
-        [option, count, rest @ ..] if option.as_str() == "--tries" => {
-            let count = number_of(count.as_str())?;
-            (count > 0).then_some((Some(count), rest))
-        }
-        _ => Some((None, words)),
     }
 }
 
@@ -47,12 +40,12 @@ impl<'a> Request<'a> {
         let [word, rest @ ..] = words else {
             return None;
         };
-        let (tries, rest) = tries_of(rest)?;
+        let (options, rest) = Options::of(rest)?;
         let [folder, rest @ ..] = rest else {
             return None;
         };
-        let task = Task::of(word.as_str(), tries, rest)?;
-        let folder = folder.as_str();
-        (!folder.is_empty()).then_some(Request { folder, task })
+        let task = Task::of(word.as_str(), options, rest)?;
+        let (folder, wait) = (folder.as_str(), options.wait);
+        (!folder.is_empty()).then_some(Request { folder, wait, task })
     }
 }

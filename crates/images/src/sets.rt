@@ -1,9 +1,9 @@
-//! `cut`, `delete` and `revert`: sets come and go.
+//! `cut`, `delete`, `prune` and `revert`: sets come and go.
 
 ghost use Rattle.std.specs.Prelude.{◌≡◌, ◌≢◌, ◌<◌, length, All, OnOk};
 ghost use Rattle.std.specs.List.{AllPairs};
 
-use image_folder::{Files, Opened, Status, ended, name_in, note};
+use image_folder::{Files, Opened, Status, ended, name_in, note, sets_of};
 use image_store::CutFault;
 use vss_names::MOST_IMAGES;
 
@@ -99,6 +99,21 @@ pub fn delete(opened: &mut Opened, set: u32, name: Option<&str>) -> Result<(), S
         );
     }
     write!(opened.text, "deleted {count}\n")?;
+    opened.commit_marked("delete\n")
+}
+
+/// `prune --keep N F`: the images of all sets but the N newest go.
+pub fn prune(opened: &mut Opened, keep: u32) -> Result<(), Status> {
+    opened.check_transit(&[])?;
+    let sets = sets_of(&opened.store, opened.folder.program.alloc())?;
+    let count = sets.len().saturating_sub(keep as usize);
+    if count == 0 {
+        return Ok(());
+    }
+    for set in sets.iter().take(count) {
+        let images = drop_images(&mut opened.store, *set, None);
+        write!(opened.text, "deleted set {set}: {images}\n")?;
+    }
     opened.commit_marked("delete\n")
 }
 

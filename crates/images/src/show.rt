@@ -1,12 +1,14 @@
-//! `show` and `digest`.
+//! `show` and `digest`, and what `restore` writes.
 
-ghost use Rattle.std.specs.Prelude.{◌<◌, length, IfOk};
+ghost use Rattle.std.specs.Prelude.{◌≡◌, ◌<◌, length, IfOk};
 
 use crate::shown_sink::ShownSink;
 use crate::task::Shown;
 use block_data::{BLOCK, Hasher};
 use image_folder::{ABSENT, AREA, Opened, Progress, Status, ended, name_in};
 use image_store::{ShowFault, Which};
+use std::fs::File;
+use std::io::{Stdout, Write};
 
 /// Says that the folder was left open. What is in transit is refused.
 fn check_marker(opened: &Opened, volume: u32, which: Which) -> Result<(), Status>
@@ -63,17 +65,31 @@ pub fn refusal(opened: &Opened, volume: u32, which: Which, fault: ShowFault) -> 
 }
 
 /// Writes a file into a sink, and then takes its progress away; the word says what becomes of the blocks.
+fn fill<W: Write + Drop>(
+    opened: &mut Opened,
+    volume: u32,
+    which: Which,
+    word: &'static str,
+    sink: &mut ShownSink<W>,
+) -> Result<(), ShowFault>
+    requires { volume < length opened.old.store.group.area.volumes }
+    ensures { opened.new.store.group.area.volumes ≡ opened.old.store.group.area.volumes }
+{
+    sink.progress = Progress::new(&opened.folder.program, word, opened.store.blocks(volume));
+    let done = opened.store.show(volume, which, sink);
+    sink.progress.clear();
+    done
+}
+
+/// Writes a file to the standard output, or into a hasher.
 fn show_in(
     opened: &mut Opened,
     of: Shown<'_>,
     word: &'static str,
-    sink: &mut ShownSink,
+    sink: &mut ShownSink<Stdout>,
 ) -> Result<(), Status> {
     let (volume, which) = found(opened, of)?;
-    sink.progress = Progress::new(&opened.folder.program, word, opened.store.blocks(volume));
-    let done = opened.store.show(volume, which, sink);
-    sink.progress.clear();
-    match done {
+    match fill(opened, volume, which, word, sink) {
         Ok(()) => Ok(()),
         Err(fault) => Err(refusal(opened, volume, which, fault)),
     }
@@ -81,17 +97,37 @@ fn show_in(
 
 /// `show F [SET] NAME`: writes the file.
 pub fn show(opened: &mut Opened, of: Shown<'_>) -> Result<(), Status> {
-    let mut sink = ShownSink::new(&opened.folder.program, None);
+    let program = opened.folder.program;
+    let mut sink = ShownSink::new(&program, program.rt.stdout(), None);
     show_in(opened, of, "shown", &mut sink)
 }
 
 /// `digest F [SET] NAME`: prints the SHA-256 of the file.
 pub fn digest(opened: &mut Opened, of: Shown<'_>) -> Result<(), Status> {
-    let mut sink = ShownSink::new(&opened.folder.program, Some(Hasher::new()));
+    let program = opened.folder.program;
+    let mut sink = ShownSink::new(&program, program.rt.stdout(), Some(Hasher::new()));
     show_in(opened, of, "digested", &mut sink)?;
     if let Some(hasher) = sink.hasher {
-        let digits = hex::encode(opened.folder.program.alloc(), hasher.finish().as_slice())?;
+        let digits = hex::encode(program.alloc(), hasher.finish().as_slice())?;
         write!(opened.text, "{digits}\n")?;
     }
     Ok(())
+}
+
+/// Writes a file into another one, and sees that it lasts. What could not be written is said of its path.
+pub fn show_into(opened: &mut Opened, of: Shown<'_>, file: File, path: &str) -> Result<(), Status> {
+    let program = opened.folder.program;
+    let (volume, which) = found(opened, of)?;
+    let mut sink = ShownSink::new(&program, file, None);
+    match fill(opened, volume, which, "restored", &mut sink) {
+        Ok(()) => {}
+        Err(ShowFault::Sink) => return Err(
+            ended!(program, WriteFault; "{path}: could not be written"),
+        ),
+        Err(fault) => return Err(refusal(opened, volume, which, fault)),
+    }
+    match sink.into_out().sync_all() {
+        Ok(()) => Ok(()),
+        Err(error) => Err(ended!(program, WriteFault; "{path}: could not be synced: {error}")),
+    }
 }

@@ -1,46 +1,58 @@
 use block_data::Hasher;
 use image_folder::{Program, Progress};
-use io_edge::{OutSink, Sink};
+use io_edge::Sink;
+use std::io::Write;
 use vss_names::Failed;
 
-/// Where the bytes of a file go that is shown: to the standard output, or into a digest. Each piece is counted on the terminal.
+/// Where the bytes of a file go that is shown: out, or into a digest. Each piece is counted on the terminal.
 #[derive(Drop)]
-pub struct ShownSink {
-    out: OutSink,
+pub struct ShownSink<W: Write + Drop> {
+    out: W,
+    faults: u64,
     pub hasher: Option<Hasher>,
     pub progress: Progress,
 }
 
-impl ShownSink {
+impl<W: Write + Drop> ShownSink<W> {
     /// One that took nothing; with a hasher, what it takes goes there.
-    pub fn new(program: &Program, hasher: Option<Hasher>) -> ShownSink {
+    pub fn new(program: &Program, out: W, hasher: Option<Hasher>) -> ShownSink<W> {
         ShownSink {
-            out: OutSink::new(program.rt.stdout()),
+            out,
+            faults: 0,
             hasher,
             progress: Progress::new(program, "", 0),
         }
     }
+
+    /// Where the bytes went.
+    pub fn into_out(self) -> W {
+        self.out
+    }
 }
 
-impl Sink for ShownSink {
+impl<W: Write + Drop> Sink for ShownSink<W> {
     ghost use Rattle.std.specs.Prelude.{None};
 
     ghost taken = { λ _. None };
 
-    ghost count = { λ s. ⟦<OutSink as Sink>⟧.count s.out };
+    ghost count = { λ s. s.faults };
 
     fn write(&mut self, piece: &[u8]) -> Result<usize, Failed> {
         self.progress.step(1);
-        match &mut self.hasher {
-            Some(hasher) => {
-                hasher.add(piece);
-                Ok(piece.len())
+        if let Some(hasher) = &mut self.hasher {
+            hasher.add(piece);
+            return Ok(piece.len());
+        }
+        match self.out.write(piece) {
+            Ok(n) if n > 0 && n <= piece.len() => Ok(n),
+            _ => {
+                self.faults = self.faults.saturating_add(1);
+                Err(Failed)
             }
-            None => self.out.write(piece),
         }
     }
 
     fn faults(&self) -> u64 {
-        self.out.faults()
+        self.faults
     }
 }

@@ -1,3 +1,5 @@
+use crate::options::Options;
+use crate::restoring::Target;
 use image_folder::{Way, are_pairs, number_of, set_of};
 
 /// How often a file that changes is read at most, if no words say it.
@@ -16,11 +18,21 @@ pub enum Task<'a> {
     },
     Update {
         tries: u32,
+        /// How many sets stay at least.
+        keep: u32,
         pairs: &'a [String],
     },
     List,
     Show(Shown<'a>),
     Digest(Shown<'a>),
+    Restore {
+        of: Shown<'a>,
+        target: Target<'a>,
+    },
+    /// The images of all sets but so many newest ones go.
+    Prune {
+        keep: u32,
+    },
     /// Without a name, of each volume that has an image of the set.
     Delete {
         set: u32,
@@ -48,6 +60,28 @@ fn words_shown<'a>(words: &'a [String]) -> Option<Shown<'a>> {
         _ => return None,
     };
     Some(Shown { set, name })
+}
+
+/// What `restore` makes of these words.
+fn restore_of<'a>(is_over: bool, words: &'a [String]) -> Option<Task<'a>> {
+    let [shown @ .., path] = words else {
+        return None;
+    };
+    let of = words_shown(shown)?;
+    let path = path.as_str();
+    (!path.is_empty()).then_some(Task::Restore {
+        of,
+        target: Target { path, is_over },
+    })
+}
+
+/// What `update` makes of these words.
+fn update_of<'a>(options: Options, words: &'a [String]) -> Option<Task<'a>> {
+    are_pairs(words, false).then_some(Task::Update {
+        tries: options.tries.unwrap_or(TRIES),
+        keep: options.keep.unwrap_or(0),
+        pairs: words,
+    })
 }
 
 /// What `create` makes of these words.
@@ -83,21 +117,25 @@ fn revert_of<'a>(words: &'a [String]) -> Option<Task<'a>> {
 }
 
 impl<'a> Task<'a> {
-    /// What the first word and those after the folder ask for, and how often a file that changes is read at most, if words say it.
-    pub fn of(word: &str, tries: Option<u32>, rest: &'a [String]) -> Option<Task<'a>> {
-        match (word, tries) {
-            ("create", _) => create_of(tries.unwrap_or(TRIES), rest),
-            ("update", _) => are_pairs(rest, false).then_some(Task::Update {
-                tries: tries.unwrap_or(TRIES),
-                pairs: rest,
+    /// What the first word, the options and the words after the folder ask for.
+    pub fn of(word: &str, options: Options, rest: &'a [String]) -> Option<Task<'a>> {
+        if !options.are_of(word) {
+            return None;
+        }
+        match word {
+            "create" => create_of(options.tries.unwrap_or(TRIES), rest),
+            "update" => update_of(options, rest),
+            "cut" => (!rest.is_empty()).then_some(Task::Cut { names: rest }),
+            "list" => rest.is_empty().then_some(Task::List),
+            "show" => Some(Task::Show(words_shown(rest)?)),
+            "digest" => Some(Task::Digest(words_shown(rest)?)),
+            "restore" => restore_of(options.is_over, rest),
+            "delete" => delete_of(rest),
+            "prune" => rest.is_empty().then_some(Task::Prune {
+                keep: options.keep?,
             }),
-            ("cut", None) => (!rest.is_empty()).then_some(Task::Cut { names: rest }),
-            ("list", None) => rest.is_empty().then_some(Task::List),
-            ("show", None) => Some(Task::Show(words_shown(rest)?)),
-            ("digest", None) => Some(Task::Digest(words_shown(rest)?)),
-            ("delete", None) => delete_of(rest),
-            ("revert", None) => revert_of(rest),
-            ("check", None) => rest.is_empty().then_some(Task::Check),
+            "revert" => revert_of(rest),
+            "check" => rest.is_empty().then_some(Task::Check),
             _ => None,
         }
     }
@@ -106,7 +144,7 @@ impl<'a> Task<'a> {
     pub fn way(self) -> Way {
         match self {
             Task::Check => Way::Checking,
-            Task::Show(_) | Task::Digest(_) | Task::List => Way::Showing,
+            Task::Show(_) | Task::Digest(_) | Task::Restore { .. } | Task::List => Way::Showing,
             _ => Way::Writing,
         }
     }
