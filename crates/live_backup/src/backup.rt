@@ -48,6 +48,14 @@ pub struct Backup<C: Copier> {
     why: Option<Why>,
 }
 
+/// The text of a call.
+fn line_text(lines: &[String], at: u32) -> &str {
+    match lines.get(at as usize) {
+        Some(line) => line.as_str(),
+        None => "end",
+    }
+}
+
 impl<C: Copier> Backup<C> {
     /// The backup of a job, of which nothing has happened yet.
     pub fn new(
@@ -458,11 +466,10 @@ impl<C: Copier> Backup<C> {
     fn make_call(&mut self, event: Event) -> Result<(), StepFault>
         requires { IsEvent self.old.service.plan event }
     {
-        let text = match self.lines.get(self.at as usize) {
-            Some(line) => line.as_str(),
-            None => "end",
-        };
-        let number = memory(self.recorder.call(self.alloc, text))?;
+        let number = memory(
+            self.recorder
+                .call(self.alloc, line_text(&self.lines, self.at)),
+        )?;
         self.at = self.at.saturating_add(1);
         self.step(event, number)
     }

@@ -65,10 +65,13 @@ fn refuse<T>(reason: JobReason) -> Result<T, Stopped> {
 
 /// The two parts of the fields of a line.
 fn halves(rest: &str) -> Result<(&str, &str), Stopped> {
-    match rest.split_once(' ') {
-        Some((first, second)) if !first.is_empty() && !second.is_empty() => Ok((first, second)),
-        _ => refuse(JobReason::Fields),
+    let Some((first, second)) = rest.split_once(' ') else {
+        return refuse(JobReason::Fields);
+    };
+    if first.is_empty() || second.is_empty() {
+        return refuse(JobReason::Fields);
     }
+    Ok((first, second))
 }
 
 impl<'a> Job<'a> {
