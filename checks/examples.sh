@@ -16,8 +16,10 @@ for scenario in examples/*.scenario; do
   done
 done
 
-images="$(program images)" || exit 1
+images="$(program images)" && backup="$(program backup)" || exit 1
 ln -s "$images" "$room/images"
+ln -s "$top/hooks" "$room/hooks"
+printf '#!/bin/sh\nexec python3 "%s" "%s" "$@"\n' "$top/hooks/carry.py" "$backup" > "$room/backup" && chmod +x "$room/backup"
 python3 -c 'import sqlite3' 2> /dev/null && [ -n "$(type -P sqlite3)" ] ||
   { echo "examples: there is no sqlite3 here, so README.md's backup of a database was left out" >&2; ends "the scenarios alone"; }
 # a writer that commits every few milliseconds until it is ended, and prints how often it did
@@ -35,7 +37,7 @@ while True:
 ' "$room/app.db" > "$room/commits" &
 writer=$!
 while [ ! -s "$room/commits" ]; do sleep 0.1; done
-(cd "$room" && PATH="$PATH:$room" && . <(sed -n '/^lock() /,/^```/p' "$top/README.md" | grep -v '^```')) > "$room/said" 2>&1
+(cd "$room" && PATH="$PATH:$room" && . <(sed -n '/^: > empty/,/^```/p' "$top/README.md" | grep -v '^```')) > "$room/said" 2>&1
 before="$(tail -n 1 "$room/commits")"
 sleep 0.5
 [ "$(tail -n 1 "$room/commits")" -gt "$before" ] || wrong "README.md: the writer of app.db stopped after $before commits"

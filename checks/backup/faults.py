@@ -1,0 +1,190 @@
+#!/usr/bin/env python3
+"""What may go wrong in a backup, a row each: faults.py BACKUP IMAGES ORDERS ROOM [all]
+
+After each row the application runs, and the next backup keeps a version of one moment, without a person. Each record of a backup that ended is
+judged. With `all` also the rows that take long.
+"""
+import os
+import random
+import signal
+import subprocess
+import sys
+import time
+
+from room import HERE, HOOKS, Room, Wrong
+
+# The orders before a set is kept, and those behind.
+BEFORE = ("identify", "prepare_backup", "prepare_snapshot", "freeze", "thaw")
+BEHIND = ("post_snapshot", "backup_complete")
+NOTHING, KEPT = 13, 0
+
+
+def expect(name, got, status, line):
+    if got[0] != status or line not in got[1]:
+        raise Wrong(f"{name}: status {got[0]}, and {status} is wanted; `{line}` is wanted in:\n{got[1]}")
+
+
+def next_one(room, name):
+    """The application runs, and the next backup keeps a version of one moment."""
+    room.runs_on()
+    expect(f"the backup behind {name}", room.run(room.job()), KEPT, "kept")
+    room.judge(room.sets()[-1])
+
+
+def faulty(room, order, fault, writer="stock"):
+    return {writer: f"{sys.executable} {HERE}/faulty.py {order} {fault} {room.hook(writer)}"}
+
+
+def line_of(order, fault):
+    """What is said where a hook goes wrong at an order."""
+    if order == "identify":
+        return "stock: it did not say ok to identify"
+    if order == "thaw":
+        return "stock: it did not stand frozen to its thaw"
+    return "VSS_E_WRITERERROR_OUTOFRESOURCES" if fault == "veto" else "VSS_E_WRITERERROR_NONRETRYABLE"
+
+
+def wrong_answers(room, is_all):
+    for order in BEFORE + BEHIND:
+        for fault in ("veto", "nonsense", "die"):
+            got = room.run(room.job(faulty(room, order, fault)))
+            if order in BEFORE:
+                expect(f"{fault} at {order}", got, NOTHING, line_of(order, fault))
+                room.runs_on()
+            else:
+                expect(f"{fault} at {order}", got, KEPT, "kept")
+        next_one(room, f"wrong answers to {order}")
+    for order in ("freeze",):
+        expect("gone behind its ok to freeze", room.run(room.job(faulty(room, order, "gone"))), NOTHING, "stock: its hook has ended")
+    next_one(room, "a hook that died while it was frozen")
+
+
+def slow_answers(room, is_all):
+    expect("hang at freeze", room.run(room.job(faulty(room, "freeze", "hang"), limit=500)), NOTHING, "VSS_E_WRITERERROR_TIMEOUT")
+    next_one(room, "a hook that hangs at freeze")
+    expect("late at freeze", room.run(room.job(faulty(room, "freeze", "late:1.5"), limit=500)), NOTHING, "VSS_E_WRITERERROR_TIMEOUT")
+    next_one(room, "a late answer")
+    expect("a spent limit", room.run(room.job(limit=1)), NOTHING, "VSS_E_WRITERERROR_TIMEOUT")
+    next_one(room, "a spent limit")
+    for order in [order for order in BEFORE + BEHIND if order != "freeze"]:
+        process = room.start(room.job(faulty(room, order, "hang")))
+        room.wait_for(f"`ok` before {order}", lambda: is_asked(room, process, order))
+        process.send_signal(signal.SIGINT)
+        got = process.wait(timeout=60), room.said(process)
+        expect(f"Ctrl-C at a hook that hangs at {order}", got, NOTHING if order in BEFORE else KEPT, "kept")
+        room.runs_on()
+    next_one(room, "hooks that hang")
+
+
+def is_asked(room, process, order):
+    """Whether the other writer has answered an order, or it alone is asked."""
+    said = room.said(process)
+    first = {"thaw": "provider postcommit"}.get(order, f"app {order} ok")
+    return first in said
+
+
+def no_holds(room, is_all):
+    nothing = f"{sys.executable} {HOOKS}/commands.py --freeze true --thaw true"
+    expect("hooks that hold nothing", room.run(room.job({"app": nothing, "stock": nothing})), NOTHING, "changed while it was read")
+    next_one(room, "hooks that hold nothing")
+
+
+# where to strike: a line that is said, and whether a set is kept
+MOMENTS = (("prepare_backup ok", False), ("provider precommit", False), ("provider postcommit", False), ("stock thaw ok", None))
+
+
+def strikes(room, is_all):
+    for line, is_kept in MOMENTS:
+        process = room.start(room.job())
+        room.wait_for(line, lambda: line in room.said(process))
+        process.send_signal(signal.SIGINT)
+        got = process.wait(timeout=60), room.said(process)
+        if is_kept is None:
+            expect(f"Ctrl-C at {line}", got, got[0], "kept")
+        else:
+            expect(f"Ctrl-C at {line}", got, NOTHING, "it was given up")
+        room.runs_on()
+    next_one(room, "Ctrl-C")
+
+
+def children(pid):
+    found = subprocess.run(["ps", "-o", "pid=,args=", "--ppid", str(pid)], capture_output=True, text=True).stdout
+    return [(int(line.split()[0]), line) for line in found.splitlines()]
+
+
+def kills(room, is_all):
+    random.seed(7)
+    for number in range(30 if is_all else 6):
+        process = room.start(room.job())
+        time.sleep(random.uniform(0.05, 0.9))
+        what = ("program", "wrapper", "hook")[number % 3]
+        pids = [process.pid] if what == "wrapper" else [pid for pid, line in children(process.pid) if (room.backup in line) == (what == "program")]
+        for pid in pids[:1]:
+            try:
+                os.kill(pid, signal.SIGKILL)
+            except ProcessLookupError:
+                pass
+        process.wait(timeout=60)
+        room.wait_for("the lock of the folder", lambda: subprocess.run([room.images, "list", f"{room.path}/store"], capture_output=True).returncode != 10)
+        next_one(room, f"kill -9 of the {what}")
+
+
+def full_area(room, is_all):
+    room.create("small", 250, {"app": 700, "appwal": 1000, "stock": 16, "stockwal": 600, "log": 150})
+    said = ""
+    for _backup in range(8):
+        status, lines = room.run(room.job(), folder="small")
+        expect("a small area", (status, lines), KEPT, "kept")
+        said += lines
+    if "evicted set" not in said or len(room.sets("small")) >= 8:
+        raise Wrong(f"a small area: nothing was evicted: {room.sets('small')}")
+    room.judge(room.sets("small")[-1], "small")
+    for _backup in range(8):
+        status, lines = room.run(room.job(more="least 8\n"), folder="small")
+        if status == NOTHING:
+            break
+    expect("least 8", (status, lines), NOTHING, "wanted at least")
+    if " freeze " in lines:
+        raise Wrong("least 8: a writer was frozen")
+    expect("the backup behind it", room.run(room.job(), folder="small"), KEPT, "kept")
+
+
+def outgrown(room, is_all):
+    room.create("tight", 100, {"app": 700, "appwal": 1000, "stock": 16, "stockwal": 600, "log": 1})
+    room.wait_for("a long log", lambda: room.size("app.log") > 17000)
+    expect("a file that has outgrown its volume", room.run(room.job(), folder="tight"), NOTHING, "has room for")
+    next_one(room, "a file that has outgrown its volume")
+
+
+def no_room(room, is_all):
+    """The spool may not grow: files of the program end at 64 KiB."""
+    room.create("narrow", 100, {"app": 700, "appwal": 1000, "stock": 16, "stockwal": 600, "log": 150})
+    expect("a first one", room.run(room.job(), folder="narrow"), KEPT, "kept")
+    before = ("sh", "-c", 'trap "" XFSZ; ulimit -f 128; exec "$@"', "sh")
+    status, lines = room.run(room.job(), folder="narrow", before=before)
+    if status == KEPT:
+        raise Wrong(f"no room for the spool: it is kept:\n{lines}")
+    room.runs_on()
+    expect("the backup behind it", room.run(room.job(), folder="narrow"), KEPT, "kept")
+
+
+ROWS = (wrong_answers, slow_answers, no_holds, strikes, kills, full_area, outgrown, no_room)
+
+
+def main(words):
+    room, is_all = Room(words[:3], words[3]), words[4:] == ["all"]
+    try:
+        for rows in ROWS:
+            then = time.monotonic()
+            rows(room, is_all)
+            print(f"{rows.__name__.replace('_', ' ')}: {time.monotonic() - then:.1f} s", flush=True)
+    finally:
+        steps, longest = room.end()
+    print(f"{len(ROWS)} kinds of faults; {steps} steps of the application, the longest {longest} ms")
+
+
+if __name__ == "__main__":
+    try:
+        main(sys.argv[1:])
+    except Wrong as wrong:
+        sys.exit(f"{wrong}")

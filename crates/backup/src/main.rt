@@ -1,0 +1,240 @@
+//! The program `backup`: one coordinated backup of real files into a folder of images.
+//!
+//!     backup FOLDER JOB [RECORD]
+//!
+//! It reads what happens as lines, and writes orders as lines: `./backup` starts the hooks of the writers and carries the lines. It keeps one set
+//! of the folder if each writer that takes part stood still while its files were read, and has said so at its thaw. Else it keeps nothing.
+#![tactic(auto)]
+
+mod copier;
+mod record;
+mod shown;
+
+use copier::{FolderCopier, since};
+use image_folder::{Opened, Program, ProgramName, Status, Way, ended, open};
+use live_backup::{Backup, Happened, Job, JobFault, Next, Setting, SettingFault};
+use shown::Shown;
+use std::io::{BufRead, BufReader};
+use std::process::ExitCode;
+use std::thread::Threads;
+use std::time::Instant;
+use std::{env, fs, io};
+use vss_play::StepFault;
+
+/// The status of a backup that keeps nothing.
+const NOTHING: u8 = 13;
+
+/// How many times a backup that is given up goes on at most.
+const MOST_ENDINGS: u32 = 1000;
+
+/// The words after the program's name.
+fn words_given(program: &Program) -> io::Result<Vec<String>> {
+    let mut words = Vec::new(program.alloc());
+    for word in env::args(&program.rt)?.skip(1) {
+        words.push(word)?;
+    }
+    Ok(words)
+}
+
+/// Why a backup does not go on.
+fn stopped(program: &Program, fault: StepFault) -> Status {
+    match fault {
+        StepFault::OutOfMemory => Status::OutOfMemory,
+        StepFault::TrailFull => ended!(*program, Refused; "too many moves"),
+    }
+}
+
+/// Takes what happened, and shows what came of it.
+fn take(
+    program: &Program,
+    backup: &mut Backup<FolderCopier<'_>>,
+    shown: &mut Shown<'_>,
+    ms: u32,
+    happened: Happened,
+) -> Result<Next, Status> {
+    let next = match backup.take(ms, happened) {
+        Ok(next) => next,
+        Err(fault) => return Err(stopped(program, fault)),
+    };
+    shown.show(program, backup);
+    if let Next::GoesOn = next {
+        let _ = println!(program.rt; "again");
+    }
+    Ok(next)
+}
+
+/// Reads lines and takes what they say, to the end of the backup. The end of the lines gives it up.
+fn talk(
+    program: &Program,
+    backup: &mut Backup<FolderCopier<'_>>,
+    shown: &mut Shown<'_>,
+) -> Result<(), Status> {
+    let Ok(input) = BufReader::new(program.alloc(), program.rt.reader()) else {
+        return Err(Status::OutOfMemory);
+    };
+    let mut last = Instant::now(&program.rt).ok();
+    if let Next::Over = take(program, backup, shown, 0, Happened::Time)? {
+        return Ok(());
+    }
+    for line in input.lines(program.alloc()) {
+        let Ok(line) = line else {
+            break;
+        };
+        let ms = since(program, last);
+        if ms > 0 {
+            last = Instant::now(&program.rt).ok();
+        }
+        let happened = Happened::of(line.as_str(), shown.names());
+        if let Next::Over = take(program, backup, shown, ms, happened)? {
+            return Ok(());
+        }
+    }
+    for _time in 0..MOST_ENDINGS {
+        if let Next::Over = take(program, backup, shown, 0, Happened::Cancelled)? {
+            return Ok(());
+        }
+    }
+    Ok(())
+}
+
+/// The job of a text.
+fn job_of<'a>(program: &Program, path: &str, text: &'a str) -> Result<Job<'a>, Status> {
+    match Job::read(program.alloc(), text) {
+        Ok(job) => Ok(job),
+        Err(JobFault::OutOfMemory) => Err(Status::OutOfMemory),
+        Err(JobFault::Line { line, reason }) => {
+            Err(ended!(*program, Refused; "{path}: line {line}: {}", reason.said()))
+        }
+    }
+}
+
+/// The name of a writer of a job, by its number.
+fn writer_name<'a>(job: &Job<'a>, writer: u32) -> &'a str {
+    match job.writers.get(writer as usize) {
+        Some(writer) => writer.name,
+        None => "",
+    }
+}
+
+/// The name of a volume of a job, by its number.
+fn volume_name<'a>(job: &Job<'a>, volume: u32) -> &'a str {
+    match job.volumes.get(volume as usize) {
+        Some(volume) => volume.name,
+        None => "",
+    }
+}
+
+/// Refuses a job for what it says of a volume or a writer of this name.
+fn refused(program: &Program, path: &str, name: &str, what: &str) -> Status {
+    ended!(*program, Refused; "{path}: {name}: {what}")
+}
+
+/// The setting of a job.
+fn setting_of(program: &Program, path: &str, job: &Job<'_>) -> Result<Setting, Status> {
+    match Setting::of(program.alloc(), job) {
+        Ok(setting) => Ok(setting),
+        Err(SettingFault::OutOfMemory) => Err(Status::OutOfMemory),
+        Err(SettingFault::Volume { volume }) => {
+            let name = volume_name(job, volume);
+            Err(refused(program, path, name, "its name, or too many volumes"))
+        }
+        Err(SettingFault::Writer { writer }) => {
+            let name = writer_name(job, writer);
+            Err(refused(
+                program,
+                path,
+                name,
+                "its name, its document, or too many writers",
+            ))
+        }
+        Err(SettingFault::Component { writer }) => {
+            let name = writer_name(job, writer);
+            Err(refused(
+                program,
+                path,
+                name,
+                "it has no such component that may be taken",
+            ))
+        }
+    }
+}
+
+/// Takes over what a call left in transit, if all of it is in the set.
+fn take_over(opened: &mut Opened, job: &Job<'_>, volumes: &[u32]) -> Result<(), Status> {
+    let mut names = Vec::new(opened.folder.program.alloc());
+    for volume in volumes {
+        if let Some(of) = job.volumes.get(*volume as usize) {
+            names.push(of.name)?;
+        }
+    }
+    opened.check_transit(&names)?;
+    opened.settle()
+}
+
+/// Makes the backup of a job. Whether a set is kept is answered.
+fn back_up<R: Threads + Sync>(
+    rt: &R,
+    program: &Program,
+    folder: &str,
+    path: &str,
+    text: &str,
+    record: Option<&str>,
+) -> Result<bool, Status> {
+    let job = job_of(program, path, text)?;
+    let setting = setting_of(program, path, &job)?;
+    let mut opened = open(program, folder, Way::Writing)?;
+    opened.least = job.least.unwrap_or(0);
+    take_over(&mut opened, &job, &setting.members.volumes)?;
+    let copier = FolderCopier::new(opened, &job.volumes, &setting.members.volumes)?;
+    let alloc = program.alloc();
+    let Ok(mut backup) = Backup::new(alloc, &job, setting, copier) else {
+        return Err(Status::OutOfMemory);
+    };
+    let mut shown = Shown::new(alloc, &job)?;
+    let done = talk(program, &mut backup, &mut shown);
+    if let Some(name) = record {
+        record::write(rt, program, name, &backup)?;
+    }
+    let is_kept = backup.ledger().is_kept();
+    let ended = backup.into_copier().end();
+    done?;
+    if is_kept {
+        ended?;
+    }
+    Ok(is_kept)
+}
+
+/// Says that a job could not be read.
+fn unread(program: &Program, path: &str, error: &io::Error) -> Status {
+    ended!(*program, Unread; "{path}: could not be read: {error}")
+}
+
+/// Does what words ask for. Whether a set is kept is answered.
+fn answer<R: Threads + Sync>(rt: &R, program: &Program, words: &[String]) -> Result<bool, Status> {
+    let (folder, path, record) = match words {
+        [folder, path] => (folder.as_str(), path.as_str(), None),
+        [folder, path, record] => (folder.as_str(), path.as_str(), Some(record.as_str())),
+        _ => return Err(ended!(*program, Usage; "usage: FOLDER JOB [RECORD]")),
+    };
+    match fs::read_to_string(&program.rt, path) {
+        Ok(text) => back_up(rt, program, folder, path, text.as_str(), record),
+        Err(error) => Err(unread(program, path, &error)),
+    }
+}
+
+fn main(rt: HostRuntime) -> ExitCode {
+    let program = Program {
+        rt,
+        name: ProgramName::Backup,
+    };
+    let code = match words_given(&program) {
+        Err(_) => Status::OutOfMemory.code(),
+        Ok(words) => match answer(&rt, &program, &words) {
+            Ok(true) => 0,
+            Ok(false) => NOTHING,
+            Err(status) => status.code(),
+        },
+    };
+    let _ = println!(rt; "end {code}");
+    ExitCode::from(code)
+}

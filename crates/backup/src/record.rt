@@ -1,0 +1,44 @@
+//! The record of a run: a scenario, and the report of a legal and complete run of it that begins with the moves that were made.
+
+use crate::copier::FolderCopier;
+use image_folder::{Program, Status, ended};
+use live_backup::Backup;
+use orders::{MOST_BYTES, report_of_told};
+use std::fs;
+use std::thread::Threads;
+
+/// Writes a file of the record.
+fn write_file(program: &Program, path: &str, bytes: &[u8]) -> Result<(), Status> {
+    match fs::write(&program.rt, path, bytes) {
+        Ok(()) => Ok(()),
+        Err(error) => Err(ended!(*program, WriteFault; "{path}: could not be written: {error}")),
+    }
+}
+
+/// Says that a run has no report.
+fn no_report(program: &Program, path: &str) -> Status {
+    ended!(*program, WriteFault; "{path}: the run has no report")
+}
+
+/// Writes the record of a backup that is over, as NAME.scenario and NAME.report.
+pub fn write<R: Threads + Sync>(
+    rt: &R,
+    program: &Program,
+    name: &str,
+    backup: &Backup<FolderCopier<'_>>,
+) -> Result<(), Status> {
+    let alloc = program.alloc();
+    let scenario = backup.scenario()?;
+    let path = format!(in alloc; "{name}.scenario")?;
+    write_file(program, path.as_str(), scenario.bytes())?;
+    let path = format!(in alloc; "{name}.report")?;
+    if scenario.len() > MOST_BYTES || backup.report().len() > MOST_BYTES {
+        return Err(no_report(program, path.as_str()));
+    }
+    match report_of_told(rt, alloc, scenario.bytes(), backup.report()) {
+        Ok(report) if report.bytes().starts_with(backup.report()) => {
+            write_file(program, path.as_str(), report.bytes())
+        }
+        _ => Err(no_report(program, path.as_str())),
+    }
+}

@@ -1,0 +1,3 @@
+mod Kept
+mod Right
+mod Told

@@ -1,0 +1,152 @@
+#!/usr/bin/env python3
+"""Carries lines between the program `backup` and the hooks of the writers, and wakes the program. It decides nothing.
+
+    carry.py PROGRAM FOLDER JOB [RECORD]
+
+A line `hook WRITER COMMAND ..` of the job is the command of a writer's hook. `./backup` calls this; docs/FORMATS.md has the lines. Ctrl-C gives the
+backup up.
+"""
+import os
+import selectors
+import shlex
+import signal
+import subprocess
+import sys
+import time
+
+# How often the program is woken, in seconds.
+WAKE = 0.05
+# The status of a program that ended without a word.
+NO_WORD = 70
+
+
+def started(command):
+    return subprocess.Popen(command, stdin=subprocess.PIPE, stdout=subprocess.PIPE, start_new_session=True)
+
+
+class Side:
+    """The program or a hook: a process, and what it has written of its next line."""
+
+    def __init__(self, name, command):
+        self.name, self.open, self.rest = name, [], b""
+        try:
+            self.process = started(command)
+        except OSError as error:
+            print(f"backup: hook {name}: {error}", file=sys.stderr)
+            self.process = started(["false"])
+
+    def tell(self, line):
+        try:
+            self.process.stdin.write(line.encode() + b"\n")
+            self.process.stdin.flush()
+        except OSError:
+            pass
+
+    def lines(self):
+        """The lines that have come; none where there are no more."""
+        data = os.read(self.process.stdout.fileno(), 65536)
+        if not data:
+            return None
+        *lines, rest = (self.rest + data).split(b"\n")
+        self.rest = rest[-4096:]
+        return [line.decode("utf-8", "replace").strip() for line in lines]
+
+
+class Carrier:
+    def __init__(self, program, folder, job, *record):
+        self.status, self.is_cancelled, self.hooks = None, False, {}
+        for number in (signal.SIGINT, signal.SIGTERM, signal.SIGHUP):
+            signal.signal(number, self.cancel)
+        for name, command in hooks_of(job):
+            self.hooks[name] = Side(name, command)
+        self.program = Side(None, [program, folder, job, *record])
+        self.select = selectors.DefaultSelector()
+        for side in [self.program, *self.hooks.values()]:
+            self.select.register(side.process.stdout, selectors.EVENT_READ, side)
+
+    def cancel(self, *_):
+        self.is_cancelled = True
+
+    def by_program(self, line):
+        word, _, rest = line.partition(" ")
+        if word == "order":
+            name, number, order, nth = rest.split(" ")
+            if name not in self.hooks:
+                self.program.tell(f"gone {name}")
+                return
+            self.hooks[name].open.append(number)
+            self.hooks[name].tell(f"{order} {nth}")
+        elif word == "abort":
+            if rest in self.hooks:
+                self.hooks[rest].tell("abort")
+        elif word == "again":
+            self.program.tell("again")
+        elif word == "end":
+            self.status = int(rest)
+        else:
+            print(line, flush=True)
+
+    def by_hook(self, hook, line):
+        # a hook answers its orders one after another
+        if hook.open:
+            self.program.tell(f"answer {hook.name} {hook.open.pop(0)} {line}")
+
+    def read(self, side):
+        lines = side.lines()
+        if lines is None:
+            self.select.unregister(side.process.stdout)
+            if side is not self.program:
+                self.program.tell(f"gone {side.name}")
+            elif self.status is None:
+                self.status = NO_WORD
+        for line in lines or []:
+            if side is self.program:
+                self.by_program(line)
+            else:
+                self.by_hook(side, line)
+
+    def run(self):
+        woken = time.monotonic()
+        while self.status is None:
+            for key, _ in self.select.select(WAKE):
+                self.read(key.data)
+            if self.is_cancelled:
+                self.is_cancelled = False
+                self.program.tell("cancel")
+            if time.monotonic() - woken >= WAKE:
+                woken = time.monotonic()
+                self.program.tell("tick")
+        self.end()
+        return self.status
+
+    def end(self):
+        """Ends the inputs, so that all let go, and then who does not end."""
+        for side in [self.program, *self.hooks.values()]:
+            try:
+                side.process.stdin.close()
+            except OSError:
+                pass
+        for seconds, number in ((5, signal.SIGTERM), (2, signal.SIGKILL), (2, None)):
+            until = time.monotonic() + seconds
+            while any(hook.process.poll() is None for hook in self.hooks.values()) and time.monotonic() < until:
+                time.sleep(0.01)
+            for hook in self.hooks.values():
+                if number and hook.process.poll() is None:
+                    print(f"backup: the hook of {hook.name} does not end: {number.name}", file=sys.stderr, flush=True)
+                    os.killpg(hook.process.pid, number)
+
+
+def hooks_of(job):
+    """The writers of a job that have a hook, and its command. What is no job the program refuses."""
+    try:
+        with open(job, encoding="utf-8") as lines:
+            parts = [line.split(None, 2) for line in lines if line.startswith("hook ")]
+            return [(words[1], shlex.split(words[2])) for words in parts if len(words) == 3]
+    except (OSError, UnicodeDecodeError, ValueError):
+        return []
+
+
+if __name__ == "__main__":
+    if len(sys.argv) not in (4, 5):
+        sys.exit(__doc__)
+    sys.exit(Carrier(*sys.argv[1:]).run())

@@ -1,0 +1,78 @@
+#!/usr/bin/env python3
+"""The hook of a SQLite database: sqlite.py DATABASE [SECONDS]
+
+While it is frozen nobody can commit. It holds the write lock, by BEGIN IMMEDIATE, and has waited until every frame of the log was in the
+database. So no checkpoint of another connection has anything left to write, and the database, its log and what lies beside it stand still. It
+says ok to `thaw` only if it held the lock to then. It waits at most SECONDS for the lock, 30 without the word.
+"""
+import sqlite3
+import sys
+import time
+
+from hook import Refused, serve
+
+# How long a freeze waits for other checkpoints, in seconds.
+CHECKPOINT = 1
+
+
+class Database:
+    def __init__(self, path, seconds):
+        self.name, self.path, self.seconds, self.lock = f"hook of {path}", path, seconds, None
+
+    def connect(self):
+        return sqlite3.connect(f"file:{self.path}?mode=rw", uri=True, isolation_level=None, timeout=self.seconds)
+
+    def checkpoint(self, until):
+        """Brings frames of the log into the database, until none is left or the time is over."""
+        connection = self.connect()
+        try:
+            while True:
+                busy, frames, done = connection.execute("PRAGMA wal_checkpoint(PASSIVE)").fetchone()
+                if not busy and frames == done:
+                    return True
+                if time.monotonic() > until:
+                    return False
+                time.sleep(0.002)
+        finally:
+            connection.close()
+
+    def prepare_snapshot(self):
+        try:
+            self.checkpoint(time.monotonic())
+        except sqlite3.Error as error:
+            raise Refused(error) from error
+
+    def freeze(self):
+        try:
+            self.lock = self.connect()
+            self.lock.execute("BEGIN IMMEDIATE")
+            is_still = self.checkpoint(time.monotonic() + CHECKPOINT)
+        except sqlite3.Error as error:
+            raise Refused(error) from error
+        if not is_still:
+            raise Refused("another checkpoint goes on")
+
+    def thaw(self):
+        if not self.let_go():
+            raise Refused("the lock was not held")
+
+    def let_go(self):
+        """Gives the lock back; whether it was held to now."""
+        lock, self.lock = self.lock, None
+        if lock is None:
+            return False
+        try:
+            was_held = lock.in_transaction
+            if was_held:
+                lock.execute("ROLLBACK")
+            return was_held
+        except sqlite3.Error:
+            return False
+        finally:
+            lock.close()
+
+
+if __name__ == "__main__":
+    if len(sys.argv) not in (2, 3):
+        sys.exit(__doc__)
+    serve(Database(sys.argv[1], float(sys.argv[2]) if len(sys.argv) == 3 else 30))
