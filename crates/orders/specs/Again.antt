@@ -161,3 +161,18 @@ IsAgain text given (Differs line wanted) = IsOtherThan text given line wanted.by
 IsAgain text given (ScenarioRefused line reason) = reading_of text ≡ IsBad line reason
 IsAgain text given DeviceFault = ⊥
 IsAgain text given WantsMemory = Unit {0}
+
+-- ## `report_of_told`
+
+-- the report of a legal and complete trail of the scenario that begins, as far as they may come, with the moves that a text tells
+pub record IsReportOfTold (text given report : List ℕ) : Type 0 where
+  pub plan : Plan
+  pub is_scenario : reading_of text ≡ IsScenario plan
+  pub moves : List Move
+  pub told : AreTold plan given moves
+  pub first : List Move
+  pub rest : List Move
+  pub legal : is_legal plan (first ++ rest) ≡ true
+  pub complete : is_complete plan (first ++ rest) ≡ true
+  pub is : report ≡ told_report plan (first ++ rest)
+  pub exact : is_legal plan moves ≡ true → first ≡ moves

@@ -3,8 +3,9 @@
 //! `run_order` takes the bytes of a scenario and of an order, and `run_seed` a number in place of the order; at `Done` they have written
 //! the report of a legal and complete trail that begins with the order, or that the number draws. `run_again` takes a report, makes its
 //! moves with their fault marks over devices of which no call fails, and compares: the text is `Same` exactly where it is such a report,
-//! of a trail that is legible. Every other status has its cause in the texts or in a count of faults that rose; want of memory alone has none. `specs/Calls.antt` and `specs/Again.antt` have what they promise, `specs/Lines.antt` and `specs/Order.antt` which text is which
-//! order, `specs/Drawn.antt` which order a number draws.
+//! of a trail that is legible. `report_of_told` goes on in turn behind the moves that a text tells. Every other status has its cause in the texts or
+//! in a count of faults that rose; want of memory alone has none. `specs/Calls.antt` and `specs/Again.antt` have what they promise,
+//! `specs/Lines.antt` and `specs/Order.antt` which text is which order, `specs/Drawn.antt` which order a number draws.
 //!
 //! A run may be over devices of any maker: over those of `SureMaker`, of which no call ever fails, no move has a fault mark.
 #![tactic(auto)]
@@ -34,7 +35,7 @@ mod why;
 pub use entry::Entry;
 pub use playing::report_of_seed;
 pub use replayed::Replayed;
-pub use replaying::{run_again, run_again_over};
+pub use replaying::{report_of_told, run_again, run_again_over};
 pub use running::{run_order, run_seed};
 pub use status::Status;
 pub use sure_device::SureDevice;

@@ -1,7 +1,7 @@
 //! A report that is replayed: whether a text is the report of a run.
 
 ghost use Rattle.std.specs.Prelude.{◌<◌, ◌≤◌, length, IfOk, IfErr};
-ghost use Rattle.orders.specs.Again.{IsAgain, IsAgainOver, IsCompared, IsRead, IsReplayOver, IsUnread};
+ghost use Rattle.orders.specs.Again.{IsAgain, IsAgainOver, IsCompared, IsRead, IsReplayOver, IsReportOfTold, IsUnread};
 ghost use Rattle.orders.specs.declared.telling.TheConstants.{MOST_BYTES};
 
 use crate::comparing::first_other;
@@ -119,4 +119,29 @@ pub fn run_again<R: Threads + Sync>(rt: &R, alloc: Global, text: &[u8], report: 
     let Told { scenario, trail } = told;
     let mut maker = SureMaker::new(alloc);
     replay(rt, alloc, scenario, trail.moves(), report, &mut maker)
+}
+
+/// The report of a run that begins with the moves that a text tells as a report of a scenario, as far as they may come, and goes on in
+/// turn, over devices in memory of which no call fails.
+pub fn report_of_told<R: Threads + Sync>(
+    rt: &R,
+    alloc: Global,
+    text: &[u8],
+    told: &[u8],
+) -> Result<Text, Replayed>
+    requires text { length text.now < 4294967295 }
+    requires told { length told.now ≤ MOST_BYTES }
+    ensures told { IfOk result (λ report. IsReportOfTold text.now told.now report.bytes) }
+    ensures unread { IfErr result (IsUnread text.now) }
+{
+    let Told { scenario, trail } = match read(alloc, text, told) {
+        Ok(read) => read,
+        Err(ended) => return Err(ended),
+    };
+    let mut maker = SureMaker::new(alloc);
+    match report_of_replay(rt, alloc, scenario, trail.moves(), &mut maker) {
+        Ok(report) => Ok(report),
+        Err(PlayFault::Failed) => Err(Replayed::DeviceFault),
+        Err(PlayFault::OutOfMemory) => Err(Replayed::OutOfMemory),
+    }
 }
