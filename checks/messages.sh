@@ -1,5 +1,5 @@
 #!/usr/bin/env bash
-# What a person is told of a text or of words that `vss` refuses: the place, the reason, and what helps to go on. The program refuses each text here,
+# What a person is told of a text or of words that `vss` or `images` refuses: the place, the reason, and what helps to go on. The program refuses each text here,
 # and `vss_tools explain` says of the same text what is wrong, as ./vss has it; some go through ./vss itself, by a file, a pipe or a closed stream.
 . "$(dirname "${BASH_SOURCE[0]}")/prelude.sh" || exit 70
 vss="$(program vss)" || exit 1
@@ -389,15 +389,43 @@ if [ -w /dev/full ]; then
   [ "$?" = 5 ] && [ "$(ls "$room/whole" | wc -l)" = 2 ] || wrong "where the report finds no room, the files are gone"
 fi
 
+# what `images` says, in one line: the place, the reason, and what helps
+images="$(program images)" || exit 1
+images_says() {
+  local wanted="$1" line="$2" status
+  shift 2
+  (cd "$room/files" && "$images" "$@") > "$room/out" 2> "$room/err"
+  status=$?
+  [ "$status" = "$wanted" ] && [ "$(wc -l < "$room/err")" = 1 ] && [ ! -s "$room/out" ] || wrong "\`images $*\` ended with $status, and not $wanted: $(cat "$room/err")"
+  has "images $*" "$(cat "$room/err")" "images: $line"
+}
+mkdir -p "$room/files/folder"
+echo one > "$room/files/a"
+(cd "$room/files" && "$images" create store 10 a=a && "$images" cut store a) > "$room/out" || wrong "images: no folder is made"
+images_says 2 "usage: create [--tries N] F SLOTS NAME[:BLOCKS]=FILE ..; SLOTS says for how many old blocks of 16,384 bytes there is room: as many as change while a version is kept" create new a=a
+images_says 2 "usage: show F [SET] NAME; did you mean \`show store 1 a\`?" show store a 1
+images_says 2 "usage: digest F [SET] NAME; did you mean \`digest store 1 a\`?" digest store a 1
+images_says 2 "usage: delete F SET [NAME]; did you mean \`delete store 1 a\`?" delete store a 1
+images_says 2 "usage: revert F SET NAME; did you mean \`revert store 1 a\`?" revert store a 1
+images_says 4 "folder: is no file, but a directory" create new 10 a=folder
+images_says 4 "folder: is no file, but a directory" update store a=folder
+images_says 4 "/dev/null: is no file" update store a=/dev/null
+images_says 4 "none: could not be read: No such file or directory (os error 2)" update store a=none
+printf x | dd of="$room/files/store/images.state" bs=1 seek=20 conv=notrunc status=none
+for words in "list store" "check store" "show store 1 a" "update store a=a"; do
+  # shellcheck disable=SC2086
+  images_says 9 "store/images.state: digest: another; it is damaged, so nothing in the folder can be trusted: copy the folder before anything else" $words
+done
+
 # help and the version of the other commands
-for tool in orders timeline tests prove; do
+for tool in orders timeline images tests prove; do
   for word in help --help -h; do
     "./$tool" "$word" > "$room/out" 2> "$room/err" < /dev/null || wrong "./$tool $word ends with $?"
     has "./$tool $word" "$(cat "$room/out")" "    ./$tool"
     [ ! -s "$room/err" ] || wrong "./$tool $word says on the standard error: $(cat "$room/err")"
   done
 done
-for tool in orders timeline; do
+for tool in orders timeline images; do
   has "./$tool --version" "$(./$tool --version)" "$tool $(cat VERSION), of the sources "
 done
 ./tests frist > "$room/out" 2> "$room/err"

@@ -143,6 +143,12 @@ for program in "${builds[@]}"; do
   printf 'scenario 1\narea D 2\nvolume D 2 in D\nlane a\nbegin 25\n' > "$room/both"
   "$program" with D.shared flush 9 seed 1 "$room/both" > "$room/said" 2>&1 || wrong "an area D and a volume D: D.shared is refused: $(cat "$room/said")"
   refuses 3 "$room/both: expected a device of it, as \`NAME.vol\`, \`NAME.area\` or \`NAME.shared\`, and not \`D.area\`" with D.area flush 1 seed 1 "$room/both"
+  printf '%s\n' "scenario 1" "area D 1" "volume D 2 1" "volume E 2 in D" "lane a" "begin 25" start "add D" "add E" snapshot await end "write D 0 fill 7" "write E 0 fill 7" > "$room/apart"
+  for row in "area fault ok" "shared ok fault"; do
+    read -r kind of_d of_e <<< "$row"
+    "$program" with "D.$kind" write 1 seed 1 "$room/apart" > "$room/report" 2> "$room/err"
+    [ "$(sed -nE 's/^[0-9]+ lane a 1[34] //p' "$room/report" | tr '\n' ' ')" = "$of_d $of_e " ] || wrong "D.$kind fails other writes: $(cat "$room/report" "$room/err")"
+  done
   refuses 4 "$room/none: cannot be read" order "$room/none" $first.report
   refuses 4 "$room/none: cannot be read" order $first.scenario "$room/none"
   refuses 4 "$room/none: cannot be read" again $first.scenario "$room/none"

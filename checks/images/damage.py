@@ -70,7 +70,7 @@ class Damage:
         for place in places:
             data = bytearray(state)
             data[place] ^= 0x41
-            self.refuses("images.state", bytes(data), 9, ["list", "F"], b"images: F/images.state: digest: another")
+            self.refuses("images.state", bytes(data), 9, ["list", "F"], b"images: F/images.state: digest: another; it is damaged, so nothing in the folder can be trusted: copy the folder before anything else\n")
         for data, told in ((state[:-1], b"digest"), (state + b"x", b"digest"), (b"", b"size"), (state[:31], b"size"), (state + bytes(2_000_000), b"size")):
             self.refuses("images.state", data, 9, ["list", "F"], b"images: F/images.state: " + told)
 

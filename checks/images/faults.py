@@ -74,7 +74,7 @@ class Faults:
             came = file.read() != first
         # (a file that outgrew its volume before it was opened is refused)
         self.ended(scene, place, "a file that changes", got, (0, 12, 3) if size > len(first) else (0, 12))
-        if got.returncode == 12 and not re.search(rb"images: db: changed while it was read: \d+ bytes and then \d+", got.stderr):
+        if got.returncode == 12 and not re.search(rb"images: db: changed while it was read: \d+ bytes and then \d+.*; stop or freeze its writer, .*'begin immediate'", got.stderr):
             scene.wrong(place, got.stderr)
         if scene.call[0] == "create":
             if got.returncode and sorted(os.listdir(folder)) != sorted(os.listdir(scene.base)):
@@ -191,7 +191,7 @@ class Faults:
         os.symlink("F", os.path.join(base, "link"))
         os.symlink("none", os.path.join(base, "broken"))
         none, missing, not_folder = b"is no file", b"could not be read: No such file", b"could not be read: Not a directory"
-        for name, told in (("pipe", none), ("/dev/zero", none), ("F", none), ("broken", missing), ("db/x", not_folder)):
+        for name, told in (("pipe", none), ("/dev/zero", none), ("F", b"F: is no file, but a directory"), ("broken", missing), ("db/x", not_folder)):
             self.refused(base, "something else as the file", ["update", "F", f"db={name}"], 4, told)
             self.refused(base, "something else as the file", ["create", "G", "4", f"db={name}"], 4, told)
         for name in ("F/db.vol", "F/images.area", "F/images.state", "F/images.together"):

@@ -103,6 +103,7 @@ class Drawing:
             ["create", "G", "4", "a b=db"], ["create", "G", "4", "n" * 33 + "=db"], ["create", "G", "4", "a=missing"], ["create", "G", "4", "a=folder"],
             ["create", "G", "4", "a:65536=db", "b:65536=db", "c:1=db"], ["create", "folder", "4", "a=db"], ["update", "F"], ["revert", "F", "1"],
             ["create", "G", "4", "a=-"], ["update", "--tries", "0", "F", "db=db"], ["update", "--tries", "F", "db=db"], ["list", "--tries", "1", "F"],
+            ["create", "G", "a=db"], ["show", "F", "db", "1"], ["digest", "F", "db", "0"], ["delete", "F", "db", "2"], ["revert", "F", "db", "1"],
         ])
 
 

@@ -21,6 +21,7 @@ FORMS = {
     "revert": "revert F SET NAME",
     "check": "check F",
 }
+SLOTS = "; SLOTS says for how many old blocks of 16,384 bytes there is room: as many as change while a version is kept"
 
 
 class Ends(Exception):
@@ -144,10 +145,19 @@ class Plain:
                 rest = rest[2:] if task in ("create", "update") and number("".join(rest[1:2]), 1) else []
             done = getattr(self, task)(rest, out)
             if done is False:
-                raise Ends(2, "usage: " + FORMS[task])
+                raise Ends(2, "usage: " + FORMS[task] + self.more(task, words))
         except Ends as ended:
             return ended.status, b"".join(out), ended.line
         return 0, b"".join(out), done if isinstance(done, str) else None
+
+    @staticmethod
+    def more(task, words):
+        """What is said behind a form."""
+        if task == "create":
+            return SLOTS
+        if task in ("show", "digest", "delete", "revert") and len(words) == 4 and number(words[3], 1) is not None:
+            return f"; did you mean `{task} {words[1]} {words[3]} {words[2]}`?"
+        return ""
 
     def read(self, path):
         if path == "-":
@@ -155,7 +165,7 @@ class Plain:
         if path not in self.files:
             raise Ends(4, f"{path}: could not be read: No such file or directory (os error 2)")
         if self.files[path] is None:
-            raise Ends(4, f"{path}: is no file")
+            raise Ends(4, f"{path}: is no file, but a directory")
         return self.files[path]
 
     def store(self, folder):

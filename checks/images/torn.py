@@ -8,12 +8,14 @@ back, or it renames new files into place. So at each moment each file has one nu
 """
 import os
 import random
+import re
 import subprocess
 import sys
 import time
 
 SIZE = 60000
 OWN = os.path.abspath(__file__)
+TOLD = re.compile(rb"images: (log|db): changed while it was read: \d+ bytes and then \d+.*; stop or freeze its writer, as SQLite's lock does: sqlite3 .*'begin immediate'.*\n")
 
 
 def write(path, number, renames):
@@ -58,7 +60,7 @@ def main():
             done = 0
             for turn in range(count):
                 got = subprocess.run([program, "update", "--tries", "1", "F", "db=db", "log=log"], capture_output=True, check=False)
-                if got.returncode not in (0, 12):
+                if got.returncode not in (0, 12) or got.returncode and not TOLD.fullmatch(got.stderr):
                     sys.exit(f"torn.py: {got}")
                 if got.returncode == 0:
                     done += 1

@@ -182,7 +182,7 @@ fn back_up<R: Threads + Sync>(
 ) -> Result<bool, Status> {
     let job = job_of(program, path, text)?;
     let setting = setting_of(program, path, &job)?;
-    let mut opened = open(program, folder, Way::Writing)?;
+    let mut opened = open(program, folder, Way::Writing, 0)?;
     opened.least = job.least.unwrap_or(0);
     take_over(&mut opened, &job, &setting.members.volumes)?;
     let copier = FolderCopier::new(opened, &job.volumes, &setting.members.volumes)?;

@@ -105,8 +105,18 @@ fn file_at(program: &Program, path: &str) -> io::Result<Option<(File, Metadata)>
 fn source_at(program: &Program, path: &str) -> Result<(File, Metadata), Status> {
     match file_at(program, path) {
         Ok(Some(found)) => Ok(found),
-        Ok(None) => Err(ended!(*program, Unread; "{path}: is no file")),
+        Ok(None) => Err(no_file(program, path)),
         Err(error) => Err(ended!(*program, Unread; "{path}: could not be read: {error}")),
+    }
+}
+
+/// Says that there is something else than a file at a path.
+fn no_file(program: &Program, path: &str) -> Status {
+    match fs::metadata(&program.rt, path) {
+        Ok(found) if found.is_dir() => {
+            ended!(*program, Unread; "{path}: is no file, but a directory")
+        }
+        _ => ended!(*program, Unread; "{path}: is no file"),
     }
 }
 

@@ -25,8 +25,10 @@ mod show;
 mod shown_sink;
 mod task;
 
-use image_folder::{Opened, Program, ProgramName, Status, create, ended, open, pairs_of, update};
-use request::{Request, form_of};
+use image_folder::{
+    Opened, Program, ProgramName, Status, create, ended, open, pairs_of, set_of, update,
+};
+use request::{Request, form_of, takes_set};
 use std::process::ExitCode;
 use std::{env, io};
 use task::Task;
@@ -78,6 +80,17 @@ fn run(program: &Program, request: Request<'_>) -> Result<(), Status> {
     opened.end(done)
 }
 
+/// Says which form the words should have, and whether the last two of them should change places.
+fn usage(program: &Program, words: &[String]) -> Status {
+    let form = form_of(words);
+    match words {
+        [word, folder, name, set] if takes_set(word.as_str()) && set_of(set.as_str()).is_some() => {
+            ended!(*program, Usage; "usage: {form}; did you mean `{word} {folder} {set} {name}`?")
+        }
+        _ => ended!(*program, Usage; "usage: {form}"),
+    }
+}
+
 /// Does what words ask for. Of those that could not be read as text there are none.
 fn answer(program: &Program, words: io::Result<Vec<String>>) -> Result<(), Status> {
     let words = match words {
@@ -87,7 +100,7 @@ fn answer(program: &Program, words: io::Result<Vec<String>>) -> Result<(), Statu
     };
     match Request::of(&words) {
         Some(request) => run(program, request),
-        None => Err(ended!(*program, Usage; "usage: {}", form_of(&words))),
+        None => Err(usage(program, &words)),
     }
 }
 

@@ -19,7 +19,8 @@ pub fn form_of(words: &[String]) -> &'static str {
         return ALL;
     };
     match word.as_str() {
-        "create" => "create [--tries N] F SLOTS NAME[:BLOCKS]=FILE ..",
+        "create" =>
+            "create [--tries N] F SLOTS NAME[:BLOCKS]=FILE ..; SLOTS says for how many old blocks of 16,384 bytes there is room: as many as change while a version is kept",
         "cut" => "cut F NAME ..",
         "update" => "update [--tries N] [--keep N] F NAME=FILE ..",
         "list" => "list F",
@@ -32,6 +33,11 @@ pub fn form_of(words: &[String]) -> &'static str {
         "check" => "check F",
         _ => ALL,
     }
+}
+
+/// Whether the first word is followed by a folder, a set and a name.
+pub fn takes_set(word: &str) -> bool {
+    matches!(word, "show" | "digest" | "delete" | "revert")
 }
 
 impl<'a> Request<'a> {
