@@ -42,7 +42,10 @@ fn again(alloc: Global, volume: Volume, finals: &[u32]) -> Result<Volume, Stoppe
 {
     let (volume, overlay) = volume.into_parts();
     let volume = taken_up(alloc, volume)?;
-    Ok(RecoverVolume::resume(alloc, volume, overlay, finals)?)
+    match RecoverVolume::resume(alloc, volume, overlay, finals) {
+        Ok(volume) => Ok(volume),
+        Err(_) => Err(Stopped),
+    }
 }
 
 /// Reads a block.

@@ -4,10 +4,11 @@ use Rattle.std.proofs.Common.{◌≡◌, ◌<◌, ◌≤◌, ◌+◌, ℕ, zero,
 use Rattle.std.specs.List.{insert}
 use Rattle.std.specs.Prelude.{Result, IfOk, slice_get, slice_set, if◌then◌else◌, nat_lt, ◌==◌, ◌||◌}
 use Rattle.std.proofs.lemmas.Bool.{false≢true, lt-ltb}
+use Rattle.std.proofs.lemmas.Bool.Decides.{nat_tests}
 use Rattle.std.proofs.lemmas.List.Edits.{length-insert}
-use Rattle.std.proofs.lemmas.List.Elements.{All-nil}
+use Rattle.std.proofs.lemmas.List.Elements.{All-nil, All-head, All-tail, filter_passes}
 use Rattle.std.proofs.lemmas.Option.{none-some, same_Some}
-use Rattle.write_history.specs.History.{History, Write, names, sets_of}
+use Rattle.write_history.specs.History.{History, Write, names}
 use Rattle.diff_area.specs.AreaValue.{AreaValue}
 use Rattle.diff_area.specs.Records.{is_free, AreRecords}
 use Rattle.diff_area.specs.declared.table_record.Record.{Record}
@@ -16,23 +17,26 @@ use Rattle.diff_map.specs.Index.{IsIndex}
 use Rattle.diff_map.specs.declared.copied.Copied.{Copied}
 use Rattle.diff_map.specs.declared.entry.Entry.{Entry}
 use Rattle.diff_map.proofs.Noting.{IsIndex-noted}
-use Rattle.cow_volume.specs.Calls.{is_among}
+use Rattle.cow_volume.specs.Calls.{is_among, sets_in}
 use Rattle.cow_volume.specs.GroupValue.{GroupValue}
 use Rattle.cow_volume.specs.OneVolume.{StandsForOne, blocks_of, image_sets}
+use Rattle.cow_volume.specs.Resuming.{AllHaveImages}
+use Rattle.cow_volume.specs.declared.resume_fault.ResumeFault.{ResumeFault}
+use Rattle.cow_volume.specs.declared.resume_fault.ResumeFault.TheVariants.{NoImage, OutOfMemory}
 use Rattle.cow_volume.specs.StandsFor.{record_of}
 use Rattle.cow_volume.specs.TakingUp.{mixed, unnoted}
 use Rattle.cow_volume.specs.Tied.{copied_for}
-use Rattle.cow_volume.proofs.Counting.{used_record}
-use Rattle.cow_volume.proofs.Group.{number_is}
+use Rattle.cow_volume.proofs.Counting.{record_is_used, used_record}
+use Rattle.cow_volume.proofs.Group.{same_number, number_is}
 use Rattle.cow_volume.proofs.MixedRows.{mixed-all, mixed-set, mixed-same, mixed-from}
 use Rattle.cow_volume.proofs.Rows.{copied_for-is, copied_for-free, record-from, same_record}
 use Rattle.cow_volume.proofs.TakingUp.{noted_before}
 use Rattle.cow_volume.proofs.Ties.{free_is}
 use Rattle.vss_recover.specs.OverlayCalls.{IsNotedIn}
-use Rattle.vss_recover.specs.Recoveries.{Recovery, Recovering, recovered, IsOfImages}
+use Rattle.vss_recover.specs.Recoveries.{Recovery, Recovering, recovered, kept_final, IsOfImages}
 use Rattle.vss_recover.specs.RecoverValue.{RecoverValue, StandsFor, IsOverlay}
-use Rattle.vss_recover.specs.TakingUp.{AreOfImages, taken_up, unopened}
-use Rattle.vss_recover.proofs.Standing.{sets_are}
+use Rattle.vss_recover.specs.TakingUp.{IsRefused, taken_up, unopened}
+use Rattle.vss_recover.proofs.Recovered.{filter-all}
 use Rattle.vss_recover.proofs.UsedSlots.{each_used}
 
 -- ## the list of the used slots
@@ -173,13 +177,21 @@ made_of_images sets [] each = All-nil (λ (r : Recovery). is_among r.set sets �
 made_of_images sets (r ∷ rs) each =
     all_if (λ (q : Recovery). is_among q.set sets ≡ true) (nat_lt 0 r.set) (one_made r) (made rs) (each 0 r refl) (made_of_images sets rs (λ slot q at. each (suc slot) q at))
 
+-- a record that is not free is of an image
+pub image_there : (sets : List ℕ) (volumes : List ℕ) (records : List Record) → length volumes ≡ 1 → AreRecords volumes records → AllHaveImages records (sets ∷ [])
+    → (slot : ℕ) (r : Record) → slice_get records slot ≡ Some r → nat_lt 0 r.set ≡ true → is_among r.set sets ≡ true
+image_there sets volumes records one are have slot r at some = elim (each_used volumes records one are slot r at) [
+  | inl empty ↦ (let zero_set = ap (λ (x : Record). x.set) empty in let above : 0 < r.set = grind (arith, nat_tests) in absurd (omega arith))
+  | inr both ↦ sym (ap (λ v. is_among r.set (sets_in (slice_get (sets ∷ []) v))) both.1) ∙ have slot r at (record_is_used r both.0)
+]
+
 -- where the overlay's device tells nothing, the volume stands for its history with these
 pub made_stand : {D : Type 0} (told : D → Option (List (List ℕ))) (volume : GroupValue D) (overlay : AreaValue D) (final : List ℕ) (h : History) → overlay.volumes ≡ blocks_of volume ∷ []
-    → AreRecords overlay.volumes overlay.records
-    → AreOfImages h overlay.records final → told overlay.device ≡ None → StandsForOne told volume h → (r : Recovering) × (r.volume ≡ h) × StandsFor told (taken_up volume overlay final) r
-made_stand told volume overlay final h fits are of none stood =
+    → AreRecords overlay.volumes overlay.records → AllHaveImages overlay.records (image_sets volume ∷ [])
+    → told overlay.device ≡ None → StandsForOne told volume h → (r : Recovering) × (r.volume ≡ h) × StandsFor told (taken_up volume overlay final) r
+made_stand told volume overlay final h fits are have none stood =
     let one : length overlay.volumes ≡ 1 = ap length fits in
-    let with_made : Recovering = record { volume = h; recoveries = made overlay.records; window = None; claims = []; final = final } in
+    let with_made : Recovering = record { volume = h; recoveries = made overlay.records; window = None; claims = []; final = kept_final (image_sets volume) final } in
     let unread : IsOverlay None overlay.records (blocks_of volume) (made overlay.records) = record {
       named = λ slot set b above at. made_named set b slot overlay.records above at;
       recorded = λ set b above low named.
@@ -196,11 +208,11 @@ made_stand told volume overlay final h fits are of none stood =
       record {
         volume = stood;
         overlay = subst (λ (o : Option (List (List ℕ))). IsOverlay o overlay.records (blocks_of volume) (made overlay.records)) (sym none) unread;
-        of_images = subst (λ (sets : List ℕ). IsOfImages sets with_made) (sym (sets_are told volume h stood)) (record {
-          recoveries = made_of_images (sets_of h.images) overlay.records of.records_are;
+        of_images = record {
+          recoveries = made_of_images (image_sets volume) overlay.records (λ slot r at some. image_there (image_sets volume) overlay.volumes overlay.records one are have slot r at some);
           window = λ set e. absurd (none-some set e);
-          final = of.final_are;
-        });
+          final = filter_passes (λ s. is_among s (image_sets volume)) final;
+        };
         window = refl;
         claims = refl;
         final = refl;
@@ -211,7 +223,14 @@ made_stand told volume overlay final h fits are of none stood =
 pub parts_stand : {D : Type 0} (told : D → Option (List (List ℕ))) (volume : GroupValue D) (overlay : AreaValue D) (final : List ℕ) (h : Recovering) → StandsForOne told volume h.volume
     → IsOverlay (told overlay.device) overlay.records (blocks_of volume) h.recoveries → IsOfImages (image_sets volume) h → h.final ≡ final
     → StandsFor told (taken_up volume overlay final) (unopened h)
-parts_stand told volume overlay final h stood held of final_is = grind arith
+parts_stand told volume overlay final h stood held of final_is = record {
+  volume = stood;
+  overlay = held;
+  of_images = record { recoveries = of.recoveries; window = λ set e. absurd (none-some set e); final = of.final };
+  window = refl;
+  claims = refl;
+  final = ap (kept_final (image_sets volume)) (sym final_is) ∙ filter-all (λ s. is_among s (image_sets volume)) h.final of.final;
+}
 
 -- what is said of a volume is said of its parts
 pub of_parts : {D : Type 0} (told : D → Option (List (List ℕ))) (v : RecoverValue D) (volume : GroupValue D) (overlay : AreaValue D) (h : Recovering) → volume ≡ v.volume → overlay ≡ v.overlay
@@ -221,3 +240,31 @@ of_parts told v volume overlay h volume_is overlay_is stood = grind arith
 -- what holds of a value holds of an answer that is this value
 pub of_value : {X E : Type 0} (P : X → Type 0) (r : Result X E) (x : X) → IfOk r (λ v. v ≡ x) → P x → IfOk r P
 of_value x0 r x is holds = grind arith
+
+-- ## never refused
+
+recovered_among : (sets : List ℕ) (set b : ℕ) (rs : List Recovery) → All (λ (r : Recovery). is_among r.set sets ≡ true) rs → names (recovered set rs) b ≡ true → is_among set sets ≡ true
+recovered_among sets set b [] all e = absurd (false≢true e)
+recovered_among sets set b (r ∷ rs) all e =
+    by_test (r.set == set) refl e (λ more. recovered_among sets set b rs (All-tail (λ (q : Recovery). is_among q.set sets ≡ true) r rs all) more) where
+      by_test : (t : Bool) → (r.set == set) ≡ t → names (if t then r.write ∷ recovered set rs else recovered set rs) b ≡ true
+          → (names (recovered set rs) b ≡ true → is_among set sets ≡ true) → is_among set sets ≡ true
+      by_test true same e rest = ap (λ n. is_among n sets) (sym (same_number r.set set same)) ∙ All-head (λ (q : Recovery). is_among q.set sets ≡ true) r rs all
+      by_test false other e rest = rest e
+
+-- an overlay of recovery writes of these images is taken up
+pub never_refused : (slots : Option (List (List ℕ))) (sets volumes : List ℕ) (records : List Record) (n : ℕ) (h : Recovering) (fault : ResumeFault) → length volumes ≡ 1
+    → AreRecords volumes records → IsOverlay slots records n h.recoveries → IsOfImages sets h → IsRefused records (sets ∷ []) fault → fault ≡ OutOfMemory
+never_refused slots sets volumes records n h OutOfMemory one are over of refused = refl
+never_refused slots sets volumes records n h (NoImage slot set) one are over of refused =
+    let r = refused.row in
+    let is_used = refused.used in
+    elim (each_used volumes records one are slot r refused.row_is) [
+      | inl empty ↦ (let none : is_free r ≡ true = ap is_free empty in absurd cc)
+      | inr both ↦ (
+          let is : r ≡ record_of 0 r.set r.block = same_record r (record_of 0 r.set r.block) refl refl both.1 in
+          let named = over.named slot r.set r.block both.0 (refused.row_is ∙ ap (λ (x : Record). Some x) is) in
+          let among = recovered_among sets r.set r.block h.recoveries of.recoveries named in
+          let without : is_among r.set sets ≡ false = ap (λ n. is_among n sets) refused.set_is
+          ∙ sym (ap (λ v. is_among set (sets_in (slice_get (sets ∷ []) v))) both.1) ∙ refused.without in absurd cc)
+    ]

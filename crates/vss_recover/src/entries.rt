@@ -1,13 +1,17 @@
 //! The ordered list of the used slots of an overlay: what is found in it, and which slots are given back.
 
-ghost use Rattle.std.specs.Prelude.{◌≡◌, ◌≤◌, ◌<◌, ◌==◌, ◌&&◌, ◌^◌, [], true, false, length, map, count_by, vec_capacity};
+ghost use Rattle.std.specs.Prelude.{◌≡◌, ◌≤◌, ◌<◌, ◌==◌, ◌&&◌, ◌^◌, [], ◌∷◌, true, false, length, map, count_by, slice_get, vec_capacity, OnOk, IfErr};
 ghost use Rattle.std.specs.List.{AllWithin};
 ghost use Rattle.diff_area.specs.Records.{AreRecords, is_free};
 ghost use Rattle.diff_map.specs.Index.{IsInOrder, IsIndex, place, place_of};
+ghost use Rattle.cow_volume.specs.Calls.{is_among, sets_in};
 ghost use Rattle.cow_volume.specs.CopiesAfter.{with_records};
+ghost use Rattle.cow_volume.specs.Resuming.{AllHaveImages, HasImage};
 ghost use Rattle.cow_volume.specs.Tied.{copied_for};
 ghost use Rattle.vss_recover.specs.OverlayCalls.{IsNotedIn, kept_records};
+ghost use Rattle.vss_recover.specs.TakingUp.{IsRefused};
 
+use cow_volume::ResumeFault;
 use diff_area::{Area, Record};
 use diff_map::Entry;
 use slot_pool::SlotPool;
@@ -57,6 +61,35 @@ fn note_if_used(entries: &mut Vec<Entry>, slot: u32, row: Record)
     let Record { set, block, .. } = row;
     let at = place_from(entries, block, set);
     let _ = entries.insert(at, Entry { block, set, slot });
+}
+
+/// Whether a record of an area of one volume is not free and lacks its image.
+fn lacks_image(images: &[u32], row: Record) -> bool
+    requires { is_free row ≡ false → row.volume ≡ 0 }
+    ensures lacks { result ≡ true → (is_free row ≡ false)
+        × (is_among row.set (sets_in (slice_get (images.now ∷ []) row.volume)) ≡ false) }
+    ensures has { result ≡ false → HasImage (images.now ∷ []) row }
+{
+    if row.is_free() {
+        return false;
+    }
+    !images.contains(&row.set)
+}
+
+/// Looks whether each record of an area of one volume is free or of one of these images.
+pub(crate) fn look_for_images<D: Device>(area: &Area<D>, images: &[u32]) -> Result<(), ResumeFault>
+    requires { length area.now.volumes ≡ 1 }
+    ensures all { OnOk result (AllHaveImages area.now.records (images.now ∷ [])) }
+    ensures refused { IfErr result (IsRefused area.now.records (images.now ∷ [])) }
+{
+    for slot in 0..area.slots() {
+        let row = area.record_at(slot);
+        if lacks_image(images, row) {
+            let set = row.set;
+            return Err(ResumeFault::NoImage { slot, set });
+        }
+    }
+    Ok(())
 }
 
 /// How many entries are of the image of a set.

@@ -2,7 +2,7 @@
 
 ghost use Rattle.std.specs.Prelude.{◌≡◌, ◌<◌, ◌≤◌, ◌++◌, ◌∷◌, ◌||◌, ◌==◌, [], length, vec_capacity, IfOk};
 ghost use Rattle.cow_volume.specs.Calls.{is_among};
-ghost use Rattle.vss_recover.specs.Recoveries.{kept_window, with_final};
+ghost use Rattle.vss_recover.specs.Recoveries.{kept_final, kept_window, with_final};
 
 use crate::claim::Claim;
 use block_data::BlockBuf;
@@ -55,6 +55,14 @@ pub(crate) fn kept_window(images: &[u32], window: Option<u32>) -> Option<u32>
     } else {
         None
     }
+}
+
+/// The sets that have no image among these go.
+pub(crate) fn keep_finals(finals: &mut Vec<u32>, images: &[u32])
+    ensures finals { finals.new.items ≡ kept_final images.now finals.old.items }
+    ensures room { vec_capacity finals.new ≡ vec_capacity finals.old }
+{
+    finals.retain(|set| images.contains(set));
 }
 
 /// Gathers those of these images that are final, and that of a set.

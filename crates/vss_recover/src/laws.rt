@@ -1,9 +1,10 @@
 //! What holds of every list of calls that change something, and of a volume that is taken up again: functions that do nothing, or make
 //! just the calls of which they speak, and whose contracts are the laws.
 
-ghost use Rattle.std.specs.Prelude.{◌≡◌, ◌<◌, ◌≤◌, ◌++◌, ◌∷◌, ℕ, true, List, Some, None, length, IfOk};
+ghost use Rattle.std.specs.Prelude.{◌≡◌, ◌<◌, ◌≤◌, ◌++◌, ◌∷◌, ℕ, true, List, Some, None, length, IfErr, IfOk};
 ghost use Rattle.write_history.specs.History.{sets_of};
 ghost use Rattle.cow_volume.specs.Calls.{is_among};
+ghost use Rattle.cow_volume.specs.declared.resume_fault.ResumeFault.TheVariants.{OutOfMemory};
 ghost use Rattle.vss_recover.specs.Claims.{owner_of};
 ghost use Rattle.vss_recover.specs.Recoveries.{Recovery, Recovering, IsOfImages, recovered};
 ghost use Rattle.vss_recover.specs.Steps.{Step, AreAllowed, after_all, made_since_cut, last_window, of_volume, IsMadeIn};
@@ -11,9 +12,9 @@ ghost use Rattle.vss_recover.specs.RecoverValue.{StandsFor};
 ghost use Rattle.vss_recover.specs.TakingUp.{unopened};
 
 use crate::recover_volume::RecoverVolume;
+use cow_volume::ResumeFault;
 use std::alloc::Global;
 use volume_device::Device;
-use vss_names::OutOfMemory;
 
 /// The recovery writes that an image shows are those that the calls since its cut made of it, in their order. Where no cut of it is
 /// among the calls, those that it had come first.
@@ -32,17 +33,21 @@ pub fn recoveries_leave_the_volume()
     ensures { (n : ℕ) (h : Recovering) (steps : List Step) → (after_all n h steps).volume ≡ (after_all n h (of_volume steps)).volume }
 {}
 
-/// A volume that is taken apart, and taken up again with its final sets, stands for what it stood for, with no open window.
+/// A volume that is taken apart, and taken up again with its final sets, stands for what it stood for, with no open window. Only for
+/// want of memory is it not taken up.
 pub fn what_is_taken_apart_is_taken_up<D: Device>(
     alloc: Global,
     volume: RecoverVolume<D>,
     finals: &[u32],
-) -> Result<RecoverVolume<D>, OutOfMemory>
+) -> Result<RecoverVolume<D>, ResumeFault>
     requires same { finals.now ≡ volume.final }
     requires few { length finals.now ≤ 512 }
-    ensures { IfOk result (λ again. (h : Recovering) → StandsFor D.told volume h
+    ensures stands { IfOk result (λ again. (h : Recovering) → StandsFor D.told volume h
         → StandsFor D.told again (unopened h)) }
+    ensures memory { IfErr result (λ fault. (h : Recovering) → StandsFor D.told volume h
+        → fault ≡ OutOfMemory) }
 {
     let (beneath, overlay) = volume.into_parts();
+    let _facts = overlay.slots();
     RecoverVolume::resume(alloc, beneath, overlay, finals)
 }

@@ -5,6 +5,7 @@ ghost use Rattle.write_history.specs.Slots.{used, Copy};
 ghost use Rattle.diff_area.specs.Copies.{AreHeld, AreStored};
 ghost use Rattle.diff_area.specs.Records.{free, used_in};
 ghost use Rattle.cow_volume.specs.Calls.{IsQuiet, IsUnfailed, VolumeRose, is_among};
+ghost use Rattle.cow_volume.specs.Resuming.{AllHaveImages};
 ghost use Rattle.cow_volume.specs.OneVolume.{StandsForOne, blocks_of, image_sets, IsOneWrite, IsOneCopiedOnce, IsOneNow, HasOneCause, IsOneDropped};
 ghost use Rattle.vss_recover.specs.Calls.{IsStep, IsBeside, IsSettledUpTo, IsDropped, IsReadAlone, AreUnfailed, HasReadCause, IsShown, IsOpened, IsRecoverWrite, IsReverted, IsRevertStep, IsClosed, IsClosingStep, IsSettled, HasOpenCause, MayOpen};
 ghost use Rattle.vss_recover.specs.OverlayCalls.{count_in, lacks_room};
@@ -12,17 +13,18 @@ ghost use Rattle.vss_recover.specs.Recoveries.{IsOfImages, Recovering, unrecover
 ghost use Rattle.vss_recover.specs.RecoverValue.{IsOverlay, RecoverValue, StandsFor};
 ghost use Rattle.vss_recover.specs.Steps.{Step};
 ghost use Rattle.vss_recover.specs.Syncing.{IsRecoverSync, KeepsSaid};
-ghost use Rattle.vss_recover.specs.TakingUp.{AreOfImages, HasCopiesOf, taken_up, unopened};
+ghost use Rattle.vss_recover.specs.TakingUp.{HasCopiesOf, IsRefused, taken_up, unopened};
 
 use crate::claim::Claim;
 use crate::claims::{first_out, first_overlap, owner_of};
-use crate::finals::{MOST_CLAIMS, Room, final_among, kept_window, take_claims};
+use crate::entries::look_for_images;
+use crate::finals::{MOST_CLAIMS, Room, final_among, keep_finals, kept_window, take_claims};
 use crate::open_fault::OpenFault;
 use crate::overlay::{Overlay, put_payload};
 use crate::recover_fault::RecoverFault;
 use crate::recover_revert::RecoverRevert;
 use block_data::{BLOCK, BlockBuf, Payload};
-use cow_volume::{Cause, CowVolume, ImageFault, RevertFault, WriteFault, Written};
+use cow_volume::{Cause, CowVolume, ImageFault, ResumeFault, RevertFault, WriteFault, Written};
 use diff_area::Area;
 use std::alloc::Global;
 use std::marker::Model;
@@ -77,18 +79,20 @@ impl<D: Device> RecoverVolume<D> {
     }
 
     /// Takes a volume up again: the copy-on-write volume, the overlay with the blocks that its records say, and the sets of the final
-    /// images. No window is open. It takes all memory of the later calls. The volume stands for what its parts stand for, and so for what
-    /// a volume stood for from whose overlay, once synced, this one was loaded. Where the overlay's device does not tell what it holds,
-    /// that is what the copy-on-write volume stands for, with some recovery writes.
+    /// images; those that have no image are left out. No window is open. It takes all memory of the later calls. The volume stands for
+    /// what its parts stand for, and so for what a volume stood for from whose overlay, once synced, this one was loaded. If the overlay's
+    /// device does not tell what it holds, that is what the copy-on-write volume stands for, with some recovery writes.
     pub fn resume(
         alloc: Global,
         volume: CowVolume<D>,
         overlay: Area<D>,
         finals: &[u32],
-    ) -> Result<RecoverVolume<D>, OutOfMemory>
+    ) -> Result<RecoverVolume<D>, ResumeFault>
         requires fits { overlay.volumes ≡ blocks_of volume ∷ [] }
         requires few { length finals.now ≤ 512 }
         ensures value { IfOk result (λ v. v ≡ taken_up volume overlay finals.now) }
+        ensures have_images { OnOk result (AllHaveImages overlay.records (image_sets volume ∷ [])) }
+        ensures refused { IfErr result (IsRefused overlay.records (image_sets volume ∷ [])) }
         ensures stands { IfOk result (λ v. (h : Recovering) → StandsForOne D.told volume h.volume
             → IsOverlay (D.told overlay.device) overlay.records (blocks_of volume) h.recoveries
             → IsOfImages (image_sets volume) h → h.final ≡ finals.now
@@ -97,11 +101,17 @@ impl<D: Device> RecoverVolume<D> {
             → HasCopiesOf D.told was.overlay overlay → blocks_of volume ≡ blocks_of was.volume
             → finals.now ≡ was.final → StandsForOne D.told volume h.volume
             → StandsFor D.told v (unopened h)) }
-        ensures untold { IfOk result (λ v. (h : History) → AreOfImages h overlay.records finals.now → D.told overlay.device ≡ None
+        ensures untold { IfOk result (λ v. (h : History) → D.told overlay.device ≡ None
             → StandsForOne D.told volume h → (r : Recovering) × (r.volume ≡ h) × StandsFor D.told v r) }
     {
-        let overlay = Overlay::resume(alloc, overlay)?;
-        RecoverVolume::without_window(alloc, volume, overlay, finals)
+        look_for_images(&overlay, volume.images())?;
+        let Ok(overlay) = Overlay::resume(alloc, overlay) else {
+            return Err(ResumeFault::OutOfMemory);
+        };
+        match RecoverVolume::without_window(alloc, volume, overlay, finals) {
+            Ok(volume) => Ok(volume),
+            Err(_) => Err(ResumeFault::OutOfMemory),
+        }
     }
 
     /// A volume with no open window. It takes all memory of the later calls but the overlay's.
@@ -115,7 +125,8 @@ impl<D: Device> RecoverVolume<D> {
         requires few { length finals.now ≤ 512 }
         ensures { IfOk result (λ v. v ≡ taken_up volume overlay finals.now) }
     {
-        let room = Room::new(alloc, finals)?;
+        let mut room = Room::new(alloc, finals)?;
+        keep_finals(&mut room.finals, volume.images());
         Ok(RecoverVolume {
             volume,
             overlay,

@@ -17,7 +17,7 @@ use Rattle.vss_shards.specs.declared.record_fault.RecordFault.{RecordFault}
 use Rattle.vss_shards.specs.declared.record_fault.RecordFault.TheVariants.{Full as FullOfCuts, Differs, OutOfMemory as NoMemoryForCut}
 use Rattle.vss_shards.specs.Entries.{write_of, most_entries}
 use Rattle.vss_shards.specs.Shards.{IsShard, ShardValue, shard_value, most_images}
-use Rattle.vss_shards.specs.Journals.{JournalValue, Cut, appended, first_off, journal_value, most_cuts}
+use Rattle.vss_shards.specs.Journals.{JournalValue, Cut, IsEnteredUnderLock, IsFullUnderLock, appended, first_off, journal_value, most_cuts}
 use Rattle.vss_shards.specs.Drafts.{DraftValue, IsTakenOut}
 use Rattle.volume_device.specs.declared.device.Device.{Ghosts}
 
@@ -107,13 +107,23 @@ IsWriteOn ghosts old new jold jnew block payload (Err Area) = IsNotEntered ghost
 
 -- ## write, under locks
 
+-- why no place was taken for an entry
+abbrev pub IsPlaceRefused : ShardFault → Type 0
+IsPlaceRefused Held = ⊥
+IsPlaceRefused NoSuchBlock = ⊥
+IsPlaceRefused Full = IsFullUnderLock
+IsPlaceRefused OutOfMemory = Unit {0}
+IsPlaceRefused Volume = ⊥
+IsPlaceRefused Area = ⊥
+
 -- what a write of a shard says, between whatever else was done to the shard
 abbrev pub IsWriteSaid : {D : Type 0} → Ghosts D → ShardValue D → ShardValue D → ℕ → Small → Result ℕ ShardFault → Type 0
-IsWriteSaid ghosts old new block payload (Ok answer) = MayBeWritten old block × IsPutIn ghosts old new (entry_of old block payload) × (answer ≤ most_entries)
+IsWriteSaid ghosts old new block payload (Ok answer) =
+    MayBeWritten old block × IsPutIn ghosts old new (entry_of old block payload) × IsEnteredUnderLock (entry_of old block payload) answer
 IsWriteSaid ghosts old new block payload (Err Held) = IsAllowed old block (Err Held) × (new ≡ old)
 IsWriteSaid ghosts old new block payload (Err NoSuchBlock) = IsAllowed old block (Err NoSuchBlock) × (new ≡ old)
-IsWriteSaid ghosts old new block payload (Err Full) = MayBeWritten old block × (new ≡ old)
-IsWriteSaid ghosts old new block payload (Err OutOfMemory) = MayBeWritten old block × (new ≡ old)
+IsWriteSaid ghosts old new block payload (Err Full) = MayBeWritten old block × ((length old.entries ≡ most_entries) ⊎ IsFullUnderLock) × (new ≡ old)
+IsWriteSaid ghosts old new block payload (Err OutOfMemory) = MayBeWritten old block × (length old.entries < most_entries) × (new ≡ old)
 IsWriteSaid ghosts old new block payload (Err Volume) = MayBeWritten old block × IsNotPut ghosts old new block VolumeCause
 IsWriteSaid ghosts old new block payload (Err Area) = MayBeWritten old block × IsNotPut ghosts old new block AreaCause
 

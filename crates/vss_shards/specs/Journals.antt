@@ -30,6 +30,24 @@ with_places places j = journal_value j.entries j.cuts places
 abbrev pub appended : Entry → JournalValue → JournalValue
 appended e j = journal_value (j.entries ++ e ∷ []) j.cuts j.places
 
+-- an entry was put at the end, and there are so many then
+pub record IsEnteredIn (old new : JournalValue) (e : Entry) (answer : ℕ) : Type 0 where
+  pub entries : new.entries ≡ old.entries ++ e ∷ []
+  pub cuts : new.cuts ≡ old.cuts
+  pub answered : answer ≡ length new.entries
+  pub few : answer ≤ most_entries
+
+-- the same of a journal as it was found under its lock, and left there
+pub record IsEnteredUnderLock (e : Entry) (answer : ℕ) : Type 0 where
+  pub found : JournalValue
+  pub left : JournalValue
+  pub entered : IsEnteredIn found left e answer
+
+-- a journal was found under its lock that has no place for one more entry
+pub record IsFullUnderLock : Type 0 where
+  pub found : JournalValue
+  pub full : length found.entries + found.places ≡ most_entries
+
 -- how many cuts a journal may have
 abbrev pub most_cuts : ℕ
 most_cuts = 65536

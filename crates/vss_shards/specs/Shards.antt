@@ -1,7 +1,7 @@
 -- A shard: a volume with the list of its entries and the points of its images, and what is always so of it. It stands for the
 -- history of just these entries and images. While it is held for a cut, the part that was collected has the length of its list.
 -- (This project's own.)
-use Rattle.std.specs.Prelude.{ℕ, ◌≡◌, ◌<◌, ◌≤◌, List, length, Option, IfSome, All}
+use Rattle.std.specs.Prelude.{ℕ, ◌≡◌, ◌<◌, ◌≤◌, ◌+◌, List, [], ◌∷◌, length, Option, None, IfSome, All}
 use Rattle.write_history.specs.History.{History, Image}
 use Rattle.cow_volume.specs.GroupValue.{GroupValue}
 use Rattle.cow_volume.specs.OneVolume.{StandsForOne}
@@ -22,6 +22,11 @@ pub record ShardValue (D : Type 0) : Type 0 where
 
 abbrev pub shard_value : {D : Type 0} → ℕ → GroupValue D → List Entry → List Image → ℕ → Option Part → ShardValue D
 shard_value number volume entries images last held = record { number = number; volume = volume; entries = entries; images = images; last = last; held = held }
+
+-- shards of these volumes of zeros, numbered from n
+abbrev pub shards_from : {D : Type 0} → ℕ → List (GroupValue D) → List (ShardValue D)
+shards_from n [] = []
+shards_from n (volume ∷ volumes) = shard_value n volume [] [] 0 None ∷ shards_from (n + 1) volumes
 
 -- the history that a shard stands for
 abbrev pub history_of : List Entry → List Image → History

@@ -1,6 +1,6 @@
 ghost use Rattle.std.specs.Prelude.{◌≡◌, ◌<◌, ◌≤◌, ◌+◌, ◌-◌, ◌++◌, [], ◌∷◌, None, length, slice_get, All, IfOk, IfSome, IsTrue, OnOk, OnErr, false};
 ghost use Rattle.vss_shards.specs.Entries.{count_of, most_entries, most_volumes};
-ghost use Rattle.vss_shards.specs.Journals.{IsJournal, appended, first_off, journal_value, most_cuts, with_places};
+ghost use Rattle.vss_shards.specs.Journals.{IsEnteredIn, IsJournal, appended, first_off, journal_value, most_cuts, with_places};
 ghost use Rattle.vss_shards.specs.Drafts.{AreParts};
 ghost use Rattle.vss_shards.specs.Calls.{IsRecorded};
 
@@ -75,7 +75,8 @@ impl Journal {
 
     /// Takes a place for one more entry, if it is not full and there is memory. Answers whether it did.
     pub(crate) fn try_reserve(&mut self) -> bool
-        ensures { IsTrue result → 0 < self.new.places }
+        ensures place { IsTrue result → 0 < self.new.places }
+        ensures kept { self.new ≡ with_places self.new.places self.old }
     {
         !self.is_full() && self.reserve().is_ok()
     }
@@ -95,11 +96,27 @@ impl Journal {
         self.places = 0;
     }
 
-    /// Whether a place is taken.
-    pub(crate) fn has_place(&self) -> bool
-        ensures { IsTrue result → 0 < self.now.places }
+    /// Whether there is a place for an entry: one that was taken, or a new one.
+    fn has_place(&mut self) -> bool
+        ensures place { IsTrue result → 0 < self.new.places }
+        ensures kept { self.new ≡ with_places self.new.places self.old }
     {
-        self.places > 0
+        if self.places > 0 {
+            return true;
+        }
+        self.try_reserve()
+    }
+
+    /// Puts an entry into a place that was taken, or into a new one, and answers how many entries there are then; none if there is no
+    /// place.
+    pub(crate) fn enter(&mut self, entry: Entry) -> Option<u32>
+        requires { entry.volume < most_volumes }
+        ensures { IfSome result (IsEnteredIn self.old self.new entry) }
+    {
+        if self.has_place() {
+            return Some(self.append(entry));
+        }
+        None
     }
 
     /// Puts an entry into a place, and answers how many entries there are then.

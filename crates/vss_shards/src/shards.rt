@@ -5,9 +5,9 @@ ghost use Rattle.std.specs.Sync.Mutex.{mutex_guard_value};
 ghost use Rattle.write_history.specs.History.{fresh};
 ghost use Rattle.cow_volume.specs.OneVolume.{StandsForOne};
 ghost use Rattle.vss_shards.specs.Entries.{most_entries, most_volumes};
-ghost use Rattle.vss_shards.specs.Calls.{IsWriteSaid, IsWriteUnderLock};
-ghost use Rattle.vss_shards.specs.declared.shard_fault.ShardFault.TheVariants.{Full, OutOfMemory as NoMemory};
-ghost use Rattle.vss_shards.specs.Shards.{IsShard, ShardValue};
+ghost use Rattle.vss_shards.specs.Calls.{IsPlaceRefused, IsWriteSaid, IsWriteUnderLock};
+ghost use Rattle.vss_shards.specs.Journals.{IsEnteredUnderLock};
+ghost use Rattle.vss_shards.specs.Shards.{IsShard, ShardValue, shards_from};
 
 use crate::entry::Entry;
 use crate::journal::Journal;
@@ -53,7 +53,7 @@ impl<D: Device> Shards<D> {
         let count = volumes.len();
         let states = Vec::with_capacity(alloc, count)?;
         let journal = Journal::new(alloc)?;
-        let shards = locked(alloc, volumes)?;
+        let shards = locked(alloc, numbered(alloc, volumes)?)?;
         Ok(Shards {
             shards,
             journal: Mutex::new(journal),
@@ -135,7 +135,7 @@ impl<D: Device> Shards<D> {
 
     /// Takes a place in the journal: a new one, or where it is full one that is kept for the next write of a shard that nobody has.
     fn take_place<R: Wait>(&self, rt: &R) -> Result<(), ShardFault>
-        ensures { IfErr result (λ fault. (fault ≡ Full) ⊎ (fault ≡ NoMemory)) }
+        ensures { IfErr result IsPlaceRefused }
     {
         let mut journal = self.journal.lock(rt);
         if !journal.is_full() {
@@ -155,12 +155,11 @@ impl<D: Device> Shards<D> {
     /// next write of its shard. There is a place as long as no one exchanges what the locks keep; else it takes one, or waits for one.
     fn append<R: Wait>(&self, rt: &R, entry: Entry) -> (u32, bool)
         requires { entry.volume < most_volumes }
-        ensures { result.0 ≤ most_entries }
+        ensures { IsEnteredUnderLock entry result.0 }
     {
         for _ in rt.forever() {
             let mut journal = self.journal.lock(rt);
-            if journal.has_place() || journal.try_reserve() {
-                let count = journal.append(entry);
+            if let Some(count) = journal.enter(entry) {
                 return (count, journal.try_reserve());
             }
         }
@@ -188,20 +187,35 @@ impl<D: Device> Shards<D> {
     }
 }
 
-/// A shard for each volume, each behind a lock.
-fn locked<D: Device>(
+/// A shard for each volume, numbered from 0 in their order.
+fn numbered<D: Device>(
     alloc: Global,
     volumes: Vec<CowVolume<D>>,
-) -> Result<Vec<Mutex<Shard<D>>>, OutOfMemory>
+) -> Result<Vec<Shard<D>>, OutOfMemory>
     requires few { length volumes.items ≤ most_volumes }
     requires fresh { All (λ volume. StandsForOne D.told volume fresh) volumes.items }
-    ensures { IfOk result (λ shards. vec_len shards ≡ length volumes.items) }
+    ensures { IfOk result (λ shards. shards.items ≡ shards_from 0 volumes.items) }
 {
     let mut shards = Vec::with_capacity(alloc, volumes.len())?;
     let mut number = 0;
     for volume in volumes {
-        shards.push(Mutex::new(Shard::new(alloc, number, volume)?))?;
+        let shard = Shard::new(alloc, number, volume)?;
+        shards.push(shard)?;
         number += 1;
+    }
+    Ok(shards)
+}
+
+/// Puts each of these shards behind a lock.
+fn locked<D: Device>(
+    alloc: Global,
+    numbered: Vec<Shard<D>>,
+) -> Result<Vec<Mutex<Shard<D>>>, OutOfMemory>
+    ensures { IfOk result (λ shards. vec_len shards ≡ length numbered.items) }
+{
+    let mut shards = Vec::with_capacity(alloc, numbered.len())?;
+    for shard in numbered {
+        shards.push(Mutex::new(shard))?;
     }
     Ok(shards)
 }
