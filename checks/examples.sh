@@ -37,7 +37,7 @@ while True:
 ' "$room/app.db" > "$room/commits" &
 writer=$!
 while [ ! -s "$room/commits" ]; do sleep 0.1; done
-(cd "$room" && PATH="$PATH:$room" && . <(sed -n '/^: > empty/,/^```/p' "$top/README.md" | grep -v '^```')) > "$room/said" 2>&1
+(cd "$room" && PATH="$PATH:$room" && . <(sed -n '/^images create store/,/^```/p' "$top/README.md" | grep -v '^```')) > "$room/said" 2>&1
 before="$(tail -n 1 "$room/commits")"
 sleep 0.5
 [ "$(tail -n 1 "$room/commits")" -gt "$before" ] || wrong "README.md: the writer of app.db stopped after $before commits"

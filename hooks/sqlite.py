@@ -1,10 +1,14 @@
 #!/usr/bin/env python3
-"""The hook of a SQLite database: sqlite.py DATABASE [SECONDS]
+"""The hook of a SQLite database: sqlite.py DATABASE [SECONDS]; or a job for it: sqlite.py --job DATABASE
 
 While it is frozen nobody can commit. It holds the write lock, by BEGIN IMMEDIATE, and has waited until every frame of the log was in the
 database. So no checkpoint of another connection has anything left to write, and the database, its log and what lies beside it stand still. It
 says ok to `thaw` only if it held the lock to then. It waits at most SECONDS for the lock, 30 without the word.
+
+With --job it writes a job that backs up the database and its log as the volumes `db` and `log`.
 """
+import os
+import shlex
 import sqlite3
 import sys
 import time
@@ -13,6 +17,16 @@ from hook import Refused, serve
 
 # How long a freeze waits for other checkpoints, in seconds.
 CHECKPOINT = 1
+
+# What is backed up of one database: its metadata document.
+DOCUMENT = ('{"class":"11111111-1111-4111-8111-111111111111","components":[{"name":"main","selectable":true,"type":1}],"level":2,"name":"SQLite",'
+            '"source":1,"usage":3}')
+
+
+def job_of(path):
+    """The job of a database, whose lines of the log lie beside it while some process has it open."""
+    hook = shlex.join(["python3", os.path.abspath(__file__), path])
+    return f"job 1\nvolume db {path}\nvolume log {path}-wal or-none\nwriter app {DOCUMENT}\nfiles app main db log\nhook app {hook}\n"
 
 
 class Database:
@@ -75,4 +89,6 @@ class Database:
 if __name__ == "__main__":
     if len(sys.argv) not in (2, 3):
         sys.exit(__doc__)
+    if sys.argv[1] == "--job":
+        sys.exit(print(job_of(sys.argv[-1]), end=""))
     serve(Database(sys.argv[1], float(sys.argv[2]) if len(sys.argv) == 3 else 30))
