@@ -168,7 +168,15 @@ def no_room(room, is_all):
     expect("the backup behind it", room.run(room.job(), folder="narrow"), KEPT, "kept")
 
 
-ROWS = (wrong_answers, slow_answers, no_holds, strikes, kills, full_area, outgrown, no_room)
+def no_record(room, is_all):
+    process = room.start(room.job(), record=f"{room.path}/none/record")
+    got = process.wait(timeout=120), room.said(process)
+    expect("a record that cannot be written", got, 5, "kept")
+    if os.path.exists(f"{room.path}/store/images.open"):
+        raise Wrong("a record that cannot be written: the folder was left open")
+
+
+ROWS = (wrong_answers, slow_answers, no_holds, strikes, kills, full_area, outgrown, no_room, no_record)
 
 
 def main(words):
