@@ -17,6 +17,8 @@ python3 checks/backup/faults.py "$backup" "$images" "$orders" "$room/faults" > "
 mounted=""
 if [ "$(id -u)" = 0 ] && command -v mkfs.ext4 fsfreeze e2fsck mount > /dev/null; then
   mkdir "$room/mounted"
+  # the PostgreSQL server runs as another user
+  chmod 711 "$room"
   python3 checks/backup/mounted.py "$backup" "$images" "$orders" "$room/mounted" 2 > "$room/mounted.said" 2>&1
   status=$?
   mounted="; $(tail -n 1 "$room/mounted.said")"
