@@ -89,13 +89,13 @@ def no_holds(room, is_all):
     next_one(room, "hooks that hold nothing")
 
 
-# where to strike: a line that is said, and whether a set is kept
+# where to strike: a line that is said, and whether a set is kept; up to the thaw one of the hooks takes long for its own
 MOMENTS = (("prepare_backup ok", False), ("provider precommit", False), ("provider postcommit", False), ("stock thaw ok", None))
 
 
 def strikes(room, is_all):
     for line, is_kept in MOMENTS:
-        process = room.start(room.job())
+        process = room.start(room.job(faulty(room, "thaw", "late:2") if is_kept is False else None))
         room.wait_for(line, lambda: line in room.said(process))
         process.send_signal(signal.SIGINT)
         got = process.wait(timeout=60), room.said(process)
@@ -168,7 +168,15 @@ def no_room(room, is_all):
     expect("the backup behind it", room.run(room.job(), folder="narrow"), KEPT, "kept")
 
 
-ROWS = (wrong_answers, slow_answers, no_holds, strikes, kills, full_area, outgrown, no_room)
+def no_record(room, is_all):
+    process = room.start(room.job(), record=f"{room.path}/none/record")
+    got = process.wait(timeout=120), room.said(process)
+    expect("a record that cannot be written", got, 5, "kept")
+    if os.path.exists(f"{room.path}/store/images.open"):
+        raise Wrong("a record that cannot be written: the folder was left open")
+
+
+ROWS = (wrong_answers, slow_answers, no_holds, strikes, kills, full_area, outgrown, no_room, no_record)
 
 
 def main(words):

@@ -6,12 +6,15 @@
 //! of the folder if each writer that takes part stood still while its files were read, and has said so at its thaw. Else it keeps nothing.
 #![tactic(auto)]
 
+mod capture;
 mod copier;
+mod folder_work;
 mod record;
 mod shown;
 
-use copier::{FolderCopier, since};
-use image_folder::{Opened, Program, ProgramName, Status, Way, ended, open};
+use copier::FolderCopier;
+use folder_work::{FolderWork, since};
+use image_folder::{Program, ProgramName, Status, Way, ended, open};
 use live_backup::{Backup, Happened, Job, JobFault, Next, Setting, SettingFault};
 use shown::Shown;
 use std::io::{BufRead, BufReader};
@@ -159,18 +162,6 @@ fn setting_of(program: &Program, path: &str, job: &Job<'_>) -> Result<Setting, S
     }
 }
 
-/// Takes over what a call left in transit, if all of it is in the set.
-fn take_over(opened: &mut Opened, job: &Job<'_>, volumes: &[u32]) -> Result<(), Status> {
-    let mut names = Vec::new(opened.folder.program.alloc());
-    for volume in volumes {
-        if let Some(of) = job.volumes.get(*volume as usize) {
-            names.push(of.name)?;
-        }
-    }
-    opened.check_transit(&names)?;
-    opened.settle()
-}
-
 /// Makes the backup of a job. Whether a set is kept is answered.
 fn back_up<R: Threads + Sync>(
     rt: &R,
@@ -184,23 +175,26 @@ fn back_up<R: Threads + Sync>(
     let setting = setting_of(program, path, &job)?;
     let mut opened = open(program, folder, Way::Writing, 0)?;
     opened.least = job.least.unwrap_or(0);
-    take_over(&mut opened, &job, &setting.members.volumes)?;
-    let copier = FolderCopier::new(opened, &job.volumes, &setting.members.volumes)?;
+    let mut work = FolderWork::new(opened, &job.volumes, &setting.members.volumes)?;
+    work.take_over()?;
     let alloc = program.alloc();
+    let copier = FolderCopier::new(alloc, work);
     let Ok(mut backup) = Backup::new(alloc, &job, setting, copier) else {
         return Err(Status::OutOfMemory);
     };
     let mut shown = Shown::new(alloc, &job)?;
     let done = talk(program, &mut backup, &mut shown);
-    if let Some(name) = record {
-        record::write(rt, program, name, &backup)?;
-    }
+    let recorded = match record {
+        Some(name) => record::write(rt, program, name, &backup),
+        None => Ok(()),
+    };
     let is_kept = backup.ledger().is_kept();
     let ended = backup.into_copier().end();
     done?;
     if is_kept {
         ended?;
     }
+    recorded?;
     Ok(is_kept)
 }
 
@@ -209,9 +203,18 @@ fn unread(program: &Program, path: &str, error: &io::Error) -> Status {
     ended!(*program, Unread; "{path}: could not be read: {error}")
 }
 
-/// Does what words ask for. Whether a set is kept is answered.
-fn answer<R: Threads + Sync>(rt: &R, program: &Program, words: &[String]) -> Result<bool, Status> {
-    let (folder, path, record) = match words {
+/// Does what words ask for. Of those that could not be read as text there are none. Whether a set is kept is answered.
+fn answer<R: Threads + Sync>(
+    rt: &R,
+    program: &Program,
+    words: io::Result<Vec<String>>,
+) -> Result<bool, Status> {
+    let words = match words {
+        Ok(words) => words,
+        Err(error) if error.kind() == io::ErrorKind::InvalidData => Vec::new(program.alloc()),
+        Err(_) => return Err(Status::OutOfMemory),
+    };
+    let (folder, path, record) = match words.as_slice() {
         [folder, path] => (folder.as_str(), path.as_str(), None),
         [folder, path, record] => (folder.as_str(), path.as_str(), Some(record.as_str())),
         _ => return Err(ended!(*program, Usage; "usage: FOLDER JOB [RECORD]")),
@@ -227,13 +230,10 @@ fn main(rt: HostRuntime) -> ExitCode {
         rt,
         name: ProgramName::Backup,
     };
-    let code = match words_given(&program) {
-        Err(_) => Status::OutOfMemory.code(),
-        Ok(words) => match answer(&rt, &program, &words) {
-            Ok(true) => 0,
-            Ok(false) => NOTHING,
-            Err(status) => status.code(),
-        },
+    let code = match answer(&rt, &program, words_given(&program)) {
+        Ok(true) => 0,
+        Ok(false) => NOTHING,
+        Err(status) => status.code(),
     };
     let _ = println!(rt; "end {code}");
     ExitCode::from(code)

@@ -1,6 +1,0 @@
-use Rattle.std.specs.Prelude.{◌≢◌, ◌<◌, length, All}
-use Rattle.std.specs.List.{AllPairs}
-use Rattle.backup.proofs.copier.add_places.Given as goal
-
-abbrev pub invariant-loop-volume : goal.invariant-loop-volume
-invariant-loop-volume l = All (λ v. v < length l.opened.store.group.area.volumes) l.places.items × AllPairs (λ u v. u ≢ v) l.places.items

@@ -1,0 +1,105 @@
+use image_folder::{Files, Job as Passes, Opened, Program, Status, ended};
+use volume_device::FileDevice;
+use write_history::Evicted;
+
+/// How many blocks are read at a time in a freeze: 16 MiB.
+const PART: u32 = 1024;
+
+/// A file that is read while its writer stands still.
+#[derive(Drop)]
+pub struct Capture<'a> {
+    passes: Passes<'a>,
+    spool: FileDevice,
+    /// The next block.
+    at: u32,
+}
+
+impl<'a> Capture<'a> {
+    /// That of a file of which nothing was read yet.
+    pub fn new(passes: Passes<'a>, spool: FileDevice) -> Capture<'a> {
+        Capture {
+            passes,
+            spool,
+            at: 0,
+        }
+    }
+
+    /// Reads the next part. Whether it was the last is answered.
+    fn read_part(&mut self, program: &Program, store: &mut Files) -> Result<bool, Status> {
+        let to = self.at.saturating_add(PART);
+        self.passes.capture(store, &mut self.spool, self.at, to)?;
+        self.at = to;
+        if to < self.passes.input.blocks {
+            return Ok(false);
+        }
+        self.check(program)?;
+        Ok(true)
+    }
+
+    /// That the file has not changed.
+    fn check(&mut self, program: &Program) -> Result<(), Status> {
+        match self.passes.input.check() {
+            Err(Status::InputChanged) => Err(
+                ended!(*program, InputChanged; "the file of {} changed while it was read", self.passes.name),
+            ),
+            done => done,
+        }
+    }
+}
+
+/// Reads the next part of the file of a volume of the job. Whether it was the last is answered.
+pub fn read_part(
+    program: &Program,
+    store: &mut Files,
+    captures: &mut Vec<Option<Capture<'_>>>,
+    volume: u32,
+) -> Result<bool, Status> {
+    match captures.get_mut(volume as usize) {
+        Some(Some(capture)) => capture.read_part(program, store),
+        _ => Err(Status::DeviceFault),
+    }
+}
+
+/// That no file has changed. How many blocks were read, and how many of them differ, is answered.
+pub fn check_all(
+    program: &Program,
+    captures: &mut Vec<Option<Capture<'_>>>,
+) -> Result<(u32, u32), Status> {
+    let (mut all, mut differ) = (0u32, 0u32);
+    for capture in captures.iter_mut() {
+        if let Some(capture) = capture {
+            capture.check(program)?;
+            all = all.saturating_add(capture.passes.input.blocks);
+            differ = differ.saturating_add(capture.passes.written);
+        }
+    }
+    Ok((all, differ))
+}
+
+/// The old bytes of what differs are copied, and that is committed.
+pub fn copy_all(
+    opened: &mut Opened,
+    captures: &mut Vec<Option<Capture<'_>>>,
+    gone: &mut Vec<Evicted>,
+) -> Result<(), Status> {
+    for capture in captures.iter_mut() {
+        if let Some(capture) = capture {
+            capture.passes.copy_ahead(opened, gone)?;
+        }
+    }
+    opened.commit()
+}
+
+/// The volumes take their spools.
+pub fn take_all(
+    store: &mut Files,
+    captures: &mut Vec<Option<Capture<'_>>>,
+    gone: &mut Vec<Evicted>,
+) -> Result<(), Status> {
+    for capture in captures.iter_mut() {
+        if let Some(capture) = capture {
+            capture.passes.take_spool(store, &mut capture.spool, gone)?;
+        }
+    }
+    Ok(())
+}
