@@ -1,11 +1,11 @@
 -- A set that is kept in a list of right deeds is of one moment.
-use Rattle.std.proofs.Common.{◌≡◌, ◌∙◌, ℕ, Bool, true, false, List, [], ◌∷◌, ◌++◌, ◌&&◌, not, ap, sym, subst, refl}
-use Rattle.std.proofs.lemmas.Bool.{and_parts, not-true}
+use Rattle.std.proofs.Common.{◌≡◌, ◌∙◌, ℕ, Bool, true, false, List, [], ◌∷◌, ◌++◌, not, ap, subst, refl}
+use Rattle.std.proofs.lemmas.Bool.{and_parts}
 use Rattle.std.proofs.lemmas.List.{append_assoc}
 use Rattle.std.specs.List.{list_any}
 use Rattle.backup_ledger.specs.declared.deed.Deed.{Deed}
 use Rattle.backup_ledger.specs.declared.deed.Deed.TheVariants.{Heard, Read, Kept}
-use Rattle.backup_ledger.specs.Deeds.{LedgerValue, all_froze, all_read, all_stood, are_right, is_abort, is_kept, is_read_out, is_thaw, may_come, may_keep, may_read}
+use Rattle.backup_ledger.specs.Deeds.{LedgerValue, all_froze, are_right, is_read_out, is_thaw, may_come, may_keep, may_read}
 use Rattle.backup_ledger.specs.OneMoment.{IsOfOneMoment, AreOfOneMoment}
 use Rattle.backup_ledger.proofs.Right.{right_at}
 

@@ -1,9 +1,9 @@
 -- Writers that were told of the abort.
-use Rattle.std.proofs.Common.{◌≡◌, ◌∙◌, ℕ, zero, suc, ◌+◌, Bool, true, false, List, [], ◌∷◌, ◌++◌, ◌&&◌, ◌||◌, take, Some, None, add-one, ap, sym, subst, refl, arith}
+use Rattle.std.proofs.Common.{◌≡◌, ◌∙◌, ℕ, zero, suc, ◌+◌, true, List, [], ◌∷◌, ◌++◌, ◌||◌, take, Some, None, add-one, ap, sym, subst, refl, arith}
 use Rattle.std.specs.Prelude.{slice_get}
 use Rattle.std.proofs.lemmas.Bool.{and_from, and_parts}
 use Rattle.std.proofs.lemmas.List.Folds.{list_any-append}
-use Rattle.std.specs.List.{list_all, list_any}
+use Rattle.std.specs.List.{list_any}
 use Rattle.backup_ledger.specs.declared.deed.Deed.{Deed}
 use Rattle.backup_ledger.specs.declared.deed.Deed.TheVariants.{ToldAbort}
 use Rattle.backup_ledger.specs.Deeds.{LedgerValue, all_told, is_told}
