@@ -287,6 +287,11 @@ if ! { [ -f "$vss.sources" ] && is_slow "$vss"; }; then
   (ulimit -v 400000 && ran 7 run < "$room/large.scenario"; exit "$failed") || failed=1
   said "vss: out of memory" "a run takes up to 2 GiB for its volumes and areas"
 fi
+ran 0 run < examples/writer_veto.scenario
+[ "$(tail -n 1 "$room/err")" = "vss: set 1 failed VSS_E_WRITERERROR_RETRYABLE" ] || wrong "of a failed set it is said: $(tail -n 1 "$room/err")"
+cmp -s "$room/out" examples/writer_veto.report || wrong "beside a line on the standard error another report is written"
+ran 0 run < examples/first.scenario
+grep -q failed "$room/err" && wrong "of no failed set it is said: $(cat "$room/err")"
 ran 2 runs < /dev/null
 said "vss: usage" "\`runs\` is no command" "./vss gen N"
 ran 2 inspect "$room/bad.scenario" < /dev/null
