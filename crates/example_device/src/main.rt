@@ -2,14 +2,16 @@
 #![tactic(auto)]
 
 mod ram_disk;
+mod ram_maker;
 
 use anyhow::{Result, ensure};
 use block_data::{BlockBuf, Payload};
 use cow_volume::CowVolume;
 use diff_area::{Area, pages_for};
 use ram_disk::RamDisk;
-use volume_device::Device;
-use vss_names::Numbers;
+use ram_maker::RamMaker;
+use volume_device::{Device, Maker, Store};
+use vss_names::{Numbers, Text};
 
 /// A volume of 8 zero blocks on one disk, with 4 slots for old blocks on another, and its image of set 1.
 fn new_volume(rt: &HostRuntime) -> Result<CowVolume<RamDisk>> {
@@ -37,6 +39,15 @@ fn taken_up(rt: &HostRuntime, disk: RamDisk, under: RamDisk) -> Result<CowVolume
     Ok(CowVolume::resume(rt.alloc(), disk, area, Numbers::copy(rt.alloc(), &[1])?)?)
 }
 
+/// Has a disk made by name, as a run does, and gives it back.
+fn make_one(rt: &HostRuntime) -> Result<()> {
+    let mut maker = RamMaker { out: 0 };
+    let name = Text::copy(rt.alloc(), b"C.vol")?;
+    let disk = maker.make(rt.alloc(), &Store::Memory, &name, 8)?;
+    println!(rt; "the maker made {} blocks", disk.blocks())?;
+    Ok(maker.take_back(disk))
+}
+
 fn main(rt: HostRuntime) -> Result<()> {
     let mut out = BlockBuf::zeroed(rt.alloc())?;
     let mut volume = new_volume(&rt)?;
@@ -46,5 +57,6 @@ fn main(rt: HostRuntime) -> Result<()> {
     let (disk, area) = volume.into_parts();
     let mut volume = taken_up(&rt, disk, area.into_device())?;
     volume.read_image_into(1, 3, out.bytes_mut())?;
-    Ok(println!(rt; "taken up again, the image has {}", out.bytes()[0])?)
+    println!(rt; "taken up again, the image has {}", out.bytes()[0])?;
+    make_one(&rt)
 }

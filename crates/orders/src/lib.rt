@@ -33,7 +33,9 @@ mod unplayed;
 mod why;
 
 pub use entry::Entry;
+pub use order_fault::OrderFault;
 pub use playing::report_of_seed;
+pub use reading::order_of;
 pub use replayed::Replayed;
 pub use replaying::{report_of_told, run_again, run_again_over};
 pub use running::{run_order, run_seed};

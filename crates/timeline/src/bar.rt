@@ -44,12 +44,14 @@ impl Bar<'_> {
         letters.saturating_mul(LETTER)
     }
 
-    /// Where these words begin: in it, or behind the sign at its end where they have no room before that.
+    /// Where these words begin: in it, or behind its end where they have no room in it.
     pub fn name_at(&self) -> u64 {
         let within = self.from.saturating_add(LETTER);
         let has_room = within.saturating_add(self.name_width()) < self.to;
-        if self.ending.sign().is_none() || has_room {
+        if has_room || self.kind.is_words() {
             within
+        } else if self.ending.sign().is_none() {
+            self.to.max(self.from.saturating_add(4)).saturating_add(3)
         } else {
             self.to.saturating_add(8)
         }

@@ -14,7 +14,7 @@ use vss_names::OutOfMemory;
 /// Nothing behind fixed words.
 const NOTHING: Part<'static> = Part::Markup("");
 
-/// Adds the stripes and the titles of the rows, and the key below them.
+/// Adds the stripes and the titles of the rows.
 fn add_rows<'a>(
     frame: &mut Frame<'a>,
     picture: &Picture<'a>,
@@ -34,7 +34,7 @@ fn add_rows<'a>(
             frame.words("name", 10, y, row.kind.title(), name)?;
         }
     }
-    frame.sign("key", 10, bottom_of(rows).saturating_add(14))
+    Ok(())
 }
 
 /// The lower edge of the rows of a band.

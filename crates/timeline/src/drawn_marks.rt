@@ -12,7 +12,7 @@ use std::alloc::Global;
 use vss_names::{OutOfMemory, Text};
 
 /// The most bytes of a label that are shown.
-const LABEL: usize = 112;
+const LABEL: usize = 64;
 
 /// Appends as much of a label as is shown, and two dots where that is not all.
 fn add_front(out: &mut Text, label: &[u8]) -> Result<(), OutOfMemory> {

@@ -1,5 +1,6 @@
 use crate::band::Band;
 use crate::band_row::BandRow;
+use crate::fold::Fold;
 use crate::picture::Picture;
 use crate::row_use::RowUse;
 use std::alloc::Global;
@@ -10,16 +11,16 @@ const MARK: u64 = 13;
 
 const LINE: u64 = 16;
 
-/// The room above the first band, and below each band for the key.
-const TITLE: u64 = 44;
+/// The room above the first band for the title and the key, and below each band.
+const TITLE: u64 = 92;
 
-const KEY: u64 = 62;
+const GAP: u64 = 22;
 
 /// The least width of the rows, which the key needs.
 const LEAST: u64 = 920;
 
 /// The most bytes of a label that are shown.
-const LABEL: u64 = 112;
+const LABEL: u64 = 64;
 
 /// Where all is drawn, in pixels.
 #[derive(Drop)]
@@ -96,7 +97,7 @@ impl Layout {
             layout.add_band(band, &uses)?;
         }
         layout.width = layout.width.saturating_add(layout.left);
-        layout.add_closing(picture.stage().closing())?;
+        layout.add_closing(picture.stage().closing(), picture.stage().fold())?;
         Ok(layout)
     }
 
@@ -116,17 +117,19 @@ impl Layout {
         let top = self.height.saturating_add(up);
         self.bands.push(top)?;
         self.width = self.width.max(band.edge.saturating_add(right));
-        self.height = top.saturating_add(y).saturating_add(KEY);
+        self.height = top.saturating_add(y).saturating_add(GAP);
         Ok(())
     }
 
-    fn add_closing(&mut self, count: usize) -> Result<(), OutOfMemory> {
+    fn add_closing(&mut self, count: usize, fold: Fold) -> Result<(), OutOfMemory> {
         self.bands.push(self.height.saturating_add(LINE))?;
         for line in 0..count {
-            self.heights.push((line as u64).saturating_mul(LINE))?;
+            self.heights
+                .push((fold.place(line).1 as u64).saturating_mul(LINE))?;
         }
-        let lines = (count as u64).saturating_add(2);
+        let lines = (count.min(fold.lines) as u64).saturating_add(2);
         self.height = self.height.saturating_add(lines.saturating_mul(LINE));
+        self.width = self.width.max(fold.right_of(count));
         Ok(())
     }
 

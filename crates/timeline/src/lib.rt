@@ -23,6 +23,7 @@ mod ended;
 mod ending;
 mod escaping;
 mod fault;
+mod fold;
 mod form;
 mod frame;
 mod label;

@@ -106,7 +106,7 @@ impl<'a> Picture<'a> {
             Ok(lines) => lines,
             Err(_) => return Err(PictureError::OutOfMemory),
         };
-        let mut stage = match Stage::new(alloc, &script, &lines) {
+        let mut stage = match Stage::new(alloc, &script, &lines, span) {
             Ok(stage) => stage,
             Err(OutOfMemory) => return Err(PictureError::OutOfMemory),
         };

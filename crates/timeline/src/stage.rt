@@ -3,6 +3,7 @@ use crate::bar_kind::BarKind;
 use crate::bars::Bars;
 use crate::cast::Cast;
 use crate::ending::Ending;
+use crate::fold::Fold;
 use crate::label::Label;
 use crate::letters::letter_of;
 use crate::lines::{is_effect, is_move};
@@ -13,6 +14,7 @@ use crate::place::Place;
 use crate::row::Row;
 use crate::script::Script;
 use crate::shape::Shape;
+use crate::span::Span;
 use crate::words::{number, parted, rest_of, word_of};
 use crate::writes::Writes;
 use std::alloc::Global;
@@ -24,8 +26,11 @@ const STEP: u64 = 24;
 /// How much farther where the clock went on.
 const PASSING: u64 = 72;
 
-/// How wide a band is at most: 40 marks.
-const BAND: u64 = 40 * STEP;
+/// How wide a band is at most: 48 marks.
+const BAND: u64 = 48 * STEP;
+
+/// How many bytes of a label are shown at most.
+const LABEL: usize = 64;
 
 /// Of how many rows a terminal shows the state at most.
 const MOST_SHOWN: usize = 20;
@@ -37,6 +42,9 @@ pub struct Stage<'a> {
     bars: Bars<'a>,
     writes: Writes,
     bands: Vec<Band>,
+    /// How wide a band is at most, and how the closing lines are folded.
+    widest: u64,
+    fold: Fold,
     /// How many lines of the report were read.
     lines: u64,
     /// How many of them have marks, without the closing lines, and of those.
@@ -60,10 +68,13 @@ impl<'a> Stage<'a> {
         alloc: Global,
         script: &Script<'a>,
         report: &[&'a str],
+        span: Span,
     ) -> Result<Stage<'a>, OutOfMemory> {
         let cast = Cast::of(alloc, script, report)?;
         let count = cast.rows().len();
         Ok(Stage {
+            widest: widest_of(script, report, span),
+            fold: fold_of(script, report),
             cast,
             bars: Bars::new(alloc, count)?,
             writes: Writes::new(alloc, count)?,
@@ -130,11 +141,12 @@ impl<'a> Stage<'a> {
         self.takes(script, line)?;
         let band = self.bands.len();
         let row = self.row_in(band, self.closing);
+        let x = self.fold.left(self.closing);
         self.closing = self.closing.saturating_add(1);
         Ok(Place {
             band,
             row,
-            x: 0,
+            x,
             clock: self.clock,
             passed: 0,
         })
@@ -148,7 +160,7 @@ impl<'a> Stage<'a> {
         length: usize,
     ) -> Result<Place, OutOfMemory> {
         let passed = ticks_of(script, line);
-        self.steps(if passed == 0 { STEP } else { STEP + PASSING }, length)?;
+        self.steps(step_of(script, line), length)?;
         self.clock = self.clock.saturating_add(passed);
         self.takes(script, line)?;
         self.adds_letters()?;
@@ -170,7 +182,7 @@ impl<'a> Stage<'a> {
 
     /// Goes on to the place of the next mark, whose label has so many bytes.
     fn steps(&mut self, wide: u64, length: usize) -> Result<(), OutOfMemory> {
-        if self.is_drawn && BAND < self.x.saturating_add(wide) {
+        if self.is_drawn && self.widest < self.x.saturating_add(wide) {
             self.ends_band()?;
         }
         if !self.is_drawn {
@@ -403,6 +415,11 @@ impl<'a> Stage<'a> {
         &self.bands
     }
 
+    /// How the closing lines are folded.
+    pub fn fold(&self) -> Fold {
+        self.fold
+    }
+
     /// How many closing lines there are.
     pub fn closing(&self) -> usize {
         self.closing
@@ -412,6 +429,47 @@ impl<'a> Stage<'a> {
     pub fn letters(&self) -> &[u8] {
         &self.letters
     }
+}
+
+/// How far the next mark is from one of a line.
+fn step_of(script: &Script<'_>, line: &str) -> u64 {
+    if ticks_of(script, line) == 0 {
+        STEP
+    } else {
+        STEP + PASSING
+    }
+}
+
+/// How wide bands are, so that all have about the same width, and none more than the greatest.
+fn widest_of(script: &Script<'_>, report: &[&str], span: Span) -> u64 {
+    let (mut moves, mut all, mut slack) = (0u64, 0u64, STEP);
+    for line in report {
+        if is_move(line) {
+            moves = moves.saturating_add(1);
+        }
+        if (is_move(line) || is_effect(line)) && span.from <= moves && moves <= span.to {
+            let step = step_of(script, line);
+            all = all.saturating_add(step);
+            slack = slack.max(step);
+        }
+    }
+    let bands = (all / BAND).saturating_add(1);
+    (all / bands).saturating_add(slack).min(BAND)
+}
+
+/// How the closing lines of a report are folded.
+fn fold_of<'a>(script: &Script<'a>, report: &[&'a str]) -> Fold {
+    let (mut count, mut longest) = (0usize, 0usize);
+    for line in report {
+        if !is_move(line) && !is_effect(line) && *line != "report 1" {
+            count = count.saturating_add(1);
+            longest = longest.max(Label::of(script, line).length());
+        }
+    }
+    let width = (longest.min(LABEL) as u64)
+        .saturating_mul(7)
+        .saturating_add(36);
+    Fold::of(count, width)
 }
 
 /// How many ticks go by in a line.

@@ -33,6 +33,7 @@ fn head<'a>(alloc: Global, name: &'a str, layout: &Layout) -> Result<Frame<'a>, 
         Part::Markup(STYLE),
     ])?;
     frame.words("title", 10, 26, "", name)?;
+    frame.sign("key", 10, 46)?;
     Ok(frame)
 }
 

@@ -4,17 +4,21 @@
 //!
 //! It makes the real things and calls `vss_main::run` over them, whose contract says what each status means. For a status other
 //! than 0 it prints one line to the standard error, and it ends with the status. At status 6 a further line of each file on which a call failed
-//! names the file, the last failed call, and the system's reason. At 6 and 7 the files that the run made are removed. On a terminal a line
-//! shows how far a run is.
+//! names the file, the last failed call, and the system's reason. At 6 and 7 the files that the run made are removed. At status 0 the last line
+//! on the standard error names the sets that failed, where there are any. On a terminal a line shows how far a run is.
 #![tactic(auto)]
 
 mod counted_device;
 mod counting_maker;
+mod failed_sets;
+mod noting_sink;
 mod progress;
 mod showing;
 
 use counting_maker::CountingMaker;
+use failed_sets::FailedSets;
 use io_edge::{InSource, OutSink};
+use noting_sink::NotingSink;
 use progress::Progress;
 use showing::begin_to_show;
 use std::alloc::Global;
@@ -55,7 +59,7 @@ fn done<R: Threads + Wait + Clock + Eprint + Copy + Send + Sync + 'static>(
     rt: R,
     alloc: Global,
     words: &[String],
-    streams: (&mut InSource, &mut OutSink),
+    streams: (&mut InSource, &mut NotingSink),
     maker: &mut CountingMaker,
     progress: &Arc<Progress, Global>,
     shown: bool,
@@ -88,7 +92,10 @@ fn close(rt: &HostRuntime, maker: &HostMaker, status: Status) {
 
 fn main(rt: HostRuntime) -> ExitCode {
     let mut source = InSource::new(rt.stdin());
-    let mut sink = OutSink::new(rt.stdout());
+    let mut sink = NotingSink {
+        sink: OutSink::new(rt.stdout()),
+        failed: FailedSets::new(rt.alloc()),
+    };
     let shown = rt.stderr().is_terminal();
     let (status, maker) = match given(&rt) {
         Ok((words, progress, mut maker)) => {
@@ -108,6 +115,8 @@ fn main(rt: HostRuntime) -> ExitCode {
     };
     if status != Status::Done {
         let _ = eprintln!(rt; "vss: {status}");
+    } else if !sink.failed.names().is_empty() {
+        let _ = eprintln!(rt; "vss: {}", sink.failed.names());
     }
     if let Some(counting) = maker {
         close(&rt, &counting.maker, status);
