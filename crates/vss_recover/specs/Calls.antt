@@ -1,6 +1,6 @@
 -- What the calls on a volume with recovery writes come to: of the volume beneath they say what its own calls do, and of the overlay,
 -- the window and the final sets what stays and what goes. (This project's own.)
-use Rattle.std.specs.Prelude.{ℕ, ◌≡◌, ◌<◌, ◌≤◌, ◌⊎◌, zero, suc, Bool, true, false, List, length, Option, Some, None, Result, Ok, Err}
+use Rattle.std.specs.Prelude.{ℕ, ◌≡◌, ◌<◌, ◌≤◌, ◌⊎◌, zero, suc, true, false, List, length, Option, Some, None, Result, Ok, Err}
 use Rattle.vss_names.specs.Faults.{Rose}
 use Rattle.volume_device.specs.declared.device.Device.{Ghosts}
 use Rattle.write_history.specs.History.{point_in}

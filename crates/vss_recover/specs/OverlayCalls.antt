@@ -1,5 +1,5 @@
 -- What the calls on an overlay leave: its records, and what its device tells. (This project's own.)
-use Rattle.std.specs.Prelude.{ℕ, ◌≡◌, ◌<◌, ◌≤◌, ◌^◌, ◌⊎◌, Bool, true, false, List, length, map, Option, Some, slice_get, slice_set, count_by, nat_lt, ◌==◌, ◌&&◌, not, if◌then◌else◌, Result, Ok, Err}
+use Rattle.std.specs.Prelude.{ℕ, ◌≡◌, ◌<◌, ◌≤◌, ◌^◌, ◌⊎◌, Bool, true, false, List, length, map, Some, slice_get, slice_set, count_by, nat_lt, ◌==◌, ◌&&◌, not, if◌then◌else◌, Result, Ok, Err}
 use Rattle.std.specs.List.{AllWithin, insert}
 use Rattle.vss_names.specs.Faults.{Rose}
 use Rattle.volume_device.specs.declared.device.Device.{Ghosts}

@@ -1,6 +1,6 @@
 -- What is left of a volume with recovery writes where the records of its copies and of its recovered blocks are written to their areas
 -- and brought to where they last. (This project's own.)
-use Rattle.std.specs.Prelude.{ℕ, ◌≡◌, ◌⊎◌, Bool, List, Option, Some, IfSome, slice_get, length, Result, Ok, Err}
+use Rattle.std.specs.Prelude.{ℕ, ◌≡◌, ◌⊎◌, List, Some, IfSome, slice_get, length, Result, Ok, Err}
 use Rattle.vss_names.specs.Faults.{Rose}
 use Rattle.volume_device.specs.declared.device.Device.{Ghosts}
 use Rattle.diff_area.specs.AreaValue.{AreaValue}

@@ -6,3 +6,4 @@ pub mod Moments
 pub mod Comparing
 pub mod Whole
 pub mod Made
+pub mod Numbered

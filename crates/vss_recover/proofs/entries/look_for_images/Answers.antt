@@ -1,4 +1,4 @@
-use Rattle.std.proofs.Common.{◌≡◌, [], ◌∷◌, ap, arith, false, inl, inr, refl, true}
+use Rattle.std.proofs.Common.{◌≡◌, [], ◌∷◌, ap, arith, inl, inr, true}
 use Rattle.std.proofs.lemmas.Option.{slice_get_within}
 use Rattle.diff_area.specs.Records.{is_free}
 use Rattle.cow_volume.proofs.TakingUp.{all_more}
