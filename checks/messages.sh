@@ -539,6 +539,8 @@ tool_says 3 timeline "$room/bad.scenario" $first.report
 said "timeline: $room/bad.scenario: line 4: OutOfRange" "BLOCK is 0 to 3 on C here, and not 4"
 tool_says 3 timeline $first.report $first.scenario
 said "timeline: $first.report: line 1: UnknownWord; are they swapped?"
+tool_says 3 timeline --overview $first.scenario $first.scenario
+said "timeline: $first.scenario: line 1: no line of a report"
 # help and the version of the other commands
 for tool in orders timeline images tests prove; do
   for word in help --help -h; do

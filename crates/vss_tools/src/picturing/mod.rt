@@ -18,7 +18,7 @@ use crate::explaining::notes::Notes;
 use crate::reading::scenario_in;
 use crate::words_given;
 use io_edge::OutSink;
-use overview::draw_overview;
+use overview::{draw_overview, moves_in};
 use problem::Problem;
 use request::Request;
 use scenario::{parse, refusal_of};
@@ -81,10 +81,11 @@ fn run<'a>(rt: &HostRuntime, words: &'a [String]) -> Status<'a> {
         Ok(texts) => texts,
         Err(status) => return status,
     };
-    if texts.report.is_empty() {
+    let report = texts.report.as_str();
+    if report.is_empty() || (request.is_overview && !report.starts_with("report 1\n")) {
         return Status::Bad(texts.refused(NO_LINE));
     }
-    let moves = texts.moves();
+    let moves = moves_in(report);
     let span = request.span;
     if span.to < span.from || (moves < span.from && span.from != Span::ALL.from) {
         return Status::NoMoves { span, moves };

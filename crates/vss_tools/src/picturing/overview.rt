@@ -87,7 +87,7 @@ fn is_move(line: &str) -> bool {
 }
 
 /// How many moves a report has.
-fn moves_in(report: &str) -> u64 {
+pub fn moves_in(report: &str) -> u64 {
     let mut count = 0u64;
     for line in report.lines() {
         count = count.saturating_add(u64::from(is_move(line)));

@@ -106,21 +106,6 @@ impl<'a> Texts<'a> {
         })
     }
 
-    /// How many moves the report has.
-    pub fn moves(&self) -> u64 {
-        let mut count = 0u64;
-        for line in self.report.lines() {
-            if line
-                .as_bytes()
-                .first()
-                .is_some_and(|byte| byte.is_ascii_digit())
-            {
-                count = count.saturating_add(1);
-            }
-        }
-        count
-    }
-
     /// Why the report has no picture.
     pub fn refused(&self, why: Refusal) -> Bad<'a> {
         bad(self.file, why.line, Problem::Refused(why.fault))

@@ -129,10 +129,10 @@ fn owner_of<'a>(lines: &'a str, text: &[u8]) -> &'a str {
 }
 
 /// Says for what a lane waits at a line of the scenario.
-fn say_lane(
+fn say_lane<'a>(
     notes: &mut Notes,
-    asked: Asked<'_>,
-    lines: &str,
+    asked: Asked<'a>,
+    lines: &'a str,
     lane: u32,
     number: u32,
 ) -> Result<(), OutOfMemory> {
@@ -172,10 +172,10 @@ fn say_lane(
 }
 
 /// Says why the move of an actor may not come.
-fn say_wait<D: Device>(
+fn say_wait<'a, D: Device>(
     notes: &mut Notes,
-    asked: Asked<'_>,
-    play: &Play<D>,
+    asked: Asked<'a>,
+    play: &'a Play<D>,
     actor: Actor,
 ) -> Result<(), OutOfMemory> {
     match actor {

@@ -17,10 +17,10 @@ fn at(words: &[String], place: usize) -> Option<&[u8]> {
 }
 
 /// Says of a word why it is no number from one to another, if it is none.
-fn say_number(
+fn say_number<'a>(
     notes: &mut Notes,
-    name: &str,
-    word: &[u8],
+    name: &'a str,
+    word: &'a [u8],
     least: u64,
     most: u64,
 ) -> Result<bool, OutOfMemory> {
@@ -74,7 +74,11 @@ fn say_with(notes: &mut Notes, words: &[String]) -> Result<bool, OutOfMemory> {
 }
 
 /// Says which of the words behind a task is missing, too many or no file.
-fn say_files(notes: &mut Notes, words: &[String], wanted: &[&str]) -> Result<(), OutOfMemory> {
+fn say_files<'a>(
+    notes: &mut Notes,
+    words: &'a [String],
+    wanted: &[&'a str],
+) -> Result<(), OutOfMemory> {
     for (place, name) in wanted.iter().enumerate() {
         let Some(word) = at(words, place) else {
             return notes.say("{} is missing", &[Words(name)]);
@@ -96,10 +100,10 @@ fn say_files(notes: &mut Notes, words: &[String], wanted: &[&str]) -> Result<(),
 }
 
 /// Says what is wrong with a number and a file behind it.
-fn say_counted(
+fn say_counted<'a>(
     notes: &mut Notes,
-    words: &[String],
-    name: &str,
+    words: &'a [String],
+    name: &'a str,
     least: u64,
 ) -> Result<(), OutOfMemory> {
     let Some(word) = at(words, 0) else {
