@@ -8,6 +8,8 @@ const PART: u32 = 1024;
 /// A file that is read while its writer stands still.
 #[derive(Drop)]
 pub struct Capture<'a> {
+    /// The volume, by its number in the job.
+    pub volume: u32,
     passes: Passes<'a>,
     spool: FileDevice,
     /// The next block.
@@ -16,8 +18,9 @@ pub struct Capture<'a> {
 
 impl<'a> Capture<'a> {
     /// That of a file of which nothing was read yet.
-    pub fn new(passes: Passes<'a>, spool: FileDevice) -> Capture<'a> {
+    pub fn new(volume: u32, passes: Passes<'a>, spool: FileDevice) -> Capture<'a> {
         Capture {
+            volume,
             passes,
             spool,
             at: 0,
@@ -36,6 +39,11 @@ impl<'a> Capture<'a> {
         Ok(true)
     }
 
+    /// The volume takes the spool.
+    fn take_spool(&mut self, store: &mut Files, gone: &mut Vec<Evicted>) -> Result<(), Status> {
+        self.passes.take_spool(store, &mut self.spool, gone)
+    }
+
     /// That the file has not changed.
     fn check(&mut self, program: &Program) -> Result<(), Status> {
         match self.passes.input.check() {
@@ -47,31 +55,28 @@ impl<'a> Capture<'a> {
     }
 }
 
-/// Reads the next part of the file of a volume of the job. Whether it was the last is answered.
+/// Reads the next part of the file of a volume. Whether it was the last is answered.
 pub fn read_part(
     program: &Program,
     store: &mut Files,
-    captures: &mut Vec<Option<Capture<'_>>>,
+    captures: &mut Vec<Capture<'_>>,
     volume: u32,
 ) -> Result<bool, Status> {
-    match captures.get_mut(volume as usize) {
-        Some(Some(capture)) => capture.read_part(program, store),
-        _ => Err(Status::DeviceFault),
+    for capture in captures.iter_mut() {
+        if capture.volume == volume {
+            return capture.read_part(program, store);
+        }
     }
+    Err(Status::DeviceFault)
 }
 
 /// That no file has changed. How many blocks were read, and how many of them differ, is answered.
-pub fn check_all(
-    program: &Program,
-    captures: &mut Vec<Option<Capture<'_>>>,
-) -> Result<(u32, u32), Status> {
+pub fn check_all(program: &Program, captures: &mut Vec<Capture<'_>>) -> Result<(u32, u32), Status> {
     let (mut all, mut differ) = (0u32, 0u32);
     for capture in captures.iter_mut() {
-        if let Some(capture) = capture {
-            capture.check(program)?;
-            all = all.saturating_add(capture.passes.input.blocks);
-            differ = differ.saturating_add(capture.passes.written);
-        }
+        capture.check(program)?;
+        all = all.saturating_add(capture.passes.input.blocks);
+        differ = differ.saturating_add(capture.passes.written);
     }
     Ok((all, differ))
 }
@@ -79,13 +84,11 @@ pub fn check_all(
 /// The old bytes of what differs are copied, and that is committed.
 pub fn copy_all(
     opened: &mut Opened,
-    captures: &mut Vec<Option<Capture<'_>>>,
+    captures: &mut Vec<Capture<'_>>,
     gone: &mut Vec<Evicted>,
 ) -> Result<(), Status> {
     for capture in captures.iter_mut() {
-        if let Some(capture) = capture {
-            capture.passes.copy_ahead(opened, gone)?;
-        }
+        capture.passes.copy_ahead(opened, gone)?;
     }
     opened.commit()
 }
@@ -93,13 +96,11 @@ pub fn copy_all(
 /// The volumes take their spools.
 pub fn take_all(
     store: &mut Files,
-    captures: &mut Vec<Option<Capture<'_>>>,
+    captures: &mut Vec<Capture<'_>>,
     gone: &mut Vec<Evicted>,
 ) -> Result<(), Status> {
     for capture in captures.iter_mut() {
-        if let Some(capture) = capture {
-            capture.passes.take_spool(store, &mut capture.spool, gone)?;
-        }
+        capture.take_spool(store, gone)?;
     }
     Ok(())
 }

@@ -21,7 +21,7 @@ pub struct FolderWork<'a> {
     /// The volumes of the set, and their names.
     chosen: Vec<u32>,
     names: Vec<&'a str>,
-    captures: Vec<Option<Capture<'a>>>,
+    captures: Vec<Capture<'a>>,
     gone: Vec<Evicted>,
     /// When the first block was read while all stood still.
     since: Option<Instant>,
@@ -78,12 +78,10 @@ impl<'a> FolderWork<'a> {
     ) -> Result<FolderWork<'a>, Status> {
         let program = opened.folder.program;
         let alloc = program.alloc();
-        let mut captures = Vec::new(alloc);
         let mut all = Vec::new(alloc);
         for volume in volumes {
             opened.place_of(volume.name)?;
             all.push(*volume)?;
-            captures.push(None)?;
         }
         Ok(FolderWork {
             program,
@@ -91,7 +89,7 @@ impl<'a> FolderWork<'a> {
             volumes: all,
             chosen: chosen.to_vec(alloc)?,
             names: names_of(alloc, volumes, chosen)?,
-            captures,
+            captures: Vec::new(alloc),
             gone: Vec::new(alloc),
             since: None,
         })
@@ -169,9 +167,9 @@ impl<'a> FolderWork<'a> {
         Ok(())
     }
 
-    /// Begins to read a file while its writer stands still, unless it has begun.
+    /// Begins to read the file of a volume while its writer stands still, unless it has begun.
     fn begin(&mut self, volume: u32) -> Result<(), Status> {
-        if matches!(self.captures.get(volume as usize), Some(Some(_))) {
+        if self.captures.iter().any(|capture| capture.volume == volume) {
             return Ok(());
         }
         let passes = self.passes(volume)?;
@@ -179,13 +177,8 @@ impl<'a> FolderWork<'a> {
         if self.since.is_none() {
             self.since = Instant::now(&self.program.rt).ok();
         }
-        match self.captures.get_mut(volume as usize) {
-            Some(place) => {
-                *place = Some(Capture::new(passes, spool));
-                Ok(())
-            }
-            None => Err(Status::DeviceFault),
-        }
+        self.captures.push(Capture::new(volume, passes, spool))?;
+        Ok(())
     }
 
     /// Reads the next part of the file of a volume. Whether it was the last is answered.
