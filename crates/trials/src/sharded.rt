@@ -116,6 +116,22 @@ fn write<R: Wait>(handle: &R, page: &mut Page, shards: &Shards<MemDevice>, call:
     Ok(())
 }
 
+/// Makes a call of the shard that the line names, under its lock.
+fn make_on_shard<R: Wait>(
+    handle: &R,
+    page: &mut Page,
+    shards: &Shards<MemDevice>,
+    draft: &mut Draft,
+    call: Call<'_>,
+) -> Done {
+    let v = call.number(0);
+    if v >= shards.volumes() {
+        return Err(Stopped);
+    }
+    let mut shard = shards.shard(v).lock(handle);
+    make_on(page, &mut shard, draft, call)
+}
+
 /// Makes a call of shards, or of their journal.
 fn make<R: Threads + Wait + Sync>(
     handle: &R,
@@ -137,11 +153,7 @@ fn make<R: Threads + Wait + Sync>(
             make_on_journal(page, &mut journal, draft, call);
             Ok(())
         }
-        _ if call.number(0) >= shards.volumes() => Err(Stopped),
-        _ => {
-            let mut shard = shards.shard(call.number(0)).lock(handle);
-            make_on(page, &mut shard, draft, call)
-        }
+        _ => make_on_shard(handle, page, shards, draft, call),
     }
 }
 

@@ -12,6 +12,21 @@ pub struct FailedSets {
     names: String,
 }
 
+/// Adds what a line says of a set, if it says that it failed.
+fn add_line(line: &[u8], names: &mut String) -> Result<(), OutOfMemory> {
+    let line = std::str::from_utf8(line).unwrap_or("");
+    let Some(set) = line.strip_prefix("= set ") else {
+        return Ok(());
+    };
+    if !set.contains(" failed ") {
+        return Ok(());
+    }
+    let before = if names.is_empty() { "set " } else { ", set " };
+    names.push_str(before)?;
+    names.push_str(set)?;
+    Ok(())
+}
+
 impl FailedSets {
     /// Of a report of which nothing is written.
     pub fn new(alloc: Global) -> FailedSets {
@@ -21,26 +36,10 @@ impl FailedSets {
         }
     }
 
-    /// Adds what a line says of a set, where it says that it failed.
-    fn add_line(&mut self) -> Result<(), OutOfMemory> {
-        let line = std::str::from_utf8(&self.line).unwrap_or("");
-        if let Some(set) = line.strip_prefix("= set ") {
-            if set.contains(" failed ") {
-                self.names.push_str(if self.names.is_empty() {
-                    "set "
-                } else {
-                    ", set "
-                })?;
-                self.names.push_str(set)?;
-            }
-        }
-        Ok(())
-    }
-
     /// Takes in a byte that was written.
     fn take_byte(&mut self, byte: u8) {
         if byte == b'\n' {
-            let _ = self.add_line();
+            let _ = add_line(&self.line, &mut self.names);
             self.line.clear();
         } else if self.line.len() < MOST_BYTES {
             let _ = self.line.push(byte);
