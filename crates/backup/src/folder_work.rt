@@ -2,9 +2,11 @@ ghost use Rattle.std.specs.Prelude.{◌≢◌, ◌<◌, length, All, OnOk};
 ghost use Rattle.std.specs.List.{AllPairs};
 
 use crate::capture::{Capture, check_all, copy_all, read_part, take_all};
-use image_folder::{FileInput, Job as Passes, Opened, Program, Status, ended, is_own, say};
+use crate::chosen::Chosen;
+use image_folder::{
+    FileInput, Job as Passes, Opened, Program, Status, Way, ended, is_own, open, say,
+};
 use live_backup::JobVolume;
-use std::alloc::Global;
 use std::time::Instant;
 use write_history::Evicted;
 
@@ -41,19 +43,13 @@ pub fn since(program: &Program, then: Option<Instant>) -> u32 {
     }
 }
 
-/// The names of these volumes of a job.
-fn names_of<'a>(
-    alloc: Global,
-    volumes: &[JobVolume<'a>],
-    chosen: &[u32],
-) -> Result<Vec<&'a str>, Status> {
-    let mut names = Vec::new(alloc);
-    for volume in chosen {
-        if let Some(of) = volumes.get(*volume as usize) {
-            names.push(of.name)?;
-        }
+/// That all names of a job are those of volumes of the folder, and takes over what a call left in transit, if all of it is in the set.
+fn take_over(opened: &mut Opened, chosen: &Chosen<'_>) -> Result<(), Status> {
+    for volume in &chosen.volumes {
+        opened.place_of(volume.name)?;
     }
-    Ok(names)
+    opened.check_transit(&chosen.names)?;
+    opened.settle()
 }
 
 /// Adds the volumes of these names.
@@ -70,35 +66,38 @@ fn add_places(opened: &Opened, names: &[&str], places: &mut Vec<u32>) -> Result<
 }
 
 impl<'a> FolderWork<'a> {
-    /// That on a job's volumes, of which these are in the set. All names are those of volumes of the folder.
-    pub fn new(
-        opened: Opened,
-        volumes: &[JobVolume<'a>],
-        chosen: &[u32],
-    ) -> Result<FolderWork<'a>, Status> {
+    /// That on an open folder, of which nothing was done.
+    fn new(opened: Opened, chosen: Chosen<'a>) -> FolderWork<'a> {
         let program = opened.folder.program;
         let alloc = program.alloc();
-        let mut all = Vec::new(alloc);
-        for volume in volumes {
-            opened.place_of(volume.name)?;
-            all.push(*volume)?;
-        }
-        Ok(FolderWork {
+        let Chosen {
+            volumes,
+            places,
+            names,
+        } = chosen;
+        FolderWork {
             program,
             opened,
-            volumes: all,
-            chosen: chosen.to_vec(alloc)?,
-            names: names_of(alloc, volumes, chosen)?,
+            volumes,
+            chosen: places,
+            names,
             captures: Vec::new(alloc),
             gone: Vec::new(alloc),
             since: None,
-        })
+        }
     }
 
-    /// Takes over what a call left in transit, if all of it is in the set.
-    pub fn take_over(&mut self) -> Result<(), Status> {
-        self.opened.check_transit(&self.names)?;
-        self.opened.settle()
+    /// Opens a folder for the volumes of a job. At least so many sets stay in it.
+    pub fn open(
+        program: &Program,
+        folder: &str,
+        least: u32,
+        chosen: Chosen<'a>,
+    ) -> Result<FolderWork<'a>, Status> {
+        let mut opened = open(program, folder, Way::Writing, 0)?;
+        opened.least = least;
+        take_over(&mut opened, &chosen)?;
+        Ok(FolderWork::new(opened, chosen))
     }
 
     /// The passes of a volume of the job over its file, of as many blocks.

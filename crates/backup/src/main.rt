@@ -7,14 +7,16 @@
 #![tactic(auto)]
 
 mod capture;
+mod chosen;
 mod copier;
 mod folder_work;
 mod record;
 mod shown;
 
+use chosen::Chosen;
 use copier::FolderCopier;
 use folder_work::{FolderWork, since};
-use image_folder::{Program, ProgramName, Status, Way, ended, open};
+use image_folder::{Program, ProgramName, Status, ended};
 use live_backup::{Backup, Happened, Job, JobFault, Next, Setting, SettingFault};
 use shown::Shown;
 use std::io::{BufRead, BufReader};
@@ -162,6 +164,50 @@ fn setting_of(program: &Program, path: &str, job: &Job<'_>) -> Result<Setting, S
     }
 }
 
+/// Makes a backup to its end, and writes its record: how the first went, and the second.
+fn make<R: Threads + Sync>(
+    rt: &R,
+    program: &Program,
+    job: &Job<'_>,
+    backup: &mut Backup<FolderCopier<'_>>,
+    record: Option<&str>,
+) -> (Result<(), Status>, Result<(), Status>) {
+    let Ok(mut shown) = Shown::new(program.alloc(), job) else {
+        return (Err(Status::OutOfMemory), Ok(()));
+    };
+    let done = talk(program, backup, &mut shown);
+    let recorded = match record {
+        Some(name) => record::write(rt, program, name, backup),
+        None => Ok(()),
+    };
+    (done, recorded)
+}
+
+/// Makes the backup of a job by the work on an open folder. Whether a set is kept is answered.
+fn back_up_by<R: Threads + Sync>(
+    rt: &R,
+    program: &Program,
+    job: &Job<'_>,
+    setting: Setting,
+    work: FolderWork<'_>,
+    record: Option<&str>,
+) -> Result<bool, Status> {
+    let alloc = program.alloc();
+    let copier = FolderCopier::new(alloc, work);
+    let Ok(mut backup) = Backup::new(alloc, job, setting, copier) else {
+        return Err(Status::OutOfMemory);
+    };
+    let (done, recorded) = make(rt, program, job, &mut backup, record);
+    let is_kept = backup.ledger().is_kept();
+    let ended = backup.into_copier().end();
+    done?;
+    if is_kept {
+        ended?;
+    }
+    recorded?;
+    Ok(is_kept)
+}
+
 /// Makes the backup of a job. Whether a set is kept is answered.
 fn back_up<R: Threads + Sync>(
     rt: &R,
@@ -173,29 +219,9 @@ fn back_up<R: Threads + Sync>(
 ) -> Result<bool, Status> {
     let job = job_of(program, path, text)?;
     let setting = setting_of(program, path, &job)?;
-    let mut opened = open(program, folder, Way::Writing, 0)?;
-    opened.least = job.least.unwrap_or(0);
-    let mut work = FolderWork::new(opened, &job.volumes, &setting.members.volumes)?;
-    work.take_over()?;
-    let alloc = program.alloc();
-    let copier = FolderCopier::new(alloc, work);
-    let Ok(mut backup) = Backup::new(alloc, &job, setting, copier) else {
-        return Err(Status::OutOfMemory);
-    };
-    let mut shown = Shown::new(alloc, &job)?;
-    let done = talk(program, &mut backup, &mut shown);
-    let recorded = match record {
-        Some(name) => record::write(rt, program, name, &backup),
-        None => Ok(()),
-    };
-    let is_kept = backup.ledger().is_kept();
-    let ended = backup.into_copier().end();
-    done?;
-    if is_kept {
-        ended?;
-    }
-    recorded?;
-    Ok(is_kept)
+    let chosen = Chosen::of(program.alloc(), &job.volumes, &setting.members.volumes)?;
+    let work = FolderWork::open(program, folder, job.least.unwrap_or(0), chosen)?;
+    back_up_by(rt, program, &job, setting, work, record)
 }
 
 /// Says that a job could not be read.
