@@ -18,7 +18,7 @@ FOREIGN = set("""rt ci rattle-kit-13f rattle-kit-13b malloc realloc std serde_js
     atomic_table crossbeam_utils libc Send Sync Drop Copy Model sha256sum taskset rsync open ftruncate pread pwrite fdatasync close
     pthread_create fsync mount requires ensures crates.txt must-fail""".split())
 HEADINGS = ["Proved", "Tested only", "Trusted", "Limits", "Costs"]
-MOST_README, MOST_DOCS, MOST_WORDS, LEAST_LINES, MOST_LINES = 8192, 122880, 20, 20, 80
+MOST_README, MOST_DOCS, MOST_WORDS, LEAST_LINES, MOST_LINES = 8192, 144384, 20, 20, 80
 
 wrong = []
 
@@ -175,8 +175,8 @@ def sizes():
     """The README and the pages of docs/ are short, and so is each cell of their tables."""
     if len(text_of("README.md").encode()) > MOST_README:
         wrong.append(f"README.md has more than {MOST_README} bytes")
-    if sum(os.path.getsize(page) for page in ["README.md"] + glob.glob("docs/*.md")) > MOST_DOCS:
-        wrong.append(f"README.md and the pages of docs/ have more than {MOST_DOCS} bytes together")
+    if sum(os.path.getsize(page) for page in glob.glob("docs/*.md")) > MOST_DOCS:
+        wrong.append(f"the pages of docs/ have more than {MOST_DOCS} bytes together")
     for page in (page for page in PAGES if not page.startswith("crates/")):
         for line in re.findall(r"^\|(.*)\|$", text_of(page), re.M):
             for cell in re.split(r"(?<!\\)\|", line):

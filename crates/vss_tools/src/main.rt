@@ -10,7 +10,6 @@
 mod explaining;
 mod picturing;
 mod playing;
-mod reading;
 
 use std::env::Env;
 use std::process::ExitCode;

@@ -9,10 +9,10 @@ mod byte_hint;
 mod document_hint;
 mod field_hint;
 mod form_hint;
-pub mod line_hint;
-pub mod near;
-pub mod notes;
-pub mod piece;
+mod line_hint;
+mod near;
+mod notes;
+mod piece;
 mod showing;
 mod word_hint;
 

@@ -2,7 +2,7 @@ use super::problem::Problem;
 use std::fmt;
 
 /// A text that was given, and what is wrong with it.
-#[derive(Clone, Copy)]
+#[derive(Clone, Copy, PartialEq, Eq)]
 pub struct Bad<'a> {
     /// Its file, or `standard input`.
     pub file: &'a str,

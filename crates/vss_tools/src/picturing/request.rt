@@ -5,8 +5,6 @@ use timeline::{Form, Span};
 pub struct Request<'a> {
     pub form: Form,
     pub span: Span,
-    /// Whether a drawing of all of it is asked for that fits a screen.
-    pub is_overview: bool,
     /// The names of the files of the scenario and of its report; without them the report comes by the standard input.
     pub files: Option<(&'a str, &'a str)>,
 }
@@ -35,14 +33,12 @@ impl<'a> Request<'a> {
         let mut request = Request {
             form: Form::Drawing,
             span: Span::ALL,
-            is_overview: false,
             files: None,
         };
         let mut at = 0usize;
         for _ in 0..words.len() {
             match words.get(at).map(|word| word.as_str()) {
                 Some("--text") => request.form = Form::Lines,
-                Some("--overview") => request.is_overview = true,
                 Some("--from") => {
                     at = at.saturating_add(1);
                     request.span.from = move_of(words.get(at))?;
@@ -57,9 +53,6 @@ impl<'a> Request<'a> {
             at = at.saturating_add(1);
         }
         request.files = files_of(words.get(at..)?)?;
-        if request.is_overview && request.files.is_none() {
-            return None;
-        }
         Some(request)
     }
 

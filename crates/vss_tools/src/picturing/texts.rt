@@ -1,15 +1,17 @@
 use super::bad::Bad;
 use super::problem::Problem;
 use super::request::Request;
+use super::scenario_text::problem_of;
 use super::status::Status;
-use crate::reading;
-use crate::reading::Unread;
 use io_edge::{InSource, ReadError, read_all};
-use scenario::{Refused, parse};
+use std::fs::File;
+use std::io::Read;
 use timeline::Refusal;
 
-/// The most bytes of a report.
+/// The most bytes of a report, and of a scenario.
 const MOST_REPORT: usize = 1_073_741_824;
+
+const MOST_SCENARIO: usize = 16_777_216;
 
 /// What the standard input is called.
 const INPUT: &str = "standard input";
@@ -33,28 +35,31 @@ fn bad(file: &str, line: u64, problem: Problem) -> Bad<'_> {
     }
 }
 
-/// How the tool ends with a file that was not read.
-fn unread(file: &str, why: Unread) -> Status<'_> {
-    match why {
-        Unread::OutOfMemory => Status::OutOfMemory,
-        _ => Status::Bad(bad(file, 0, Problem::Unread(why))),
-    }
-}
-
-/// The text of a scenario, which has to be one.
-fn scenario_of<'a>(rt: &HostRuntime, file: &'a str) -> Result<String, Status<'a>> {
-    let bytes = match reading::scenario_in(rt, file) {
-        Ok(bytes) => bytes,
-        Err(why) => return Err(unread(file, why)),
+/// The bytes of a file.
+fn bytes_of<'a>(rt: &HostRuntime, file: &'a str, most: usize) -> Result<Vec<u8>, Status<'a>> {
+    let failed = Status::Bad(bad(file, 0, Problem::ReadFault));
+    let mut open = match File::open(rt, file) {
+        Ok(open) => open,
+        Err(_) => return Err(failed),
     };
-    match parse(rt.alloc(), &bytes) {
-        Ok(_) => text_of(file, bytes),
-        Err(Refused::Line { line, reason }) => Err(Status::Bad(Bad {
-            are_swapped: bytes.starts_with(b"report 1\n"),
-            ..bad(file, u64::from(line), Problem::NoScenario(reason))
-        })),
-        Err(Refused::OutOfMemory) => Err(Status::OutOfMemory),
+    let mut bytes = Vec::new(rt.alloc());
+    let mut piece = [0u8; 65_536];
+    for _ in 0..u64::MAX {
+        let n = match open.read(&mut piece) {
+            Ok(n) => n,
+            Err(_) => return Err(failed),
+        };
+        if n == 0 {
+            return Ok(bytes);
+        }
+        if most.saturating_sub(bytes.len()) < n {
+            return Err(Status::Bad(bad(file, 0, Problem::TooLong)));
+        }
+        if bytes.extend_from_slice(&piece[..n]).is_err() {
+            return Err(Status::OutOfMemory);
+        }
     }
+    Ok(bytes)
 }
 
 /// The bytes that come by the standard input.
@@ -63,11 +68,7 @@ fn bytes_given(rt: &HostRuntime) -> Result<Vec<u8>, Status<'static>> {
     match read_all(rt.alloc(), &mut source, MOST_REPORT) {
         Ok(bytes) => Ok(bytes.into_vec()),
         Err(ReadError::Failed) => Err(Status::Bad(bad(INPUT, 0, Problem::ReadFault))),
-        Err(ReadError::TooLong) => Err(Status::Bad(bad(
-            INPUT,
-            0,
-            Problem::Unread(Unread::TooLong),
-        ))),
+        Err(ReadError::TooLong) => Err(Status::Bad(bad(INPUT, 0, Problem::TooLong))),
         Err(ReadError::OutOfMemory) => Err(Status::OutOfMemory),
     }
 }
@@ -96,14 +97,24 @@ impl<'a> Texts<'a> {
                 file: INPUT,
             });
         };
-        Ok(Texts {
-            scenario: scenario_of(rt, scenario)?,
-            report: match reading::report_in(rt, report) {
-                Ok(bytes) => text_of(report, bytes)?,
-                Err(why) => return Err(unread(report, why)),
-            },
+        let texts = Texts {
+            scenario: text_of(scenario, bytes_of(rt, scenario, MOST_SCENARIO)?)?,
+            report: text_of(report, bytes_of(rt, report, MOST_REPORT)?)?,
             file: report,
-        })
+        };
+        match problem_of(texts.scenario.as_str()) {
+            None => Ok(texts),
+            Some((line, problem)) => Err(Status::Bad(Bad {
+                are_swapped: texts.are_swapped(),
+                ..bad(scenario, line, problem)
+            })),
+        }
+    }
+
+    /// Whether the scenario is a report, and the report is none.
+    fn are_swapped(&self) -> bool {
+        let (scenario, report) = (self.scenario.as_str(), self.report.as_str());
+        scenario.starts_with("report 1") && !report.starts_with("report 1")
     }
 
     /// Why the report has no picture.

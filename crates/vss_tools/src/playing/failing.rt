@@ -41,15 +41,11 @@ impl<'a> Failing<'a> {
             b"flush" => Call::Flush,
             _ => return None,
         };
-        let (first, last) = (number_of(first)?, number_of(last)?);
-        if last < first {
-            return None;
-        }
         Some(Failing {
             device,
             call,
-            first,
-            last,
+            first: number_of(first)?,
+            last: number_of(last)?,
         })
     }
 

@@ -9,7 +9,6 @@ use super::outcomes::Outcomes;
 use orders::{SureMaker, report_of_seed};
 use scenario::{Scenario, parse};
 use std::alloc::Global;
-use std::io::IsTerminal;
 use std::thread;
 use std::thread::Threads;
 use volume_device::MemMaker;
@@ -17,7 +16,7 @@ use vss_names::{OutOfMemory, Text};
 use vss_play::PlayFault;
 
 /// How many runs are made before their outcomes are counted.
-const ROUND: u32 = 64;
+const ROUND: u32 = 256;
 
 /// The scenario of a text.
 fn scenario_of(alloc: Global, text: &[u8]) -> Result<Scenario, PlayFault>
@@ -66,16 +65,13 @@ fn outcome_of_seed<R: Threads + Sync>(
     }
 }
 
-/// How many threads run at one time: as many as were asked for, or as there are processors.
-fn threads_of<R: Threads>(rt: &R, jobs: Option<u32>) -> usize
+/// How many threads run at one time: as many as there are processors.
+fn processors<R: Threads>(rt: &R) -> usize
     ensures { 1 ≤ result }
 {
-    match jobs {
-        Some(count) => (count as usize).max(1),
-        None => match thread::available_parallelism(rt) {
-            Ok(count) => count.get(),
-            Err(_) => 1,
-        },
+    match thread::available_parallelism(rt) {
+        Ok(count) => count.get(),
+        Err(_) => 1,
     }
 }
 
@@ -85,16 +81,14 @@ fn make_round<R: Threads + Sync>(
     alloc: Global,
     text: &[u8],
     failing: &[Failing<'_>],
-    jobs: usize,
     runs: &mut [Drawn],
 )
-    requires jobs { 1 ≤ jobs }
-    requires text { length text.now < 4294967295 }
+    requires { length text.now < 4294967295 }
 {
     thread::for_each_mut(
         rt,
         runs,
-        jobs,
+        processors(rt),
         &|_i, run: &mut Drawn|
             requires { length text.now < 4294967295 }
         {
@@ -115,28 +109,16 @@ fn runs_from(alloc: Global, first: u32, count: u32) -> Result<Vec<Drawn>, OutOfM
     Ok(runs)
 }
 
-/// Shows on a terminal how many runs are made, or clears that line.
-fn show(host: &HostRuntime, shown: bool, made: u32, count: u32) {
-    if shown && made < count {
-        let _ = eprint!(host; "\rorders: {made} of {count} runs ");
-    } else if shown {
-        let _ = eprint!(host; "\r{:40}\r", "");
-    }
-}
-
-/// The outcomes of the runs that the numbers below a count draw, in so many jobs.
+/// The outcomes of the runs that the numbers below a count draw.
 pub fn outcomes_of<R: Threads + Sync>(
-    host: &HostRuntime,
     rt: &R,
+    alloc: Global,
     text: &[u8],
     failing: &[Failing<'_>],
     count: u32,
-    jobs: Option<u32>,
 ) -> Result<Outcomes, PlayFault>
     requires { length text.now < 4294967295 }
 {
-    let alloc = host.alloc();
-    let shown = host.stderr().is_terminal();
     let mut outcomes = Outcomes::new(alloc);
     let mut first = 0u32;
     for _round in 0..count.div_ceil(ROUND) {
@@ -144,21 +126,13 @@ pub fn outcomes_of<R: Threads + Sync>(
         let Ok(mut runs) = runs_from(alloc, first, some) else {
             return Err(PlayFault::OutOfMemory);
         };
-        make_round(
-            rt,
-            alloc,
-            text,
-            failing,
-            threads_of(rt, jobs),
-            runs.as_mut_slice(),
-        );
+        make_round(rt, alloc, text, failing, runs.as_mut_slice());
         for run in runs {
             if outcomes.add(run.number, run.outcome?).is_err() {
                 return Err(PlayFault::OutOfMemory);
             }
         }
         first = first.saturating_add(some);
-        show(host, shown, first, count);
     }
     Ok(outcomes)
 }

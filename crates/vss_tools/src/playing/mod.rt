@@ -9,8 +9,7 @@
 //! Before these words, `with DEVICE CALL NUMBERS` lets calls of a device fail, as `with C.vol flush 1` or `with C.area write 3..5`.
 //!
 //! It reads the files and calls the crate `orders`, whose contracts say what each status means. For a status other than 0 it prints
-//! one line to the standard error, with the file and the line that are wrong and what was expected, below it what helps to go on, and ends
-//! with the status.
+//! one line to the standard error, with the file and the line that are wrong and what was expected, and it ends with the status.
 
 ghost use Rattle.std.specs.Prelude.{◌<◌, ◌≤◌, IfOk, length, vec_len};
 
@@ -22,42 +21,32 @@ mod many;
 mod outcome;
 mod outcomes;
 mod request;
-mod standstill;
-mod telling;
-mod word_hint;
 
-use crate::explaining::notes::Notes;
-use crate::{reading, words_given};
+use crate::words_given;
 use device_names::is_device;
 use ended::Ended;
 use failing::{Failing, plan_of};
 use io_edge::OutSink;
 use many::outcomes_of;
-use orders::{Status, SureMaker, run_again, run_again_over, run_order, run_seed};
+use orders::{MOST_BYTES, Status, SureMaker, run_again, run_again_over, run_order, run_seed};
 use request::{Request, failing_in};
 use scenario::{Refused, parse};
+use std::fs;
 use std::thread::Threads;
-use telling::say_more;
 use volume_device::{Maker, MemMaker};
 use vss_play::PlayFault;
 
-/// The bytes of a scenario.
-fn scenario_in<'a>(rt: &HostRuntime, name: &'a str) -> Result<Vec<u8>, Ended<'a>>
-    ensures { IfOk result (λ bytes. vec_len bytes ≤ 16777216) }
-{
-    match reading::scenario_in(rt, name) {
-        Ok(bytes) => Ok(bytes),
-        Err(why) => Err(Ended::Unread { name, why }),
-    }
-}
+/// The most bytes of a scenario, as `vss` takes them.
+const MOST_SCENARIO_BYTES: usize = 16_777_216;
 
-/// The bytes of an order or of a report.
-fn report_in<'a>(rt: &HostRuntime, name: &'a str) -> Result<Vec<u8>, Ended<'a>>
-    ensures { IfOk result (λ bytes. vec_len bytes ≤ 1073741824) }
+/// The bytes of a file, at most so many.
+fn bytes_of<'a>(rt: &HostRuntime, name: &'a str, most: usize) -> Result<Vec<u8>, Ended<'a>>
+    ensures { IfOk result (λ bytes. vec_len bytes ≤ most) }
 {
-    match reading::report_in(rt, name) {
-        Ok(bytes) => Ok(bytes),
-        Err(why) => Err(Ended::Unread { name, why }),
+    match fs::read(rt, name) {
+        Ok(bytes) if bytes.len() <= most => Ok(bytes),
+        Ok(_) => Err(Ended::TooLong(name)),
+        Err(_) => Err(Ended::Unread(name)),
     }
 }
 
@@ -68,7 +57,6 @@ fn play_many<R: Threads + Sync>(
     text: &[u8],
     failing: &[Failing<'_>],
     count: u32,
-    jobs: Option<u32>,
 ) -> Status
     requires { length text.now < 4294967295 }
 {
@@ -77,7 +65,7 @@ fn play_many<R: Threads + Sync>(
         Err(Refused::Line { line, reason }) => return Status::ScenarioRefused { line, reason },
         Err(Refused::OutOfMemory) => return Status::OutOfMemory,
     }
-    match outcomes_of(rt, threads, text, failing, count, jobs) {
+    match outcomes_of(threads, rt.alloc(), text, failing, count) {
         Ok(outcomes) => match print!(rt; "{outcomes}") {
             Ok(()) => Status::Done,
             Err(_) => Status::WriteFault,
@@ -107,11 +95,11 @@ fn play_over<'a, R: Threads + Sync, M: Maker>(
 ) -> Result<Ended<'a>, Ended<'a>> {
     let alloc = rt.alloc();
     let (scenario, order) = (request.scenario(), request.other());
-    let text = scenario_in(rt, scenario)?;
+    let text = bytes_of(rt, scenario, MOST_SCENARIO_BYTES)?;
     let mut sink = OutSink::new(rt.stdout());
     match request {
         Request::Again { .. } => {
-            let report = report_in(rt, order)?;
+            let report = bytes_of(rt, order, MOST_BYTES)?;
             let replayed = if failing.is_empty() {
                 run_again(threads, alloc, &text, &report)
             } else {
@@ -124,7 +112,7 @@ fn play_over<'a, R: Threads + Sync, M: Maker>(
             })
         }
         Request::Order { .. } => {
-            let moves = report_in(rt, order)?;
+            let moves = bytes_of(rt, order, MOST_BYTES)?;
             let status = run_order(threads, alloc, &text, &moves, &mut sink, maker);
             Ok(called(status, request, moves.starts_with(b"report 1\n")))
         }
@@ -132,8 +120,8 @@ fn play_over<'a, R: Threads + Sync, M: Maker>(
             let status = run_seed(threads, alloc, &text, number, &mut sink, maker);
             Ok(called(status, request, false))
         }
-        Request::Many { count, jobs, .. } => {
-            let status = play_many(rt, threads, &text, failing, count, jobs);
+        Request::Many { count, .. } => {
+            let status = play_many(rt, threads, &text, failing, count);
             Ok(called(status, request, false))
         }
     }
@@ -145,7 +133,7 @@ fn unknown_device<'a>(
     scenario: &'a str,
     failing: &[Failing<'a>],
 ) -> Result<Option<&'a str>, Ended<'a>> {
-    let text = scenario_in(rt, scenario)?;
+    let text = bytes_of(rt, scenario, MOST_SCENARIO_BYTES)?;
     let Ok(read) = parse(rt.alloc(), &text) else {
         return Ok(None);
     };
@@ -202,9 +190,7 @@ pub fn play<R: Threads + Sync>(rt: &HostRuntime, threads: &R) -> u8 {
     };
     let ended = run(rt, threads, &words);
     if ended.code() != 0 {
-        let mut notes = Notes::new(rt.alloc());
-        let _ = say_more(rt, &mut notes, &words, &ended);
-        let _ = eprint!(rt; "orders: {ended}\n{}", notes.text());
+        let _ = eprintln!(rt; "orders: {ended}");
     }
     ended.code()
 }

@@ -5,26 +5,13 @@ use scenario::numbers::number_in;
 #[derive(Clone, Copy)]
 pub enum Request<'a> {
     /// To play a scenario in an order.
-    Order {
-        scenario: &'a str,
-        order: &'a str,
-    },
+    Order { scenario: &'a str, order: &'a str },
     /// To replay a report and to compare.
-    Again {
-        scenario: &'a str,
-        report: &'a str,
-    },
+    Again { scenario: &'a str, report: &'a str },
     /// To play a scenario in the order that a number draws.
-    Seed {
-        number: u32,
-        scenario: &'a str,
-    },
-    /// To play it in the orders of the numbers below a count, and to say how the runs came out; in so many jobs, or as many as there are processors.
-    Many {
-        count: u32,
-        scenario: &'a str,
-        jobs: Option<u32>,
-    },
+    Seed { number: u32, scenario: &'a str },
+    /// To play it in the orders of the numbers below a count, and to say how the runs came out.
+    Many { count: u32, scenario: &'a str },
 }
 
 /// Whether a word may be the name of a file.
@@ -32,12 +19,9 @@ fn is_name(word: &str) -> bool {
     !word.is_empty() && !word.starts_with("-")
 }
 
-/// The most jobs.
-const MOST_JOBS: u64 = 1024;
-
 /// The number that a word is.
-fn number_of(word: &str, least: u64, most: u64) -> Option<u32> {
-    match number_in(word.as_bytes(), least, most) {
+fn number_of(word: &str, least: u64) -> Option<u32> {
+    match number_in(word.as_bytes(), least, u64::from(u32::MAX)) {
         Ok(number) => Some(number as u32),
         Err(_) => None,
     }
@@ -62,25 +46,8 @@ pub fn failing_in(words: &[String]) -> Option<(Vec<Failing<'_>>, &[String])> {
 }
 
 impl<'a> Request<'a> {
-    /// To play many, in so many jobs.
-    fn many_of(first: &str, scenario: &'a str, jobs: Option<u32>) -> Option<Request<'a>> {
-        let count = number_of(first, 1, u64::from(u32::MAX))?;
-        Some(Request::Many {
-            count,
-            scenario,
-            jobs,
-        })
-    }
-
     /// What these words ask for.
     pub fn of(words: &'a [String]) -> Option<Request<'a>> {
-        if let [many, dashed, jobs, first, second] = words {
-            if many.as_str() != "many" || dashed.as_str() != "-j" || !is_name(second.as_str()) {
-                return None;
-            }
-            let jobs = number_of(jobs.as_str(), 1, MOST_JOBS)?;
-            return Request::many_of(first.as_str(), second.as_str(), Some(jobs));
-        }
         let [task, first, second] = words else {
             return None;
         };
@@ -98,10 +65,13 @@ impl<'a> Request<'a> {
                 report: second,
             }),
             b"seed" => Some(Request::Seed {
-                number: number_of(first, 0, u64::from(u32::MAX))?,
+                number: number_of(first, 0)?,
                 scenario: second,
             }),
-            b"many" => Request::many_of(first, second, None),
+            b"many" => Some(Request::Many {
+                count: number_of(first, 1)?,
+                scenario: second,
+            }),
             _ => None,
         }
     }
