@@ -1,5 +1,5 @@
 #!/usr/bin/env bash
-# `./timeline` draws each example: as a drawing with one element for each line of the report but the first, in bands of at most 40, whose words
+# `./timeline` draws each example: as a drawing with one element for each line of the report but the first, in bands of at most 48, whose words
 # do not lie on one another, and as lines of at most 100 bytes. Those in docs/pictures are drawn again byte for byte. A long report is drawn in
 # 5 seconds of a processor and 500 MB of addresses. What is no report, what is another scenario's, and words that ask for nothing, have their
 # status, and a line that names file and line. It is drawn by the program as LLVM and, where that is there, as Rattle's own compiler builds it.
@@ -22,7 +22,7 @@ draws() {
   [ "$(marks)" = "$lines" ] || wrong "$report: a line is not drawn once"
   python3 "$room/apart.py" < "$room/out" 2> "$room/err" || wrong "$report: $(cat "$room/err")"
   grep -q '<script' "$room/out" && wrong "$report: a script is drawn"
-  awk -F"[(,]" '/><title>/ && $2 > 960 { exit 1 }' "$room/out" || wrong "$report: a band is wider than 40 marks"
+  awk -F"[(,]" '/><title>/ && $2 > 1152 { exit 1 }' "$room/out" || wrong "$report: a band is wider than 48 marks"
   "$program" --text "$scenario" "$report" > "$room/out" || wrong "$report has no lines"
   LC_ALL=C awk 'length > 100 { exit 1 }' "$room/out" || wrong "$report: a line is longer than 100 bytes"
 }
