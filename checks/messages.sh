@@ -434,7 +434,7 @@ for tool in orders timeline images; do
   has "./$tool --version" "$(./$tool --version)" "$tool $(cat VERSION), of the sources "
 done
 ./tests frist > "$room/out" 2> "$room/err"
-said "named frist; there are" " messages" " vss_tools"
+said "named frist; there are" " messages" "vss_tools"
 
 # on a terminal: where the scenario comes from, how far a long run is, and Ctrl-C
 trials=$((trials + 4))
