@@ -5,6 +5,7 @@ use Rattle.std.specs.Prelude.{◌≡◌, ℕ, ◌+◌, Bool, true, false, List, 
 use Rattle.std.specs.List.{list_any, range_with_len}
 use Rattle.std.specs.Str.{bytes_eq}
 use Rattle.writer_meta.specs.Metadata.{Part, Meta, full_name, is_ancestor}
+use Rattle.component_doc.specs.declared.above.Above.{Above}
 use Rattle.component_doc.specs.declared.choice.Choice.{Choice}
 use Rattle.component_doc.specs.declared.found.Found.{Found}
 use Rattle.component_doc.specs.declared.pair.Pair.{Pair as NamedPair}
@@ -108,6 +109,11 @@ has_named_ancestor ps w c i (a ∷ more) = (has_pair ps w i && is_ancestor a c) 
 
 abbrev pub has_selectable_ancestor : Part → List Part → Bool
 has_selectable_ancestor c parts = list_any (λ (a : Part). a.selectable && is_ancestor a c) parts
+
+-- what stands above the components of a path
+abbrev pub IsAbove : List Pair → ℕ → List Part → Above → Type 0
+IsAbove ps w parts above =
+    (c : Part) → c.path ≡ above.path.now → (above.named ≡ has_named_ancestor ps w c 0 parts) × (above.selectable ≡ has_selectable_ancestor c parts)
 
 -- by a selection of named components: named itself, a descendant of a named one, or not selectable and without a
 -- selectable ancestor

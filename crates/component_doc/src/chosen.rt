@@ -2,13 +2,13 @@
 ghost use Rattle.std.specs.Prelude.{◌≡◌, ◌≤◌, ◌++◌, [], map, length, option_map, OnOk, IsTrue};
 ghost use Rattle.writer_meta.specs.Metadata.{part_of, meta_of};
 ghost use Rattle.component_doc.specs.Held.{selected_of, has_few};
-ghost use Rattle.component_doc.specs.Selection as selection;
 ghost use Rattle.component_doc.specs.Selection.{Named, AllOf, choice_if, choices_from, choices_of};
 
+use crate::above::Above;
 use crate::choice::Choice;
 use crate::pair::Pair;
+use crate::pairs;
 use crate::taken::Taken;
-use crate::{ancestors, pairs};
 use vss_names::OutOfMemory;
 use writer_meta::{Component, Metadata};
 
@@ -60,13 +60,18 @@ fn choose_by_names(
     ensures { OnOk result (choices.new.items ≡ choices.old.items
         ++ choices_from (Named pairs.now) (map part_of components.now) writer 0 (map part_of components.now)) }
 {
+    let Some(first) = components.first() else {
+        return Ok(());
+    };
+    let mut above = Above::of(pairs, writer, first, components);
     for (i, component) in components.iter().enumerate() {
         let pair = Pair {
             writer,
             component: i as u32,
         };
-        let chosen = is_chosen(pairs, components, pair, component);
+        above = above.at(pairs, writer, component, components);
         let explicit = pairs::has(pairs, pair);
+        let chosen = explicit || above.named || (!component.selectable && !above.selectable);
         choose_if(chosen, pair, explicit, choices)?;
     }
     Ok(())
@@ -108,15 +113,4 @@ fn choose_if(
         })?;
     }
     Ok(())
-}
-
-/// Whether a component is chosen by the pairs that were named.
-fn is_chosen(pairs: &[Pair], components: &[Component], pair: Pair, component: &Component) -> bool
-    requires { length components.now ≤ 1024 }
-    ensures { result
-        ≡ selection.is_chosen pairs.now (map part_of components.now) pair.writer pair.component (part_of component.now) }
-{
-    pairs::has(pairs, pair)
-        || ancestors::has_named_ancestor(pairs, pair.writer, component, components)
-        || (!component.selectable && !ancestors::has_selectable_ancestor(component, components))
 }

@@ -7,6 +7,7 @@
 //! bytes; so a text is accepted exactly where it is a document.
 #![tactic(auto)]
 
+mod above;
 mod add_fault;
 mod ancestors;
 mod both;
