@@ -1,5 +1,5 @@
 -- What the calls of a group do to the whole copies that it has.
-use Rattle.std.proofs.Common.{◌≡◌, ◌≢◌, ℕ, ◌+◌, ◌<◌, ◌≤◌, List, [], ◌∷◌, ◌++◌, length, map, take, refl, ap, sym, subst, ◌∙◌, arith, Bool, false, Option, Some, is_some, option_map}
+use Rattle.std.proofs.Common.{◌≡◌, ◌≢◌, ℕ, ◌+◌, ◌<◌, ◌≤◌, List, [], ◌∷◌, ◌++◌, length, map, take, refl, ap, sym, subst, ◌∙◌, arith, false, Option, Some, is_some, option_map}
 use Rattle.std.specs.Prelude.{slice_get, slice_set, nat_lt, not, Result, Ok, Err, All}
 use Rattle.std.proofs.lemmas.Option.{slice_get_within}
 use Rattle.write_history.specs.History.{Write, Image, History, contents, point_in, cut, written, dropped, reverted, reverted_in_part}

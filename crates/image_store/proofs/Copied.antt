@@ -23,7 +23,7 @@ use Rattle.cow_volume.proofs.Group.{slice_get-set_same, slice_get-set_other, len
 use Rattle.cow_volume.proofs.MakingRoom.{keeps_newest, newest_most, none_after, sets_after}
 use Rattle.cow_volume.proofs.Rows.{has_slot, has_from_slot, lacks_newest}
 use Rattle.cow_volume.proofs.Ties.{free_is, lacks_some, newest_above}
-use Rattle.image_store.specs.Copying.{AreCopied, AreCopiedTo, AreCounted, HasCopiesOf, IsAreaSame, IsInUse, IsStoppedAt, KeepsCopies, KeepsSlots}
+use Rattle.image_store.specs.Copying.{AreCopied, AreCopiedTo, HasCopiesOf, IsAreaSame, IsInUse, IsStoppedAt, KeepsCopies, KeepsSlots}
 use Rattle.image_store.proofs.Sets.{at_or_below}
 use Rattle.volume_device.specs.declared.device.Device.{Ghosts}
 

@@ -1,5 +1,5 @@
 -- What lasts of a store that is closed, and what a store is that is opened again.
-use Rattle.std.proofs.Common.{◌≡◌, ℕ, suc, ◌+◌, ◌<◌, ◌≤◌, List, [], ◌∷◌, ◌++◌, length, map, take, drop, refl, ap, sym, subst, ◌∙◌, arith, Bool, true, false, Option, Some, None, is_some}
+use Rattle.std.proofs.Common.{◌≡◌, ℕ, suc, ◌+◌, ◌<◌, ◌≤◌, List, [], ◌∷◌, ◌++◌, length, map, take, drop, refl, ap, sym, subst, ◌∙◌, arith, Bool, true, false, Option, Some, is_some}
 use Rattle.std.specs.Prelude.{◌==◌, slice_get, slice_set, IfErr, IfSome, Result, Ok, Err, OnErr, OnOk}
 use Rattle.std.proofs.lemmas.List.{length-map, map-set, take_all, take-append-le}
 use Rattle.std.proofs.lemmas.List.FromFn.{length-map-range_with_len}
@@ -13,7 +13,7 @@ use Rattle.diff_area.proofs.TableBlocks.{get-map_range}
 use Rattle.vss_catalog.specs.Entries.{EntryValue, lists_of}
 use Rattle.vss_catalog.specs.Group.{entry_at, entries_of}
 use Rattle.cow_volume.specs.GroupValue.{GroupValue, placed}
-use Rattle.cow_volume.specs.StandsFor.{StandsFor, told_in}
+use Rattle.cow_volume.specs.StandsFor.{StandsFor}
 use Rattle.cow_volume.specs.Ending.{AllTell, IsSync, IsSynced}
 use Rattle.cow_volume.specs.Resuming.{AreKept}
 use Rattle.cow_volume.specs.Calls.{blocks_in, sets_in}

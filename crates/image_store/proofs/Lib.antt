@@ -4,6 +4,7 @@ pub mod Copies
 pub mod Plains
 pub mod Calls
 pub mod Passes
+pub mod Spools
 pub mod Copied
 pub mod Shown
 pub mod Given

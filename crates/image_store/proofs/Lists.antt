@@ -1,6 +1,6 @@
 -- Which images are left of a volume from which some went.
-use Rattle.std.proofs.Common.{◌≡◌, ◌≢◌, ℕ, ◌<◌, List, [], ◌∷◌, length, map, refl, ap, sym, ◌∙◌, arith, Bool, true, false, Option, Some}
-use Rattle.std.specs.Prelude.{◌==◌, filter, if◌then◌else◌, nat_lt, not, slice_get, Result, Ok, Err, OnOk}
+use Rattle.std.proofs.Common.{◌≡◌, ℕ, ◌<◌, List, [], ◌∷◌, length, refl, ap, sym, ◌∙◌, arith, Bool, true, false, Option, Some}
+use Rattle.std.specs.Prelude.{◌==◌, filter, if◌then◌else◌, nat_lt, not, Result, Ok, Err, OnOk}
 use Rattle.volume_device.specs.declared.device.Device.{Ghosts}
 use Rattle.write_history.specs.History.{History, Image, dropped, point_in, reverted, reverted_in_part, sets_of}
 use Rattle.cow_volume.specs.GroupValue.{GroupValue}

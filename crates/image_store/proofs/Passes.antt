@@ -10,6 +10,7 @@ use Rattle.cow_volume.specs.Room.{HasRoom, images_going}
 use Rattle.cow_volume.specs.Steps.{IsPut}
 use Rattle.cow_volume.specs.Calls.{blocks_at, blocks_in, IsNow}
 use Rattle.cow_volume.proofs.Group.{slice_get-set_same, slice_get-set_other, length-slice_set, slice_get_inside}
+use Rattle.image_store.specs.Capturing.{Gives}
 use Rattle.image_store.specs.Plain.{Plain, volume_in, with_blocks, on_volume}
 use Rattle.image_store.specs.Passes.{IsGone, HasSome, HasSomeGone, HasMixed}
 use Rattle.image_store.specs.Steps.{AreMixed}
@@ -137,12 +138,17 @@ pub read_there : (input : Option (List (List ℕ))) (wanted : List (List ℕ)) (
     → slice_get wanted k ≡ Some bytes
 read_there input wanted k piece bytes read is same = subst (λ (o : Option (List (List ℕ))). IfSome o (λ blocks. slice_get blocks k ≡ Some piece)) is read ∙ ap Some (sym same)
 
+-- what was read of the other device at a marked block
+pub gives_there : (input : Option (List (List ℕ))) (differs : List Bool) (wanted : List (List ℕ)) (k : ℕ) (piece bytes : List ℕ) → IfSome input (λ blocks. slice_get blocks k ≡ Some piece)
+    → slice_get differs k ≡ Some true → bytes ≡ piece → Gives input differs wanted → slice_get wanted k ≡ Some bytes
+gives_there input differs wanted k piece bytes read marked same gives = sym (gives.marked k marked) ∙ read_there input gives.source k piece bytes read gives.told_is same
+
 pub record IsWrittenTo {D I : Type 0} (told : D → Option (List (List ℕ))) (source : Ghosts I) (old now : GroupValue D) (input input_now : I) (v : ℕ)
     (differs : List Bool) (from k : ℕ) : Type 0 where
   pub volumes : now.area.volumes ≡ old.area.volumes
   pub told_is : source.told input_now ≡ source.told input
   pub size_is : source.size input_now ≡ source.size input
-  pub written : (wanted : List (List ℕ)) (ps : List Plain) → source.told input ≡ Some wanted → HasPlains told old ps
+  pub written : (wanted : List (List ℕ)) (ps : List Plain) → Gives (source.told input) differs wanted → HasPlains told old ps
       → AreReady differs wanted (volume_in ps v).blocks from
       → HasSome told now ps v differs wanted k
 
@@ -249,7 +255,7 @@ pub written_more : {D I : Type 0} (ghosts : Ghosts D) (source : Ghosts I) (old n
     (differs : List Bool) (from k : ℕ) (bytes : List ℕ) → v < length old.area.volumes → k < blocks_at old v → IsWrittenTo ghosts.told source old now input input_now v differs from k
     → KeepsPlains ghosts.told now room
     → source.told input_new ≡ source.told input_now → source.size input_new ≡ source.size input_now
-    → ((wanted : List (List ℕ)) → source.told input_now ≡ Some wanted → slice_get wanted k ≡ Some bytes)
+    → ((wanted : List (List ℕ)) → Gives (source.told input_now) differs wanted → slice_get wanted k ≡ Some bytes)
     → IsPut ghosts room new v (record { block = k; bytes = bytes }) → IsWrittenTo ghosts.told source old new input input_new v differs from (k + 1)
 written_more ghosts source old now room new input input_now input_new v differs from k bytes l m so kept told_is size_is read put = record {
   volumes = put.kept.volumes ∙ kept.volumes ∙ so.volumes;
@@ -257,7 +263,7 @@ written_more ghosts source old now room new input input_now input_new v differs 
   size_is = size_is ∙ so.size_is;
   written = λ wanted ps is plains ready.
       let some = so.written wanted ps is plains ready in
-      let at : slice_get wanted k ≡ Some bytes = read wanted (so.told_is ∙ is) in
+      let at : slice_get wanted k ≡ Some bytes = read wanted (rw so.told_is is) in
       let many = as_many_blocks ghosts.told old ps v plains l in
       let long = some.mixed.0 in
       let volumes = ap length (kept.volumes ∙ so.volumes) in
@@ -279,7 +285,7 @@ written_more ghosts source old now room new input input_now input_new v differs 
 pub written_all : {D I : Type 0} (told : D → Option (List (List ℕ))) (source : Ghosts I) (old now : GroupValue D) (input input_now : I) (v : ℕ) (differs : List Bool)
     (from k : ℕ)
     (wanted : List (List ℕ)) (ps : List Plain) → v < length old.area.volumes → blocks_at old v ≤ k
-    → IsWrittenTo told source old now input input_now v differs from k → source.told input ≡ Some wanted
+    → IsWrittenTo told source old now input input_now v differs from k → Gives (source.told input) differs wanted
     → HasPlains told old ps → AreReady differs wanted (volume_in ps v).blocks from → HasPlains told now (on_volume v (with_blocks wanted) ps)
 written_all told source old now input input_now v differs from k wanted ps l all so is plains ready =
     let some = so.written wanted ps is plains ready in
@@ -295,7 +301,7 @@ written_all told source old now input input_now v differs from k wanted ps l all
 pub written_stopped : {D I : Type 0} (told : D → Option (List (List ℕ))) (source : Ghosts I) (old now new : GroupValue D) (input input_now : I) (v : ℕ)
     (differs : List Bool) (from k up_to : ℕ)
     (wanted : List (List ℕ)) (ps : List Plain) (list : List Evicted) → 0 < up_to → IsWrittenTo told source old now input input_now v differs from k → HasRoom told now new v k up_to
-    → list ≡ images_going up_to now.images → source.told input ≡ Some wanted → HasPlains told old ps → AreReady differs wanted (volume_in ps v).blocks from
+    → list ≡ images_going up_to now.images → Gives (source.told input) differs wanted → HasPlains told old ps → AreReady differs wanted (volume_in ps v).blocks from
     → HasSomeGone told new ps v differs wanted k up_to list
 written_stopped told source old now new input input_now v differs from k up_to wanted ps list some so room list_is is plains ready =
     let part = so.written wanted ps is plains ready in
@@ -314,7 +320,7 @@ written_stopped told source old now new input input_now v differs from k up_to w
 pub written_part : {D I : Type 0} (told : D → Option (List (List ℕ))) (source : Ghosts I) (old now new : GroupValue D) (input input_now : I) (v : ℕ)
     (differs : List Bool) (from k : ℕ)
     (wanted : List (List ℕ)) (ps : List Plain) → IsWrittenTo told source old now input input_now v differs from k → KeepsPlains told now new
-    → source.told input ≡ Some wanted
+    → Gives (source.told input) differs wanted
     → HasPlains told old ps → AreReady differs wanted (volume_in ps v).blocks from → HasMixed told new ps v wanted
 written_part told source old now new input input_now v differs from k wanted ps so kept is plains ready =
     let part = so.written wanted ps is plains ready in

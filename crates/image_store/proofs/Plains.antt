@@ -1,5 +1,5 @@
 -- A group and the whole copies that it has: how a call on it changes them.
-use Rattle.std.proofs.Common.{◌≡◌, ℕ, zero, suc, ◌<◌, List, [], ◌∷◌, length, map, refl, ap, sym, subst, ◌∙◌, arith, Bool, true, Option, Some, option_map, is_some}
+use Rattle.std.proofs.Common.{◌≡◌, ℕ, zero, suc, ◌<◌, List, [], ◌∷◌, length, map, refl, ap, sym, subst, ◌∙◌, arith, true, Option, Some, option_map, is_some}
 use Rattle.std.specs.Prelude.{slice_get, IfSome, None}
 use Rattle.std.proofs.lemmas.Option.{same_Some, slice_get_within}
 use Rattle.write_history.specs.History.{Image, History, content, contents, point_in, sets_of, AreInTime}

@@ -9,21 +9,18 @@ use Rattle.block_data.specs.declared.block_buf.TheConstants.{BLOCK}
 use Rattle.vss_names.specs.TextValue.{TextValue}
 use Rattle.volume_device.specs.Blocks.{AreBlocks}
 use Rattle.volume_device.specs.declared.device.Device.{Ghosts}
-use Rattle.write_history.specs.History.{History, contents}
 use Rattle.write_history.specs.Slots.{Copy, copies}
-use Rattle.diff_area.specs.Copies.{copies_from, slot_of, AreHeld, AreStored}
-use Rattle.diff_area.specs.Format.{part, good_in, header_of, layout_in, records_of, row_count, rows_in, slots_in, stated_used, table_of, volumes_in, HasHeader, IsArea}
+use Rattle.diff_area.specs.Copies.{copies_from, AreHeld, AreStored}
+use Rattle.diff_area.specs.Format.{part, good_in, header_of, layout_in, records_of, row_count, rows_in, slots_in, stated_used, table_of, HasHeader, IsArea}
 use Rattle.diff_area.specs.Loading.{IsReadFrom}
 use Rattle.diff_area.specs.Places.{pages_for, place_of_slot, table_for}
-use Rattle.diff_area.specs.Records.{free, is_free, used_in, AreRecords}
+use Rattle.diff_area.specs.Records.{free, is_free, used_in}
 use Rattle.diff_area.specs.declared.table_record.Record.{Record}
 use Rattle.diff_area.proofs.Blocks.{AreOf, are_of, length-concat, part-block, part-blocks}
 use Rattle.diff_area.proofs.FromDevice.{held_is}
 use Rattle.diff_area.proofs.GoodRecords.{length-rows_in}
-use Rattle.vss_catalog.specs.Group.{entries_of}
 use Rattle.cow_volume.specs.GroupValue.{GroupValue, placed}
-use Rattle.cow_volume.specs.StandsFor.{StandsFor, told_in, IsVolume}
-use Rattle.cow_volume.specs.Ending.{AllTell}
+use Rattle.cow_volume.specs.StandsFor.{told_in, IsVolume}
 use Rattle.cow_volume.specs.Calls.{blocks_at, sets_at}
 use Rattle.cow_volume.specs.Room.{lacks_copy}
 use Rattle.cow_volume.specs.Steps.{IsPut}
@@ -31,11 +28,9 @@ use Rattle.cow_volume.proofs.Group.{slice_get-set_same, slice_get-set_other, sli
 use Rattle.cow_volume.proofs.GroupWrites.{put_again}
 use Rattle.cow_volume.proofs.Stored.{held_copies}
 use Rattle.image_store.specs.Copying.{AreSameAt}
-use Rattle.image_store.specs.Head.{said_of}
-use Rattle.image_store.specs.Keeping.{IsKeptAs}
 use Rattle.image_store.specs.Plain.{Plain, PlainStore, AllGiven, image_in, volume_in, with_blocks, on_volume}
 use Rattle.image_store.specs.PowerLoss.{AreFound, IsCommitted, IsCopyPlace, IsShared, IsUnderWay, OpensAsCommitted, as_found, found_in}
-use Rattle.image_store.specs.StoreValue.{HasPlains, StandsAs}
+use Rattle.image_store.specs.StoreValue.{HasPlains}
 use Rattle.image_store.proofs.Calls.{put_on, put_plains}
 use Rattle.image_store.proofs.Keeping.{kept_of}
 use Rattle.image_store.proofs.Plains.{as_many_blocks, as_many_plains, device_tells, on_volume-same, on_volume-twice, same_lists}

@@ -1,10 +1,10 @@
 -- The calls of an update leave each image where it was committed.
-use Rattle.std.proofs.Common.{◌≡◌, ◌≢◌, ℕ, zero, suc, ◌<◌, ◌≤◌, List, [], ◌∷◌, length, map, take, drop, refl, ap, sym, subst, ◌∙◌, arith, Bool, true, false, Option, Some, None, inl, inr}
+use Rattle.std.proofs.Common.{◌≡◌, ◌≢◌, ℕ, zero, suc, ◌<◌, ◌≤◌, List, [], ◌∷◌, length, map, take, drop, refl, ap, sym, subst, ◌∙◌, arith, Bool, true, false, Option, Some, inl, inr}
 use Rattle.std.specs.Prelude.{◌⊎◌, IfSome, OnOk, option_map, slice_get, Result, Ok, Err}
 use Rattle.std.proofs.lemmas.Bool.{cases_eq}
 use Rattle.std.proofs.lemmas.Option.{same_Some, slice_get_within}
 use Rattle.std.proofs.lemmas.List.{length-append, length-drop, length-map, length-take-le}
-use Rattle.diff_area.specs.AreaValue.{AreInPart, with_first}
+use Rattle.diff_area.specs.AreaValue.{with_first}
 use Rattle.diff_area.specs.Places.{place_of_slot, table_for}
 use Rattle.diff_area.specs.Records.{free, AreRecords}
 use Rattle.diff_area.specs.Written.{table_blocks}
@@ -34,7 +34,7 @@ use Rattle.image_store.proofs.Stores.{still, store_of}
 use Rattle.cow_volume.specs.GroupValue.{GroupValue}
 use Rattle.cow_volume.specs.Calls.{blocks_at, sets_at}
 use Rattle.cow_volume.proofs.Group.{slice_get_inside}
-use Rattle.image_store.specs.Copying.{AreCopied, AreSameAt, HasCopiesOf, IsAreaSame, IsCopiedAhead, IsAreaLeft, IsInUse, KeepsCopies, KeepsSlots}
+use Rattle.image_store.specs.Copying.{AreCopied, AreSameAt, HasCopiesOf, IsAreaSame, IsCopiedAhead, IsAreaLeft, IsInUse, KeepsSlots}
 use Rattle.image_store.specs.Plain.{Plain, volume_in, gone_on, with_blocks, on_volume}
 use Rattle.image_store.specs.PowerLoss.{IsCommitted, IsCopyPlace, IsShared, IsUnderWay, KeepsBlocks}
 use Rattle.image_store.specs.Steps.{AreMixed}

@@ -10,6 +10,7 @@ pub mod Naming
 pub mod Opening
 pub mod Closing
 pub mod Failing
+pub mod Capturing
 pub mod Updating
 pub mod Copying
 pub mod PowerLoss

@@ -1,6 +1,6 @@
 -- Which sets have an image, on each volume, after a call that changed those of one: of each group that stands for histories, as one does
 -- whose devices tell nothing. (This project's own.)
-use Rattle.std.specs.Prelude.{ℕ, ◌≡◌, ◌<◌, ◌≤◌, ◌==◌, not, if◌then◌else◌, List, length, filter, nat_lt, Option}
+use Rattle.std.specs.Prelude.{ℕ, ◌≡◌, ◌<◌, ◌==◌, not, if◌then◌else◌, List, length, filter, nat_lt, Option}
 use Rattle.write_history.specs.History.{History}
 use Rattle.cow_volume.specs.Calls.{sets_at}
 use Rattle.cow_volume.specs.GroupValue.{GroupValue}

@@ -1,6 +1,6 @@
 -- Why bytes are no head, and why devices, an area's device and a head are no store: what is first wrong, in the order in which they are
 -- read. (This project's own.)
-use Rattle.std.specs.Prelude.{ℕ, ◌≡◌, ◌≢◌, ◌<◌, ◌≤◌, ◌+◌, Bool, true, List, length, map, take, drop, codes, All, Option, Some, Err, slice_get, ◌⊎◌}
+use Rattle.std.specs.Prelude.{ℕ, ◌≡◌, ◌≢◌, ◌<◌, ◌≤◌, ◌+◌, true, List, length, map, take, drop, codes, All, Option, Some, Err, slice_get, ◌⊎◌}
 use Rattle.byteorder.specs.Endian.{little_number}
 use Rattle.cow_volume.specs.Calls.{is_among}
 use Rattle.cow_volume.specs.Resuming.{AllHaveImages, IsFirstWithoutImage}

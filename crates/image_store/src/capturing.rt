@@ -1,8 +1,10 @@
 //! The pass that reads a file while its writer stands still: what differs goes to another device, and no volume changes.
 
-ghost use Rattle.std.specs.Prelude.{◌≡◌, ◌<◌, ◌≤◌, length};
+ghost use Rattle.std.specs.Prelude.{◌≡◌, ◌<◌, ◌≤◌, ℕ, List, Some, length, IfOk, OnOk};
 ghost use Rattle.cow_volume.specs.Calls.{blocks_at};
-ghost use Rattle.image_store.specs.StoreValue.{KeepsPlains};
+ghost use Rattle.image_store.specs.Capturing.{AreCaptured, HasCaptured, HasOneCaptured};
+ghost use Rattle.image_store.specs.Plain.{Plain, volume_in};
+ghost use Rattle.image_store.specs.StoreValue.{HasPlains, KeepsPlains};
 
 use crate::capture_fault::CaptureFault;
 use crate::pass_fault::PassFault;
@@ -26,11 +28,16 @@ fn capture_one<D: Device, I: Device, S: Device>(
     requires in_range { b < blocks_at group.old v }
     requires size { I.size input.old ≡ blocks_at group.old v }
     requires room { S.size spool.old ≡ blocks_at group.old v }
+    ensures captured { IfOk result (λ differs. (wanted spool_old : List (List ℕ)) (ps : List Plain)
+        → I.told input.old ≡ Some wanted → S.told spool.old ≡ Some spool_old
+        → HasPlains D.told group.old ps
+        → HasOneCaptured (S.told spool.new) differs b spool_old wanted (volume_in ps v).blocks) }
     ensures kept { KeepsPlains D.told group.old group.new }
     ensures told { I.told input.new ≡ I.told input.old }
     ensures size { I.size input.new ≡ I.size input.old }
     ensures room { S.size spool.new ≡ S.size spool.old }
 {
+    let _facts = spool.blocks();
     let Ok(()) = wanted.read_device(input, b) else {
         return Err(CaptureFault::Pass(PassFault::Input));
     };
@@ -64,6 +71,11 @@ pub fn capture_blocks<D: Device, I: Device, S: Device>(
     requires size { I.size input.old ≡ blocks_at group.old v }
     requires room { S.size spool.old ≡ blocks_at group.old v }
     requires marks { length differs.old ≡ blocks_at group.old v }
+    ensures captured { OnOk result ((wanted spool_old : List (List ℕ)) (ps : List Plain)
+        → I.told input.old ≡ Some wanted → S.told spool.old ≡ Some spool_old
+        → HasPlains D.told group.old ps
+        → AreCaptured differs.old spool_old wanted (volume_in ps v).blocks from
+        → HasCaptured (S.told spool.new) differs.new wanted (volume_in ps v).blocks to) }
     ensures kept { KeepsPlains D.told group.old group.new }
     ensures told { I.told input.new ≡ I.told input.old }
     ensures size { I.size input.new ≡ I.size input.old }

@@ -1,17 +1,20 @@
 //! What holds of every list of calls on a store, and of one that is closed and opened again: functions that do nothing, or make just
 //! the calls of which they speak, and whose contracts are the laws.
 
-ghost use Rattle.std.specs.Prelude.{◌≡◌, ◌<◌, List, [], ◌∷◌, length, map, IfOk, OnOk};
+ghost use Rattle.std.specs.Prelude.{◌≡◌, ◌<◌, ◌≤◌, ◌*◌, ℕ, List, [], ◌∷◌, Some, length, map, true, vec_capacity, IfOk, OnOk};
+ghost use Rattle.cow_volume.specs.Calls.{blocks_at};
 ghost use Rattle.image_store.specs.Course.{AreTaken, CallsFollowOneAnother, FilesComeBack, ImagesAreOfTheirCut, ImagesComeOfCuts, IsShowStep, SetsAreCutOnce, ShownIsOfItsCut};
 ghost use Rattle.image_store.specs.Head.{bytes_of_head, head_of, said_of};
 ghost use Rattle.image_store.specs.Keeping.{IsKeptAs};
 ghost use Rattle.image_store.specs.Plain.{PlainStore};
 ghost use Rattle.image_store.specs.PowerLoss.{WhatIsUnderWayIsFound};
-ghost use Rattle.image_store.specs.Steps.Step.{Opened};
+ghost use Rattle.image_store.specs.Steps.{after};
+ghost use Rattle.image_store.specs.Steps.Step.{Opened, Updated};
 ghost use Rattle.image_store.specs.StoreValue.{StandsAs};
 
 use crate::closed::Closed;
 use crate::head::Head;
+use crate::pass::Pass;
 use crate::refused::Refused;
 use crate::show_fault::ShowFault;
 use crate::store::Store;
@@ -19,6 +22,7 @@ use crate::which::Which;
 use io_edge::Sink;
 use std::alloc::Global;
 use volume_device::Device;
+use write_history::Evicted;
 
 /// An image that was cut has, until it is deleted, its volume is reverted past it, or it is reported as evicted, the blocks that its
 /// volume had at that cut.
@@ -103,3 +107,43 @@ pub fn what_is_closed_is_opened<D: Device>(
 pub fn what_is_under_way_is_found<D: Device>()
     ensures { WhatIsUnderWayIsFound D.told }
 {}
+
+/// What a capture read of a file is what its volume has once it took the spool: of a file that tells its blocks as they are read, a capture
+/// of all of it, a pass of copying and an overwrite from the spool make of the volume, block for block, what the file told. True if all
+/// three were done.
+pub fn captured_is_kept<D: Device, I: Device, S: Device>(
+    store: &mut Store<D>,
+    v: u32,
+    input: &mut I,
+    spool: &mut S,
+    differs: &mut [bool],
+    gone: &mut Vec<Evicted>,
+) -> bool
+    requires volume { v < length store.old.group.area.volumes }
+    requires size { I.size input.old ≡ blocks_at store.old.group v }
+    requires room { S.size spool.old ≡ blocks_at store.old.group v }
+    requires marks { length differs.old ≡ blocks_at store.old.group v }
+    requires space { 512 * length store.old.group.area.volumes ≤ vec_capacity gone.old }
+    ensures { result ≡ true → (wanted spool_old : List (List ℕ)) (p : PlainStore)
+        → I.told input.old ≡ Some wanted → S.told spool.old ≡ Some spool_old → StandsAs D.told store.old p
+        → StandsAs D.told store.new (after p (Updated v wanted)) }
+{
+    let blocks = input.blocks();
+    let Ok(()) = store.capture(v, input, spool, differs, 0, blocks) else {
+        return false;
+    };
+    let mut copied = 0;
+    let Ok(ahead) = store.copy_ahead(v, differs, 0, blocks, &mut copied, gone) else {
+        return false;
+    };
+    let Pass::Done = ahead else {
+        return false;
+    };
+    let Ok(taken) = store.overwrite(v, spool, differs, 0, gone) else {
+        return false;
+    };
+    let Pass::Done = taken else {
+        return false;
+    };
+    true
+}

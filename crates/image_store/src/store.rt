@@ -19,6 +19,7 @@ ghost use Rattle.image_store.specs.Plain.{PlainStore, fresh_store, plain_at};
 ghost use Rattle.image_store.specs.Steps.Step.{Cut, Dropped};
 ghost use Rattle.image_store.specs.StoreValue.{StandsAs, IsStep, StandsStill};
 ghost use Rattle.image_store.specs.Updating.{AreMarked, AreReady, IsAhead, IsOverwriting};
+ghost use Rattle.image_store.specs.Capturing.{AreCaptured, Gives, HasCaptured};
 ghost use Rattle.image_store.specs.Copying.{AreCopied, HasCopiesOf, IsAreaLeft, IsCopiedAhead};
 ghost use Rattle.image_store.specs.PowerLoss.{IsCommitted, IsUnderWay};
 ghost use Rattle.cow_volume.specs.GroupValue.{GroupValue, placed};
@@ -360,6 +361,11 @@ impl<D: Device> Store<D> {
         requires size { I.size input.old ≡ blocks_at self.old.group v }
         requires room { S.size spool.old ≡ blocks_at self.old.group v }
         requires marks { length differs.old ≡ blocks_at self.old.group v }
+        ensures captured { OnOk result ((wanted spool_old : List (List ℕ)) (p : PlainStore)
+            → I.told input.old ≡ Some wanted → S.told spool.old ≡ Some spool_old
+            → StandsAs D.told self.old p
+            → AreCaptured differs.old spool_old wanted (plain_at p v).blocks from
+            → HasCaptured (S.told spool.new) differs.new wanted (plain_at p v).blocks to) }
         ensures still { StandsStill D.told self.old self.new }
         ensures told { I.told input.new ≡ I.told input.old }
         ensures size { I.size input.new ≡ I.size input.old }
@@ -380,7 +386,7 @@ impl<D: Device> Store<D> {
         )
     }
 
-    /// Writes the marked blocks from `from` on with those of the other device.
+    /// Writes the marked blocks from `from` on with those of the other device, of which no other block is read.
     pub fn overwrite<I: Device>(
         &mut self,
         v: u32,
@@ -394,10 +400,12 @@ impl<D: Device> Store<D> {
         requires marks { length differs.now ≡ blocks_at self.old.group v }
         requires space { 512 * length self.old.group.area.volumes ≤ vec_capacity gone.old }
         ensures failed { IfErr result (IsPassFault D.count v self.old.group self.new.group (I.count input.old) (I.count input.new)) }
-        ensures overwriting { (wanted : List (List ℕ)) (p : PlainStore) → I.told input.old ≡ Some wanted → StandsAs D.told self.old p
+        ensures overwriting { (wanted : List (List ℕ)) (p : PlainStore)
+            → Gives (I.told input.old) differs.now wanted → StandsAs D.told self.old p
             → AreReady differs.now wanted (plain_at p v).blocks from → IsOverwriting D.told self.new p v differs.now wanted gone.new.items result }
         ensures area { AreCopied self.old.group v differs.now from (blocks_at self.old.group v) → IsAreaLeft D.told self.old.group self.new.group result }
-        ensures under_way { (committed : GroupValue D) (wanted : List (List ℕ)) (p : PlainStore) → I.told input.old ≡ Some wanted → StandsAs D.told self.old p
+        ensures under_way { (committed : GroupValue D) (wanted : List (List ℕ)) (p : PlainStore)
+            → Gives (I.told input.old) differs.now wanted → StandsAs D.told self.old p
             → AreReady differs.now wanted (plain_at p v).blocks from → HasCopiesOf committed self.old.group → AreCopied committed v differs.now from (blocks_at self.old.group v)
             → IsUnderWay D.told committed self.old.group → IsUnderWay D.told committed self.new.group }
         ensures told { I.told input.new ≡ I.told input.old }

@@ -4,6 +4,7 @@ ghost use Rattle.std.specs.Prelude.{◌≡◌, ◌≢◌, ◌<◌, ◌≤◌, �
 ghost use Rattle.cow_volume.specs.Calls.{DeviceRose, IsUnfailed, blocks_at, sets_at};
 ghost use Rattle.cow_volume.specs.Room.{lacks_copy, lacks_slot};
 ghost use Rattle.diff_area.specs.Records.{used_in};
+ghost use Rattle.image_store.specs.Capturing.{Gives};
 ghost use Rattle.image_store.specs.Copying.{AreCopied, IsAreaLeft, IsCopiedAhead, KeepsCopies};
 ghost use Rattle.image_store.specs.Failing.{IsPassFault};
 ghost use Rattle.image_store.specs.Passes.{IsCopying, IsWriting};
@@ -144,7 +145,7 @@ pub fn overwrite_blocks<D: Device, I: Device>(
     requires space { 512 * length group.old.area.volumes ≤ vec_capacity gone.old }
     ensures volumes { group.new.area.volumes ≡ group.old.area.volumes }
     ensures failed { IfErr result (IsPassFault D.count v group.old group.new (I.count input.old) (I.count input.new)) }
-    ensures writing { (wanted : List (List ℕ)) (ps : List Plain) → I.told input.old ≡ Some wanted → HasPlains D.told group.old ps
+    ensures writing { (wanted : List (List ℕ)) (ps : List Plain) → Gives (I.told input.old) differs.now wanted → HasPlains D.told group.old ps
         → AreReady differs.now wanted (volume_in ps v).blocks from → IsWriting D.told group.new ps v differs.now wanted gone.new.items result }
     ensures area { AreCopied group.old v differs.now from (blocks_at group.old v) → IsAreaLeft D.told group.old group.new result }
     ensures told { I.told input.new ≡ I.told input.old }

@@ -4,7 +4,7 @@ use Rattle.block_data.specs.PayloadBytes.{payload_bytes}
 use Rattle.image_store.proofs.Calls.{room_plains, not_put_kept, put_volumes}
 use Rattle.image_store.proofs.Copied.{area_itself, area_put, area_room}
 use Rattle.image_store.proofs.Failing.{device_after, pass_failed, room_unfailed, unfailed_itself, unfailed_then}
-use Rattle.image_store.proofs.Passes.{written_none, written_past, written_more, written_stopped, written_part, written_all, read_there}
+use Rattle.image_store.proofs.Passes.{written_none, written_past, written_more, written_stopped, written_part, written_all, gives_there}
 use Rattle.image_store.proofs.Plains.{kept_then}
 use Rattle.image_store.proofs.Sets.{flag_is}
 use Rattle.image_store.proofs.updating.overwrite_blocks.Goals as goal
@@ -111,7 +111,8 @@ loop-b-preserved g c =
             (room_plains g.D.Device.told c.loop-b.group w.make_room-up_to.new.self c.args.v c.loop-b.b w.make_room-up_to.result
             (let none = w.if-up_to-gt0.false in omega arith) w.make_room-up_to.ensures.room)
             w.read_device.ensures.told w.read_device.ensures.size
-            (λ wanted is. read_there (g.I.Device.told c.loop-b.input) wanted c.loop-b.b w.read_device.new.self (payload_bytes w.payload.result.now) w.in-Ok.ensures.block is w.payload.ensures)
+            (λ wanted. gives_there (g.I.Device.told c.loop-b.input) c.args.differs.now wanted c.loop-b.b w.read_device.new.self (payload_bytes w.payload.result.now) w.in-Ok.ensures.block
+            (flag_is c.args.differs.now c.loop-b.b _ true within w.if-differs-b.true) w.payload.ensures)
             w.in_ok-put.ensures.put;
         area = λ copied. area_put g.D.Device.told c.args.group.now c.loop-b.group w.make_room-up_to.new.self w.put.new.self c.args.v c.args.differs.now c.args.from _ c.loop-b.b w.make_room-up_to.result
             w.put.result copied
