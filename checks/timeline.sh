@@ -7,7 +7,7 @@
 builds="$(tools timeline)" || exit 1
 mapfile -t builds <<< "$builds"
 scenarios=(examples/*.scenario examples/orders/*.scenario)
-usage="vss_timeline: usage: vss_timeline [--text] [--from N] [--to N] [SCENARIO REPORT]"
+usage="vss_timeline: usage: vss_timeline [--text] [--clock] [--from N] [--to N] [SCENARIO REPORT]"
 
 # the elements of marks in the last drawing
 marks() { grep -c "^<g transform='translate([0-9]*,[0-9]*)'><title>" "$room/out"; }
@@ -42,6 +42,16 @@ for line in sys.stdin:
                 sys.exit(f"\"{found[3]}\" lies on \"{words}\"")
         of.setdefault(found[2], []).append((begin, end, found[3]))
 END
+
+# by the clock a time is as wide as it is long: here 20 and 3,000 ticks, as in a record of a backup, which the wrapper takes by its one name
+by_clock() {
+  printf 'scenario 1\nlane a\ntick 20\nbegin 9\ntick 3000\nend\n' > "$room/record.scenario"
+  "$(program vss)" < "$room/record.scenario" > "$room/record.report" || wrong "a run of two times"
+  "$1" --clock "$room/record.scenario" "$room/record.report" > "$room/out" || wrong "a clock is not drawn"
+  widths="$(sed -n "s/^<rect class='passing' .* width='\([0-9]*\)' .*/\1/p" "$room/out" | tr '\n' ' ')"
+  [ "$widths" = "6 993 " ] || wrong "times of 20 and 3,000 ticks are $widths wide"
+  ./timeline "$room/record" | cmp -s - "$room/out" || wrong "a record is drawn otherwise than by the clock"
+}
 
 # answers a report with a status, and with this line
 answers() {
@@ -151,4 +161,5 @@ for words in "" --text; do
   # shellcheck disable=SC2086
   (ulimit -t 5 -v 500000 && exec "${builds[0]}" $words) < "$room/long.report" > "$room/long" || wrong "a report of 200,000 moves is not drawn in 5 seconds and 500 MB"
 done
+by_clock "${builds[0]}"
 ends "${#scenarios[@]} examples are drawn, by ${#builds[@]} builds"

@@ -34,7 +34,7 @@ pub fn draw<K: Sink>(alloc: Global, form: Form, run: Run<'_>, sink: &mut K) -> E
       writes_last = K.count sink.new;
     }) result }
 {
-    let picture = match Picture::of(alloc, run.scenario, run.report, run.span) {
+    let picture = match Picture::of(alloc, run.scenario, run.report, run.span, run.axis) {
         Ok(picture) => picture,
         Err(PictureError::Refused(why)) => return Ended::Refused(why),
         Err(PictureError::OutOfMemory) => return Ended::OutOfMemory,

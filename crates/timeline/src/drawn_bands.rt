@@ -11,6 +11,9 @@ use crate::picture::Picture;
 use crate::shape::Shape;
 use vss_names::OutOfMemory;
 
+/// How wide the room of a time is at least that is told in words.
+const TOLD: u64 = 60;
+
 /// Nothing behind fixed words.
 const NOTHING: Part<'static> = Part::Markup("");
 
@@ -50,9 +53,12 @@ fn add_passing(frame: &mut Frame<'_>, mark: &Mark<'_>, bottom: u64) -> Result<()
     if mark.place.passed == 0 {
         return Ok(());
     }
-    let x = mark.place.x.saturating_sub(82);
+    let x = mark.place.x.saturating_sub(mark.place.gap.saturating_add(10));
+    frame.rect("passing", x, 0, mark.place.gap, bottom)?;
+    if mark.place.gap < TOLD {
+        return Ok(());
+    }
     let text = x.saturating_add(2);
-    frame.rect("passing", x, 0, 72, bottom)?;
     frame.words("small", text, 11, "+", Part::Number(mark.place.passed))?;
     frame.words("small", text, 22, "at ", Part::Number(mark.place.clock))
 }

@@ -3,13 +3,14 @@
 //! `draw` writes the picture of a run to a sink. `Picture::of` reads the report line by line, and the scenario beside it where
 //! there is one, into a model: who took part (`Cast`), a `Mark` for each line of a move, an effect or the end, and a `Bar` for whatever
 //! lasts (a set in the making, a frozen writer, a held volume, an image). `to_svg` writes the model as a drawing for a browser, in bands
-//! of at most 40 marks one below another, `to_lines` as lines for a terminal.
+//! of at most 48 marks one below another, `to_lines` as lines for a terminal.
 //!
 //! Contracts promise that a report is refused exactly at its first line that is none or is another scenario's (`specs/Refused.antt`); that in a
 //! drawing each text is escaped, and whatever else is fixed or a number (`specs/Drawn.antt`); and that the other form has lines of at most 100
 //! printable bytes (`specs/Narrow.antt`). Which marks, labels, rows and bars there are, and where, is tested only.
 #![tactic(auto)]
 
+mod axis;
 mod band;
 mod band_row;
 mod bar;
@@ -46,6 +47,7 @@ mod row_bars;
 mod row_kind;
 mod row_use;
 mod run;
+mod scale;
 mod script;
 mod shape;
 mod sheet;
@@ -55,6 +57,7 @@ mod svg;
 mod words;
 mod writes;
 
+pub use axis::Axis;
 pub use drawing::draw;
 pub use ended::Ended;
 pub use fault::Fault;

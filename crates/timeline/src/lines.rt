@@ -1,8 +1,11 @@
-//! Which lines a report has.
+//! Which lines a report has, and how much time goes by in them.
 
 ghost use Rattle.std.specs.Prelude.{◌≡◌, nat_eq};
 ghost use Rattle.std.specs.List.{starts_with};
 ghost use Rattle.timeline.specs.Lines.{is_closing, is_effect, is_line, is_move};
+
+use crate::script::Script;
+use crate::words::{number, parted, rest_of, word_of};
 
 /// Whether a line is that of a move: it begins with a digit.
 pub fn is_move(line: &str) -> bool
@@ -43,4 +46,18 @@ pub fn is_line(line: &str) -> bool
     ensures { result ≡ is_line line.now }
 {
     is_move(line) || is_effect(line) || is_closing(line) || line == "report 1"
+}
+
+/// How many ticks go by in a line.
+pub fn ticks_of(script: &Script<'_>, line: &str) -> u64 {
+    let (actor, said) = parted(rest_of(line));
+    match actor {
+        _ if !is_move(line) => 0,
+        "idle" => number(said),
+        "lane" => match parted(script.said(number(word_of(rest_of(said))))) {
+            ("tick", ticks) => number(ticks),
+            _ => 0,
+        },
+        _ => 0,
+    }
 }

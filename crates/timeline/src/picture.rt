@@ -2,6 +2,7 @@ ghost use Rattle.std.specs.Prelude.{◌≡◌, ◌+◌, ◌<◌, ◌≤◌, ◌^
 ghost use Rattle.timeline.specs.Ended.{IsCause, IsRefusal};
 ghost use Rattle.timeline.specs.Refused.{refusal, refusal_from};
 
+use crate::axis::Axis;
 use crate::lines::{is_effect, is_move};
 use crate::mark::Mark;
 use crate::picture_error::PictureError;
@@ -94,6 +95,7 @@ impl<'a> Picture<'a> {
         scenario: &'a str,
         report: &'a str,
         span: Span,
+        axis: Axis,
     ) -> Result<Picture<'a>, PictureError>
         ensures good { OnOk result (refusal scenario.now report.now ≡ None) }
         ensures refused { IfErr result (IsCause scenario.now report.now) }
@@ -106,7 +108,7 @@ impl<'a> Picture<'a> {
             Ok(lines) => lines,
             Err(_) => return Err(PictureError::OutOfMemory),
         };
-        let mut stage = match Stage::new(alloc, &script, &lines, span) {
+        let mut stage = match Stage::new(alloc, &script, &lines, span, axis) {
             Ok(stage) => stage,
             Err(OutOfMemory) => return Err(PictureError::OutOfMemory),
         };

@@ -10,4 +10,6 @@ pub struct Place {
     /// The clock after the line, and by how much it went on in it, in ticks.
     pub clock: u64,
     pub passed: u64,
+    /// How wide the room of that time is, in pixels.
+    pub gap: u64,
 }

@@ -1,3 +1,4 @@
+use crate::axis::Axis;
 use crate::span::Span;
 
 /// A run whose picture is drawn.
@@ -10,4 +11,5 @@ pub struct Run<'a> {
     pub report: &'a str,
     /// The moves that are drawn.
     pub span: Span,
+    pub axis: Axis,
 }

@@ -1,3 +1,4 @@
+use crate::axis::Axis;
 use crate::band::Band;
 use crate::bar_kind::BarKind;
 use crate::bars::Bars;
@@ -6,12 +7,13 @@ use crate::ending::Ending;
 use crate::fold::Fold;
 use crate::label::Label;
 use crate::letters::letter_of;
-use crate::lines::{is_effect, is_move};
+use crate::lines::{is_effect, is_move, ticks_of};
 use crate::mark::Mark;
 use crate::named::named_in;
 use crate::pick::Pick;
 use crate::place::Place;
 use crate::row::Row;
+use crate::scale::Scale;
 use crate::script::Script;
 use crate::shape::Shape;
 use crate::span::Span;
@@ -22,9 +24,6 @@ use vss_names::OutOfMemory;
 
 /// How far one mark is from the next, in pixels.
 const STEP: u64 = 24;
-
-/// How much farther where the clock went on.
-const PASSING: u64 = 72;
 
 /// How wide a band is at most: 48 marks.
 const BAND: u64 = 48 * STEP;
@@ -42,6 +41,7 @@ pub struct Stage<'a> {
     bars: Bars<'a>,
     writes: Writes,
     bands: Vec<Band>,
+    scale: Scale,
     /// How wide a band is at most, and how the closing lines are folded.
     widest: u64,
     fold: Fold,
@@ -69,11 +69,14 @@ impl<'a> Stage<'a> {
         script: &Script<'a>,
         report: &[&'a str],
         span: Span,
+        axis: Axis,
     ) -> Result<Stage<'a>, OutOfMemory> {
+        let scale = Scale::of(axis, script, report);
         let cast = Cast::of(alloc, script, report)?;
         let count = cast.rows().len();
         Ok(Stage {
-            widest: widest_of(script, report, span),
+            scale,
+            widest: widest_of(scale, script, report, span),
             fold: fold_of(script, report),
             cast,
             bars: Bars::new(alloc, count)?,
@@ -149,6 +152,7 @@ impl<'a> Stage<'a> {
             x,
             clock: self.clock,
             passed: 0,
+            gap: 0,
         })
     }
 
@@ -160,7 +164,7 @@ impl<'a> Stage<'a> {
         length: usize,
     ) -> Result<Place, OutOfMemory> {
         let passed = ticks_of(script, line);
-        self.steps(step_of(script, line), length)?;
+        self.steps(step_of(self.scale, script, line), length)?;
         self.clock = self.clock.saturating_add(passed);
         self.takes(script, line)?;
         self.adds_letters()?;
@@ -171,6 +175,7 @@ impl<'a> Stage<'a> {
             x: self.x,
             clock: self.clock,
             passed,
+            gap: self.scale.gap(passed),
         })
     }
 
@@ -431,30 +436,27 @@ impl<'a> Stage<'a> {
     }
 }
 
-/// How far the next mark is from one of a line.
-fn step_of(script: &Script<'_>, line: &str) -> u64 {
-    if ticks_of(script, line) == 0 {
-        STEP
-    } else {
-        STEP + PASSING
-    }
+/// How far the mark of a line is from the one before.
+fn step_of(scale: Scale, script: &Script<'_>, line: &str) -> u64 {
+    scale.gap(ticks_of(script, line)).saturating_add(STEP)
 }
 
 /// How wide bands are, so that all have about the same width, and none more than the greatest.
-fn widest_of(script: &Script<'_>, report: &[&str], span: Span) -> u64 {
+fn widest_of(scale: Scale, script: &Script<'_>, report: &[&str], span: Span) -> u64 {
     let (mut moves, mut all, mut slack) = (0u64, 0u64, STEP);
     for line in report {
         if is_move(line) {
             moves = moves.saturating_add(1);
         }
         if (is_move(line) || is_effect(line)) && span.from <= moves && moves <= span.to {
-            let step = step_of(script, line);
+            let step = step_of(scale, script, line);
             all = all.saturating_add(step);
             slack = slack.max(step);
         }
     }
-    let bands = (all / BAND).saturating_add(1);
-    (all / bands).saturating_add(slack).min(BAND)
+    let most = scale.more().saturating_add(BAND);
+    let bands = (all / most.max(1)).saturating_add(1);
+    (all / bands).saturating_add(slack).min(most)
 }
 
 /// How the closing lines of a report are folded.
@@ -470,18 +472,4 @@ fn fold_of<'a>(script: &Script<'a>, report: &[&'a str]) -> Fold {
         .saturating_mul(7)
         .saturating_add(36);
     Fold::of(count, width)
-}
-
-/// How many ticks go by in a line.
-fn ticks_of(script: &Script<'_>, line: &str) -> u64 {
-    let (actor, said) = parted(rest_of(line));
-    match actor {
-        _ if !is_move(line) => 0,
-        "idle" => number(said),
-        "lane" => match parted(script.said(number(word_of(rest_of(said))))) {
-            ("tick", ticks) => number(ticks),
-            _ => 0,
-        },
-        _ => 0,
-    }
 }

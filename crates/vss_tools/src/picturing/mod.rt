@@ -1,8 +1,8 @@
 //! The tool `timeline`: draws a picture of a run, of the report of `vss`.
 //!
 //! `timeline SCENARIO REPORT` reads the two files and writes a drawing (SVG) to the standard output; without the two names it
-//! reads the report alone from the standard input. Before them, `--text` asks for lines for a terminal, `--from N` and `--to N`
-//! for the moves from N on and up to N. `timeline::draw` has what the picture promises. For a status other than 0 one line goes
+//! reads the report alone from the standard input. Before them, `--text` asks for lines for a terminal, `--clock` for a drawing whose
+//! columns are the clock, `--from N` and `--to N` for the moves from N on and up to N. `timeline::draw` has what the picture promises. For a status other than 0 one line goes
 //! to the standard error.
 
 mod bad;
@@ -33,6 +33,7 @@ fn drawn<'a>(rt: &HostRuntime, request: &Request<'a>, texts: &Texts<'a>) -> Stat
         scenario: texts.scenario.as_str(),
         report: texts.report.as_str(),
         span: request.span,
+        axis: request.axis,
     };
     match draw(rt.alloc(), request.form, run, &mut sink) {
         Ended::Written => Status::Done,

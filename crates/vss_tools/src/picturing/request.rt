@@ -1,10 +1,11 @@
-use timeline::{Form, Span};
+use timeline::{Axis, Form, Span};
 
 /// What the words of the program ask for.
 #[derive(Clone, Copy)]
 pub struct Request<'a> {
     pub form: Form,
     pub span: Span,
+    pub axis: Axis,
     /// The names of the files of the scenario and of its report; without them the report comes by the standard input.
     pub files: Option<(&'a str, &'a str)>,
 }
@@ -33,12 +34,14 @@ impl<'a> Request<'a> {
         let mut request = Request {
             form: Form::Drawing,
             span: Span::ALL,
+            axis: Axis::Moves,
             files: None,
         };
         let mut at = 0usize;
         for _ in 0..words.len() {
             match words.get(at).map(|word| word.as_str()) {
                 Some("--text") => request.form = Form::Lines,
+                Some("--clock") => request.axis = Axis::Clock,
                 Some("--from") => {
                     at = at.saturating_add(1);
                     request.span.from = move_of(words.get(at))?;
