@@ -1,4 +1,6 @@
-ghost use Rattle.std.specs.Prelude.{◌≡◌, [], Some, IfOk};
+ghost use Rattle.std.specs.Prelude.{◌≡◌, [], true, Some, None, IfOk};
+ghost use Rattle.std.specs.List.{list_any};
+ghost use Rattle.backup_ledger.specs.Deeds.{copied, is_kept};
 ghost use Rattle.vss_world.specs.Moves.{IsEvent};
 ghost use Rattle.live_backup.specs.Ending.{IsEndedIf};
 
@@ -105,8 +107,10 @@ impl<C: Copier> Backup<C> {
         &self.ledger
     }
 
-    /// Its copier, once it is over.
-    pub fn into_copier(self) -> C {
+    /// Its copier, once it is over. It did the deeds of the ledger that are its, and no others.
+    pub fn into_copier(self) -> C
+        ensures { C.done result ≡ copied self.ledger.deeds }
+    {
         self.ledger.into_copier()
     }
 
@@ -121,7 +125,9 @@ impl<C: Copier> Backup<C> {
     }
 
     /// Why nothing is kept; none if something is, or may be.
-    pub fn why(&self) -> Option<Why> {
+    pub fn why(&self) -> Option<Why>
+        ensures { list_any is_kept self.now.ledger.deeds ≡ true → result ≡ None }
+    {
         if self.ledger.is_kept() {
             None
         } else {
