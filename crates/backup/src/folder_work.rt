@@ -223,7 +223,7 @@ impl<'a> FolderWork<'a> {
         self.opened.is_torn = true;
         take_all(&mut self.opened.store, &mut self.captures, &mut self.gone)?;
         let set = self.cut()?;
-        self.opened.commit()?;
+        self.opened.commit_dated(set, "")?;
         self.opened.folder.note_together(&self.names)?;
         Ok(set)
     }

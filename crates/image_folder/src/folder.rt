@@ -29,14 +29,17 @@ pub const MARKER: &str = "images.open";
 /// The name of the file that has which volumes were brought to their files together.
 pub const TOGETHER: &str = "images.together";
 
+/// The name of the file that has when sets were cut.
+pub const DATES: &str = "images.dates";
+
 /// What becomes the state's file by a rename.
 const STATE_NEW: &str = "images.state.new";
 
 /// How long it waits between two looks at a lock, in milliseconds.
 const PAUSE: u64 = 100;
 
-/// The most bytes of a marker, and of the list of what was brought together.
-const MOST_SMALL: u64 = 8192;
+/// The most bytes of a marker, and of the lists of sets and of what was brought together.
+const MOST_SMALL: u64 = 1 << 24;
 
 /// An open folder of images. It is locked until this is dropped.
 #[derive(Drop)]

@@ -14,6 +14,7 @@ macro_rules! ended {
 }
 
 mod creating;
+mod dates;
 mod device_file;
 mod ended;
 mod file_input;
@@ -36,6 +37,7 @@ mod updating;
 mod way;
 
 pub use creating::{create, make_new};
+pub use dates::{Dated, dated_in, is_note};
 pub use ended::{note, said, say};
 pub use file_input::{ABSENT, FileInput};
 pub use folder::{AREA, Folder, STATE};

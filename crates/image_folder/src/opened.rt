@@ -5,6 +5,7 @@ ghost use Rattle.std.specs.Prelude.{◌≡◌, ◌<◌, length};
 use crate::device_file::{add_devices, open_device};
 use crate::ended::{by_device, say};
 use crate::folder::{AREA, Folder, MARKER, STATE};
+use crate::job::sets_of;
 use crate::marker::Marker;
 use crate::naming::name_in;
 use crate::program::Program;
@@ -221,6 +222,15 @@ impl Opened {
         self.mark(text)?;
         let done = self.commit();
         self.or_unmark(done)
+    }
+
+    /// Commits a set that was cut, once it is noted when and what for.
+    pub fn commit_dated(&mut self, set: u32, note: &str) -> Result<(), Status>
+        ensures { self.new.store.group.area.volumes ≡ self.old.store.group.area.volumes }
+    {
+        let standing = sets_of(&self.store, self.folder.program.alloc())?;
+        self.folder.note_date(&standing, set, note)?;
+        self.commit()
     }
 
     /// Ends a call: what it changed lasts and the marker is gone before anything is printed.

@@ -5,7 +5,7 @@
 ghost use Rattle.std.specs.Prelude.{◌<◌, length};
 
 use crate::file_input::FileInput;
-use crate::folder::{AREA, STATE, TOGETHER};
+use crate::folder::{AREA, DATES, STATE, TOGETHER};
 use crate::job::{Job, before_try, check_all, names_of, say_changed, wait_out_all};
 use crate::naming::{check_once, name_in};
 use crate::opened::Opened;
@@ -25,7 +25,8 @@ pub fn is_own(opened: &Opened, input: &FileInput<'_>) -> Result<bool, Status> {
     Ok(
         input.is_at(folder.path_of(AREA)?)
             || input.is_at(folder.path_of(STATE)?)
-            || input.is_at(folder.path_of(TOGETHER)?),
+            || input.is_at(folder.path_of(TOGETHER)?)
+            || input.is_at(folder.path_of(DATES)?),
     )
 }
 
@@ -100,7 +101,8 @@ fn write_all(
     check_all(jobs)
 }
 
-/// Sees that volumes in which no block differs last. Where that fails they are in transit: what was not synced counts as not kept.
+/// Sees that volumes in which no block differs last, and that what an earlier call took away stays away: it may have been killed before it synced
+/// the names. Where a flush fails the volumes are in transit: what was not synced counts as not kept.
 fn flush_all(opened: &mut Opened, jobs: &[Job<'_>]) -> Result<(), Status> {
     for job in jobs {
         if job.volume < opened.store.volumes() && opened.store.flush(job.volume).is_err() {
@@ -108,7 +110,8 @@ fn flush_all(opened: &mut Opened, jobs: &[Job<'_>]) -> Result<(), Status> {
             return Err(Status::DeviceFault);
         }
     }
-    note(opened, jobs)
+    note(opened, jobs)?;
+    opened.folder.sync()
 }
 
 /// All passes over the volumes of jobs, and the lines of what was written and copied.

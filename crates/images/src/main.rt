@@ -16,6 +16,7 @@
 #![tactic(auto)]
 
 mod check;
+mod dated;
 mod list;
 mod options;
 mod request;
@@ -45,13 +46,14 @@ fn words_given(program: &Program) -> io::Result<Vec<String>> {
 /// Does a task on an open folder.
 fn call_on(opened: &mut Opened, task: Task<'_>) -> Result<(), Status> {
     match task {
-        Task::Cut { names } => sets::cut(opened, names),
+        Task::Cut { note, names } => sets::cut(opened, note, names),
         Task::Update { tries, keep, pairs } => {
             opened.least = keep;
             let pairs = pairs_of(opened.folder.program.alloc(), pairs)?;
             update(opened, &pairs, tries)
         }
         Task::List => list::list(opened),
+        Task::Sets => dated::list_sets(opened),
         Task::Show(of) => show::show(opened, of),
         Task::Digest(of) => show::digest(opened, of),
         Task::Restore { of, target } => restoring::restore(opened, of, target),

@@ -1,25 +1,31 @@
-use image_folder::number_of;
+use image_folder::{is_note, number_of};
 
 /// The options before the folder.
 #[derive(Clone, Copy)]
-pub struct Options {
+pub struct Options<'a> {
     /// How long to wait for a folder that another process has, in seconds.
     pub wait: u32,
     /// How often a file that changes is read at most.
     pub tries: Option<u32>,
     /// How many sets stay at least.
     pub keep: Option<u32>,
+    /// What is noted of a set.
+    pub note: Option<&'a str>,
     /// Whether a file that is there may be replaced.
     pub is_over: bool,
 }
 
-impl Options {
+impl<'a> Options<'a> {
     /// Takes the option at the front of words, if one is there that was not given yet. Those behind it are answered.
-    fn take<'a>(&mut self, words: &'a [String]) -> Option<&'a [String]> {
+    fn take(&mut self, words: &'a [String]) -> Option<&'a [String]> {
         let (option, count, rest) = match words {
             [option, rest @ ..] if option.as_str() == "--over" && !self.is_over => {
                 self.is_over = true;
                 return Some(rest);
+            }
+            [option, text, rest @ ..] if option.as_str() == "--note" && self.note.is_none() => {
+                self.note = Some(text.as_str());
+                return is_note(text.as_str()).then_some(rest);
             }
             [option, count, rest @ ..] => (option.as_str(), number_of(count.as_str())?, rest),
             _ => return None,
@@ -34,11 +40,12 @@ impl Options {
     }
 
     /// The options at the front of words, and the words behind them.
-    pub fn of(words: &[String]) -> Option<(Options, &[String])> {
+    pub fn of(words: &'a [String]) -> Option<(Options<'a>, &'a [String])> {
         let mut options = Options {
             wait: 0,
             tries: None,
             keep: None,
+            note: None,
             is_over: false,
         };
         let mut rest = words;
@@ -58,6 +65,7 @@ impl Options {
         (reads || self.tries.is_none())
             && (keeps || self.keep.is_none())
             && (word == "restore" || !self.is_over)
+            && (word == "cut" || self.note.is_none())
             && (word != "create" || self.wait == 0)
     }
 }

@@ -48,8 +48,8 @@ fn are_together(opened: &Opened, names: &[String]) -> Result<bool, Status> {
     opened.folder.are_together(&words)
 }
 
-/// `cut F NAME ..`: one set over these volumes.
-pub fn cut(opened: &mut Opened, names: &[String]) -> Result<(), Status> {
+/// `cut F NAME ..`: one set over these volumes, with a note.
+pub fn cut(opened: &mut Opened, note_of: &str, names: &[String]) -> Result<(), Status> {
     opened.check_transit(&[])?;
     let mut volumes = Vec::new(opened.folder.program.alloc());
     add_places(opened, names, &mut volumes)?;
@@ -57,7 +57,9 @@ pub fn cut(opened: &mut Opened, names: &[String]) -> Result<(), Status> {
     match opened.store.cut(&volumes) {
         Ok(set) => {
             write!(opened.text, "set {set}\n")?;
-            opened.commit_marked("cut\n")?;
+            opened.mark("cut\n")?;
+            let done = opened.commit_dated(set, note_of);
+            opened.or_unmark(done)?;
             if !are_together {
                 let (program, path) = (&opened.folder.program, opened.folder.path.as_str());
                 note(

@@ -14,6 +14,7 @@ pub enum Task<'a> {
         pairs: &'a [String],
     },
     Cut {
+        note: &'a str,
         names: &'a [String],
     },
     Update {
@@ -23,6 +24,7 @@ pub enum Task<'a> {
         pairs: &'a [String],
     },
     List,
+    Sets,
     Show(Shown<'a>),
     Digest(Shown<'a>),
     Restore {
@@ -76,7 +78,7 @@ fn restore_of<'a>(is_over: bool, words: &'a [String]) -> Option<Task<'a>> {
 }
 
 /// What `update` makes of these words.
-fn update_of<'a>(options: Options, words: &'a [String]) -> Option<Task<'a>> {
+fn update_of<'a>(options: Options<'a>, words: &'a [String]) -> Option<Task<'a>> {
     are_pairs(words, false).then_some(Task::Update {
         tries: options.tries.unwrap_or(TRIES),
         keep: options.keep.unwrap_or(0),
@@ -118,14 +120,18 @@ fn revert_of<'a>(words: &'a [String]) -> Option<Task<'a>> {
 
 impl<'a> Task<'a> {
     /// What the first word, the options and the words after the folder ask for.
-    pub fn of(word: &str, options: Options, rest: &'a [String]) -> Option<Task<'a>> {
+    pub fn of(word: &str, options: Options<'a>, rest: &'a [String]) -> Option<Task<'a>> {
         if !options.are_of(word) {
             return None;
         }
         match word {
             "create" => create_of(options.tries.unwrap_or(TRIES), rest),
             "update" => update_of(options, rest),
-            "cut" => (!rest.is_empty()).then_some(Task::Cut { names: rest }),
+            "cut" => (!rest.is_empty()).then_some(Task::Cut {
+                note: options.note.unwrap_or(""),
+                names: rest,
+            }),
+            "sets" => rest.is_empty().then_some(Task::Sets),
             "list" => rest.is_empty().then_some(Task::List),
             "show" => Some(Task::Show(words_shown(rest)?)),
             "digest" => Some(Task::Digest(words_shown(rest)?)),
@@ -144,7 +150,8 @@ impl<'a> Task<'a> {
     pub fn way(self) -> Way {
         match self {
             Task::Check => Way::Checking,
-            Task::Show(_) | Task::Digest(_) | Task::Restore { .. } | Task::List => Way::Showing,
+            Task::Show(_) | Task::Digest(_) | Task::Restore { .. } => Way::Showing,
+            Task::List | Task::Sets => Way::Showing,
             _ => Way::Writing,
         }
     }

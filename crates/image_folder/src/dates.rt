@@ -1,0 +1,82 @@
+//! When sets were cut, and what was noted of them: a line `SET SECONDS NOTE` of each, by the clock since the year 1970.
+
+use crate::folder::{DATES, Folder};
+use crate::pair::set_of;
+use crate::program::Program;
+use crate::status::Status;
+use std::time::{SystemTime, UNIX_EPOCH};
+
+/// The most bytes of a note.
+pub const MOST_NOTE: usize = 100;
+
+/// When a set was cut, in seconds since the year 1970, and what was noted of it.
+#[derive(Clone, Copy)]
+pub struct Dated<'a> {
+    pub seconds: u64,
+    pub note: &'a str,
+}
+
+/// Whether a text may be noted of a set: printable ASCII and spaces.
+pub fn is_note(text: &str) -> bool {
+    let bytes = text.as_bytes();
+    bytes.len() <= MOST_NOTE && bytes.iter().all(|byte| (b' '..=b'~').contains(byte))
+}
+
+/// The seconds of the clock since the year 1970; 0 of one that cannot be read.
+fn seconds_now(program: &Program) -> u64 {
+    let Ok(now) = SystemTime::now(&program.rt) else {
+        return 0;
+    };
+    match now.duration_since(UNIX_EPOCH) {
+        Ok(since) => since.as_secs(),
+        Err(_) => 0,
+    }
+}
+
+/// The set that a line is of, and what it says.
+fn parted(line: &str) -> Option<(u32, Dated<'_>)> {
+    let (set, rest) = line.split_once(' ')?;
+    let (seconds, note) = rest.split_once(' ')?;
+    let seconds = seconds.parse::<u64>().ok()?;
+    Some((set_of(set)?, Dated { seconds, note }))
+}
+
+/// What lines say of a set, if it was dated.
+pub fn dated_in(lines: &str, set: u32) -> Option<Dated<'_>> {
+    for line in lines.lines() {
+        match parted(line) {
+            Some((of, dated)) if of == set => return Some(dated),
+            _ => {}
+        }
+    }
+    None
+}
+
+impl Folder {
+    /// The lines of all sets, if there are any: sets of an earlier program have none.
+    pub fn dates(&self) -> Result<String, Status> {
+        let alloc = self.program.alloc();
+        let Some(bytes) = self.small(DATES)? else {
+            return Ok(String::new(alloc));
+        };
+        let text = std::str::from_utf8(&bytes).unwrap_or("");
+        Ok(String::from_str(alloc, text)?)
+    }
+
+    /// Notes when a set is cut, before it lasts. Of all others only those that stand keep their lines.
+    pub fn note_date(&self, standing: &[u32], set: u32, note: &str) -> Result<(), Status> {
+        let old = self.dates()?;
+        let mut new = String::new(self.program.alloc());
+        for line in old.lines() {
+            let of = match parted(line) {
+                Some((of, _)) => of,
+                None => set,
+            };
+            if of != set && standing.contains(&of) {
+                write!(new, "{line}\n")?;
+            }
+        }
+        write!(new, "{set} {} {note}\n", seconds_now(&self.program))?;
+        self.put_small(DATES, new.as_str())
+    }
+}
