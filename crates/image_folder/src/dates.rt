@@ -63,7 +63,7 @@ impl Folder {
         Ok(String::from_str(alloc, text)?)
     }
 
-    /// Notes when a set is cut, before it lasts. Of all others only those that stand keep their lines.
+    /// Notes when a set is cut, before it lasts. Of all others only those that stand, by rising numbers, keep their lines.
     pub fn note_date(&self, standing: &[u32], set: u32, note: &str) -> Result<(), Status> {
         let old = self.dates()?;
         let mut new = String::new(self.program.alloc());
@@ -72,7 +72,7 @@ impl Folder {
                 Some((of, _)) => of,
                 None => set,
             };
-            if of != set && standing.contains(&of) {
+            if of != set && standing.binary_search(&of).is_ok() {
                 write!(new, "{line}\n")?;
             }
         }

@@ -38,8 +38,11 @@ const STATE_NEW: &str = "images.state.new";
 /// How long it waits between two looks at a lock, in milliseconds.
 const PAUSE: u64 = 100;
 
-/// The most bytes of a marker, and of the lists of sets and of what was brought together.
-const MOST_SMALL: u64 = 1 << 24;
+/// The most bytes of a marker, and of the list of what was brought together.
+const MOST_SMALL: u64 = 8192;
+
+/// The most bytes of the list of sets.
+const MOST_DATES: u64 = 1 << 24;
 
 /// An open folder of images. It is locked until this is dropped.
 #[derive(Drop)]
@@ -94,10 +97,10 @@ fn write_whole(program: &Program, path: &str, bytes: &[u8]) -> io::Result<()> {
 }
 
 /// The bytes of a small file, where it is there; none of what cannot be one.
-fn small_at(program: &Program, path: &str) -> Result<Option<Vec<u8>>, Status> {
+fn small_at(program: &Program, path: &str, most: u64) -> Result<Option<Vec<u8>>, Status> {
     let bytes = match own_at(program, path, false) {
         Err(error) if error.kind() == ErrorKind::NotFound => return Ok(None),
-        Ok(Some((file, found))) if found.len() <= MOST_SMALL => all_of(program, file),
+        Ok(Some((file, found))) if found.len() <= most => all_of(program, file),
         Ok(_) => return Ok(Some(Vec::new(program.alloc()))),
         Err(error) => Err(error),
     };
@@ -176,7 +179,12 @@ impl Folder {
 
     /// The bytes of a small file of it, where it is there; none of one that is no file or too long.
     pub fn small(&self, name: &str) -> Result<Option<Vec<u8>>, Status> {
-        small_at(&self.program, self.path_of(name)?.as_str())
+        let most = if name == DATES {
+            MOST_DATES
+        } else {
+            MOST_SMALL
+        };
+        small_at(&self.program, self.path_of(name)?.as_str(), most)
     }
 
     /// Makes a small file of it, and sees that it lasts.
