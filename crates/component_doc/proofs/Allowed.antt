@@ -1,9 +1,10 @@
 -- Metadata that are as their format allows.
-use Rattle.std.proofs.Common.{◌≡◌, ◌≤◌, ℕ, zero, suc, List, [], ◌∷◌, length, map, Bool, true, ◌&&◌, Option, None, Some, slice_get, IsUtf8, arith, refl, subst}
+use Rattle.std.proofs.Common.{◌≡◌, ◌≤◌, ℕ, zero, suc, List, [], ◌∷◌, length, map, true, Option, None, Some, slice_get, IsUtf8, arith, refl, subst}
 use Rattle.std.proofs.lemmas.Bool.Decides.{nat_tests}
 use Rattle.std.proofs.lemmas.Option.{none-some, same_Some}
 use Rattle.std.proofs.lemmas.Str.{IsUtf8-append}
 use Rattle.std.specs.List.{list_all}
+use Rattle.std.proofs.lemmas.Bool.{and_from}
 use Rattle.writer_meta.specs.declared.component.Component.{Component}
 use Rattle.writer_meta.specs.Metadata.{Part, Meta, part_of, joined, full_name, backslash}
 use Rattle.writer_meta.specs.Allowed.{IsAllowed, is_allowed_part}
@@ -12,9 +13,6 @@ use Rattle.writer_meta.proofs.Texts.{IsUtf8-printable, IsUtf8-part_name, IsUtf8-
 use Rattle.component_doc.specs.Held.{has_few, all_have_few}
 use Rattle.component_doc.specs.Over.{AreAllowed}
 
-both : (a b : Bool) → a ≡ true → b ≡ true → (a && b) ≡ true
-both a b x y = rw (x, y) refl
-
 few-of : (m : Meta) → length m.parts ≤ 1024 → has_few (Some m) ≡ true
 few-of m few = grind (arith, nat_tests)
 
@@ -22,7 +20,7 @@ few-of m few = grind (arith, nat_tests)
 pub few-from_allowed : (ms : List (Option Meta)) → AreAllowed ms → all_have_few ms ≡ true
 few-from_allowed [] all = refl
 few-from_allowed (None ∷ ms) all = few-from_allowed ms all
-few-from_allowed (Some m ∷ ms) all = both (has_few (Some m)) _ (few-of m all.0.few) (few-from_allowed ms all.1)
+few-from_allowed (Some m ∷ ms) all = and_from (has_few (Some m)) _ (few-of m all.0.few) (few-from_allowed ms all.1)
 
 -- the components of one writer
 pub part-at : (components : List Component) (i : ℕ) (c : Component) → slice_get components i ≡ Some c → list_all is_allowed_part (map part_of components) ≡ true → is_allowed_part (part_of c) ≡ true

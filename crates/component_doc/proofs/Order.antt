@@ -1,16 +1,14 @@
 -- Pairs in order of writers and then of components.
-use Rattle.std.proofs.Common.{◌≡◌, ◌∙◌, ℕ, zero, suc, ◌+◌, ◌<◌, length, drop, sym, ap, List, [], ◌∷◌, Bool, true, false, ◌&&◌, ◌||◌, if◌then◌else◌, arith, refl}
+use Rattle.std.proofs.Common.{◌≡◌, ◌∙◌, ℕ, zero, suc, ◌+◌, ◌<◌, length, drop, sym, ap, List, [], ◌∷◌, Bool, true, false, ◌&&◌, if◌then◌else◌, arith, refl}
 use Rattle.std.proofs.lemmas.Bool.Decides.{nat_tests}
 use Rattle.std.specs.List.{list_all}
+use Rattle.std.proofs.lemmas.Bool.{or_parts}
 use Rattle.writer_meta.proofs.Laws.{and_left, and_right}
 use Rattle.component_doc.specs.Selection.{Pair, comes_before, is_pair, has_pair, with_pair}
 use Rattle.component_doc.specs.Over.{is_ascending, is_before_next}
 
 pub both : (a b : Bool) → a ≡ true → b ≡ true → (a && b) ≡ true
 both a b x y = rw (x, y) refl
-
-pub none-of : (a b : Bool) → (a || b) ≡ false → (a ≡ false) × (b ≡ false)
-none-of a b e = grind arith
 
 trans : (p q r : Pair) → comes_before p q ≡ true → comes_before q r ≡ true → comes_before p r ≡ true
 trans p q r first second = grind (arith, nat_tests)
@@ -41,7 +39,7 @@ all-with_pair P q (p ∷ ps) new all =
 pub ascending-with_pair : (q : Pair) (ps : List Pair) → has_pair ps q.writer q.component ≡ false → is_ascending ps ≡ true → is_ascending (with_pair q ps) ≡ true
 ascending-with_pair q [] new up = refl
 ascending-with_pair q (p ∷ ps) new up =
-    let other = none-of (is_pair q.writer q.component p) (has_pair ps q.writer q.component) new in
+    let other = or_parts (is_pair q.writer q.component p) (has_pair ps q.writer q.component) new in
     let behind = and_left (list_all (comes_before p) ps) (is_ascending ps) up in
     let rest = and_right (list_all (comes_before p) ps) (is_ascending ps) up in
     ascending-if (comes_before q p) (q ∷ p ∷ ps) (p ∷ with_pair q ps)

@@ -4,11 +4,11 @@ use Rattle.std.specs.Prelude.{⊤}
 use Rattle.std.proofs.lemmas.Bool.Decides.{nat_tests}
 use Rattle.std.proofs.lemmas.Option.{slice_get_past}
 use Rattle.std.specs.List.{list_all}
+use Rattle.std.proofs.lemmas.Bool.{or_parts}
 use Rattle.writer_meta.specs.Metadata.{Meta}
 use Rattle.writer_meta.proofs.Laws.{and_left, and_right}
 use Rattle.component_doc.specs.Selection.{Pair, Named, comes_before, is_pair, has_pair, with_pair, is_taker}
 use Rattle.component_doc.specs.Over.{meta_at, is_selectable_of, names_selectable, is_ascending}
-use Rattle.component_doc.proofs.Order.{none-of}
 
 abbrev pub pair : ℕ → ℕ → Pair
 pair w i = record { writer = w; component = i }
@@ -74,7 +74,7 @@ ahead-one w i p ahead other = grind arith
 pub ahead-next : (w i : ℕ) (ps : List Pair) → AllAhead w i ps → has_pair ps w i ≡ false → AllAhead w (i + 1) ps
 ahead-next w i [] all none = tt
 ahead-next w i (p ∷ ps) all none =
-    let others = none-of (is_pair w i p) (has_pair ps w i) none in
+    let others = or_parts (is_pair w i p) (has_pair ps w i) none in
     (ahead-one w i p all.0 others.0, ahead-next w i ps all.1 others.1)
 
 behind-one : (w i : ℕ) (p : Pair) → comes_before (pair w i) p ≡ true → IsAhead w (i + 1) p
@@ -121,7 +121,7 @@ ahead-writer w i p ahead other = record { writer = omega (arith, ahead.writer, o
 pub absent-over : (w i : ℕ) (ps : List Pair) → AllAhead w i ps → is_taker (Named ps) w ≡ false → AllAhead (w + 1) 0 ps
 absent-over w i [] all none = tt
 absent-over w i (p ∷ ps) all none =
-    let others = none-of (p.writer == w) (is_taker (Named ps) w) none in
+    let others = or_parts (p.writer == w) (is_taker (Named ps) w) none in
     (ahead-writer w i p all.0 (λ e. grind (arith, nat_tests, others.0, e)), absent-over w i ps all.1 others.1)
 
 not-unknown : (ms : List (Option Meta)) (w : ℕ) (p : Pair) → slice_get ms w ≡ Some None → names_selectable ms p ≡ true → p.writer ≡ w → ⊥

@@ -5,6 +5,7 @@ use Rattle.std.proofs.lemmas.Option.{none-some, same_Some}
 use Rattle.std.proofs.lemmas.Slice.Eq.{bytes_eq-Decides}
 use Rattle.std.specs.List.{list_all, list_any}
 use Rattle.std.specs.Str.{bytes_eq}
+use Rattle.std.proofs.lemmas.Bool.{or_parts}
 use Rattle.serde_json.specs.Data.{Items, item}
 use Rattle.vss_names.specs.declared.context.Context.{Context}
 use Rattle.vss_names.proofs.ContextRows.{context_of_number-number_of}
@@ -17,7 +18,6 @@ use Rattle.component_doc.specs.Selection.{Pair, Selected, Named, has_pair, found
 use Rattle.component_doc.specs.Over.{AreAllowed, names_selectable, is_ascending, IsSelectedOver, is_selectable_of, meta_at, is_selectable}
 use Rattle.component_doc.specs.Document.{component_data, choices_data, document_of, document}
 use Rattle.component_doc.specs.Reading.{context_in, explicit_in, writer_in, path_in, pairs_named, named_by, named_by_all, components_in, selected_in}
-use Rattle.component_doc.proofs.Order.{none-of}
 use Rattle.component_doc.proofs.Places.{pair, AllPassed, has-none, put-last, passed-on, passed-with, passed-writer, AllAhead, all-ahead, ahead-next, IsFront, front, absent-over, unknown-over, writer-over, all-over}
 
 -- ## components by their full names
@@ -37,7 +37,7 @@ apart-at names (p ∷ parts) zero c apart at =
     subst (λ (q : Part). list_any (λ name. bytes_eq name (full_name q)) names ≡ false) (same_Some p c at) first.0
 apart-at names (p ∷ parts) (suc i) c apart at =
     let first = apart-if (list_any (λ name. bytes_eq name (full_name p)) names) (full_name p) (double_after (full_name p ∷ names) parts) apart in
-    (none-of (bytes_eq (full_name p) (full_name c)) (list_any (λ name. bytes_eq name (full_name c)) names) (apart-at (full_name p ∷ names) parts i c first.1 at)).1
+    (or_parts (bytes_eq (full_name p) (full_name c)) (list_any (λ name. bytes_eq name (full_name c)) names) (apart-at (full_name p ∷ names) parts i c first.1 at)).1
 
 abbrev found-as : ℕ → Bool → Found
 found-as n s = record { component = n; selectable = s }
@@ -53,7 +53,7 @@ found-from names (p ∷ parts) k zero c apart at =
     rw here (ap (λ (q : Part). Some (found-as k q.selectable)) same ∙ ap (λ n. Some (found-as n c.selectable)) place)
 found-from names (p ∷ parts) k (suc i) c apart at =
     let first = apart-if (list_any (λ name. bytes_eq name (full_name p)) names) (full_name p) (double_after (full_name p ∷ names) parts) apart in
-    let other = (none-of (bytes_eq (full_name p) (full_name c)) (list_any (λ name. bytes_eq name (full_name c)) names) (apart-at (full_name p ∷ names) parts i c first.1 at)).0 in
+    let other = (or_parts (bytes_eq (full_name p) (full_name c)) (list_any (λ name. bytes_eq name (full_name c)) names) (apart-at (full_name p ∷ names) parts i c first.1 at)).0 in
     let place : k + 1 + i ≡ k + suc i = omega arith in
     rw other (found-from (full_name p ∷ names) parts (k + 1) i c first.1 at ∙ ap (λ n. Some (found-as n c.selectable)) place)
 
@@ -169,7 +169,7 @@ through-parts ms ps m w i (c ∷ cs) done rest more known apart tie end at =
 -- ## the writers
 
 taker-rest : (ms : List (Option Meta)) (ps : List Pair) (w i : ℕ) (done rest : List Pair) → IsAt ms ps w i done rest → is_taker (Named ps) w ≡ false → is_taker (Named rest) w ≡ false
-taker-rest ms ps w i done rest at none = grind (arith, none-of, list_any-append)
+taker-rest ms ps w i done rest at none = grind (arith, or_parts, list_any-append)
 
 writer-if : (ms : List (Option Meta)) (ps : List Pair) (m : Meta) (w : ℕ) (done rest : List Pair) (more : List Choice) (takes : Bool) → is_taker (Named ps) w ≡ takes → slice_get ms w ≡ Some (Some m)
     → double_after [] m.parts ≡ None → IsAt ms ps w 0 done rest

@@ -1,14 +1,14 @@
 -- What the calls of a group do to the whole copies that it has.
-use Rattle.std.proofs.Common.{◌≡◌, ◌≢◌, ℕ, ◌+◌, ◌<◌, ◌≤◌, List, [], ◌∷◌, ◌++◌, length, map, take, refl, ap, sym, subst, ◌∙◌, arith, false, Option, Some, is_some, option_map}
-use Rattle.std.specs.Prelude.{slice_get, slice_set, nat_lt, not, Result, Ok, Err, All}
+use Rattle.std.proofs.Common.{◌≡◌, ◌≢◌, ℕ, ◌+◌, ◌<◌, ◌≤◌, List, [], ◌∷◌, ◌++◌, length, map, take, refl, ap, sym, subst, ◌∙◌, arith, Option, Some, is_some, option_map}
+use Rattle.std.specs.Prelude.{slice_get, slice_set, nat_lt, not, Result, Ok, Err}
 use Rattle.std.proofs.lemmas.Option.{slice_get_within}
-use Rattle.write_history.specs.History.{Write, Image, History, contents, point_in, cut, written, dropped, reverted, reverted_in_part}
+use Rattle.write_history.specs.History.{Write, History, contents, point_in, cut, written, dropped, reverted, reverted_in_part}
 use Rattle.write_history.specs.Slots.{gone_up_to}
 use Rattle.diff_area.specs.AreaValue.{AreaValue}
 use Rattle.cow_volume.specs.GroupValue.{GroupValue, placed}
 use Rattle.cow_volume.specs.StandsFor.{StandsFor}
 use Rattle.cow_volume.specs.Ending.{AllTell}
-use Rattle.cow_volume.specs.Room.{HasRoom, lacks_slot}
+use Rattle.cow_volume.specs.Room.{HasRoom}
 use Rattle.cow_volume.specs.Steps.{IsPut, IsNotPut, IsPutOr}
 use Rattle.cow_volume.specs.Calls.{history_at, changed_at, blocks_at, blocks_in, sets_at, sets_in, is_among, IsChanged, IsReverted, IsRevertedInPart, IsQuiet, IsNow}
 use Rattle.cow_volume.specs.declared.cause.Cause.{Cause}
@@ -49,9 +49,6 @@ pub record IsCutTo {D : Type 0} (told : D → Option (List (List ℕ))) (old now
   pub plains : (ps : List Plain) → HasPlains told old ps → HasPlains told now (on_each (take k vs) (cut_on set) ps)
   pub rest : (j u : ℕ) → k ≤ j → slice_get vs j ≡ Some u → sets_at now u ≡ sets_at old u
 
-pub cut_none : {D : Type 0} → (told : D → Option (List (List ℕ))) (old : GroupValue D) (vs : List ℕ) (set : ℕ) → IsCutTo told old old vs set 0
-cut_none told old vs set = record { volumes = refl; plains = λ ps has. has; rest = λ j u l at. refl }
-
 pub cut_more : {D : Type 0} → (told : D → Option (List (List ℕ))) (old now new : GroupValue D) (vs : List ℕ) (set k v : ℕ) → IsCutTo told old now vs set k → slice_get vs k ≡ Some v
     → ((j u : ℕ) → k < j → slice_get vs j ≡ Some u → v ≢ u) → v < length old.area.volumes → new.devices ≡ now.devices → new.area ≡ now.area
     → new.images ≡ slice_set now.images v (sets_at now v ++ set ∷ []) → ((hs : List History) → StandsFor told now hs → StandsFor told new (changed_at v (cut set) hs))
@@ -88,28 +85,7 @@ gone_plains told old new ps v b up_to room has = subst (λ (g : GroupValue _). H
 
 -- none goes
 pub room_plains : {D : Type 0} → (told : D → Option (List (List ℕ))) (old new : GroupValue D) (v b up_to : ℕ) → up_to ≡ 0 → HasRoom told old new v b up_to → KeepsPlains told old new
-room_plains told old new v b up_to none room =
-    let volumes : new.area.volumes ≡ old.area.volumes = ap (λ (g : GroupValue _). g.area.volumes) room.left in
-    record {
-      volumes = volumes;
-      plains = λ ps has.
-          let same : gone_up_to up_to (placed old.area.volumes) has.hs ≡ has.hs = ap (λ m. gone_up_to m (placed old.area.volumes) has.hs) none
-          ∙ gone_up_to_none (placed old.area.volumes) has.hs (λ u h at.
-          let within = slice_get_within has.hs u h at in
-          let long = has.stands.histories in
-          let place = place_at told old has.hs u has.stands (omega arith) in
-          subst (λ (g : History). All (λ (i : Image). 0 < i.set) g.images) (history_at_is has.hs u h at) place.stands.images.above_zero) in
-          record {
-            hs = has.hs;
-            stands = subst (λ (hs : List History). StandsFor told new hs) same (room.stands has.hs has.stands);
-            devices = subst (λ (g : GroupValue _). AllTell told g.devices) (sym room.left) has.devices;
-            area = ap (λ (g : GroupValue _). is_some (told g.area.device)) room.left ∙ has.area;
-            plains = has.plains ∙ ap (λ ns. plains_of ns has.hs) (sym volumes);
-          };
-    }
-
-pub room_volumes : {D : Type 0} → (told : D → Option (List (List ℕ))) (old new : GroupValue D) (v b up_to : ℕ) → HasRoom told old new v b up_to → new.area.volumes ≡ old.area.volumes
-room_volumes told old new v b up_to room = ap (λ (g : GroupValue _). g.area.volumes) room.left
+room_plains told old new v b up_to none room = grind (arith, gone_up_to_none, slice_get_within, place_at, history_at_is)
 
 -- ## writes
 
@@ -143,8 +119,7 @@ put_same ghosts old new ps v b bytes (Err cause) l m is own has = (not_put_kept 
 
 pub put_volumes : {D : Type 0} → (ghosts : Ghosts D) (old new : GroupValue D) (v : ℕ) (w : Write) (r : Result Unit Cause)
     → IsPutOr ghosts old new v w r → new.area.volumes ≡ old.area.volumes
-put_volumes ghosts old new v w (Ok done) is = is.kept.volumes
-put_volumes ghosts old new v w (Err cause) is = is.kept.volumes
+put_volumes ghosts old new v w r is = grind arith
 
 -- a block is read and its own bytes are put
 pub copy_kept : {D : Type 0} → (ghosts : Ghosts D) (old mid new : GroupValue D) (v b : ℕ) (bytes : List ℕ) (r : Result Unit Cause)
@@ -158,12 +133,6 @@ copy_kept ghosts old mid new v b bytes r l m quiet now is =
       plains = λ ps has. put_same ghosts mid new ps v b bytes r (omega arith) (omega arith) is (block_now ghosts.told old ps v b bytes has l m now)
           ((quiet_kept ghosts old mid quiet).plains ps has);
     }
-
--- a read leaves the room for a write
-pub room_left : {D : Type 0} → (ghosts : Ghosts D) (old new : GroupValue D) (v b : ℕ) → IsQuiet ghosts old new
-    → lacks_slot old.area.records v (sets_at old v) b ≡ false → lacks_slot new.area.records v (sets_at new v) b ≡ false
-room_left ghosts old new v b quiet room =
-    ap (λ records. lacks_slot records v (sets_at new v) b) quiet.records ∙ ap (λ (images : List (List ℕ)). lacks_slot old.area.records v (sets_in (slice_get images v)) b) quiet.images ∙ room
 
 -- ## reverts
 

@@ -1,9 +1,8 @@
 -- What the passes of an update make of the copies.
 use Rattle.std.proofs.Common.{◌≡◌, ◌≢◌, ℕ, zero, suc, ◌+◌, ◌-◌, ◌^◌, ◌<◌, ◌≤◌, List, [], ◌∷◌, length, min, refl, ap, sym, subst, ◌∙◌, arith, Bool, true, false, not, Option, Some, inl, inr}
-use Rattle.std.specs.Prelude.{◌⊎◌, ◌==◌, slice_get, slice_set, if◌then◌else◌, ◌&&◌, nat_le, nat_lt, Result, Ok, Err}
+use Rattle.std.specs.Prelude.{◌⊎◌, ◌==◌, slice_get, if◌then◌else◌, ◌&&◌, nat_lt, Result, Ok}
 use Rattle.std.specs.Int.{from_bool}
 use Rattle.std.proofs.lemmas.Bool.{false≢true, cases_lt, lt-ltb, le-ltb}
-use Rattle.std.proofs.lemmas.Bool.Decides.{nat_tests}
 use Rattle.std.proofs.lemmas.List.Sums.{sum_by-cons}
 use Rattle.std.proofs.lemmas.Option.{same_Some, slice_get_within}
 use Rattle.diff_area.specs.Places.{place_of_slot}
@@ -12,11 +11,10 @@ use Rattle.diff_area.specs.declared.table_record.Record.{Record}
 use Rattle.diff_map.specs.MapValue.{AreImages, newest}
 use Rattle.cow_volume.specs.GroupValue.{GroupValue}
 use Rattle.cow_volume.specs.StandsFor.{record_of}
-use Rattle.cow_volume.specs.Changes.{has_record, gone_row, gone_to, noted}
+use Rattle.cow_volume.specs.Changes.{has_record, gone_to, noted}
 use Rattle.cow_volume.specs.Calls.{sets_at, sets_in, IsQuiet}
 use Rattle.cow_volume.specs.CopiedOnce.{IsAreaPut, IsFreeSlotCopied}
 use Rattle.cow_volume.specs.Room.{after, gone_group, lacks_copy, is_full, HasRoom}
-use Rattle.cow_volume.specs.Steps.{put}
 use Rattle.cow_volume.specs.declared.cause.Cause.{Cause}
 use Rattle.cow_volume.proofs.Counting.{record_is_used}
 use Rattle.cow_volume.proofs.Group.{slice_get-set_same, slice_get-set_other, length-slice_set, slice_get_inside, slice_get_map, same_number}
@@ -33,26 +31,13 @@ pub area_itself : {D : Type 0} (told : D → Option (List (List ℕ))) (g : Grou
 area_itself told g = record { volumes = refl; images = refl; records = refl; slots = refl }
 
 pub area_then : {D : Type 0} (told : D → Option (List (List ℕ))) (a b c : GroupValue D) → IsAreaSame told a b → IsAreaSame told b c → IsAreaSame told a c
-area_then told a b c first second = record {
-  volumes = second.volumes ∙ first.volumes;
-  images = second.images ∙ first.images;
-  records = second.records ∙ first.records;
-  slots = second.slots ∙ first.slots;
-}
+area_then told a b c first second = grind arith
 
 pub area_quiet : {D : Type 0} (ghosts : Ghosts D) (old new : GroupValue D) → IsQuiet ghosts old new → IsAreaSame ghosts.told old new
 area_quiet ghosts old new quiet = record { volumes = quiet.kept.volumes; images = quiet.images; records = quiet.records; slots = quiet.slots }
 
 pub area_kept : {D : Type 0} (told : D → Option (List (List ℕ))) (old new : GroupValue D) → IsAreaSame told old new → KeepsCopies told old new
-area_kept told old new same = record {
-  copies = record {
-    volumes = same.volumes;
-    images = same.images;
-    number = ap length same.records;
-    records = λ slot r at used. ap (λ (rs : List Record). slice_get rs slot) same.records ∙ at;
-  };
-  slots = record { blocks = λ before is. (before, same.slots ∙ is, record { number = refl; same = λ k held. refl }) };
-}
+area_kept told old new same = grind arith
 
 -- ## one call after another
 
@@ -70,12 +55,7 @@ in_use_still old new k number kept held = λ slot is.
         absurd (other (same_Some r free (sym (kept slot r at other) ∙ is)))
 
 pub copies_then : {D : Type 0} (a b c : GroupValue D) → HasCopiesOf a b → HasCopiesOf b c → HasCopiesOf a c
-copies_then a b c first second = record {
-  volumes = second.volumes ∙ first.volumes;
-  images = second.images ∙ first.images;
-  number = second.number ∙ first.number;
-  records = λ slot r at used. second.records slot r (first.records slot r at used) used;
-}
+copies_then a b c first second = grind arith
 
 pub keeps_then : {D : Type 0} (told : D → Option (List (List ℕ))) (a b c : GroupValue D) → KeepsCopies told a b → KeepsCopies told b c → KeepsCopies told a c
 keeps_then told a b c first second = record {
@@ -97,49 +77,16 @@ keeps_then told a b c first second = record {
 -- ## one block is put
 
 slot_put : {D : Type 0} (told : D → Option (List (List ℕ))) (old new : GroupValue D) (v b slot : ℕ) → IsFreeSlotCopied told old new v b slot → KeepsSlots told old new
-slot_put told old new v b slot one = record {
-  blocks = λ before is.
-      let place = place_of_slot (length old.area.records) slot in (
-        slice_set before place one.copy,
-        one.copied ∙ ap (put place one.copy) is,
-        record { number = length-slice_set before place one.copy; same = λ k held. slice_get-set_other before place k one.copy (λ e. held slot one.was_free (sym e)) },
-      );
-}
+slot_put told old new v b slot one = grind (arith, length-slice_set, slice_get-set_other)
 
 pub put_keeps : {D : Type 0} (told : D → Option (List (List ℕ))) (old new : GroupValue D) (v b : ℕ) (r : Result Unit Cause) → IsAreaPut told old new v b r → new.images ≡ old.images
     → new.area.volumes ≡ old.area.volumes → KeepsCopies told old new
-put_keeps told old new v b (Ok done) (inl none) images volumes = area_kept told old new (record { volumes = volumes; images = images; records = none.records; slots = none.slots })
-put_keeps told old new v b (Ok done) (inr one) images volumes =
-    let row = record_of v (newest (sets_at old v)) b in
-    record {
-      copies = record {
-        volumes = volumes;
-        images = images;
-        number = ap length one.records ∙ length-slice_set old.area.records one.slot row;
-        records = λ slot r at used. ap (λ (rs : List Record). slice_get rs slot) one.records
-            ∙ slice_get-set_other old.area.records one.slot slot row (λ e. used (same_Some r free (sym at ∙ ap (slice_get old.area.records) (sym e) ∙ one.copy.was_free)))
-            ∙ at;
-      };
-      slots = slot_put told old new v b one.slot one.copy;
-    }
-put_keeps told old new v b (Err cause) broken images volumes = record {
-  copies = record {
-    volumes = volumes;
-    images = images;
-    number = ap length broken.records;
-    records = λ slot r at used. ap (λ (rs : List Record). slice_get rs slot) broken.records ∙ at;
-  };
-  slots = elim broken.slots [
-    | inl same ↦ (area_kept told old new (record { volumes = volumes; images = images; records = broken.records; slots = same })).slots
-    | inr one ↦ slot_put told old new v b one.0 one.1
-  ];
-}
+put_keeps told old new v b r broken images volumes = grind (arith, area_kept, length-slice_set, slice_get-set_other, same_Some, slot_put)
 
 -- the newest image has its copy
 lacks_where : {D : Type 0} (old new : GroupValue D) (v b : ℕ) → new.area.records ≡ old.area.records → new.images ≡ old.images
     → lacks_copy new.area.records v (sets_at new v) b ≡ lacks_copy old.area.records v (sets_at old v) b
-lacks_where old new v b records images =
-    ap (λ (rs : List Record). lacks_copy rs v (sets_at new v) b) records ∙ ap (λ (i : List (List ℕ)). lacks_copy old.area.records v (sets_in (slice_get i v)) b) images
+lacks_where old new v b records images = grind arith
 
 has_noted : (records : List Record) (v : ℕ) (sets : List ℕ) (b slot : ℕ) → 0 < length sets → slice_get records slot ≡ Some (record_of v (newest sets) b) → lacks_copy records v sets b ≡ false
 has_noted records v sets b slot some at = lacks_newest records v sets b some ∙ ap not (has_from_slot records (record_of v (newest sets) b) slot at)
@@ -177,23 +124,12 @@ abbrev pub one_if : Bool → ℕ
 one_if t = if t then 1 else 0
 
 pub bool_is : (t : Bool) → from_bool t ≡ one_if t
-bool_is true = refl
-bool_is false = refl
+bool_is t = grind arith
 
 -- whether more are used
 pub put_more : {D : Type 0} (told : D → Option (List (List ℕ))) (old new : GroupValue D) (v b : ℕ) (done : Unit {0}) → IsAreaPut told old new v b (Ok done) → AreImages (sets_at old v)
     → used_in new.area.records ≡ used_in old.area.records + one_if (nat_lt (used_in old.area.records) (used_in new.area.records))
-put_more told old new v b done (inl none) are = counted_none (used_in old.area.records) (used_in new.area.records) (ap used_in none.records) where
-  counted_none : (m n : ℕ) → n ≡ m → n ≡ m + one_if (nat_lt m n)
-  counted_none m n e = let same : n ≡ m + 0 = omega arith in same ∙ ap (λ (t : Bool). m + one_if t) (sym (le-ltb m n (omega arith)))
-put_more told old new v b done (inr one) are =
-    let some = lacks_some old.area.records v (sets_at old v) b one.copy.lacks in
-    let row = record_of v (newest (sets_at old v)) b in
-    counted_one (used_in old.area.records) (used_in new.area.records)
-    (ap used_in one.records ∙ used_noted old.area.records one.slot row one.copy.was_free (record_is_used row (newest_above (sets_at old v) are some)))
-  where
-    counted_one : (m n : ℕ) → n ≡ m + 1 → n ≡ m + one_if (nat_lt m n)
-    counted_one m n e = e ∙ ap (λ (t : Bool). m + one_if t) (sym (lt-ltb m n (omega arith)))
+put_more told old new v b done x6 are = grind (arith, le-ltb, lacks_some, used_noted, record_is_used, newest_above, lt-ltb)
 
 -- ## copies that stay
 
@@ -222,40 +158,22 @@ copied_kept old new v differs from to are kept copied = λ b low high marked.
 
 -- and where images go: the newest has gone too, or its record stays
 gone_has : (records : List Record) (v : ℕ) (sets : List ℕ) (b up_to : ℕ) → AreImages sets → lacks_copy records v sets b ≡ false → lacks_copy (gone_to up_to records) v (after up_to sets) b ≡ false
-gone_has records v sets b up_to are has = elim (cases_lt up_to (newest sets)) [
-  | inl low ↦ (keeps_newest (gone_to up_to records) v b up_to sets low).1
-      ∙ kept_has records (gone_to up_to records) v sets b are
-      (λ slot above at. slice_get_map (gone_row up_to) records slot (record_of v (newest sets) b) at ∙ ap Some (stays (newest sets) up_to low (record_of v (newest sets) b))) has
-  | inr high ↦ ap (λ (s : List ℕ). lacks_copy (gone_to up_to records) v s b) (none_after up_to sets (λ i s at. let most = newest_most sets i s are at in omega arith))
-] where
-  stays : (set up_to : ℕ) → up_to < set → (r : Record) → (if nat_le set up_to then free else r) ≡ r
-  stays set up_to low r = ap (λ (t : Bool). if t then free else r) (above set up_to low) where
-    above : (set up_to : ℕ) → up_to < set → nat_le set up_to ≡ false
-    above set up_to l = grind (arith, nat_tests)
+gone_has records v sets b up_to are has = grind (arith, cases_lt, keeps_newest, kept_has, slice_get_map, none_after, newest_most)
 
 pub copied_gone : {D : Type 0} (full new : GroupValue D) (v : ℕ) (differs : List Bool) (from to up_to : ℕ) → AreImages (sets_at full v) → new ≡ gone_group up_to full → AreCopied full v differs from to
     → AreCopied new v differs from to
-copied_gone {D = D} full new v differs from to up_to are gone copied = subst (λ (g : GroupValue D). AreCopied g v differs from to) (sym gone) (λ b low high marked.
-    ap (λ (s : List ℕ). lacks_copy (gone_to up_to full.area.records) v s b) (sets_after up_to v full.images)
-    ∙ gone_has full.area.records v (sets_at full v) b up_to are (copied b low high marked))
+copied_gone full new v differs from to up_to are gone copied = grind (arith, sets_after, gone_has)
 
 -- ## the second pass
 
-pub copied_none : {D : Type 0} (told : D → Option (List (List ℕ))) (g : GroupValue D) (v : ℕ) (differs : List Bool) (from counted : ℕ) → counted < 2 ^ 32 → AreCopiedTo told g g v differs from from counted counted
-copied_none told g v differs from counted most = record {
-  kept = area_kept told g g (area_itself told g);
-  copied = λ b low high marked. absurd (omega arith);
-  counts = record { more = 0; used = omega arith; counted = omega arith };
-}
+pub copied_none : {D : Type 0} (told : D → Option (List (List ℕ))) (g : GroupValue D) (v : ℕ) (differs : List Bool) (from counted : ℕ) → counted < 2 ^ 32
+    → AreCopiedTo told g g v differs from from counted counted
+copied_none told g v differs from counted most = grind (arith, area_kept, area_itself)
 
 -- a volume without images lacks no copy
 pub copied_without : {D : Type 0} (told : D → Option (List (List ℕ))) (g : GroupValue D) (v : ℕ) (differs : List Bool) (from to counted : ℕ) → counted < 2 ^ 32 → sets_at g v ≡ []
     → AreCopiedTo told g g v differs from to counted counted
-copied_without told g v differs from to counted most none = record {
-  kept = area_kept told g g (area_itself told g);
-  copied = λ b low high marked. ap (λ (s : List ℕ). lacks_copy g.area.records v s b) none;
-  counts = record { more = 0; used = omega arith; counted = omega arith };
-}
+copied_without told g v differs from to counted most none = grind (arith, area_kept, area_itself)
 
 pub sets_kept : {D : Type 0} (old new : GroupValue D) (v : ℕ) → HasCopiesOf old new → AreImages (sets_at old v) → AreImages (sets_at new v)
 sets_kept old new v kept are = subst (λ (i : List (List ℕ)). AreImages (sets_in (slice_get i v))) (sym kept.images) are
@@ -263,14 +181,7 @@ sets_kept old new v kept are = subst (λ (i : List (List ℕ)). AreImages (sets_
 -- a block that is not marked is passed
 pub copied_past : {D : Type 0} (told : D → Option (List (List ℕ))) (old now : GroupValue D) (v : ℕ) (differs : List Bool) (from b before counted : ℕ) → slice_get differs b ≡ Some false
     → AreCopiedTo told old now v differs from b before counted → AreCopiedTo told old now v differs from (b + 1) before counted
-copied_past told old now v differs from b before counted unmarked so = record {
-  kept = so.kept;
-  copied = λ k low high marked. by_place k low marked (at_or_below k b high);
-  counts = so.counts;
-} where
-  by_place : (k : ℕ) → from ≤ k → slice_get differs k ≡ Some true → (k ≡ b) ⊎ (k < b) → lacks_copy now.area.records v (sets_at now v) k ≡ false
-  by_place k low marked (inl e) = let both : Some true ≡ Some false = sym marked ∙ ap (slice_get differs) e ∙ unmarked in cc
-  by_place k low marked (inr m) = so.copied k low m marked
+copied_past told old now v differs from b before counted unmarked so = grind (arith, at_or_below)
 
 -- a block is copied
 pub copied_more : {D : Type 0} (told : D → Option (List (List ℕ))) (old now new : GroupValue D) (v : ℕ) (differs : List Bool) (from b before counted counted_now : ℕ) (more : Bool)
@@ -319,13 +230,10 @@ copied_stopped told old now room v differs from to b before counted up_to are ma
 -- a device failed before it was
 pub copied_part : {D : Type 0} (told : D → Option (List (List ℕ))) (old now new : GroupValue D) (v : ℕ) (differs : List Bool) (from b before counted : ℕ) → AreImages (sets_at old v)
     → AreCopiedTo told old now v differs from b before counted → KeepsCopies told now new → new.area.records ≡ now.area.records → AreCopiedTo told old new v differs from b before counted
-copied_part told old now new v differs from b before counted are so kept records = record {
-  kept = keeps_then told old now new so.kept kept;
-  copied = copied_kept now new v differs from b (sets_kept old now v so.kept.copies are) kept.copies so.copied;
-  counts = record { more = so.counts.more; used = ap used_in records ∙ so.counts.used; counted = so.counts.counted };
-}
+copied_part told old now new v differs from b before counted are so kept records = grind (arith, keeps_then, copied_kept, sets_kept)
 
-pub copied_part_with_room : {D : Type 0} (told : D → Option (List (List ℕ))) (old now room new : GroupValue D) (v : ℕ) (differs : List Bool) (from b before counted up_to : ℕ) → AreImages (sets_at old v)
+pub copied_part_with_room : {D : Type 0} (told : D → Option (List (List ℕ))) (old now room new : GroupValue D) (v : ℕ) (differs : List Bool)
+    (from b before counted up_to : ℕ) → AreImages (sets_at old v)
     → AreCopiedTo told old now v differs from b before counted → HasRoom told now room v b up_to → up_to ≤ 0 → KeepsCopies told room new → new.area.records ≡ room.area.records
     → AreCopiedTo told old new v differs from b before counted
 copied_part_with_room {D = D} told old now room new v differs from b before counted up_to are so made none kept records =
@@ -335,7 +243,7 @@ copied_part_with_room {D = D} told old now room new v differs from b before coun
 -- all are
 pub copied_all : {D : Type 0} (told : D → Option (List (List ℕ))) (old now : GroupValue D) (v : ℕ) (differs : List Bool) (from to b before counted : ℕ)
     → ((k : ℕ) → k < to → slice_get differs k ≡ Some true → k < b) → AreCopiedTo told old now v differs from b before counted → AreCopiedTo told old now v differs from to before counted
-copied_all told old now v differs from to b before counted past so = record { kept = so.kept; copied = λ k low high marked. so.copied k low (past k high marked) marked; counts = so.counts }
+copied_all told old now v differs from to b before counted past so = grind arith
 
 pub none_in : (sets : List ℕ) → (length sets == 0) ≡ true → sets ≡ []
 none_in [] e = refl
@@ -346,36 +254,26 @@ none_in (s ∷ sets) e = let none = same_number (length (s ∷ sets)) 0 e in abs
 -- a block that has its copy is put
 pub put_same : {D : Type 0} (told : D → Option (List (List ℕ))) (old new : GroupValue D) (v b : ℕ) (r : Result Unit Cause) → lacks_copy old.area.records v (sets_at old v) b ≡ false
     → IsAreaPut told old new v b r → new.images ≡ old.images → new.area.volumes ≡ old.area.volumes → IsAreaSame told old new
-put_same told old new v b (Ok done) has (inl none) images volumes = record { volumes = volumes; images = images; records = none.records; slots = none.slots }
-put_same told old new v b (Ok done) has (inr one) images volumes = absurd (false≢true (sym has ∙ one.copy.lacks))
-put_same told old new v b (Err cause) has broken images volumes = record {
-  volumes = volumes;
-  images = images;
-  records = broken.records;
-  slots = elim broken.slots [ inl same ↦ same | inr one ↦ absurd (false≢true (sym has ∙ one.1.lacks)) ];
-}
+put_same told old new v b r has broken images volumes = grind arith
 
 -- no image goes for one that has its copy
 pub none_goes : {D : Type 0} (told : D → Option (List (List ℕ))) (old room : GroupValue D) (v b up_to : ℕ) → lacks_copy old.area.records v (sets_at old v) b ≡ false → HasRoom told old room v b up_to
     → up_to ≡ 0
 none_goes told old room v b up_to has made = made.needless (ap (λ t. t && is_full old.area.records) has)
 
-pub area_has : {D : Type 0} (told : D → Option (List (List ℕ))) (old now : GroupValue D) (v : ℕ) (differs : List Bool) (from to b : ℕ) → AreCopied old v differs from to → IsAreaSame told old now → from ≤ b → b < to
+pub area_has : {D : Type 0} (told : D → Option (List (List ℕ))) (old now : GroupValue D) (v : ℕ) (differs : List Bool) (from to b : ℕ)
+    → AreCopied old v differs from to → IsAreaSame told old now → from ≤ b → b < to
     → slice_get differs b ≡ Some true → lacks_copy now.area.records v (sets_at now v) b ≡ false
 area_has told old now v differs from to b copied same low high marked = lacks_where old now v b same.records same.images ∙ copied b low high marked
 
 -- so where room is made for a marked block nothing changes
-pub area_room : {D : Type 0} (told : D → Option (List (List ℕ))) (old now room : GroupValue D) (v : ℕ) (differs : List Bool) (from to b up_to : ℕ) → AreCopied old v differs from to → IsAreaSame told old now → from ≤ b
+pub area_room : {D : Type 0} (told : D → Option (List (List ℕ))) (old now room : GroupValue D) (v : ℕ) (differs : List Bool) (from to b up_to : ℕ)
+    → AreCopied old v differs from to → IsAreaSame told old now → from ≤ b
     → b < to → slice_get differs b ≡ Some true → HasRoom told now room v b up_to → (up_to ≡ 0) × IsAreaSame told old room × (lacks_copy room.area.records v (sets_at room v) b ≡ false)
-area_room {D = D} told old now room v differs from to b up_to copied before low high marked made =
-    let has = area_has told old now v differs from to b copied before low high marked in
-    let none = none_goes told now room v b up_to has made in
-    let same : room ≡ now = made.none none in
-    (none, subst (λ (g : GroupValue D). IsAreaSame told old g) (sym same) before, subst (λ (g : GroupValue D). lacks_copy g.area.records v (sets_at g v) b ≡ false) (sym same) has)
+area_room told old now room v differs from to b up_to copied before low high marked made = grind (arith, area_has, none_goes)
 
-pub area_put : {D : Type 0} (told : D → Option (List (List ℕ))) (old now room new : GroupValue D) (v : ℕ) (differs : List Bool) (from to b up_to : ℕ) (r : Result Unit Cause) → AreCopied old v differs from to
+pub area_put : {D : Type 0} (told : D → Option (List (List ℕ))) (old now room new : GroupValue D) (v : ℕ) (differs : List Bool) (from to b up_to : ℕ)
+    (r : Result Unit Cause) → AreCopied old v differs from to
     → IsAreaSame told old now → from ≤ b → b < to → slice_get differs b ≡ Some true → HasRoom told now room v b up_to → IsAreaPut told room new v b r → new.images ≡ room.images
     → new.area.volumes ≡ room.area.volumes → IsAreaSame told old new
-area_put told old now room new v differs from to b up_to r copied before low high marked made area images volumes =
-    let there = area_room told old now room v differs from to b up_to copied before low high marked made in
-    area_then told old room new there.1 (put_same told room new v b r there.2 area images volumes)
+area_put told old now room new v differs from to b up_to r copied before low high marked made area images volumes = grind (arith, area_room, area_then, put_same)

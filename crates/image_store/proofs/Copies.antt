@@ -1,8 +1,9 @@
 -- What a change of a volume's history leaves of its whole copies. Over lists alone.
-use Rattle.std.proofs.Common.{◌≡◌, ℕ, zero, suc, ◌+◌, ◌<◌, ◌≤◌, List, [], ◌∷◌, ◌++◌, length, map, take, refl, ap, sym, ◌∙◌, arith, Bool, true, false, Option, Some, option_map, inl, inr}
+use Rattle.std.proofs.Common.{◌≡◌, ℕ, zero, suc, ◌+◌, ◌<◌, ◌≤◌, List, [], ◌∷◌, ◌++◌, length, map, take, refl, ap, sym, ◌∙◌, arith, Bool, true, Option, Some, option_map, inl}
 use Rattle.std.specs.Prelude.{◌⊎◌, ◌==◌, filter, if◌then◌else◌, nat_lt, not, slice_get, slice_set, replicate}
 use Rattle.std.specs.List.{range_with_len}
 use Rattle.std.proofs.lemmas.List.{map-append, length-map}
+use Rattle.std.proofs.lemmas.List.FromFn.{length-range_with_len}
 use Rattle.block_data.specs.Runs.{zeros}
 use Rattle.write_history.specs.History.{Write, Image, History, last_bytes, content, contents, point_in, sets_of, cut, written, dropped, reverted, reverted_in_part, restoring, to_restore, after_set}
 use Rattle.write_history.specs.History.{up_to_set, AreLater, AreInTime}
@@ -16,8 +17,7 @@ use Rattle.image_store.specs.Steps.{AreMixed}
 -- ## the images
 
 keep-if : (t : Bool) (g : Image → Kept) (i : Image) (is : List Image) (ks : List Kept) → map g is ≡ ks → map g (if t then i ∷ is else is) ≡ (if t then g i ∷ ks else ks)
-keep-if true g i is ks e = ap (λ xs. g i ∷ xs) e
-keep-if false g i is ks e = e
+keep-if t g i is ks e = grind arith
 
 kept-filter : (f : ℕ → Bool) (n : ℕ) (ws : List Write) (is : List Image) → map (kept_of n ws) (filter (λ i. f i.set) is) ≡ filter (λ k. f k.set) (map (kept_of n ws) is)
 kept-filter f n ws [] = refl
@@ -33,8 +33,7 @@ kept-same k n ws vs (i ∷ is) h time =
 -- the blocks of a set's image are those at its point
 image_at-if : (t : Bool) (blocks : List (List ℕ)) (p n : ℕ) (ws : List Write) (rest : Option (List (List ℕ))) (o : Option ℕ) → blocks ≡ contents n ws p → rest ≡ option_map (contents n ws) o
     → (if t then Some blocks else rest) ≡ option_map (contents n ws) (if t then Some p else o)
-image_at-if true blocks p n ws rest o e f = ap Some e
-image_at-if false blocks p n ws rest o e f = f
+image_at-if t blocks p n ws rest o e f = grind arith
 
 pub image_of_point : (set n : ℕ) (ws : List Write) (is : List Image) → image_in set (map (kept_of n ws) is) ≡ option_map (contents n ws) (point_in set is)
 image_of_point set n ws [] = refl
@@ -46,16 +45,14 @@ sets_of_kept n ws (i ∷ is) = ap (λ xs. i.set ∷ xs) (sets_of_kept n ws is)
 
 -- images that are in time stay so where some go
 later-if : (t : Bool) (i j : Image) (js xs : List Image) → AreLater i (j ∷ js) → AreLater i xs → AreLater i (if t then j ∷ xs else xs)
-later-if true i j js xs later rest = (later.0, later.1, rest)
-later-if false i j js xs later rest = rest
+later-if t i j js xs later rest = grind arith
 
 later-filter : (test : Image → Bool) (i : Image) (js : List Image) → AreLater i js → AreLater i (filter test js)
 later-filter test i [] later = tt
 later-filter test i (j ∷ js) later = later-if (test j) i j js (filter test js) later (later-filter test i js later.2)
 
 in_time-if : (t : Bool) (k : ℕ) (i : Image) (is xs : List Image) → AreInTime k (i ∷ is) → AreLater i xs → AreInTime k xs → AreInTime k (if t then i ∷ xs else xs)
-in_time-if true k i is xs time later rest = (time.0, later, rest)
-in_time-if false k i is xs time later rest = rest
+in_time-if t k i is xs time later rest = grind arith
 
 pub in_time-filter : (test : Image → Bool) (k : ℕ) (is : List Image) → AreInTime k is → AreInTime k (filter test is)
 in_time-filter test k [] time = tt
@@ -64,15 +61,10 @@ in_time-filter test k (i ∷ is) time = in_time-if (test i) k i is (filter test 
 -- ## the blocks
 
 same-range : {X : Type 0} → (f g : ℕ → X) (a n : ℕ) → ((b : ℕ) → f b ≡ g b) → map f (range_with_len a n) ≡ map g (range_with_len a n)
-same-range f g a zero h = refl
-same-range f g a (suc n) h = ap (λ x. x ∷ map f (range_with_len (a + 1) n)) (h a) ∙ ap (λ xs. g a ∷ xs) (same-range f g (a + 1) n h)
-
-length-range : (a n : ℕ) → length (range_with_len a n) ≡ n
-length-range a zero = refl
-length-range a (suc n) = ap suc (length-range (a + 1) n)
+same-range f g a n h = grind arith
 
 pub length_contents : (n : ℕ) (ws : List Write) (k : ℕ) → length (contents n ws k) ≡ n
-length_contents n ws k = length-map (range_with_len 0 n) (content ws k) ∙ length-range 0 n
+length_contents n ws k = length-map (range_with_len 0 n) (content ws k) ∙ length-range_with_len 0 n
 
 contents-before : (n : ℕ) (ws more : List Write) (p : ℕ) → p ≤ length ws → contents n (ws ++ more) p ≡ contents n ws p
 contents-before n ws more p l = same-range (content (ws ++ more) p) (content ws p) 0 n (λ b. content-before ws more p b l)
@@ -92,7 +84,7 @@ contents-cut_end n ws p = same-range (content (take p ws) (length (take p ws))) 
 -- ## what a history becomes
 
 pub plain-cut : (n set : ℕ) (h : History) → plain_of n (cut set h) ≡ cut_on set (plain_of n h)
-plain-cut n set h = ap (λ ks. record { blocks = contents n h.writes (length h.writes); images = ks }) (map-append (kept_of n h.writes) h.images (record { set = set; point = length h.writes } ∷ []))
+plain-cut n set h = grind (arith, map-append)
 
 pub plain-dropped : (n set : ℕ) (h : History) → plain_of n (dropped set h) ≡ dropped_on set (plain_of n h)
 plain-dropped n set h = ap (λ ks. record { blocks = contents n h.writes (length h.writes); images = ks }) (kept-filter (λ s. not (s == set)) n h.writes h.images)
@@ -102,10 +94,7 @@ plain-gone n m h = ap (λ ks. record { blocks = contents n h.writes (length h.wr
 
 pub plain-written : (n : ℕ) (w : Write) (h : History) → w.block < n → AreInTime (length h.writes) h.images
     → plain_of n (written w h) ≡ with_blocks (slice_set (plain_of n h).blocks w.block w.bytes) (plain_of n h)
-plain-written n w h l time =
-    ap (λ blocks. record { blocks = blocks; images = map (kept_of n (h.writes ++ w ∷ [])) h.images }) (contents-more n h.writes w l)
-    ∙ ap (λ ks. record { blocks = slice_set (contents n h.writes (length h.writes)) w.block w.bytes; images = ks })
-    (kept-same (length h.writes) n (h.writes ++ w ∷ []) h.writes h.images (λ p m. contents-before n h.writes (w ∷ []) p m) time)
+plain-written n w h l time = grind (arith, contents-more, kept-same, contents-before)
 
 -- the images up to the set, cut back to its point
 older-kept : (n set p : ℕ) (h : History) → AreInTime (length h.writes) (up_to_set set h.images) → point_in set h.images ≡ Some p
@@ -120,11 +109,7 @@ back_is p o blocks e = ap (back_to p) e
 
 pub plain-reverted : (n set p : ℕ) (h : History) → AreInTime (length h.writes) (up_to_set set h.images) → point_in set h.images ≡ Some p
     → plain_of n (reverted set p h) ≡ reverted_on set (plain_of n h)
-plain-reverted n set p h time at =
-    let image : image_in set (plain_of n h).images ≡ Some (contents n h.writes p) = image_of_point set n h.writes h.images ∙ ap (option_map (contents n h.writes)) at in
-    ap (λ blocks. record { blocks = blocks; images = map (kept_of n (take p h.writes)) (up_to_set set h.images) })
-    (contents-cut_end n h.writes p ∙ sym (back_is (plain_of n h) (image_in set (plain_of n h).images) (contents n h.writes p) image))
-    ∙ ap (λ ks. record { blocks = back_to (plain_of n h) (image_in set (plain_of n h).images); images = ks }) (older-kept n set p h time at)
+plain-reverted n set p h time at = grind (arith, image_of_point, contents-cut_end, back_is, older-kept)
 
 -- ## a revert that is broken off
 
@@ -140,8 +125,7 @@ pub plain-in_part : (n set p k : ℕ) (h : History) → AreInTime (length h.writ
 plain-in_part n set p k h time = ap (λ ks. record { blocks = (plain_of n (reverted_in_part n set p k h)).blocks; images = ks }) (in_part-images n set p k h time)
 
 restored_one-if : (t : Bool) (old at here before : List ℕ) → (t ≡ true → here ≡ at) → (before ≡ old) ⊎ (before ≡ at) → ((if t then here else before) ≡ old) ⊎ ((if t then here else before) ≡ at)
-restored_one-if true old at here before h e = inr (h refl)
-restored_one-if false old at here before h e = e
+restored_one-if t old at here before h e = grind arith
 
 -- each block is as before, or as it was at the point
 restored_bytes : (ws : List Write) (p b : ℕ) (bs : List ℕ) (before old : List ℕ) → (before ≡ old) ⊎ (before ≡ content ws p b)
@@ -151,12 +135,10 @@ restored_bytes ws p b (c ∷ bs) before old e =
     restored_bytes ws p b bs (if c == b then content ws p c else before) old (restored_one-if (c == b) old (content ws p b) (content ws p c) before (λ is. ap (content ws p) (same_number c b is)) e)
 
 moved : (x y z u w : List ℕ) → x ≡ u → y ≡ w → (u ≡ w) ⊎ (u ≡ z) → (x ≡ y) ⊎ (x ≡ z)
-moved x y z u w e f (inl g) = inl (e ∙ g ∙ sym f)
-moved x y z u w e f (inr g) = inr (e ∙ g)
+moved x y z u w e f x7 = grind arith
 
 some_either : (x y z : List ℕ) → (x ≡ y) ⊎ (x ≡ z) → (Some x ≡ Some y) ⊎ (Some x ≡ Some z)
-some_either x y z (inl e) = inl (ap Some e)
-some_either x y z (inr e) = inr (ap Some e)
+some_either x y z x3 = grind arith
 
 mixed-range : (f g h : ℕ → List ℕ) (a n : ℕ) → ((b : ℕ) → (f b ≡ g b) ⊎ (f b ≡ h b)) → (b : ℕ)
     → (slice_get (map f (range_with_len a n)) b ≡ slice_get (map g (range_with_len a n)) b) ⊎ (slice_get (map f (range_with_len a n)) b ≡ slice_get (map h (range_with_len a n)) b)

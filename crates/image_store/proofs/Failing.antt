@@ -1,5 +1,5 @@
 -- Which device failed, where calls that did not fail came before.
-use Rattle.std.proofs.Common.{◌≡◌, ℕ, ◌<◌, List, length, map, refl, ap, sym, subst, ◌∙◌, arith}
+use Rattle.std.proofs.Common.{◌≡◌, ℕ, ◌<◌, List, length, ap, sym, subst, ◌∙◌, arith}
 use Rattle.std.specs.Prelude.{slice_get, slice_set}
 use Rattle.std.proofs.lemmas.List.{length-map}
 use Rattle.std.proofs.lemmas.Option.{same_Some, slice_get_within}
@@ -9,17 +9,10 @@ use Rattle.cow_volume.specs.Calls.{AreaRose, DeviceRose, HasCauseAt, IsUnfailed,
 use Rattle.cow_volume.specs.GroupValue.{GroupValue}
 use Rattle.cow_volume.specs.Room.{HasRoom}
 use Rattle.cow_volume.specs.declared.cause.Cause.{Cause}
-use Rattle.cow_volume.specs.declared.cause.Cause.TheVariants.{NoSuchBlock, Volume, Area}
 use Rattle.image_store.specs.Failing.{IsPassFault, IsShowFault, of_cause}
 use Rattle.image_store.specs.declared.show_fault.ShowFault.{ShowFault}
-use Rattle.image_store.specs.declared.show_fault.ShowFault.TheVariants.{NoSuchImage, BadLength, Volume as VolumeFailed, Area as AreaFailed, Sink}
 use Rattle.cow_volume.proofs.Group.{slice_get_inside, slice_get_map}
-
-pub unfailed_itself : {D : Type 0} (count : D → ℕ) (g : GroupValue D) → IsUnfailed count g g
-unfailed_itself count g = record { devices = refl; area = refl }
-
-pub unfailed_then : {D : Type 0} (count : D → ℕ) (a b c : GroupValue D) → IsUnfailed count a b → IsUnfailed count b c → IsUnfailed count a c
-unfailed_then count a b c first second = record { devices = second.devices ∙ first.devices; area = second.area ∙ first.area }
+use Rattle.cow_volume.proofs.Kept.{unfailed_further}
 
 volume_after : {D : Type 0} (count : D → ℕ) (v : ℕ) (a b c : GroupValue D) → IsUnfailed count a b → VolumeRose count v b c → VolumeRose count v a c
 volume_after count v a b c same rose =
@@ -42,34 +35,23 @@ area_after : {D : Type 0} (count : D → ℕ) (a b c : GroupValue D) → IsUnfai
 area_after count a b c same rose = record { rose = subst (λ n. Rose n (count c.area.device)) same.area rose.rose; devices = rose.devices ∙ same.devices }
 
 pub device_after : {D : Type 0} (count : D → ℕ) (v : ℕ) (a b c : GroupValue D) (cause : Cause) → IsUnfailed count a b → DeviceRose count v b c cause → DeviceRose count v a c cause
-device_after count v a b c NoSuchBlock same rose = rose
-device_after count v a b c Volume same rose = volume_after count v a b c same rose
-device_after count v a b c Area same rose = area_after count a b c same rose
+device_after count v a b c cause same rose = grind (arith, volume_after, area_after)
 
 pub show_after : {D : Type 0} (count : D → ℕ) (v : ℕ) (a b c : GroupValue D) (fault : ShowFault) → IsUnfailed count a b → IsShowFault count v b c fault → IsShowFault count v a c fault
-show_after count v a b c VolumeFailed same rose = volume_after count v a b c same rose
-show_after count v a b c AreaFailed same rose = area_after count a b c same rose
-show_after count v a b c NoSuchImage same still = unfailed_then count a b c same still
-show_after count v a b c (BadLength found) same still = unfailed_then count a b c same still
-show_after count v a b c Sink same still = unfailed_then count a b c same still
+show_after count v a b c fault same rose = grind (arith, volume_after, area_after, unfailed_further)
 
 -- where room was made nothing was called
 pub room_unfailed : {D : Type 0} (ghosts : Ghosts D) (old new : GroupValue D) (v b up_to : ℕ) → HasRoom ghosts.told old new v b up_to → IsUnfailed ghosts.count old new
-room_unfailed ghosts old new v b up_to room =
-    record { devices = ap (λ (g : GroupValue _). map ghosts.count g.devices) room.left; area = ap (λ (g : GroupValue _). ghosts.count g.area.device) room.left }
+room_unfailed ghosts old new v b up_to room = grind arith
 
 -- a block that is there was not read
 pub device_of : {D : Type 0} (count : D → ℕ) (v b : ℕ) (old new : GroupValue D) (cause : Cause) → b < blocks_at old v → HasCauseAt count v b old new cause → DeviceRose count v old new cause
-device_of count v b old new NoSuchBlock low is = let high = is.0 in absurd (omega arith)
-device_of count v b old new Volume low is = is.1
-device_of count v b old new Area low is = is.1
+device_of count v b old new cause low is = grind arith
 
 -- the volume's device, or the area's, failed in a pass
 pub pass_failed : {D : Type 0} (count : D → ℕ) (v : ℕ) (old new : GroupValue D) (before now : ℕ) (cause : Cause) → now ≡ before → DeviceRose count v old new cause
     → IsPassFault count v old new before now (of_cause cause)
-pass_failed count v old new before now NoSuchBlock same rose = absurd rose
-pass_failed count v old new before now Volume same rose = (rose, same)
-pass_failed count v old new before now Area same rose = (rose, same)
+pass_failed count v old new before now cause same rose = grind arith
 
 -- no call failed so far: not on a device of the group, and not on the other device
 pub record NoneFailed {D I : Type 0} (count : D → ℕ) (counted : I → ℕ) (old now : GroupValue D) (before after : I) : Type 0 where

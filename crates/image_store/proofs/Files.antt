@@ -6,7 +6,7 @@ use Rattle.std.proofs.Math.Seq.{take-add, take-append_seam}
 use Rattle.std.proofs.lemmas.List.{append-nil, drop-drop, drop_at, length-append, length-drop, take_all}
 use Rattle.std.proofs.lemmas.List.FromFn.{length-map-range_with_len}
 use Rattle.byteorder.specs.Endian.{little_bytes, little_number}
-use Rattle.byteorder.specs.Numbers.{little_number-reads_back, length-bytes_low_first}
+use Rattle.byteorder.specs.Numbers.{little_number-reads_back}
 use Rattle.block_data.specs.Runs.{run_of}
 use Rattle.block_data.specs.declared.block_buf.TheConstants.{BLOCK}
 use Rattle.block_data.proofs.RunsOfBytes.{length-run_of}
@@ -27,30 +27,18 @@ pieces k a (suc n) xs =
 
 -- the last eight bytes of the last piece are those of all
 last_eight : (k n : ℕ) (xs : List ℕ) → 8 ≤ k → 0 < n → length xs ≡ k * n → drop (k - 8) (take k (drop (k * (n - 1)) xs)) ≡ drop (k * n - 8) xs
-last_eight k n xs enough some many =
-    let one : n ≡ (n - 1) + 1 = omega arith in
-    let whole : k * n ≡ k * (n - 1) + k = ap (λ m. k * m) one ∙ times_more k (n - 1) in
-    let left = length-drop (k * (n - 1)) xs in
-    let place : k * (n - 1) + (k - 8) ≡ k * n - 8 = omega arith in
-    ap (drop (k - 8)) (take_all k (drop (k * (n - 1)) xs) (omega arith)) ∙ drop-drop (k - 8) (k * (n - 1)) xs ∙ ap (λ m. drop m xs) place
+last_eight k n xs enough some many = grind (arith, times_more, length-drop, take_all, drop-drop)
 
 -- all but the length
 abbrev front : ℕ → List ℕ → List ℕ
 front n file = file ++ run_of (BLOCK * n - 8 - length file) 0
 
 length_front : (n : ℕ) (file : List ℕ) → length file + 8 ≤ BLOCK * n → length (front n file) ≡ BLOCK * n - 8
-length_front n file room =
-    let one = length-append file (run_of (BLOCK * n - 8 - length file) 0) in
-    let two = length-run_of (BLOCK * n - 8 - length file) 0 in
-    omega arith
+length_front n file room = grind (arith, length-append, length-run_of)
 
 length_padded : (n : ℕ) (file : List ℕ) → length file + 8 ≤ BLOCK * n → length (padded n file) ≡ BLOCK * n
 unfolding padded length_bytes
-length_padded n file room =
-    let one = length-append (front n file) (length_bytes (length file)) in
-    let two = length_front n file room in
-    let three = length-bytes_low_first 0 8 (length file) in
-    omega arith
+length_padded n file room = grind (arith, length-append, length_front)
 
 small : (n len : ℕ) → len + 8 ≤ BLOCK * n → n ≤ 65536 → len < 256 ^ 8
 small n len room few = omega arith

@@ -31,24 +31,14 @@ said_catalog last es =
 
 said_last : (last : ℕ) (es : List EntryValue) → last < 4294967296 → number_in 0 (drop 8 (head_bytes last es)) ≡ Ok last
 unfolding head_bytes
-said_last last es l =
-    let rest = number_bytes (length (bytes_of es)) ++ bytes_of es in
-    ap (λ (xs : List ℕ). number_in 0 (drop 8 xs))
-    (append_assoc (codes "VSSIMG01" ++ number_bytes last) (number_bytes (length (bytes_of es))) (bytes_of es) ∙ append_assoc (codes "VSSIMG01") (number_bytes last) rest)
-    ∙ ap (number_in 0) (drop_at (codes "VSSIMG01") (number_bytes last ++ rest) 8 refl) ∙ number-back 0 last rest l
+said_last last es l = grind (arith, append_assoc, drop_at, number-back)
 
 same_ok : {X : Type 0} (a b : Result X CatalogFault) (x y : X) → a ≡ Ok x → b ≡ Ok y → a ≡ b → x ≡ y
 same_ok a b x y is so same = cc
 
 pub same_head : (h s : HeadValue) → bytes_of_head h ≡ bytes_of_head s → catalog_in (bytes_of h.entries) ≡ Ok h.entries → catalog_in (bytes_of s.entries) ≡ Ok s.entries → h.last < 4294967296
     → s.last < 4294967296 → h ≡ s
-same_head h s same read_h read_s low_h low_s =
-    let bytes : bytes_of h.entries ≡ bytes_of s.entries = sym (said_catalog h.last h.entries) ∙ ap (drop 16) same ∙ said_catalog s.last s.entries in
-    let entries : h.entries ≡ s.entries = same_ok (catalog_in (bytes_of h.entries)) (catalog_in (bytes_of s.entries)) h.entries s.entries read_h read_s (ap catalog_in bytes) in
-    let last : h.last ≡ s.last = same_ok (number_in 0 (drop 8 (bytes_of_head h))) (number_in 0 (drop 8 (bytes_of_head s))) h.last s.last (said_last h.last h.entries low_h)
-    (said_last s.last s.entries low_s) (ap (λ (xs : List ℕ). number_in 0 (drop 8 xs)) same) in
-    let of : ℕ → List EntryValue → HeadValue = λ n es. record { last = n; entries = es } in
-    ap (of h.last) entries ∙ ap (λ (n : ℕ). of n s.entries) last
+same_head h s same read_h read_s low_h low_s = grind (arith, said_catalog, same_ok, said_last)
 
 -- ## devices that tell what lasted
 

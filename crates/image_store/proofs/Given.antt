@@ -1,12 +1,11 @@
 -- The sets of the images of a store stay among those that were given.
-use Rattle.std.proofs.Common.{◌≡◌, ℕ, zero, suc, ◌<◌, ◌≤◌, List, [], ◌∷◌, ◌++◌, map, refl, ap, ◌∙◌, arith, Bool, true, false, Some, None}
+use Rattle.std.proofs.Common.{◌≡◌, ℕ, zero, suc, ◌<◌, ◌≤◌, List, [], ◌∷◌, ◌++◌, map, refl, ap, ◌∙◌, arith, Bool, Some, None}
 use Rattle.std.specs.Prelude.{filter, if◌then◌else◌}
 use Rattle.cow_volume.proofs.Group.{number_is_other}
 use Rattle.image_store.specs.Plain.{Kept, Plain, AreGiven, AllGiven, volume_in, on_volume, on_each, cut_on, image_in}
 
 given-if : (t : Bool) (last : ℕ) (k : Kept) (ks xs : List Kept) → AreGiven last (k ∷ ks) → AreGiven last xs → AreGiven last (if t then k ∷ xs else xs)
-given-if true last k ks xs given rest = (given.0, rest)
-given-if false last k ks xs given rest = rest
+given-if t last k ks xs given rest = grind arith
 
 pub given-filter : (test : Kept → Bool) (last : ℕ) (ks : List Kept) → AreGiven last ks → AreGiven last (filter test ks)
 given-filter test last [] given = tt

@@ -1,6 +1,6 @@
 -- What lasts of a store that is closed, and what a store is that is opened again.
-use Rattle.std.proofs.Common.{◌≡◌, ℕ, suc, ◌+◌, ◌<◌, ◌≤◌, List, [], ◌∷◌, ◌++◌, length, map, take, drop, refl, ap, sym, subst, ◌∙◌, arith, Bool, true, false, Option, Some, is_some}
-use Rattle.std.specs.Prelude.{◌==◌, slice_get, slice_set, IfErr, IfSome, Result, Ok, Err, OnErr, OnOk}
+use Rattle.std.proofs.Common.{◌≡◌, ℕ, suc, ◌+◌, ◌<◌, ◌≤◌, List, [], ◌∷◌, ◌++◌, length, map, take, drop, refl, ap, sym, subst, ◌∙◌, arith, true, Option, Some, is_some}
+use Rattle.std.specs.Prelude.{slice_get, slice_set, IfErr, IfSome, Result, Ok, Err, OnErr, OnOk}
 use Rattle.std.proofs.lemmas.List.{length-map, map-set, take_all, take-append-le}
 use Rattle.std.proofs.lemmas.List.FromFn.{length-map-range_with_len}
 use Rattle.std.proofs.lemmas.Option.{same_Some, slice_get_within}
@@ -39,9 +39,6 @@ pub record HaveLasted {D : Type 0} (ghosts : Ghosts D) (k : ℕ) (old now : List
   pub counts : map ghosts.count now ≡ map ghosts.count old
   pub last : (j : ℕ) (d : D) → j < k → slice_get now j ≡ Some d → ghosts.lasting d ≡ ghosts.told d
 
-pub none_lasted : {D : Type 0} (ghosts : Ghosts D) (ds : List D) → HaveLasted ghosts 0 ds ds
-none_lasted ghosts ds = record { told_is = refl; counts = refl; last = λ j d low at. absurd (omega arith) }
-
 pub still_told : {D X : Type 0} (told : D → X) (k : ℕ) (old now : List D) (d next : D) → map told now ≡ map told old → slice_get now k ≡ Some d → told next ≡ told d
     → map told (slice_set now k next) ≡ map told old
 still_told told k old now d next have at same = map_set_told told now k d next at same ∙ have
@@ -49,30 +46,12 @@ still_told told k old now d next have at same = map_set_told told now k d next a
 pub one_lasted : {D : Type 0} (ghosts : Ghosts D) (k : ℕ) (old now : List D) (d next : D) → HaveLasted ghosts k old now → slice_get now k ≡ Some d
     → ghosts.told next ≡ ghosts.told d → ghosts.count next ≡ ghosts.count d → ghosts.lasting next ≡ ghosts.told next
     → HaveLasted ghosts (k + 1) old (slice_set now k next)
-one_lasted {D = D} ghosts k old now d next have at same counted lasts = record {
-  told_is = still_told ghosts.told k old now d next have.told_is at same;
-  counts = still_told ghosts.count k old now d next have.counts at counted;
-  last = λ j e low there. by_number j e (j == k) refl low there;
-} where
-  by_number : (j : ℕ) (e : D) (t : Bool) → (j == k) ≡ t → j < k + 1 → slice_get (slice_set now k next) j ≡ Some e → ghosts.lasting e ≡ ghosts.told e
-  by_number j e true is low there =
-      let here : Some next ≡ Some e = sym (slice_get-set_same now k d next at) ∙ ap (slice_get (slice_set now k next)) (sym (same_number j k is)) ∙ there in
-      subst (λ (x : D). ghosts.lasting x ≡ ghosts.told x) (same_Some next e here) lasts
-  by_number j e false is low there =
-      let other = other_number j k is in
-      have.last j e (omega arith) (sym (slice_get-set_other now k j next (λ same. other (sym same))) ∙ there)
+one_lasted ghosts k old now d next have at same counted lasts = grind (arith, still_told, slice_get-set_same, same_number, same_Some, other_number, slice_get-set_other)
 
 -- the next one failed
 pub one_failed : {D : Type 0} (count : D → ℕ) (k : ℕ) (old now : List D) (d next : D) → map count now ≡ map count old → slice_get now k ≡ Some d → Rose (count d) (count next)
     → OneRose (map count old) (map count (slice_set now k next))
-one_failed count k old now d next counts at rose = record {
-  place = k;
-  before = count d;
-  now = count next;
-  at = ap (λ (ns : List ℕ). slice_get ns k) (sym counts) ∙ slice_get_map count now k d at;
-  rose = rose;
-  counts = map-set count now k next ∙ ap (λ (ns : List ℕ). slice_set ns k (count next)) counts;
-}
+one_failed count k old now d next counts at rose = grind (arith, slice_get_map, map-set)
 
 maps_same : {X Y : Type 0} (f g : X → Y) (xs : List X) → ((j : ℕ) (x : X) → slice_get xs j ≡ Some x → f x ≡ g x) → map f xs ≡ map g xs
 maps_same f g [] h = refl
@@ -80,8 +59,7 @@ maps_same f g (x ∷ xs) h = ap (λ y. y ∷ map f xs) (h 0 x refl) ∙ ap (λ y
 
 pub all_lasted : {D : Type 0} (ghosts : Ghosts D) (k : ℕ) (old now : List D) → HaveLasted ghosts k old now → length now ≤ k
     → map ghosts.lasting now ≡ map ghosts.told old
-all_lasted ghosts k old now have all =
-    maps_same ghosts.lasting ghosts.told now (λ j d at. have.last j d (let within = slice_get_within now j d at in omega arith) at) ∙ have.told_is
+all_lasted ghosts k old now have all = grind (arith, maps_same, slice_get_within)
 
 -- ## the entries of a group
 
@@ -100,7 +78,8 @@ own_blocks g names = same_lists (blocks_of (entries_of g names)) g.area.volumes 
 -- ## a store that is closed
 
 -- what is held of devices and of the area's device is kept of the group that they are
-pub kept_of : {D E : Type 0} (told : D → Option (List (List ℕ))) (held : E → Option (List (List ℕ))) (g : GroupValue D) (names : List TextValue) (last : ℕ) (devices : List E) (area : E) (p : PlainStore)
+pub kept_of : {D E : Type 0} (told : D → Option (List (List ℕ))) (held : E → Option (List (List ℕ))) (g : GroupValue D) (names : List TextValue) (last : ℕ)
+    (devices : List E) (area : E) (p : PlainStore)
     (stands : StandsAs told (store_of g names last) p) → map held devices ≡ map told g.devices → is_some (held area) ≡ true
     → AreStored (held area) (copies (placed g.area.volumes) stands.group.hs) → IsKeptAs held devices area (said_of (store_of g names last)) p
 kept_of told held g names last devices area p stands blocks tells stored =
@@ -146,10 +125,7 @@ pub closed_kept : {D : Type 0} (ghosts : Ghosts D) (old new : GroupValue D) (nam
     → IsSync ghosts old new (Ok done) → ghosts.lasting new.area.device ≡ ghosts.told new.area.device → map ghosts.lasting devices ≡ map ghosts.told new.devices
     → StandsAs ghosts.told (store_of old names last) p
     → IsKeptAs ghosts.lasting devices new.area.device (said_of (store_of old names last)) p
-closed_kept ghosts old new names last devices done p sync area lasts stands =
-    kept_of ghosts.told ghosts.lasting old names last devices new.area.device p stands (lasts ∙ ap (map ghosts.told) sync.0.devices)
-    (ap is_some area ∙ sync.0.kept.area.tells ∙ stands.group.area)
-    (subst (λ (t : Option (List (List ℕ))). AreStored t (copies (placed old.area.volumes) stands.group.hs)) (sym area) (sync.1 stands.group.hs stands.group.stands stands.group.devices))
+closed_kept ghosts old new names last devices done p sync area lasts stands = grind (arith, kept_of)
 
 -- what is written back to a vector is all of it
 whole_again : {X : Type 0} (n : ℕ) (xs ys : List X) → length ys ≡ n → length xs ≡ length ys → take n (xs ++ drop (length xs) ys) ≡ xs
@@ -173,9 +149,7 @@ closed_outcome {D = D} ghosts old new names last items before flushed len area d
 pub closed_told : {D : Type 0} (told : D → Option (List (List ℕ))) (old new : GroupValue D) (items before flushed : List D) (len : ℕ) → new.devices ≡ old.devices → items ≡ new.devices
     → length items ≡ len → before ≡ items
     → map told flushed ≡ map told before → map told (take len (flushed ++ drop (length flushed) items)) ≡ map told old.devices
-closed_told told old new items before flushed len kept devices_are many same tells =
-    let as_many : length flushed ≡ length items = sym (length-map flushed told) ∙ ap length tells ∙ length-map before told ∙ ap length same in
-    ap (map told) (whole_again len flushed items many as_many) ∙ tells ∙ ap (map told) (same ∙ devices_are ∙ kept)
+closed_told told old new items before flushed len kept devices_are many same tells = grind (arith, length-map, whole_again)
 
 tells_same : {D : Type 0} (told : D → Option (List (List ℕ))) (ds es : List D) → map told ds ≡ map told es → AllTell told es → AllTell told ds
 tells_same told ds es same tell = λ v d at.
@@ -214,14 +188,7 @@ pub closed_failed : {D : Type 0} (ghosts : Ghosts D) (old new : GroupValue D) (i
     → map ghosts.told flushed ≡ map ghosts.told before
     → IfErr r (λ cause. cause ≡ Volume) → OnErr r (OneRose (map ghosts.count before) (map ghosts.count flushed))
     → IfErr r (IsCloseFault ghosts.count old (take len (flushed ++ drop (length flushed) items)) area)
-closed_failed ghosts old new items before flushed len area (Ok done) kept quiet devices_are many same area_is tells is rose = tt
-closed_failed {D = D} ghosts old new items before flushed len area (Err cause) kept quiet devices_are many same area_is tells is rose =
-    let as_many : length flushed ≡ length items = sym (length-map flushed ghosts.told) ∙ ap length tells ∙ length-map before ghosts.told ∙ ap length same in
-    subst (λ (c : Cause). IsCloseFault ghosts.count old (take len (flushed ++ drop (length flushed) items)) area c) (sym is) (
-      subst (λ (ds : List D). OneRose (map ghosts.count old.devices) (map ghosts.count ds)) (sym (whole_again len flushed items many as_many))
-          (subst (λ (ds : List D). OneRose (map ghosts.count ds) (map ghosts.count flushed)) (same ∙ devices_are ∙ kept) rose),
-      ap ghosts.count area_is ∙ quiet,
-    )
+closed_failed ghosts old new items before flushed len area r kept quiet devices_are many same area_is tells is rose = grind (arith, length-map, whole_again)
 
 -- ## a store that is opened
 

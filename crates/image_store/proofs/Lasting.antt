@@ -32,16 +32,7 @@ length-each [] f ps = refl
 length-each (v ∷ vs) f ps = length-each vs f (on_volume v f ps) ∙ length-on v f ps
 
 pub as_many : (s : PlainStore) (x : Step) → length (after s x).volumes ≡ length s.volumes
-as_many s (Cut set vs) = length-each vs (cut_on set) s.volumes
-as_many s (Gone up_to) = length-map s.volumes (gone_on up_to)
-as_many s (Updated v wanted) = length-on v (with_blocks wanted) s.volumes
-as_many s (UpdatedInPart v wanted now) = length-on v (with_blocks now) s.volumes
-as_many s (Dropped set v) = length-on v (dropped_on set) s.volumes
-as_many s (Reverted set v) = length-on v (reverted_on set) s.volumes
-as_many s (RevertedInPart set v now) = length-on v (λ p. with_blocks now (older_on set p)) s.volumes
-as_many s (Shown set v bytes) = refl
-as_many s (Read v bytes) = refl
-as_many s Opened = refl
+as_many s x = grind (arith, length-each, length-map, length-on)
 
 pub as_many_after : (s : PlainStore) (xs : List Step) → length (after_all s xs).volumes ≡ length s.volumes
 as_many_after s [] = refl
@@ -71,8 +62,7 @@ has-all (suc v) set f (p ∷ ps) blocks h has = has-all v set f ps blocks h has
 -- images that are pushed come behind it
 push-if : (t : Bool) (here blocks : List (List ℕ)) (o q : Option (List (List ℕ))) → (if t then Some here else o) ≡ Some blocks → (o ≡ Some blocks → q ≡ Some blocks)
     → (if t then Some here else q) ≡ Some blocks
-push-if true here blocks o q e h = e
-push-if false here blocks o q e h = h e
+push-if t here blocks o q e h = grind arith
 
 has-push : (set : ℕ) (ks : List Kept) (k : Kept) (blocks : List (List ℕ)) → image_in set ks ≡ Some blocks → image_in set (ks ++ k ∷ []) ≡ Some blocks
 has-push set [] k blocks e = cc
@@ -87,13 +77,7 @@ has-each (u ∷ vs) v set other ps blocks has = has-each vs v set other (on_volu
 filter-if : (t : Bool) (set : ℕ) (k : Kept) (xs : List Kept) (blocks : List (List ℕ)) (o : Option (List (List ℕ))) → (k.set ≡ set → t ≡ true)
     → (if k.set == set then Some k.blocks else o) ≡ Some blocks
     → (o ≡ Some blocks → image_in set xs ≡ Some blocks) → image_in set (if t then k ∷ xs else xs) ≡ Some blocks
-filter-if true set k xs blocks o stays e h = push-if (k.set == set) k.blocks blocks o (image_in set xs) e h
-filter-if false set k xs blocks o stays e h = h (passed (k.set == set) refl e) where
-  passed : (t : Bool) → (k.set == set) ≡ t → (if k.set == set then Some k.blocks else o) ≡ Some blocks → o ≡ Some blocks
-  passed true is f = absurd (not_both (stays (same_number k.set set is))) where
-    not_both : false ≡ true → ⊥
-    not_both e = cc
-  passed false is f = subst (λ (t : Bool). (if t then Some k.blocks else o) ≡ Some blocks) is f
+filter-if t set k xs blocks o stays e h = grind (arith, push-if, same_number)
 
 has-filter : (test : Kept → Bool) (set : ℕ) (ks : List Kept) (blocks : List (List ℕ)) → ((k : Kept) → k.set ≡ set → test k ≡ true) → image_in set ks ≡ Some blocks
     → image_in set (filter test ks) ≡ Some blocks
@@ -128,8 +112,7 @@ has-step s (Read u bytes) set v blocks e has = has
 has-step s Opened set v blocks e has = has
 
 both : (a b : Bool) → (not a && b) ≡ true → (a ≡ false) × (b ≡ true)
-both true b e = cc
-both false b e = (refl, e)
+both a b e = grind arith
 
 pub has-steps : (s : PlainStore) (xs : List Step) (set v : ℕ) (blocks : List (List ℕ)) → stays set v xs ≡ true → image_of s set v ≡ Some blocks → image_of (after_all s xs) set v ≡ Some blocks
 has-steps s [] set v blocks e has = has

@@ -17,14 +17,14 @@ use Rattle.image_store.specs.StoreValue.{StoreValue}
 use Rattle.image_store.proofs.Plains.{point_there}
 
 filter_if : (t : Bool) (i : Image) (is : List Image) (ss : List ℕ) → sets_of is ≡ ss → sets_of (if t then i ∷ is else is) ≡ (if t then i.set ∷ ss else ss)
-filter_if true i is ss e = ap (λ xs. i.set ∷ xs) e
-filter_if false i is ss e = e
+filter_if t i is ss e = grind arith
 
 sets-filter : (f : ℕ → Bool) (is : List Image) → sets_of (filter (λ i. f i.set) is) ≡ filter f (sets_of is)
 sets-filter f [] = refl
 sets-filter f (i ∷ is) = filter_if (f i.set) i (filter (λ j. f j.set) is) (filter f (sets_of is)) (sets-filter f is)
 
-sets_are : {D : Type 0} (told : D → Option (List (List ℕ))) (g : GroupValue D) (hs : List History) (v : ℕ) → StandsFor told g hs → v < length g.area.volumes → sets_at g v ≡ sets_of (history_at hs v).images
+sets_are : {D : Type 0} (told : D → Option (List (List ℕ))) (g : GroupValue D) (hs : List History) (v : ℕ) → StandsFor told g hs → v < length g.area.volumes
+    → sets_at g v ≡ sets_of (history_at hs v).images
 sets_are told g hs v stands l = let place = place_at told g hs v stands l in ap sets_in place.sets_at ∙ place.stands.sets_are
 
 -- one volume's history changes
@@ -44,8 +44,7 @@ lists_changed told old new hs v F f l volumes before now same u m = sets_are tol
       ap (λ (h : History). sets_of h.images) (history_at_is (changed_at v F hs) u (history_at hs u) (changed_at-other v u F hs (other_number u v e) ∙ at)) ∙ sym (sets_are told old hs u before m)
 
 pub dropped_stood : {D : Type 0} (ghosts : Ghosts D) (old new : GroupValue D) (v set : ℕ) (r : Result Unit ImageFault) → IsDropped ghosts old new v set r → OnOk r (is_among set (sets_at old v) ≡ true)
-dropped_stood ghosts old new v set (Ok done) is = is.0
-dropped_stood ghosts old new v set (Err fault) is = tt
+dropped_stood ghosts old new v set r is = grind arith
 
 pub dropped_lists : {D : Type 0} (ghosts : Ghosts D) (old new : GroupValue D) (v set : ℕ) (r : Result Unit ImageFault) → v < length old.area.volumes → IsDropped ghosts old new v set r
     → OnOk r (AreListsOf ghosts.told old new v (other_sets set))
@@ -66,7 +65,8 @@ reverted_lists ghosts old new set v (Ok done) l same is = (
   is.image,
   λ hs stands.
       let p = point_of ghosts.told old.group hs v set stands l is.image in
-      lists_changed ghosts.told old.group new.group hs v (reverted set p.0) (sets_up_to set) l is.kept.volumes stands (is.stands hs p.0 stands p.1) (λ h. sets-filter (λ s. not (nat_lt set s)) h.images),
+      lists_changed ghosts.told old.group new.group hs v (reverted set p.0) (sets_up_to set) l is.kept.volumes stands (is.stands hs p.0 stands p.1)
+          (λ h. sets-filter (λ s. not (nat_lt set s)) h.images),
 )
 reverted_lists ghosts old new set v (Err NoSuchImage) l same is = (is.0, same is.1)
 reverted_lists ghosts old new set v (Err (Fault restored cause)) l same is = (

@@ -5,7 +5,7 @@ use Rattle.std.proofs.lemmas.Bool.Decides.{nat_tests}
 use Rattle.std.proofs.lemmas.Option.{same_Some}
 use Rattle.volume_device.specs.declared.device.Device.{Ghosts}
 use Rattle.cow_volume.specs.Calls.{is_among}
-use Rattle.cow_volume.proofs.Group.{same_number, other_number}
+use Rattle.cow_volume.proofs.Group.{same_number, other_number, number_is_other}
 use Rattle.image_store.specs.FileBytes.{file_in}
 use Rattle.image_store.specs.Head.{HeadValue}
 use Rattle.image_store.specs.Keeping.{IsKeptAs}
@@ -41,14 +41,7 @@ back-all (suc v) set f t (p ∷ ps) blocks h has = back-all v set f t ps blocks 
 filter-if : (keeps here : Bool) (f : ℕ → Bool) (set : ℕ) (k : Kept) (xs : List Kept) (o : Option (List (List ℕ))) (blocks : List (List ℕ)) → f k.set ≡ keeps → (k.set == set) ≡ here
     → (image_in set xs ≡ Some blocks → (o ≡ Some blocks) × (f set ≡ true)) → image_in set (if keeps then k ∷ xs else xs) ≡ Some blocks
     → ((if here then Some k.blocks else o) ≡ Some blocks) × (f set ≡ true)
-filter-if true true f set k xs o blocks kept is rest has =
-    (sym (ap (λ t. if t then Some k.blocks else image_in set xs) is) ∙ has, sym (ap f (same_number k.set set is)) ∙ kept)
-filter-if true false f set k xs o blocks kept is rest has = rest (sym (ap (λ t. if t then Some k.blocks else image_in set xs) is) ∙ has)
-filter-if false true f set k xs o blocks kept is rest has =
-    let left = (rest has).1 in
-    let gone = sym (ap f (same_number k.set set is)) ∙ kept in
-    cc
-filter-if false false f set k xs o blocks kept is rest has = rest has
+filter-if keeps here f set k xs o blocks kept is rest has = grind (arith, same_number)
 
 back-filter : (f : ℕ → Bool) (set : ℕ) (ks : List Kept) (blocks : List (List ℕ)) → image_in set (filter (λ k. f k.set) ks) ≡ Some blocks → (image_in set ks ≡ Some blocks) × (f set ≡ true)
 back-filter f set [] blocks has = cc
@@ -58,14 +51,10 @@ back-filter f set (k ∷ ks) blocks has = filter-if (f k.set) (k.set == set) f s
 
 push-if : (t : Bool) (here blocks : List (List ℕ)) (o q : Option (List (List ℕ))) → (q ≡ Some blocks → o ≡ Some blocks) → (if t then Some here else q) ≡ Some blocks
     → (if t then Some here else o) ≡ Some blocks
-push-if true here blocks o q h e = e
-push-if false here blocks o q h e = h e
-
-differs : (a b : ℕ) → a ≢ b → (a == b) ≡ false
-differs a b other = grind (arith, nat_tests)
+push-if t here blocks o q h e = grind arith
 
 back-push : (set other : ℕ) (ks : List Kept) (had blocks : List (List ℕ)) → other ≢ set → image_in set (ks ++ record { set = other; blocks = had } ∷ []) ≡ Some blocks → image_in set ks ≡ Some blocks
-back-push set other [] had blocks apart e = let no = differs other set apart in let is = sym (ap (λ t. if t then Some had else None) no) ∙ e in cc
+back-push set other [] had blocks apart e = let no = number_is_other other set apart in let is = sym (ap (λ t. if t then Some had else None) no) ∙ e in cc
 back-push set other (k ∷ ks) had blocks apart e = push-if (k.set == set) k.blocks blocks (image_in set ks) (image_in set (ks ++ record { set = other; blocks = had } ∷ []))
     (back-push set other ks had blocks apart) e
 
@@ -118,11 +107,7 @@ back-cut s other set v vs blocks none has true is = inr
 back-cut s other set v vs blocks none has false is = inl (back-each vs v set other s.volumes blocks (other_number other set is) has, refl)
 
 goes_not : (t : Bool) (u v : ℕ) → (u ≡ v → not t ≡ true) → (t && (u == v)) ≡ false
-goes_not false u v h = refl
-goes_not true u v h = by_test (u == v) refl where
-  by_test : (e : Bool) → (u == v) ≡ e → e ≡ false
-  by_test true is = let no = h (same_number u v is) in cc
-  by_test false is = refl
+goes_not t u v h = grind (arith, same_number)
 
 turned : (s set : ℕ) → not (s == set) ≡ not (set == s)
 turned s set = grind (arith, nat_tests)
@@ -176,26 +161,12 @@ images_come s (x ∷ xs) set v blocks all has = of_rest (images_come (after s x)
   of_rest (inr c) = inr (record { earlier = x ∷ c.earlier; later = c.later; vs = c.vs; steps_are = ap (λ ys. x ∷ ys) c.steps_are; over = c.over; had = c.had; stayed = c.stayed })
 
 pub shown_of_cut : ShownIsOfItsCut
-shown_of_cut s steps later set v shown none all =
-    let last = (allowed-append s steps (Shown set v shown ∷ later) all).0 in
-    (last.0, not_first (images_come s steps set v last.0 (allowed-front s steps (Shown set v shown ∷ later) all) last.1), last.2) where
-      not_first : {blocks : List (List ℕ)} → ((image_of s set v ≡ Some blocks) × (stays set v steps ≡ true)) ⊎ IsCutIn s steps set v blocks → IsCutIn s steps set v blocks
-      not_first (inl h) = let free = none set v in let both = sym h.0 ∙ free in cc
-      not_first (inr c) = c
+shown_of_cut s steps later set v shown none all = grind (arith, allowed-append, images_come, allowed-front)
 
 -- ## no set is cut twice
 
 rises : (s : PlainStore) (x : Step) → IsAllowed s x → s.last ≤ (after s x).last
-rises s (Cut set vs) allowed = let l = allowed.0 in omega arith
-rises s (Gone up_to) allowed = omega arith
-rises s (Updated v wanted) allowed = omega arith
-rises s (UpdatedInPart v wanted now) allowed = omega arith
-rises s (Dropped set v) allowed = omega arith
-rises s (Reverted set v) allowed = omega arith
-rises s (RevertedInPart set v now) allowed = omega arith
-rises s (Shown set v bytes) allowed = omega arith
-rises s (Read v bytes) allowed = omega arith
-rises s Opened allowed = omega arith
+rises s x allowed = grind arith
 
 not_again : (s : PlainStore) (xs ys : List Step) (set : ℕ) (vs : List ℕ) → set ≤ s.last → AreAllowed s (xs ++ Cut set vs ∷ ys) → ⊥
 not_again s [] ys set vs given all = let l = all.0.0 in absurd (omega arith)
@@ -235,8 +206,7 @@ allowed-both s [] ys first others = others
 allowed-both s (x ∷ xs) ys first others = (first.0, allowed-both (after s x) xs ys first.1 others)
 
 pub calls_follow : {D : Type 0} (told : D → Option (List (List ℕ))) → CallsFollowOneAnother told
-calls_follow told p xs ys middle new first others =
-    record { allowed = allowed-both p xs ys first.allowed others.allowed; stands = subst (λ (q : PlainStore). StandsAs told new q) (sym (after-append p xs ys)) others.stands }
+calls_follow told p xs ys middle new first others = grind (arith, allowed-both, after-append)
 
 pub show_step : {D : Type 0} (told : D → Option (List (List ℕ))) (old new : StoreValue D) (v : ℕ) (which : Which) (before later : Option (List ℕ)) (r : Result Unit ShowFault)
     → ((p : PlainStore) → StandsAs told old p → IsShow (shown_in p.volumes v which) before later r) → StandsStill told old new → OnOk r (IsShowStep told old new v which before later)

@@ -16,7 +16,7 @@ use Rattle.image_store.specs.Passes.{IsGone, HasSome, HasSomeGone, HasMixed}
 use Rattle.image_store.specs.Steps.{AreMixed}
 use Rattle.image_store.specs.StoreValue.{HasPlains, KeepsPlains}
 use Rattle.image_store.specs.Updating.{AreMarked, AreReady}
-use Rattle.image_store.proofs.Plains.{same_lists, on_volume-same, on_volume-twice, as_many_plains, as_many_blocks, sets_of_volumes, kept_refl, kept_then, block_now}
+use Rattle.image_store.proofs.Plains.{same_lists, on_volume-same, on_volume-twice, as_many_plains, as_many_blocks, sets_of_volumes, kept_then, block_now}
 use Rattle.image_store.proofs.Calls.{gone_plains, room_plains, put_on, put_plains}
 use Rattle.image_store.proofs.Sets.{at_or_below}
 
@@ -37,10 +37,6 @@ pub record IsMarkedTo {D I : Type 0} (told : D → Option (List (List ℕ))) (so
   pub marked : (wanted : List (List ℕ)) (ps : List Plain) → source.told input ≡ Some wanted → HasPlains told old ps → (b : ℕ) (mark : Bool) → b < k
       → slice_get differs b ≡ Some mark
       → IsMark mark (slice_get (volume_in ps v).blocks b) (slice_get wanted b)
-
-pub marked_none : {D I : Type 0} (told : D → Option (List (List ℕ))) (source : Ghosts I) (old : GroupValue D) (input : I) (v : ℕ) (differs : List Bool)
-    → IsMarkedTo told source old old input input v differs differs 0
-marked_none told source old input v differs = record { kept = kept_refl told old; told_is = refl; size_is = refl; len = refl; marked = λ wanted ps is plains b mark l. absurd (omega arith) }
 
 -- one more is
 pub marked_more : {D I : Type 0} (told : D → Option (List (List ℕ))) (source : Ghosts I) (old now new : GroupValue D) (input input_now input_new : I) (v : ℕ)
@@ -136,12 +132,12 @@ copying_stopped told old now new ps v b up_to list kept some room list_is has =
 pub read_there : (input : Option (List (List ℕ))) (wanted : List (List ℕ)) (k : ℕ) (piece bytes : List ℕ) → IfSome input (λ blocks. slice_get blocks k ≡ Some piece) → input ≡ Some wanted
     → bytes ≡ piece
     → slice_get wanted k ≡ Some bytes
-read_there input wanted k piece bytes read is same = subst (λ (o : Option (List (List ℕ))). IfSome o (λ blocks. slice_get blocks k ≡ Some piece)) is read ∙ ap Some (sym same)
+read_there input wanted k piece bytes read is same = grind arith
 
 -- what was read of the other device at a marked block
 pub gives_there : (input : Option (List (List ℕ))) (differs : List Bool) (wanted : List (List ℕ)) (k : ℕ) (piece bytes : List ℕ) → IfSome input (λ blocks. slice_get blocks k ≡ Some piece)
     → slice_get differs k ≡ Some true → bytes ≡ piece → Gives input differs wanted → slice_get wanted k ≡ Some bytes
-gives_there input differs wanted k piece bytes read marked same gives = sym (gives.marked k marked) ∙ read_there input gives.source k piece bytes read gives.told_is same
+gives_there input differs wanted k piece bytes read marked same gives = grind (arith, read_there)
 
 pub record IsWrittenTo {D I : Type 0} (told : D → Option (List (List ℕ))) (source : Ghosts I) (old now : GroupValue D) (input input_now : I) (v : ℕ)
     (differs : List Bool) (from k : ℕ) : Type 0 where
@@ -157,33 +153,10 @@ with_own p = refl
 
 pub written_none : {D I : Type 0} (told : D → Option (List (List ℕ))) (source : Ghosts I) (old : GroupValue D) (input : I) (v : ℕ) (differs : List Bool) (from : ℕ)
     → IsWrittenTo told source old old input input v differs from from
-written_none told source old input v differs from = record {
-  volumes = refl;
-  told_is = refl;
-  size_is = refl;
-  written = λ wanted ps is plains ready. record {
-    now = (volume_in ps v).blocks;
-    mixed = (refl, λ b. inl refl);
-    ready = ready;
-    plains = subst (λ (qs : List Plain). HasPlains told old qs) (sym (on_volume-same ps v (with_blocks (volume_in ps v).blocks) (with_own (volume_in ps v)))) plains;
-  };
-}
-
--- a block is the wanted one, by either list of which it comes
-wanted_at : (x y z : Option (List ℕ)) → x ≡ z → (y ≡ x) ⊎ (y ≡ z) → y ≡ z
-wanted_at x y z e (inl f) = f ∙ e
-wanted_at x y z e (inr f) = f
+written_none told source old input v differs from = grind (arith, on_volume-same, with_own)
 
 ready_more : (differs : List Bool) (wanted now : List (List ℕ)) (k : ℕ) → AreReady differs wanted now k → slice_get now k ≡ slice_get wanted k → AreReady differs wanted now (k + 1)
-ready_more differs wanted now k ready here = record {
-  marks = ready.marks;
-  as_many = ready.as_many;
-  rest = ready.rest;
-  first = λ b l. by_place b (at_or_below b k l);
-} where
-  by_place : (b : ℕ) → (b ≡ k) ⊎ (b < k) → slice_get now b ≡ slice_get wanted b
-  by_place b (inl e) = subst (λ (j : ℕ). slice_get now j ≡ slice_get wanted j) (sym e) here
-  by_place b (inr l) = ready.first b l
+ready_more differs wanted now k ready here = grind (arith, at_or_below)
 
 -- a block that is not marked is passed
 pub written_past : {D I : Type 0} (told : D → Option (List (List ℕ))) (source : Ghosts I) (old now : GroupValue D) (input input_now : I) (v : ℕ) (differs : List Bool)

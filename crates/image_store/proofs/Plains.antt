@@ -1,6 +1,6 @@
 -- A group and the whole copies that it has: how a call on it changes them.
 use Rattle.std.proofs.Common.{◌≡◌, ℕ, zero, suc, ◌<◌, List, [], ◌∷◌, length, map, refl, ap, sym, subst, ◌∙◌, arith, true, Option, Some, option_map, is_some}
-use Rattle.std.specs.Prelude.{slice_get, IfSome, None}
+use Rattle.std.specs.Prelude.{slice_get, IfSome}
 use Rattle.std.proofs.lemmas.Option.{same_Some, slice_get_within}
 use Rattle.write_history.specs.History.{Image, History, content, contents, point_in, sets_of, AreInTime}
 use Rattle.write_history.specs.Slots.{gone_up_to}
@@ -58,11 +58,6 @@ pub on_volume-same : (ps : List Plain) (v : ℕ) (f : Plain → Plain) → f (vo
 on_volume-same [] v f e = refl
 on_volume-same (p ∷ ps) zero f e = ap (λ q. q ∷ ps) e
 on_volume-same (p ∷ ps) (suc v) f e = ap (λ qs. p ∷ qs) (on_volume-same ps v f e)
-
-pub on_volume-at : (ps : List Plain) (v : ℕ) (f g : Plain → Plain) → f (volume_in ps v) ≡ g (volume_in ps v) → on_volume v f ps ≡ on_volume v g ps
-on_volume-at [] v f g e = refl
-on_volume-at (p ∷ ps) zero f g e = ap (λ q. q ∷ ps) e
-on_volume-at (p ∷ ps) (suc v) f g e = ap (λ qs. p ∷ qs) (on_volume-at ps v f g e)
 
 pub on_volume-twice : (ps : List Plain) (v : ℕ) (f g h : Plain → Plain) → ((p : Plain) → f (g p) ≡ h p) → on_volume v f (on_volume v g ps) ≡ on_volume v h ps
 on_volume-twice [] v f g h e = refl
@@ -161,13 +156,7 @@ kept_tells ghosts old new kept tell = λ v d at.
 -- it stands for other histories
 pub has_now : {D : Type 0} → (ghosts : Ghosts D) (old new : GroupValue D) (ps qs : List Plain) (hs : List History) → HasPlains ghosts.told old ps
     → IsKept ghosts old new → StandsFor ghosts.told new hs → qs ≡ plains_of old.area.volumes hs → HasPlains ghosts.told new qs
-has_now ghosts old new ps qs hs has kept stands are = record {
-  hs = hs;
-  stands = stands;
-  devices = kept_tells ghosts old new kept has.devices;
-  area = kept.area.tells ∙ has.area;
-  plains = are ∙ ap (λ ns. plains_of ns hs) (sym kept.volumes);
-}
+has_now ghosts old new ps qs hs has kept stands are = grind (arith, kept_tells)
 
 pub quiet_kept : {D : Type 0} → (ghosts : Ghosts D) (old new : GroupValue D) → IsQuiet ghosts old new
     → KeepsPlains ghosts.told old new
@@ -198,11 +187,10 @@ has_changed ghosts old new ps v F f has kept l stands e =
 
 -- a device tells what is known where the area's tells too
 pub told_blocks : (area told : Option (List (List ℕ))) (want : List (List ℕ)) → is_some area ≡ true → is_some told ≡ true → IfSome (told_in area told) (λ blocks. blocks ≡ want) → told ≡ Some want
-told_blocks None told want a t is = cc
-told_blocks (Some slots) None want a t is = cc
-told_blocks (Some slots) (Some blocks) want a t is = ap Some is
+told_blocks area told want a t is = grind arith
 
-pub device_tells : {D : Type 0} → (told : D → Option (List (List ℕ))) (g : GroupValue D) (ps : List Plain) (v : ℕ) (d : D) → HasPlains told g ps → v < length g.area.volumes → slice_get g.devices v ≡ Some d
+pub device_tells : {D : Type 0} → (told : D → Option (List (List ℕ))) (g : GroupValue D) (ps : List Plain) (v : ℕ) (d : D) → HasPlains told g ps
+    → v < length g.area.volumes → slice_get g.devices v ≡ Some d
     → told d ≡ Some (volume_in ps v).blocks
 device_tells {D = D} told g ps v d has l at =
     let place = place_at told g has.hs v has.stands l in

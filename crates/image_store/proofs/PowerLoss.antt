@@ -1,5 +1,6 @@
 -- The committed head opens to its images with whatever is found where nothing is in use.
-use Rattle.std.proofs.Common.{◌≡◌, ◌≢◌, ℕ, zero, suc, ◌+◌, ◌*◌, ◌<◌, ◌≤◌, List, [], ◌∷◌, length, map, take, drop, cond, refl, ap, sym, subst, ◌∙◌, arith, Bool, true, false, Option, Some, None, is_some, inl, inr}
+use Rattle.std.proofs.Common.{◌≡◌, ◌≢◌, ℕ, zero, suc, ◌+◌, ◌*◌, ◌<◌, ◌≤◌, List, [], ◌∷◌, length, map, take, drop, cond, refl, ap, sym, subst, ◌∙◌, arith, Bool}
+use Rattle.std.proofs.Common.{true, false, Option, Some, is_some, inl, inr}
 use Rattle.std.specs.Prelude.{◌⊎◌, All, IfSome, slice_get, slice_set, slice_index_or, Ok}
 use Rattle.std.specs.List.{concat}
 use Rattle.std.specs.List.Sorted.{IsPermutation}
@@ -11,10 +12,10 @@ use Rattle.volume_device.specs.Blocks.{AreBlocks}
 use Rattle.volume_device.specs.declared.device.Device.{Ghosts}
 use Rattle.write_history.specs.Slots.{Copy, copies}
 use Rattle.diff_area.specs.Copies.{copies_from, AreHeld, AreStored}
-use Rattle.diff_area.specs.Format.{part, good_in, header_of, layout_in, records_of, row_count, rows_in, slots_in, stated_used, table_of, HasHeader, IsArea}
+use Rattle.diff_area.specs.Format.{part, header_of, records_of, slots_in, table_of, IsArea}
 use Rattle.diff_area.specs.Loading.{IsReadFrom}
 use Rattle.diff_area.specs.Places.{pages_for, place_of_slot, table_for}
-use Rattle.diff_area.specs.Records.{free, is_free, used_in}
+use Rattle.diff_area.specs.Records.{free, is_free}
 use Rattle.diff_area.specs.declared.table_record.Record.{Record}
 use Rattle.diff_area.proofs.Blocks.{AreOf, are_of, length-concat, part-block, part-blocks}
 use Rattle.diff_area.proofs.FromDevice.{held_is}
@@ -58,8 +59,7 @@ same_front (x ∷ xs) (y ∷ ys) (suc n) h =
     ap (λ z. z ∷ take n xs) (same_Some x y (h 0 (omega arith))) ∙ ap (λ zs. y ∷ zs) (same_front xs ys n (λ k l. h (suc k) (omega arith)))
 
 drop_get : (xs : List (List ℕ)) (k : ℕ) → slice_get (drop 1 xs) k ≡ slice_get xs (suc k)
-drop_get [] k = refl
-drop_get (x ∷ xs) k = refl
+drop_get xs k = grind arith
 
 -- the copies of used records are the same where their slots are
 same_used : (slot : ℕ) (rows : List Record) (f g : ℕ → List ℕ) → ((i : ℕ) (r : Record) → slice_get rows i ≡ Some r → is_free r ≡ false → f (slot + i) ≡ g (slot + i))
@@ -89,7 +89,7 @@ module _ (n : ℕ) (blocks found : List (List ℕ)) (volumes : List ℕ) (record
   whole_new = record { number = number ∙ whole.number; whole = whole_found }
 
   slots_are : length records ≡ slots_in (header_of (concat blocks))
-  slots_are = ap length read.records_are ∙ length-rows_in (layout_in (header_of (concat blocks))) (table_of (concat blocks)) (slots_in (header_of (concat blocks)))
+  slots_are = grind (arith, length-rows_in)
 
   size_same : length (concat found) ≡ length (concat blocks)
   size_same = length-concat BLOCK found of_new ∙ ap (λ m. BLOCK * m) number ∙ sym (length-concat BLOCK blocks of_old)
@@ -107,18 +107,10 @@ module _ (n : ℕ) (blocks found : List (List ℕ)) (volumes : List ℕ) (record
       ∙ sym (part-blocks BLOCK 1 pages BLOCK (BLOCK * pages) blocks of_old refl refl)
 
   records_same : records_of (concat found) ≡ records_of (concat blocks)
-  records_same =
-      ap (λ h. rows_in (layout_in h) (table_of (concat found)) (slots_in h)) header_same
-      ∙ ap (λ t. rows_in (layout_in (header_of (concat blocks))) t (slots_in (header_of (concat blocks)))) table_same
+  records_same = grind (arith, header_same, table_same)
 
   area_same : IsArea (concat found)
-  area_same = record {
-    header = subst (λ (h : List ℕ). HasHeader (length (concat found)) h) (sym header_same) (subst (λ (m : ℕ). HasHeader m (header_of (concat blocks))) (sym size_same) read.area.header);
-    records = λ slot l.
-        ap (λ h. good_in h (table_of (concat found)) slot) header_same ∙ ap (λ t. good_in (header_of (concat blocks)) t slot) table_same
-        ∙ read.area.records slot (let e = ap (λ h. row_count (slots_in h)) header_same in omega arith);
-    used = ap stated_used header_same ∙ read.area.used ∙ sym (ap used_in records_same);
-  }
+  area_same = grind (arith, header_same, size_same, table_same, records_same)
 
   pub found_stored : (cs : List Copy) → AreHeld (Some blocks) records cs → AreStored (Some found) cs
   found_stored cs held =
@@ -193,7 +185,8 @@ module _ (g : GroupValue Held) (ps : List Plain) (v : ℕ) (found : List (List �
       let at : slice_get (slice_set g.devices v (Some now)) v ≡ Some (Some now) = slice_get-set_same g.devices v there.0 (Some now) there.1 in
       let is : IsPut own (with_volume g v now) (record { devices = slice_set (slice_set g.devices v (Some now)) v (Some (slice_set now b bytes)); area = g.area; images = g.images }) v
       (record { block = b; bytes = bytes }) =
-      put_again own (slice_set g.devices v (Some now)) (record { area = g.area; images = g.images }) v (Some now) (record { block = b; bytes = bytes }) low at (Some (slice_set now b bytes)) (Ok tt) has_copy
+      put_again own (slice_set g.devices v (Some now)) (record { area = g.area; images = g.images }) v (Some now)
+          (record { block = b; bytes = bytes }) low at (Some (slice_set now b bytes)) (Ok tt) has_copy
       (record { tells = refl; size_is = refl; lends = refl; later = omega arith }, refl) in
       let after = put_plains own (with_volume g v now) (record { devices = slice_set (slice_set g.devices v (Some now)) v (Some (slice_set now b bytes)); area = g.area; images = g.images })
       (on_volume v (with_blocks now) ps) v b bytes within low is has in
@@ -349,8 +342,7 @@ module _ {D : Type 0} (told : D → Held) (g : GroupValue D) (ps : List Plain) (
 -- ## the store
 
 some_of : (t : Held) → is_some t ≡ true → (blocks : List (List ℕ)) × (t ≡ Some blocks)
-some_of None e = cc
-some_of (Some blocks) e = (blocks, refl)
+some_of t e = grind arith
 
 -- the images of what was found are those that were
 same_images : (found : List (List (List ℕ))) (ps : List Plain) (v : ℕ) → length found ≡ length ps → (volume_in (found_in found ps) v).images ≡ (volume_in ps v).images
@@ -391,5 +383,7 @@ opens_found {D = D} told g now names last p found area committed under are =
           kept_of itself told s names last later again (as_found found p)
           (record { group = has; last = committed.stands.last; given = given_found p.last found ps committed.stands.given })
           (tells ∙ sym (map_itself (map Some found))) (ap is_some slots_are) (subst (λ (t : Held). AreStored t cs) (sym slots_are) stored);
-      images = λ set v. ap (image_in set) (same_images found ps v (let a = are.number in let b = under.devices in let c = plains.stands.devices in let d = as_many_plains told g ps plains in omega arith));
+      images = λ set v. ap (image_in set)
+          (same_images found ps v
+          (let a = are.number in let b = under.devices in let c = plains.stands.devices in let d = as_many_plains told g ps plains in omega arith));
     }

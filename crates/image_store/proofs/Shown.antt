@@ -10,15 +10,14 @@ use Rattle.byteorder.specs.Endian.{little_number}
 use Rattle.block_data.specs.declared.block_buf.TheConstants.{BLOCK}
 use Rattle.io_edge.specs.Streams.{Took, TookPart}
 use Rattle.cow_volume.specs.GroupValue.{GroupValue}
-use Rattle.cow_volume.specs.Calls.{blocks_at, sets_at, sets_in, is_among, IsNow, IsShown as IsImage}
+use Rattle.cow_volume.specs.Calls.{blocks_at, sets_at, is_among, IsNow, IsShown as IsImage}
 use Rattle.image_store.specs.FileBytes.{file_in, length_in, has_length, number_in}
 use Rattle.image_store.specs.Plain.{Plain, volume_in}
-use Rattle.image_store.specs.Showing.{HasBlock, HasLength, HasNoLength, HasReadCause, HasShowCause, IfBad, IsShow, IsShown, IsShownInPart, IsUnseen, shown_in, IsSeen}
+use Rattle.image_store.specs.Showing.{HasBlock, HasLength, HasNoLength, HasReadCause, IfBad, IsShow, IsShownInPart, IsUnseen, shown_in, IsSeen}
 use Rattle.image_store.specs.StoreValue.{HasPlains, KeepsPlains}
 use Rattle.image_store.specs.declared.which.Which.{Which}
 use Rattle.image_store.specs.declared.which.Which.TheVariants.{Now, Of}
 use Rattle.image_store.specs.declared.show_fault.ShowFault.{ShowFault}
-use Rattle.image_store.specs.declared.show_fault.ShowFault.TheVariants.{NoSuchImage, BadLength, Volume, Area, Sink}
 use Rattle.image_store.proofs.Plains.{block_now, block_shown, as_many_blocks}
 
 -- ## a block
@@ -77,8 +76,7 @@ no_length_at shown n blocks said piece bytes same has are is =
 -- ## what the sink took
 
 pub took_none : (before : Option (List ℕ)) → Took before [] before
-took_none None = refl
-took_none (Some had) = ap Some (sym (append-nil had))
+took_none before = grind (arith, append-nil)
 
 pub took_then : (a b c : Option (List ℕ)) (xs ys : List ℕ) → Took a xs b → Took b ys c → Took a (xs ++ ys) c
 took_then None b c xs ys first second = second ∙ ap (option_map (λ had. had ++ ys)) first
@@ -106,25 +104,12 @@ file_is blocks m e = ap (λ j. take j (concat blocks)) e
 
 -- before the first
 pub shown_none : (shown : Option (List (List ℕ))) (n left : ℕ) (before : Option (List ℕ)) → HasLength shown n left → HasTaken shown n before before left 0
-shown_none shown n left before has = record {
-  blocks = has.blocks;
-  are = has.are;
-  many = has.many;
-  bytes = [];
-  took = took_none before;
-  rest = file_is has.blocks left has.length_is;
-}
+shown_none shown n left before has = grind (arith, took_none, file_is)
 
 drop_at : (blocks : List (List ℕ)) (k : ℕ) (bytes : List ℕ) → slice_get blocks k ≡ Some bytes → drop k blocks ≡ bytes ∷ drop (k + 1) blocks
 drop_at [] k bytes at = cc
 drop_at (b ∷ blocks) zero bytes at = let same : b ≡ bytes = cc in ap (λ x. x ∷ blocks) same
 drop_at (b ∷ blocks) (suc k) bytes at = let one : suc k + 1 ≡ suc (k + 1) = omega arith in drop_at blocks k bytes at ∙ ap (λ j. bytes ∷ drop j (b ∷ blocks)) (sym one)
-
-drop_past : (blocks : List (List ℕ)) (k : ℕ) → length blocks ≤ k → drop k blocks ≡ []
-drop_past [] zero l = refl
-drop_past [] (suc k) l = refl
-drop_past (b ∷ blocks) zero l = absurd (omega arith)
-drop_past (b ∷ blocks) (suc k) l = drop_past blocks k (omega arith)
 
 take_whole : (xs : List ℕ) → take (length xs) xs ≡ xs
 take_whole [] = refl
@@ -138,11 +123,6 @@ take_two left more rest xs ys sum (inr h) =
     let none = h.0 in
     let same : left ≡ more = omega arith in
     take-append-le left xs ys h.1 ∙ ap (λ n. take n xs) same ∙ sym (append-nil (take more xs)) ∙ ap (λ n. take more xs ++ take n ys) (sym none)
-
-take_none : (left : ℕ) (xs : List ℕ) → xs ≡ [] → take left xs ≡ []
-take_none zero xs e = refl
-take_none (suc left) [] e = refl
-take_none (suc left) (x ∷ xs) e = cc
 
 -- one more block
 pub shown_more : (shown : Option (List (List ℕ))) (n left more rest k : ℕ) (before now next : Option (List ℕ)) (bytes : List ℕ) → HasTaken shown n before now left k → HasBlock shown n k bytes
@@ -163,36 +143,20 @@ shown_more shown n left more rest k before now next bytes so has took sum part =
           (sym (ap (λ (bs : List (List ℕ)). take left (concat bs)) (drop_at so.blocks k bytes at) ∙ take_two left more rest bytes (concat (drop (k + 1) so.blocks)) sum part)) ∙ so.rest;
     }
 
--- the end
-pub shown_end : (shown : Option (List (List ℕ))) (n left k : ℕ) (before now : Option (List ℕ)) → HasTaken shown n before now left k → (left ≡ 0) ⊎ (n ≤ k) → IsShown shown before now
-shown_end shown n left k before now so end = record {
-  blocks = so.blocks;
-  are = so.are;
-  took = subst (λ (bytes : List ℕ). Took before bytes now) (sym (append-nil so.bytes) ∙ ap (λ xs. so.bytes ++ xs) (sym (none end)) ∙ so.rest) so.took;
-} where
-  none : (left ≡ 0) ⊎ (n ≤ k) → take left (concat (drop k so.blocks)) ≡ []
-  none (inl e) = ap (λ m. take m (concat (drop k so.blocks))) e
-  none (inr l) = let many = so.many in ap (λ (bs : List (List ℕ)). take left (concat bs)) (drop_past so.blocks k (omega arith)) ∙ take_none left [] refl
-
 -- a block of the group as it is now
 pub block_of : (shown : Option (List (List ℕ))) (m n k : ℕ) (piece bytes : List ℕ) → m ≡ n → bytes ≡ piece → HasBlock shown m k piece → HasBlock shown n k bytes
 block_of shown m n k piece bytes same are has = record { blocks = has.blocks; are = has.are; many = has.many ∙ same; at = has.at ∙ ap Some (sym are) }
 
 pub part_is : (left more len block : ℕ) → (more ≡ block) ⊎ (more ≡ left) → len ≡ block → more ≤ block → (more ≡ len) ⊎ ((left - more ≡ 0) × (left ≤ len))
-part_is left more len block (inl e) whole most = inl (e ∙ sym whole)
-part_is left more len block (inr e) whole most = inr (omega arith, omega arith)
+part_is left more len block x4 whole most = grind arith
 
 -- no more is shown
 part_of_all : (shown : Option (List (List ℕ))) (blocks : List (List ℕ)) (bytes rest : List ℕ) → shown ≡ Some blocks → bytes ++ rest ≡ file_in blocks
     → (others : List (List ℕ)) → shown ≡ Some others → (more : List ℕ) × (bytes ++ more ≡ file_in others)
-part_of_all shown blocks bytes rest are is others too =
-    let both : Some blocks ≡ Some others = sym are ∙ too in
-    let same : blocks ≡ others = cc in
-    (rest, is ∙ ap file_in same)
+part_of_all shown blocks bytes rest are is others too = grind arith
 
 pub shown_part : (shown : Option (List (List ℕ))) (n left k : ℕ) (before now : Option (List ℕ)) → HasTaken shown n before now left k → IsShownInPart shown before now
-shown_part shown n left k before now so =
-    record { bytes = so.bytes; took = so.took; part = part_of_all shown so.blocks so.bytes (take left (concat (drop k so.blocks))) so.are so.rest }
+shown_part shown n left k before now so = grind (arith, part_of_all)
 
 -- the sink failed within a block
 pub shown_failed : (shown : Option (List (List ℕ))) (n left more rest k : ℕ) (before now next : Option (List ℕ)) (bytes : List ℕ) → HasTaken shown n before now left k → HasBlock shown n k bytes
@@ -217,53 +181,17 @@ nothing_shown : (shown : Option (List (List ℕ))) (before : Option (List ℕ)) 
 nothing_shown shown before = record { bytes = []; took = took_none before; part = λ blocks are. (file_in blocks, refl) }
 
 pub bad_shown : (shown : Option (List (List ℕ))) (before : Option (List ℕ)) (fault : ShowFault) → IfBad shown fault → IsShow shown before before (Err fault)
-bad_shown shown before NoSuchImage bad = refl
-bad_shown shown before (BadLength found) bad = (refl, bad)
-bad_shown shown before Volume bad = nothing_shown shown before
-bad_shown shown before Area bad = nothing_shown shown before
-bad_shown shown before Sink bad = nothing_shown shown before
+bad_shown shown before fault bad = grind (arith, nothing_shown)
 
 -- an image stands, or it does not
 not_both : {D : Type 0} (g : GroupValue D) (v : ℕ) (which : Which) → IsSeen g v which → IsUnseen g v which → ⊥
-not_both g v Now seen none = none
-not_both g v (Of set) seen none = let both : true ≡ false = sym seen ∙ none in cc
+not_both g v which seen none = grind arith
 
-pub read_failed : {D : Type 0} (g : GroupValue D) (v : ℕ) (which : Which) (shown : Option (List (List ℕ))) (before now : Option (List ℕ)) (fault : ShowFault) → IsSeen g v which → HasReadCause g v which fault
+pub read_failed : {D : Type 0} (g : GroupValue D) (v : ℕ) (which : Which) (shown : Option (List (List ℕ))) (before now : Option (List ℕ)) (fault : ShowFault)
+    → IsSeen g v which → HasReadCause g v which fault
     → IsShownInPart shown before now → IsShow shown before now (Err fault)
-read_failed g v which shown before now NoSuchImage seen cause part = absurd (not_both g v which seen cause)
-read_failed g v which shown before now (BadLength found) seen cause part = absurd cause
-read_failed g v which shown before now Volume seen cause part = part
-read_failed g v which shown before now Area seen cause part = part
-read_failed g v which shown before now Sink seen cause part = absurd cause
+read_failed g v which shown before now fault seen cause part = grind (arith, not_both)
 
 -- it stands where it stood
 pub seen_in : {D : Type 0} (old now : GroupValue D) (v : ℕ) (which : Which) → now.images ≡ old.images → IsSeen now v which → IsSeen old v which
-seen_in old now v Now same seen = seen
-seen_in old now v (Of set) same seen = ap (λ (images : List (List ℕ)). is_among set (sets_in (slice_get images v))) (sym same) ∙ seen
-
-unseen_in : {D : Type 0} (old now : GroupValue D) (v : ℕ) (which : Which) → now.images ≡ old.images → IsUnseen now v which → IsUnseen old v which
-unseen_in old now v Now same none = none
-unseen_in old now v (Of set) same none = ap (λ (images : List (List ℕ)). is_among set (sets_in (slice_get images v))) (sym same) ∙ none
-
-pub read_cause : {D : Type 0} (old now : GroupValue D) (v : ℕ) (which : Which) (rose : Type 0) (fault : ShowFault) → now.images ≡ old.images → HasReadCause now v which fault
-    → HasShowCause old v which rose fault
-read_cause old now v which rose NoSuchImage same cause = unseen_in old now v which same cause
-read_cause old now v which rose (BadLength found) same cause = absurd cause
-read_cause old now v which rose Volume same cause = seen_in old now v which same cause
-read_cause old now v which rose Area same cause = seen_in old now v which same cause
-read_cause old now v which rose Sink same cause = absurd cause
-
-pub length_cause : {D : Type 0} (old : GroupValue D) (v : ℕ) (which : Which) (rose : Type 0) (fault : ShowFault) → HasShowCause old v which ⊥ fault → HasShowCause old v which rose fault
-length_cause old v which rose NoSuchImage cause = cause
-length_cause old v which rose (BadLength found) cause = cause
-length_cause old v which rose Volume cause = cause
-length_cause old v which rose Area cause = cause
-length_cause old v which rose Sink cause = absurd cause.1
-
--- a block that was not read has no bad length
-pub read_good : {D : Type 0} (g : GroupValue D) (v : ℕ) (which : Which) (shown : Option (List (List ℕ))) (fault : ShowFault) → HasReadCause g v which fault → IfBad shown fault
-read_good g v which shown NoSuchImage cause = tt
-read_good g v which shown (BadLength found) cause = absurd cause
-read_good g v which shown Volume cause = tt
-read_good g v which shown Area cause = tt
-read_good g v which shown Sink cause = absurd cause
+seen_in old now v which same seen = grind arith

@@ -1,5 +1,5 @@
 -- The capture of a file that stands still.
-use Rattle.std.proofs.Common.{◌≡◌, ℕ, ◌+◌, ◌<◌, ◌≤◌, List, length, refl, ap, sym, subst, ◌∙◌, arith, Bool, true, false, Option, Some, inl, inr}
+use Rattle.std.proofs.Common.{◌≡◌, ℕ, ◌+◌, ◌<◌, ◌≤◌, List, length, ap, sym, subst, ◌∙◌, arith, Bool, true, false, Option, Some, inl, inr}
 use Rattle.std.specs.Prelude.{◌⊎◌, IfSome, option_map, slice_get, slice_set}
 use Rattle.std.proofs.lemmas.Option.{slice_get_within}
 use Rattle.volume_device.specs.Blocks.{AreBlocks}
@@ -50,32 +50,17 @@ captured_to told differs wanted blocks k to all so = record {
 -- what is captured to the end may be taken by the volume
 pub captured_ready : (differs : List Bool) (spool wanted blocks : List (List ℕ)) (to : ℕ) → length differs ≡ length blocks → length wanted ≡ length blocks
     → length blocks ≤ to → AreCaptured differs spool wanted blocks to → AreReady differs wanted blocks 0
-captured_ready differs spool wanted blocks to marks as_many all so = record {
-  marks = marks;
-  as_many = as_many;
-  rest = λ b at. let within = slice_get_within differs b false at in so.rest b (omega arith) at;
-  first = λ b low. absurd (omega arith);
-}
+captured_ready differs spool wanted blocks to marks as_many all so = grind (arith, slice_get_within)
 
 pub captured_gives : (told : Option (List (List ℕ))) (differs : List Bool) (wanted blocks : List (List ℕ)) (to : ℕ) → length differs ≤ to
     → HasCaptured told differs wanted blocks to → Gives told differs wanted
-captured_gives told differs wanted blocks to all so = record {
-  source = so.spool;
-  told_is = so.told_is;
-  marked = λ b at. let within = slice_get_within differs b true at in so.captured.marked b (omega arith) at;
-}
+captured_gives told differs wanted blocks to all so = grind (arith, slice_get_within)
 
 -- a block that is not written to the spool is the volume's own
 pub one_left : (told input : Option (List (List ℕ))) (b : ℕ) (before wanted blocks : List (List ℕ)) (piece other : List ℕ) → told ≡ Some before
     → slice_get blocks b ≡ Some piece → input ≡ Some wanted → IfSome input (λ from. slice_get from b ≡ Some other) → piece ≡ other
     → HasOneCaptured told false b before wanted blocks
-one_left told input b before wanted blocks piece other told_is here is read same = record {
-  spool = before;
-  told_is = told_is;
-  others = λ i m. refl;
-  rest = λ e. here ∙ ap Some same ∙ sym (subst (λ (o : Option (List (List ℕ))). IfSome o (λ from. slice_get from b ≡ Some other)) is read);
-  marked = λ e. absurd (cc);
-}
+one_left told input b before wanted blocks piece other told_is here is read same = grind arith
 
 -- one that is written to it is there
 pub one_put : (old new input : Option (List (List ℕ))) (size b : ℕ) (before wanted blocks : List (List ℕ)) (other : List ℕ) → old ≡ Some before → IfSome old (AreBlocks size)

@@ -1,10 +1,9 @@
 -- A store and the whole copies that it stands for: its calls as steps.
 use Rattle.std.proofs.Common.{◌≡◌, ℕ, ◌<◌, List, [], ◌∷◌, length, map, refl, ap, sym, subst, ◌∙◌, arith, Bool, true, false, Option, Some, None, is_some}
-use Rattle.std.specs.Prelude.{◌||◌, ◌&&◌, ◌==◌, not, nat_lt, if◌then◌else◌, slice_get, replicate, Result, Ok, Err, OnOk}
-use Rattle.std.specs.List.{range_with_len}
+use Rattle.std.specs.Prelude.{◌||◌, ◌&&◌, ◌==◌, not, nat_lt, if◌then◌else◌, replicate, Result, Ok, Err, OnOk}
 use Rattle.vss_names.specs.TextValue.{TextValue}
 use Rattle.vss_catalog.specs.Group.{are_names_for}
-use Rattle.vss_catalog.specs.Names.{are_names, bytes_in}
+use Rattle.vss_catalog.specs.Names.{are_names}
 use Rattle.write_history.specs.declared.evicted.Evicted.{Evicted}
 use Rattle.block_data.specs.Runs.{zeros}
 use Rattle.volume_device.specs.declared.device.Device.{Ghosts}
@@ -12,13 +11,13 @@ use Rattle.write_history.specs.History.{fresh}
 use Rattle.cow_volume.specs.GroupValue.{GroupValue}
 use Rattle.cow_volume.specs.StandsFor.{StandsFor}
 use Rattle.cow_volume.specs.Ending.{AllTell, IsSync, IsSynced}
-use Rattle.cow_volume.specs.Calls.{IsDropped, is_among, blocks_in, sets_in}
+use Rattle.cow_volume.specs.Calls.{IsDropped, is_among}
 use Rattle.cow_volume.specs.Calls.{IsRevert as IsGroupRevert}
 use Rattle.cow_volume.specs.declared.cause.Cause.{Cause}
 use Rattle.cow_volume.specs.declared.image_fault.ImageFault.{ImageFault}
 use Rattle.cow_volume.specs.declared.revert_fault.RevertFault.{RevertFault}
 use Rattle.cow_volume.specs.declared.revert_fault.RevertFault.TheVariants.{NoSuchImage, Fault}
-use Rattle.image_store.specs.Head.{head_bytes, head_of}
+use Rattle.image_store.specs.Head.{head_of}
 use Rattle.image_store.specs.Passes.{IsCopying, IsWriting}
 use Rattle.image_store.specs.Plain.{Kept, Plain, PlainStore, plain_at, on_each, cut_on, gone_on, with_blocks, dropped_on, older_on, reverted_on, image_in, fresh_store, plains_of, AllGiven}
 use Rattle.image_store.specs.Reverting.{IsRevert}
@@ -42,27 +41,18 @@ named_still old new names same named = ap (λ (ns : List ℕ). (length names == 
 -- the head is that of the volumes and the images
 pub head_still : {D : Type 0} (old new : GroupValue D) (names : List TextValue) (last : ℕ) → new.area.volumes ≡ old.area.volumes → new.images ≡ old.images
     → head_of (store_of new names last) ≡ head_of (store_of old names last)
-head_still old new names last volumes images =
-    ap (λ (ns : List ℕ). head_bytes last
-    (map (λ v. record { name = bytes_in (slice_get names v); blocks = blocks_in (slice_get ns v); images = sets_in (slice_get new.images v) }) (range_with_len 0 (length ns)))) volumes
-    ∙ ap (λ (is : List (List ℕ)). head_bytes last (map (λ v. record { name = bytes_in (slice_get names v); blocks = blocks_in (slice_get old.area.volumes v); images = sets_in (slice_get is v) })
-    (range_with_len 0 (length old.area.volumes)))) images
+head_still old new names last volumes images = grind arith
 
 pub synced : {D : Type 0} (ghosts : Ghosts D) (old new : GroupValue D) (r : Result Unit Cause) → IsSync ghosts old new r
     → IsSynced ghosts old new
-synced ghosts old new (Ok done) is = is.0
-synced ghosts old new (Err cause) is = is.0
+synced ghosts old new r is = grind arith
 
 pub still : {D : Type 0} (told : D → Option (List (List ℕ))) (old new : StoreValue D) → KeepsPlains told old.group new.group → new.last ≡ old.last → StandsStill told old new
 still told old new kept last = λ p stands. record { group = kept.plains p.volumes stands.group; last = stands.last ∙ sym last; given = stands.given }
 
 pub cut_step : {D : Type 0} (told : D → Option (List (List ℕ))) (old new : StoreValue D) (set : ℕ) (vs : List ℕ) → old.last < set → new.last ≡ set
     → ((ps : List Plain) → HasPlains told old.group ps → HasPlains told new.group (on_each vs (cut_on set) ps)) → IsStep told old new (Cut set vs)
-cut_step told old new set vs later last cut = λ p stands.
-    let same = stands.last in (
-      (omega arith, λ v. ungiven p.last set (plain_at p v).images (omega arith) (given-at p.last v p.volumes stands.given)),
-      record { group = cut p.volumes stands.group; last = sym last; given = given-cut p.last set vs p.volumes (omega arith) stands.given },
-    )
+cut_step told old new set vs later last cut = grind (arith, ungiven, given-at, given-cut)
 
 pub dropped_step : {D : Type 0} (ghosts : Ghosts D) (old new : StoreValue D) (set v : ℕ) (r : Result Unit ImageFault) → new.last ≡ old.last
     → v < length old.group.area.volumes → IsDropped ghosts old.group new.group v set r → OnOk r (IsStep ghosts.told old new (Dropped set v))
@@ -78,14 +68,12 @@ dropped_step ghosts old new set v (Err fault) last l is = tt
 
 pub dropped_volumes : {D : Type 0} (ghosts : Ghosts D) (old new : GroupValue D) (set v : ℕ) (r : Result Unit ImageFault)
     → IsDropped ghosts old new v set r → new.area.volumes ≡ old.area.volumes
-dropped_volumes ghosts old new set v (Ok done) is = is.1.kept.volumes
-dropped_volumes ghosts old new set v (Err fault) is = ap (λ (g : GroupValue _). g.area.volumes) is.2
+dropped_volumes ghosts old new set v r is = grind arith
 
 -- ## reverts
 
 unseen-if : (t : Bool) (rest : Bool) (blocks : List (List ℕ)) (o : Option (List (List ℕ))) → (t || rest) ≡ false → (rest ≡ false → o ≡ None) → (if t then Some blocks else o) ≡ None
-unseen-if true rest blocks o e h = cc
-unseen-if false rest blocks o e h = h e
+unseen-if t rest blocks o e h = grind arith
 
 unseen : (set : ℕ) (ks : List Kept) → is_among set (map (λ (k : Kept). k.set) ks) ≡ false → image_in set ks ≡ None
 unseen set [] e = refl
@@ -118,9 +106,7 @@ revert_is ghosts old new set v (Err (Fault restored cause)) last l is p stands =
 
 pub revert_volumes : {D : Type 0} (ghosts : Ghosts D) (old new : GroupValue D) (set v : ℕ) (r : Result Unit RevertFault)
     → IsGroupRevert ghosts old new v set r → new.area.volumes ≡ old.area.volumes
-revert_volumes ghosts old new set v (Ok done) is = is.kept.volumes
-revert_volumes ghosts old new set v (Err NoSuchImage) is = ap (λ (g : GroupValue _). g.area.volumes) is.1
-revert_volumes ghosts old new set v (Err (Fault restored cause)) is = is.0.kept.volumes
+revert_volumes ghosts old new set v r is = grind arith
 
 -- ## updates
 
@@ -144,32 +130,7 @@ pub overwriting : {D E : Type 0} (told : D → Option (List (List ℕ))) (old ne
     (r : Result Pass E)
     → new.last ≡ old.last → (p : PlainStore) → StandsAs told old p → AreReady differs wanted (plain_at p v).blocks from → IsWriting told new.group p.volumes v differs wanted list r
     → IsOverwriting told new p v differs wanted list r
-overwriting told old new v differs wanted from list (Ok Done) last p stands ready is = (
-  ready.as_many,
-  record { group = is; last = stands.last ∙ sym last; given = given-on p.last v (with_blocks wanted) p.volumes (λ q given. given) stands.given },
-)
-overwriting told old new v differs wanted from list (Ok (Stopped at up_to)) last p stands ready is = (
-  is.now,
-  record {
-    allowed = is.mixed;
-    ready = is.ready;
-    stopped = record {
-      some = is.went.some;
-      list_is = is.went.list_is;
-      stands = record {
-        group = is.went.plains;
-        last = stands.last ∙ sym last;
-        given = given-all p.last (gone_on up_to) _ (λ q given. given-filter (λ k. nat_lt up_to k.set) p.last q.images given)
-            (given-on p.last v (with_blocks is.now) p.volumes (λ q given. given) stands.given);
-      };
-    };
-  },
-)
-overwriting told old new v differs wanted from list (Err failed) last p stands ready is = (
-  is.0,
-  is.1,
-  record { group = is.2; last = stands.last ∙ sym last; given = given-on p.last v (with_blocks is.0) p.volumes (λ q given. given) stands.given },
-)
+overwriting told old new v differs wanted from list r last p stands ready is = grind (arith, given-on, given-all, given-filter)
 
 -- ## a store that is new
 
@@ -185,14 +146,4 @@ fresh_given (n ∷ ns) = (tt, fresh_given ns)
 pub fresh_stands : {D : Type 0} (told : D → Option (List (List ℕ))) (s : StoreValue D) (volumes : List ℕ) → s.group.area.volumes ≡ volumes → s.last ≡ 0 → AllTell told s.group.devices
     → is_some (told s.group.area.device) ≡ true
     → StandsFor told s.group (map (λ n. fresh) volumes) → StandsAs told s (fresh_store volumes)
-fresh_stands told s volumes volumes_are last devices area stands = record {
-  group = record {
-    hs = map (λ n. fresh) volumes;
-    stands = stands;
-    devices = devices;
-    area = area;
-    plains = sym (fresh_plains volumes) ∙ ap (λ ns. plains_of ns (map (λ n. fresh) volumes)) (sym volumes_are);
-  };
-  last = sym last;
-  given = fresh_given volumes;
-}
+fresh_stands told s volumes volumes_are last devices area stands = grind (arith, fresh_plains, fresh_given)

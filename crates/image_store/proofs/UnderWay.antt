@@ -1,13 +1,12 @@
 -- The calls of an update leave each image where it was committed.
-use Rattle.std.proofs.Common.{◌≡◌, ◌≢◌, ℕ, zero, suc, ◌<◌, ◌≤◌, List, [], ◌∷◌, length, map, take, drop, refl, ap, sym, subst, ◌∙◌, arith, Bool, true, false, Option, Some, inl, inr}
+use Rattle.std.proofs.Common.{◌≡◌, ◌≢◌, ℕ, zero, suc, ◌<◌, ◌≤◌, List, [], ◌∷◌, length, map, refl, ap, sym, subst, ◌∙◌, arith, Bool, true, false, Option, Some, inl, inr}
 use Rattle.std.specs.Prelude.{◌⊎◌, IfSome, OnOk, option_map, slice_get, Result, Ok, Err}
-use Rattle.std.proofs.lemmas.Bool.{cases_eq}
-use Rattle.std.proofs.lemmas.Option.{same_Some, slice_get_within}
+use Rattle.std.proofs.lemmas.Bool.{cases_eq, cases_lt}
+use Rattle.std.proofs.lemmas.Option.{same_Some, slice_get_within, slice_get_past}
 use Rattle.std.proofs.lemmas.List.{length-append, length-drop, length-map, length-take-le}
 use Rattle.diff_area.specs.AreaValue.{with_first}
-use Rattle.diff_area.specs.Places.{place_of_slot, table_for}
-use Rattle.diff_area.specs.Records.{free, AreRecords}
-use Rattle.diff_area.specs.Written.{table_blocks}
+use Rattle.diff_area.specs.Places.{table_for}
+use Rattle.diff_area.specs.Records.{AreRecords}
 use Rattle.diff_area.specs.declared.table_record.Record.{Record}
 use Rattle.diff_area.proofs.Gets.{get-with_first-past}
 use Rattle.diff_area.proofs.TableBlocks.{length-table}
@@ -18,9 +17,8 @@ use Rattle.diff_map.specs.MapValue.{AreImages}
 use Rattle.cow_volume.specs.Calls.{sets_in}
 use Rattle.cow_volume.specs.Changes.{gone_row}
 use Rattle.cow_volume.specs.Ending.{IsSync, IsTable}
-use Rattle.std.specs.List.{concat}
 use Rattle.diff_area.specs.AreaValue.{AreaValue}
-use Rattle.diff_area.specs.Loading.{IsLoaded, IsReadFrom}
+use Rattle.diff_area.specs.Loading.{IsLoaded}
 use Rattle.vss_names.specs.TextValue.{TextValue}
 use Rattle.volume_device.specs.declared.device.Device.{Ghosts}
 use Rattle.cow_volume.specs.declared.cause.Cause.{Cause}
@@ -41,51 +39,22 @@ use Rattle.image_store.specs.Steps.{AreMixed}
 use Rattle.image_store.specs.StoreValue.{HasPlains}
 use Rattle.image_store.specs.Updating.{AreReady}
 use Rattle.image_store.proofs.Plains.{as_many_blocks, as_many_plains, device_tells, synced_kept, volume_on}
-use Rattle.image_store.proofs.Sets.{below_or_past, get_past}
 
 -- ## what was committed
-
-pub under_way_itself : {D : Type 0} (told : D → Option (List (List ℕ))) (g : GroupValue D) → IsUnderWay told g g
-under_way_itself {D = D} told g = record {
-  number = refl;
-  slots = record { blocks = λ before is. (before, is, record { number = refl; same = λ k at. refl }) };
-  devices = refl;
-  each = λ v d e at is. record { blocks = λ before tells. (before, ap told (sym (same_Some d e (sym at ∙ is))) ∙ tells, record { number = refl; same = λ k m. refl }) };
-}
 
 -- ## the slots
 
 -- a slot that has a copy is in use
 in_use : (records : List Record) (k : ℕ) → IsCopyPlace records k → IsInUse records k
-in_use records k place = λ slot at e.
-    let is = place.place in
-    let same : place.slot ≡ slot = omega arith in
-    place.used (same_Some place.row free (sym place.at ∙ ap (slice_get records) same ∙ at))
+in_use records k place = grind (arith, same_Some)
 
 -- it still has it
 place_still : {D : Type 0} (committed now : GroupValue D) (k : ℕ) → HasCopiesOf committed now → IsCopyPlace committed.area.records k → IsCopyPlace now.area.records k
-place_still committed now k has place = record {
-  slot = place.slot;
-  row = place.row;
-  at = has.records place.slot place.row place.at place.used;
-  used = place.used;
-  place = place.place ∙ ap (λ n. place_of_slot n place.slot) (sym has.number);
-}
+place_still committed now k has place = grind arith
 
 slots_on : {D : Type 0} (told : D → Option (List (List ℕ))) (committed old new : GroupValue D) → HasCopiesOf committed old → KeepsSlots told old new
     → KeepsBlocks told (IsCopyPlace committed.area.records) committed.area.device old.area.device → KeepsBlocks told (IsCopyPlace committed.area.records) committed.area.device new.area.device
-slots_on told committed old new has kept before = record {
-  blocks = λ blocks is.
-      let one = before.blocks blocks is in
-      let two = kept.blocks one.0 one.1 in (
-        two.0,
-        two.1,
-        record {
-          number = two.2.number ∙ one.2.number;
-          same = λ k place. two.2.same k (in_use old.area.records k (place_still committed old k has place)) ∙ one.2.same k place;
-        },
-      );
-}
+slots_on told committed old new has kept before = grind (arith, in_use, place_still)
 
 -- ## the volumes
 
@@ -132,7 +101,8 @@ copied_on told committed old new ps qs has now same copies volumes number slots 
   number = number ∙ before.number;
   slots = slots_on told committed old new copies slots before.slots;
   devices = as_many_devices told old new ps qs has now volumes ∙ before.devices;
-  each = volumes_on told committed old new ps qs has now volumes (λ v l. record { number = ap length (same v); same = λ k shared. ap (λ (bs : List (List ℕ)). slice_get bs k) (same v) }) before.devices before.each;
+  each = volumes_on told committed old new ps qs has now volumes
+      (λ v l. record { number = ap length (same v); same = λ k shared. ap (λ (bs : List (List ℕ)). slice_get bs k) (same v) }) before.devices before.each;
 }
 
 pub gone_blocks : (ps : List Plain) (v up_to : ℕ) → (volume_in (map (gone_on up_to) ps) v).blocks ≡ (volume_in ps v).blocks
@@ -161,14 +131,14 @@ shared_still committed v from differs wanted blocks now copied ready mixed = rec
   by_place k shared (inl l) =
       let marks = ready.marks in
       let mark = slice_get_inside differs k (omega arith) in
-      sym (wanted_there k shared l (mark_there k mark.0 mark.1) (below_or_past k from))
+      sym (wanted_there k shared l (mark_there k mark.0 mark.1) (cases_lt k from))
   by_place k shared (inr past) =
       let many = ready.as_many in
-      get_past wanted k (omega arith) ∙ sym (get_past blocks k past)
+      slice_get_past wanted k (omega arith) ∙ sym (slice_get_past blocks k past)
 
   by_mixed : (k : ℕ) → IsShared committed v k → (slice_get now k ≡ slice_get blocks k) ⊎ (slice_get now k ≡ slice_get wanted k) → slice_get now k ≡ slice_get blocks k
   by_mixed k shared (inl old) = old
-  by_mixed k shared (inr new) = new ∙ by_place k shared (below_or_past k (length blocks))
+  by_mixed k shared (inr new) = new ∙ by_place k shared (cases_lt k (length blocks))
 
 same_or_other : (u v : ℕ) → (u ≡ v) ⊎ (u ≢ v)
 same_or_other u v = elim (cases_eq u v) [ inl same ↦ inl same | inr other ↦ inr other ]
@@ -214,34 +184,16 @@ table_places : (records : List Record) (k : ℕ) → IsCopyPlace records k → t
 table_places records k place = let at = place.place in omega arith
 
 length-with_first : (first blocks : List (List ℕ)) → length first ≤ length blocks → length (with_first first blocks) ≡ length blocks
-length-with_first first blocks l =
-    let a = length-append first (drop (length first) blocks) in
-    let b = length-drop (length first) blocks in
-    omega arith
+length-with_first first blocks l = grind (arith, length-append, length-drop)
 
 past_table : (old new : Option (List (List ℕ))) (first : List (List ℕ)) (n : ℕ) (P : ℕ → Type 0) → ((k : ℕ) → P k → n ≤ k) → length first ≤ n → new ≡ option_map (with_first first) old
     → (blocks : List (List ℕ)) → old ≡ Some blocks → n ≤ length blocks → (now : List (List ℕ)) × (new ≡ Some now) × AreSameAt P blocks now
-past_table old new first n P places l written blocks is long = (
-  with_first first blocks,
-  written ∙ ap (option_map (with_first first)) is,
-  record {
-    number = length-with_first first blocks (omega arith);
-    same = λ k at. get-with_first-past first blocks k (let m = places k at in omega arith);
-  },
-)
+past_table old new first n x4 places l written blocks is long = grind (arith, length-with_first, get-with_first-past)
 
 -- how the table was written, in full or in part
 first_of : {D : Type 0} (told : D → Option (List (List ℕ))) (old new : GroupValue D) (r : Result Unit Cause) → IsTable told old new r
     → (first : List (List ℕ)) × (length first ≤ table_for (length old.area.records)) × (told new.area.device ≡ option_map (with_first first) (told old.area.device))
-first_of told old new (Ok done) table = (table_blocks old.area.volumes old.area.records, (let n = length-table old.area.volumes old.area.records in omega arith), table.written)
-first_of told old new (Err cause) part = (
-  take part.count (table_blocks old.area.volumes old.area.records),
-  (let n = length-table old.area.volumes old.area.records in
-      let m = part.within in
-      let k = length-take-le part.count (table_blocks old.area.volumes old.area.records) m in
-      omega arith),
-  part.blocks,
-)
+first_of told old new r table = grind (arith, length-table, length-take-le)
 
 pub synced_on : {D : Type 0} (told : D → Option (List (List ℕ))) (committed old new : GroupValue D) (size : ℕ) (r : Result Unit Cause) → IsTable told old new r → new.devices ≡ old.devices
     → new.area.records ≡ old.area.records → IfSome (told old.area.device) (AreBlocks size) → size ≡ blocks_for (length old.area.records) → IsUnderWay told committed old → IsUnderWay told committed new
@@ -264,7 +216,8 @@ synced_on {D = D} told committed old new size r table devices records whole fits
 
 -- ## the calls of a store
 
-pub copy_under_way : {D E : Type 0} (told : D → Option (List (List ℕ))) (committed : GroupValue D) (old new : StoreValue D) (v : ℕ) (differs : List Bool) (from to before counted : ℕ) (gone : List Evicted)
+pub copy_under_way : {D E : Type 0} (told : D → Option (List (List ℕ))) (committed : GroupValue D) (old new : StoreValue D) (v : ℕ) (differs : List Bool)
+    (from to before counted : ℕ) (gone : List Evicted)
     (r : Result Pass E) (p : PlainStore) → IsCopiedAhead told old.group new.group v differs from to before counted r → IsAhead told new p gone r → StandsAs told old p → HasCopiesOf committed old.group
     → IsUnderWay told committed old.group → IsUnderWay told committed new.group
 copy_under_way told committed old new v differs from to before counted gone (Ok Done) p copied ahead stands copies under =
@@ -289,36 +242,20 @@ overwrite_under_way {E = E} told committed old new v differs wanted from gone r 
     by_result r (area (copied_kept committed old.group v differs from (blocks_at old.group v) images copies copied)) written
   where
     by_result : (r : Result Pass E) → IsAreaLeft told old.group new.group r → IsOverwriting told new p v differs wanted gone r → IsUnderWay told committed new.group
-    by_result (Ok Done) left is = overwritten_on told committed old.group new.group p.volumes v from differs wanted wanted l stands.group is.1.group (ready.as_many, λ b. inr refl) ready copied left under
+    by_result (Ok Done) left is = overwritten_on told committed old.group new.group p.volumes v from differs wanted wanted l stands.group is.1.group
+        (ready.as_many, λ b. inr refl) ready copied left under
     by_result (Ok (Stopped at up_to)) left is = absurd left
     by_result (Err failed) left is = overwritten_on told committed old.group new.group p.volumes v from differs wanted is.0 l stands.group is.2.group is.1 ready copied left under
 
 -- ## a commit, and an opening
 
-pub synced_committed : {D : Type 0} (ghosts : Ghosts D) (old new : GroupValue D) (names : List TextValue) (last size : ℕ) (r : Result Unit Cause) → IsSync ghosts old new r → IsTable ghosts.told old new r
+pub synced_committed : {D : Type 0} (ghosts : Ghosts D) (old new : GroupValue D) (names : List TextValue) (last size : ℕ) (r : Result Unit Cause)
+    → IsSync ghosts old new r → IsTable ghosts.told old new r
     → AreRecords new.area.volumes new.area.records → IfSome (ghosts.told new.area.device) (AreBlocks size)
     → OnOk r ((p : PlainStore) → StandsAs ghosts.told (store_of old names last) p → IsCommitted ghosts.told (store_of new names last) p)
-synced_committed ghosts old new names last size (Ok done) sync table records whole = λ p stands. record {
-  stands = still ghosts.told (store_of old names last) (store_of new names last) (synced_kept ghosts old new sync.0) refl p stands;
-  records = records;
-  size = size;
-  whole = whole;
-  table = table.read;
-}
-synced_committed ghosts old new names last size (Err cause) sync table records whole = tt
+synced_committed ghosts old new names last size r sync table records whole = grind (arith, still, synced_kept)
 
 pub opened_committed : {D : Type 0} (ghosts : Ghosts D) (devices : List D) (device : D) (area : AreaValue D) (lists : List (List ℕ)) (s : StoreValue D) (size : ℕ) (p : PlainStore)
     → s.group ≡ record { devices = devices; area = area; images = lists } → IsLoaded ghosts device area → AreRecords area.volumes area.records → IfSome (ghosts.told area.device) (AreBlocks size)
     → StandsAs ghosts.told s p → IsCommitted ghosts.told s p
-opened_committed {D = D} ghosts devices device area lists s size p group loaded records whole stands =
-    let P : AreaValue D → Type 0 = λ a. AreRecords a.volumes a.records in
-    let Q : AreaValue D → Type 0 = λ a. IfSome (ghosts.told a.device) (AreBlocks size) in
-    let R : AreaValue D → Type 0 = λ a. IfSome (ghosts.told a.device) (λ blocks. IsReadFrom (concat blocks) a.volumes a.records) in
-    let is : area ≡ s.group.area = ap (λ (g : GroupValue D). g.area) (sym group) in
-    record {
-      stands = stands;
-      records = subst P is records;
-      size = size;
-      whole = subst Q is whole;
-      table = subst R is (subst (λ (t : Option (List (List ℕ))). IfSome t (λ blocks. IsReadFrom (concat blocks) area.volumes area.records)) (sym loaded.alone.told_is) loaded.read);
-    }
+opened_committed ghosts devices device area lists s size p group loaded records whole stands = grind arith

@@ -1,6 +1,5 @@
 -- A caller that holds a ticket finds it served, and takes the machine; or finds another one.
 use Rattle.std.proofs.Common.{◌≡◌, ◌≢◌, ℕ, ◌%◌, ◌^◌, ◌≤◌, true, false, List, [], ◌++◌, length, get_or, set, sym, refl, ap, ◌∙◌, subst, arith, length-set, get_or-set_same, get_or-set_other}
-use Rattle.std.specs.List.{sum_by}
 use Rattle.std.proofs.lemmas.List.{append-nil}
 use mathlib.Core.Logic.{dite}
 use mathlib.Core.Option.{some, none}
@@ -12,7 +11,7 @@ use Rattle.turn_cell.specs.declared.entry.Entry.{Entry}
 use Rattle.turn_cell.specs.declared.desk.Desk.{Desk}
 use Rattle.turn_cell.specs.declared.view.Known.{Known}
 use Rattle.turn_cell.specs.declared.view.View.{View}
-use Rattle.turn_cell.specs.declared.view.View.TheVariants.{Maker, Idle, Waiting, Holding, Keeper}
+use Rattle.turn_cell.specs.declared.view.View.TheVariants.{Waiting, Holding}
 use Rattle.turn_cell.specs.Rule.{callers_in, tickets, is_out, Fits, Held, Knows, NoneOut, IsHome, Orderly}
 use Rattle.turn_cell.specs.Steps.{known, ticket_of, seeing, awaited}
 use Rattle.turn_cell.proofs.Lists.{at_one, at_inside, sum_at, sum_few}
@@ -22,31 +21,16 @@ not_so : true ≡ false → ⊥
 not_so e = cc
 
 few_tickets : {M C R : Type 0} (v : View M C R) → tickets v ≤ 1
-few_tickets (Maker n) = omega arith
-few_tickets (Idle k) = omega arith
-few_tickets (Waiting k t) = omega arith
-few_tickets (Holding k t m) = omega arith
-few_tickets (Keeper ks) = omega arith
+few_tickets v = grind arith
 
 module _ {M C R : Type 0} (log : List (Entry C R)) (now : M) (drawn made : ℕ) (holder owner : ℕ → ℕ) (seat : ℕ) where
   -- only the holder of the ticket that is served has the turn
   not_out : (v : View M C R) → Knows log now drawn made holder owner seat v → holder (length log) ≢ seat → is_out v ≡ false
-  not_out (Maker n) k other = refl
-  not_out (Idle kn) k other = refl
-  not_out (Waiting kn t) k other = refl
-  not_out (Holding kn t m) k other = absurd (other (ap holder (sym k.2) ∙ k.1.holder_is))
-  not_out (Keeper ks) k other = refl
+  not_out v k other = grind arith
 
 module _ {M C R : Type 0} (steps : M → ℕ → C → R → M → Type 0) (opening : M) (seats : ℕ) where
   served_is : (s : State (Desk M C R) (View M C R)) (r : Orderly steps opening seats s) (id t : ℕ) → Held (length r.log) r.drawn r.holder id t → get_or s.words 0 0 ≡ t % 2 ^ 64 → length r.log ≡ t
-  served_is s r id t h hit =
-      let a = h.unserved in
-      let b = h.drawn_is in
-      let c = r.held in
-      let d = r.many in
-      let e = r.few in
-      let n : sum_by tickets s.views ≤ length s.views = sum_few tickets few_tickets s.views in
-      one_turn (length r.log) t (2 ^ 64) a (omega arith) (sym r.serving ∙ hit)
+  served_is s r id t h hit = grind (arith, sum_few, few_tickets, one_turn)
 
   pub awaits : (slots id : ℕ) (me : Me (Desk M C R) (View M C R)) → me.0 ≡ Waiting (known me.0) (ticket_of me.0)
       → Allows (Orderly steps opening seats) slots id me 0 (λ n. n) (awaited (step slots 0 0 0 none) me)

@@ -1,6 +1,6 @@
 -- One call, from what its steps tell one after another: m0 before it, m1 with a ticket, m2 with the machine, m3 with
 -- the note of the move, m4 after it.
-use Rattle.std.proofs.Common.{◌≡◌, ℕ, ◌+◌, ◌%◌, ◌^◌, false, List, [], ◌∷◌, ◌++◌, length, get_or, refl, ap, sym, ◌∙◌, subst, length-append, arith}
+use Rattle.std.proofs.Common.{◌≡◌, ℕ, ◌%◌, ◌^◌, List, [], ◌∷◌, get_or, ap, sym, ◌∙◌, subst}
 use Rattle.atomic_table.specs.Table.{Me, rest}
 use Rattle.turn_cell.specs.declared.entry.Entry.{Entry}
 use Rattle.turn_cell.specs.declared.desk.Desk.{Desk}
@@ -8,7 +8,7 @@ use Rattle.turn_cell.specs.declared.desk.Note.{Note}
 use Rattle.turn_cell.specs.declared.view.Known.{Known}
 use Rattle.turn_cell.specs.declared.view.View.{View}
 use Rattle.turn_cell.specs.declared.view.View.TheVariants.{Idle, Waiting, Holding}
-use Rattle.turn_cell.specs.History.{Makes, entries_of, GoesOnTo}
+use Rattle.turn_cell.specs.History.{Makes}
 use Rattle.turn_cell.specs.Steps.{known, ticket_of, seeing, having, Takes, Carries}
 
 abbrev Sat : Type 0 → Type 0 → Type 0 → Type 0
@@ -26,12 +26,6 @@ module _ {M C R : Type 0} where
     ticketed : m1 ≡ (Waiting (known m0.0) t, [])
     ticketed = drawn ∙ ap (λ (l : List (ℕ × Desk M C R)). let m : Sat M C R = (Waiting (known m0.0) t, l) in m) (ap (λ (z : Sat M C R). z.1) idle)
 
-    pub waiting : m1 ≡ (Waiting (known m1.0) (ticket_of m1.0), [])
-    waiting = subst (λ (z : Sat M C R). m1 ≡ (Waiting (known z.0) (ticket_of z.0), [])) (sym ticketed) ticketed
-
-    pub ticket_is : (r : ℕ) → r ≡ t % 2 ^ 64 → r ≡ ticket_of m1.0 % 2 ^ 64
-    ticket_is r is = is ∙ ap (λ (z : Sat M C R). ticket_of z.0 % 2 ^ 64) (sym ticketed)
-
     module _ (m2 : Sat M C R) (takes : Takes m1 m2) where
       held : m2 ≡ (Holding (seeing (known m0.0) takes.0) (ticket_of m1.0) takes.1.machine, (0, takes.1) ∷ [])
       held = subst (λ (z : Sat M C R). m2 ≡ (Holding (seeing (known z.0) takes.0) (ticket_of m1.0) takes.1.machine, (0, takes.1) ∷ z.1)) ticketed takes.2
@@ -42,13 +36,11 @@ module _ {M C R : Type 0} where
       pub sees : known m2.0 ≡ seeing (known m0.0) takes.0
       sees = ap (λ (z : Sat M C R). known z.0) held
 
-      pub number_is : (known m2.0).number ≡ (known m0.0).number
-      number_is = ap (λ (k : Known C R). k.number) sees
-
 module _ {M C R : Type 0} (steps : M → ℕ → C → R → M → Type 0) where
   -- the machine's move, with its note
   pub carries : (m n : Sat M C R) (d d' after : Desk M C R) (note : Note C R) (e : Entry C R) → m ≡ (Holding (known m.0) (ticket_of m.0) d.machine, (0, d) ∷ []) → m.1 ≡ (0, d') ∷ rest m.1
-      → n ≡ (m.0, (0, after) ∷ rest m.1) → note.call.value ≡ e.call → note.answer.value ≡ e.answer → e.caller ≡ (known m.0).number → after.note ≡ Rattle.std.proofs.Common.Some note → Makes steps d'.machine e after.machine
+      → n ≡ (m.0, (0, after) ∷ rest m.1) → note.call.value ≡ e.call → note.answer.value ≡ e.answer → e.caller ≡ (known m.0).number
+          → after.note ≡ Rattle.std.proofs.Common.Some note → Makes steps d'.machine e after.machine
       → Carries steps n e
   carries m n d d' after note e holds here moved call_is answer_is caller_is is_noted makes =
       let carried : m.1 ≡ (0, d) ∷ [] = ap (λ (z : Sat M C R). z.1) holds in
@@ -79,17 +71,3 @@ module _ {M C R : Type 0} (m0 m3 m4 : Sat M C R) (more : List (Entry C R)) (e : 
 
   pub same_number : (known m4.0).number ≡ (known m0.0).number
   same_number = ap (λ (k : Known C R). k.number) has
-
-  pub goes_on : GoesOnTo (known m0.0).seen e (known m4.0).seen
-  goes_on = (more, ap (λ (k : Known C R). k.seen) has)
-
-  pub mine_grows : (known m4.0).mine ≡ (known m0.0).mine ++ e ∷ []
-  mine_grows = ap (λ (k : Known C R). k.mine) has
-
-  pub own_are : entries_of (known m3.0).number ((known m3.0).seen ++ e ∷ []) ≡ (known m3.0).mine ++ e ∷ [] → entries_of (known m0.0).number (known m4.0).seen ≡ (known m4.0).mine
-  own_are own =
-      ap (λ (n : ℕ). entries_of n (known m4.0).seen) (sym (ap (λ (k : Known C R). k.number) sees))
-      ∙ (ap (λ (k : Known C R). entries_of (known m3.0).number k.seen) knows ∙ (own ∙ sym (ap (λ (k : Known C R). k.mine) knows)))
-
-  pub front_is : (r : ℕ) → r ≡ (length (known m3.0).seen + 1) % 2 ^ 64 → r ≡ length (known m4.0).seen % 2 ^ 64
-  front_is r is = is ∙ ap (λ (n : ℕ). n % 2 ^ 64) (sym (length-append (known m3.0).seen (e ∷ [])) ∙ sym (ap (λ (k : Known C R). length k.seen) knows))

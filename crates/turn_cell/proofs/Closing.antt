@@ -1,15 +1,11 @@
 -- One seat speaks for all callers: the machine is at home, in the state after the history.
-use Rattle.std.proofs.Common.{◌≡◌, ℕ, ◌+◌, ◌≤◌, false, List, length, sym, refl, ap, ◌∙◌, subst, arith}
-use Rattle.std.specs.List.{sum_by}
-use mathlib.Core.Logic.{dite}
+use Rattle.std.proofs.Common.{◌≡◌, ℕ, false, List, length, sym, ap, ◌∙◌, subst, arith}
 use mathlib.Core.Option.{some}
-use native.Mathlib.Decide.{ℕ_discrete}
 use lib.ListN.{get_elem?}
 use Rattle.atomic_table.specs.Table.{State, Final, Seen}
 use Rattle.turn_cell.specs.declared.desk.Desk.{Desk}
 use Rattle.turn_cell.specs.declared.view.Known.{Known}
 use Rattle.turn_cell.specs.declared.view.View.{View}
-use Rattle.turn_cell.specs.declared.view.View.TheVariants.{Maker, Idle, Waiting, Holding, Keeper}
 use Rattle.turn_cell.specs.History.{Leads}
 use Rattle.turn_cell.specs.Rule.{callers_in, is_out, knowns, NoneOut, Orderly}
 use Rattle.turn_cell.specs.TurnEnd.{Ended}
@@ -18,21 +14,12 @@ use Rattle.turn_cell.proofs.TakingIn.{all_fit}
 
 -- a seat that speaks for nobody has not the turn
 empty_handed : {M C R : Type 0} (v : View M C R) → callers_in v ≡ 0 → is_out v ≡ false
-empty_handed (Maker n) e = refl
-empty_handed (Idle k) e = refl
-empty_handed (Waiting k t) e = refl
-empty_handed (Holding k t m) e = absurd (omega arith)
-empty_handed (Keeper ks) e = refl
+empty_handed v e = grind arith
 
 module _ {M C R : Type 0} (steps : M → ℕ → C → R → M → Type 0) (opening : M) (seats : ℕ) where
-  all_home : (s : State (Desk M C R) (View M C R)) (r : Orderly steps opening seats s) (id : ℕ) (v : View M C R) → get_elem? s.views id ≡ some v → callers_in v ≡ seats → is_out v ≡ false → NoneOut s.views
-  all_home s r id v at all out j u here = dite (ℕ_discrete j id)
-      (λ e. ap is_out (at_one s.views id u v (subst (λ (z : ℕ). get_elem? s.views z ≡ some u) e here) at) ∙ out)
-      (λ other.
-      let both : callers_in u + callers_in v ≤ sum_by callers_in s.views = sum_two callers_in s.views j id u v other here at in
-      let count = r.given in
-      let few = r.few in
-      empty_handed u (omega arith))
+  all_home : (s : State (Desk M C R) (View M C R)) (r : Orderly steps opening seats s) (id : ℕ) (v : View M C R) → get_elem? s.views id ≡ some v
+      → callers_in v ≡ seats → is_out v ≡ false → NoneOut s.views
+  all_home s r id v at all out j u here = grind (arith, at_one, sum_two, empty_handed)
 
   pub closes : (id : ℕ) (v : View M C R) (words : List ℕ) (slots : List (Desk M C R)) → callers_in v ≡ seats → is_out v ≡ false → Final (Seen (Orderly steps opening seats) id v) words slots
       → (d : Desk M C R) × (get_elem? slots 0 ≡ some d) × Ended steps opening seats (knowns v) d.machine

@@ -34,8 +34,5 @@ turn_sync M C R g s =
     let t = table_sync (Desk.the_row M C R) (View.the_row M C R) (Opening.the_row M) (Law.the_row M) (impl.ghosts M C R g impl.no_dict) (desk_send M C R s) in
     search sendable depth 30
 
-pub caller_send : (M C R : RattleType) (g : Ghosts M.Denot C.Denot R.Denot) → IsSend M → IsSend (Caller.the_row M C R g)
-caller_send M C R g s = let d = desk_send M C R s in search (sendable, seat.the_send) depth 20
-
 -- for a caller's `Send` and `Sync`, beside `sendable` and std's `crosses`
 pub ruleset turns_cross = (desk_send, turn_sync, seat.the_send)

@@ -6,7 +6,7 @@ use Rattle.turn_cell.specs.declared.entry.Entry.{Entry}
 use Rattle.turn_cell.specs.declared.desk.Desk.{Desk}
 use Rattle.turn_cell.specs.declared.view.Known.{Known}
 use Rattle.turn_cell.specs.declared.view.View.{View}
-use Rattle.turn_cell.specs.declared.view.View.TheVariants.{Maker, Idle, Waiting, Holding, Keeper}
+use Rattle.turn_cell.specs.declared.view.View.TheVariants.{Idle, Waiting, Holding}
 use Rattle.turn_cell.specs.Rule.{callers_in, tickets, is_out, Fits, Held, Knows, Orderly}
 use Rattle.turn_cell.specs.Steps.{known, drew}
 use Rattle.turn_cell.proofs.Lists.{sum_at}
@@ -15,19 +15,13 @@ use Rattle.turn_cell.proofs.Seats.{seats_stay, none_out_before}
 use Rattle.turn_cell.proofs.Words.{next_word}
 
 held_on : (served drawn : ℕ) (holder : ℕ → ℕ) (me seat t : ℕ) → Held served drawn holder seat t → Held served (drawn + 1) (put holder drawn me) seat t
-held_on served drawn holder me seat t h = record {
-  unserved = h.unserved;
-  drawn_is = let l = h.drawn_is in omega arith;
-  holder_is = put_else holder drawn me t (let l = h.drawn_is in λ e. omega arith) ∙ h.holder_is;
-}
+held_on served drawn holder me seat t h = grind (arith, put_else)
 
 module _ {M C R : Type 0} (log : List (Entry C R)) (now : M) (drawn made : ℕ) (holder owner : ℕ → ℕ) (me seat : ℕ) where
   others : (v : View M C R) → Knows log now drawn made holder owner seat v → Knows log now (drawn + 1) made (put holder drawn me) owner seat v
-  others (Maker n) k = k
-  others (Idle kn) k = k
   others (Waiting kn t) k = (k.0, held_on (length log) drawn holder me seat t k.1)
   others (Holding kn t m) k = (k.0, held_on (length log) drawn holder me seat t k.1, k.2, k.3, k.4)
-  others (Keeper ks) k = k
+  others _ k = k
 
 module _ {M C R : Type 0} (steps : M → ℕ → C → R → M → Type 0) (opening : M) (seats : ℕ) where
   pub draws : (slots id : ℕ) (me : Me (Desk M C R) (View M C R)) → me.0 ≡ Idle (known me.0)

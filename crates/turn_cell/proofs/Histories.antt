@@ -1,5 +1,5 @@
 -- Beginnings of one history, and what one more entry does.
-use Rattle.std.proofs.Common.{◌≡◌, ◌≢◌, ℕ, zero, ◌<◌, ◌==◌, List, [], ◌∷◌, ◌++◌, refl, ap, sym, ◌∙◌, subst, arith, append_assoc, eq-eqb, ne_eqb, cond}
+use Rattle.std.proofs.Common.{◌≡◌, ◌≢◌, ℕ, zero, ◌<◌, List, [], ◌∷◌, ◌++◌, refl, ap, sym, ◌∙◌, subst, arith, append_assoc, ne_eqb, cond}
 use Rattle.std.specs.List.{All}
 use Rattle.std.proofs.lemmas.List.Elements.{filter-append}
 use Rattle.std.proofs.lemmas.List.{append-nil}
@@ -21,13 +21,11 @@ prefix_longer xs ys more p = (p.0 ++ more, sym (append_assoc xs p.0 more) ∙ ap
 module _ {C R : Type 0} where
   -- the caller of the entry has one more
   pub own_grows : (n : ℕ) (log : List (Entry C R)) (e : Entry C R) → e.caller ≡ n → entries_of n (log ++ e ∷ []) ≡ entries_of n log ++ e ∷ []
-  own_grows n log e is = filter-append (λ (x : Entry C R). x.caller == n) log (e ∷ [])
-      ∙ ap (λ b. entries_of n log ++ cond b (e ∷ []) []) (eq-eqb e.caller n is)
+  own_grows n log e is = grind (arith, filter-append)
 
   -- every other caller has as many
   pub others_stay : (n : ℕ) (log : List (Entry C R)) (e : Entry C R) → e.caller ≢ n → entries_of n (log ++ e ∷ []) ≡ entries_of n log
-  others_stay n log e other = filter-append (λ (x : Entry C R). x.caller == n) log (e ∷ [])
-      ∙ (ap (λ b. entries_of n log ++ cond b (e ∷ []) []) (ne_eqb e.caller n other) ∙ append-nil (entries_of n log))
+  others_stay n log e other = grind (arith, filter-append, append-nil)
 
   -- a caller that was not made has no entry
   pub none_yet : (n : ℕ) (log : List (Entry C R)) → All (λ e. e.caller < n) log → entries_of n log ≡ []

@@ -1,5 +1,5 @@
 -- Lists of views: sums over them when one of them changes, and where their members stand.
-use Rattle.std.proofs.Common.{◌≡◌, ◌≢◌, ℕ, zero, suc, ◌+◌, ◌<◌, ◌≤◌, ◌⊎◌, inl, inr, ⊎_elim, List, [], ◌∷◌, ◌++◌, length, set, refl, ap, sym, ◌∙◌, arith, get_or}
+use Rattle.std.proofs.Common.{◌≡◌, ◌≢◌, ℕ, zero, suc, ◌+◌, ◌<◌, ◌≤◌, ◌⊎◌, inl, inr, ⊎_elim, List, [], ◌∷◌, ◌++◌, length, set, refl, ap, sym, ◌∙◌, arith}
 use Rattle.std.specs.List.{sum_by, All}
 use Rattle.std.proofs.lemmas.List.Sums.{sum_by-cons}
 use mathlib.Core.Option.{some, some-ne-none, some-injective}
@@ -45,8 +45,7 @@ module _ {A : Type 0} where
   sum_few f h (x ∷ xs) = omega (arith, sum_by-cons f x xs, sum_few f h xs, h x)
 
   pub all_one : (P : A → Type 0) (x : A) → P x → All P (x ∷ [])
-  all_one P x p zero d l = p
-  all_one P x p (suc k) d l = absurd (omega arith)
+  all_one x0 x p x3 d l = grind arith
 
   pub all_tail : (P : A → Type 0) (x : A) (xs : List A) → All P (x ∷ xs) → All P xs
   all_tail P x xs h k d l = h (suc k) d (omega arith)
@@ -59,12 +58,3 @@ module _ {A : Type 0} where
   pub all_last : (P : A → Type 0) (xs : List A) (y : A) → All P (xs ++ y ∷ []) → P y
   all_last P [] y h = h zero y (omega arith)
   all_last P (x ∷ xs) y h = all_last P xs y (all_tail P x (xs ++ y ∷ []) h)
-
-  -- one more place, where the last one fits its place
-  pub places_more : (P : ℕ → A → Type 0) (xs : List A) (y : A) → ((k : ℕ) (d : A) → k < length xs → P k (get_or xs k d)) → P (length xs) y
-      → (k : ℕ) (d : A) → k < length (xs ++ y ∷ []) → P k (get_or (xs ++ y ∷ []) k d)
-  places_more P [] y h p zero d l = p
-  places_more P [] y h p (suc k) d l = absurd (omega arith)
-  places_more P (x ∷ xs) y h p zero d l = h zero d (omega arith)
-  places_more P (x ∷ xs) y h p (suc k) d l =
-      places_more (λ (i : ℕ) (a : A). P (suc i) a) xs y (λ i e m. h (suc i) e (omega arith)) p k d (omega arith)

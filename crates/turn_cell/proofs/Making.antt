@@ -18,12 +18,7 @@ use Rattle.turn_cell.proofs.Seats.{seats_stay, none_out_before}
 
 module _ {C R : Type 0} (log : List (Entry C R)) (made : ℕ) (owner : ℕ → ℕ) (place seat : ℕ) where
   fits_on : (k : Known C R) → Fits log made owner seat k → Fits log (made + 1) (put owner made place) seat k
-  fits_on k f = let below = f.made_is in record {
-    seen = f.seen;
-    mine = f.mine;
-    made_is = omega arith;
-    owner_is = put_else owner made place k.number (λ e. omega arith) ∙ f.owner_is;
-  }
+  fits_on k f = grind (arith, put_else)
 
 module _ {M C R : Type 0} (log : List (Entry C R)) (now : M) (drawn made : ℕ) (holder owner : ℕ → ℕ) (place seat : ℕ) (other : seat ≢ 0) where
   others : (v : View M C R) → Knows log now drawn made holder owner seat v → Knows log now drawn (made + 1) holder (put owner made place) seat v
@@ -58,7 +53,8 @@ module _ {M C R : Type 0} (steps : M → ℕ → C → R → M → Type 0) (open
         ticket = r.ticket;
         held = omega (arith, r.held, sum_at tickets s.views id (Maker r.made) left here, sum_by_push tickets vs right);
         each = λ j u there. ⊎_elim
-            (λ (a : get_elem? vs j ≡ some u). seats_stay K s.views id left (knows.0, refl) (λ i d other b. others r.log r.now r.drawn r.made r.holder r.owner (length vs) i (λ e. other (e ∙ sym knows.0)) d (r.each i d b)) j u a)
+            (λ (a : get_elem? vs j ≡ some u). seats_stay K s.views id left (knows.0, refl)
+                (λ i d other b. others r.log r.now r.drawn r.made r.holder r.owner (length vs) i (λ e. other (e ∙ sym knows.0)) d (r.each i d b)) j u a)
             (λ (t : (j ≡ length vs) × (right ≡ u)). subst (K j) t.1 record {
               seen = (r.log, refl);
               mine = none_yet r.made r.log r.callers;

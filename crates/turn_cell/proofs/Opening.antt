@@ -1,7 +1,7 @@
 -- The table as it is made: an empty history, the machine at home, and no caller yet.
 use Rattle.std.proofs.Common.{◌≡◌, ℕ, zero, suc, ◌+◌, ◌≤◌, List, [], ◌∷◌, length, replicate, get_or, sym, refl, subst, arith}
 use mathlib.Core.Option.{some, some-injective, some-ne-none}
-use lib.ListN.{get_elem?, length-replicate, get_or-replicate}
+use lib.ListN.{get_elem?}
 use Rattle.atomic_table.specs.Table.{opening}
 use Rattle.turn_cell.specs.declared.desk.Desk.{Desk}
 use Rattle.turn_cell.specs.declared.view.View.{View}
@@ -35,9 +35,6 @@ module _ {M C R : Type 0} (steps : M → ℕ → C → R → M → Type 0) (seat
       only zero v e = subst (Knows [] d.machine 0 0 (λ _. 0) (λ _. 0) 0) (some-injective (Maker 0) v e) (refl, refl)
       only (suc i) v e = absurd (some-ne-none v (sym e))
 
-  pub opens_with : (words : List ℕ) (slots : List (Desk M C R)) (d : Desk M C R) (m : M) → slots ≡ d ∷ [] → m ≡ d.machine → words ≡ replicate (seats + 2) 0 → seats ≤ 256 → Orderly steps m seats (opening words slots (Maker 0))
-  opens_with words slots d m one is blank few =
-      subst (λ (z : M). Orderly steps z seats (opening words slots (Maker 0))) (sym is)
-      (subst (λ (l : List (Desk M C R)). Orderly steps d.machine seats (opening words l (Maker 0))) (sym one)
-      (subst (λ (l : List ℕ). Orderly steps d.machine seats (opening l (d ∷ []) (Maker 0))) (sym blank)
-      (opens (replicate (seats + 2) 0) d (omega (arith, length-replicate {A = ℕ} (seats + 2) 0)) (get_or-replicate {A = ℕ} (seats + 2) 0 0 0 (omega arith)) (get_or-replicate {A = ℕ} (seats + 2) 1 0 0 (omega arith)) few)))
+  pub opens_with : (words : List ℕ) (slots : List (Desk M C R)) (d : Desk M C R) (m : M) → slots ≡ d ∷ [] → m ≡ d.machine → words ≡ replicate (seats + 2) 0
+      → seats ≤ 256 → Orderly steps m seats (opening words slots (Maker 0))
+  opens_with words slots d m one is blank few = grind (arith, opens)

@@ -1,5 +1,5 @@
 -- A map from numbers to numbers that changes at one place.
-use Rattle.std.proofs.Common.{◌≡◌, ◌≢◌, ℕ, refl}
+use Rattle.std.proofs.Common.{◌≡◌, ◌≢◌, ℕ, arith}
 use native.Mathlib.Decide.{ℕ_discrete}
 
 abbrev pick : {P : Type 0} → Dec P → ℕ → ℕ → ℕ
@@ -11,25 +11,13 @@ put f i c j = pick (ℕ_discrete j i) c (f j)
 
 pub put_here : (f : ℕ → ℕ) (i c : ℕ) → put f i c i ≡ c
 unfolding put
-put_here f i c = go (ℕ_discrete i i)
-  where
-    go : (d : Dec (i ≡ i)) → pick d c (f i) ≡ c
-    go (yes _) = refl
-    go (no n) = absurd (n refl)
+put_here f i c = grind arith
 
 pub put_else : (f : ℕ → ℕ) (i c j : ℕ) → j ≢ i → put f i c j ≡ f j
 unfolding put
-put_else f i c j other = go (ℕ_discrete j i)
-  where
-    go : (d : Dec (j ≡ i)) → pick d c (f j) ≡ f j
-    go (yes e) = absurd (other e)
-    go (no n) = refl
+put_else f i c j other = grind arith
 
 -- what had this value has it still
 pub put_same : (f : ℕ → ℕ) (i c j : ℕ) → f j ≡ c → put f i c j ≡ c
 unfolding put
-put_same f i c j is = go (ℕ_discrete j i)
-  where
-    go : (d : Dec (j ≡ i)) → pick d c (f j) ≡ c
-    go (yes _) = refl
-    go (no n) = is
+put_same f i c j is = grind arith

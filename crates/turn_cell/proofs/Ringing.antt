@@ -15,7 +15,8 @@ module _ {M C R : Type 0} (steps : M → ℕ → C → R → M → Type 0) (open
     me.0,
     keeps,
     tt,
-    quiet steps opening seats s r id me.0 me.0 (set s.words bell y) at (get_or-set_other s.words bell 0 y 0 (λ e. omega arith)) (get_or-set_other s.words bell 1 y 0 (λ e. omega arith)) (length-set s.words bell y)
+    quiet steps opening seats s r id me.0 me.0 (set s.words bell y) at (get_or-set_other s.words bell 0 y 0 (λ e. omega arith))
+        (get_or-set_other s.words bell 1 y 0 (λ e. omega arith)) (length-set s.words bell y)
         refl refl out (r.each id me.0 at),
     refl,
   )

@@ -1,9 +1,7 @@
 -- What stays true of the other seats when one of them makes a step, and a step that changes neither the history nor
 -- who holds what.
-use Rattle.std.proofs.Common.{◌≡◌, ◌≢◌, ℕ, false, List, length, get_or, set, sym, ap, ◌∙◌, subst, ⊎_elim, arith, length-set}
-use mathlib.Core.Logic.{dite}
+use Rattle.std.proofs.Common.{◌≡◌, ◌≢◌, ℕ, false, List, length, get_or, set, ◌∙◌, arith, length-set}
 use mathlib.Core.Option.{some}
-use native.Mathlib.Decide.{ℕ_discrete}
 use lib.ListN.{get_elem?}
 use Rattle.atomic_table.specs.Table.{State}
 use Rattle.atomic_table.proofs.Lists.{at_set, set_else}
@@ -15,14 +13,11 @@ use Rattle.turn_cell.proofs.Lists.{at_one, sum_at}
 module _ {M C R : Type 0} where
   pub seats_stay : (K : ℕ → View M C R → Type 0) (vs : List (View M C R)) (me : ℕ) (w : View M C R) → K me w → ((j : ℕ) (d : View M C R) → j ≢ me → get_elem? vs j ≡ some d → K j d)
       → (j : ℕ) (d : View M C R) → get_elem? (set vs me w) j ≡ some d → K j d
-  seats_stay K vs me w mine others j d e = ⊎_elim (λ (t : (j ≡ me) × (w ≡ d)). subst (λ (x : ℕ × View M C R). K x.0 x.1) (λ i. (sym t.0 i, t.1 i)) mine)
-      (λ (t : (j ≢ me) × (get_elem? vs j ≡ some d)). others j d t.0 t.1) (at_set vs me j w d e)
+  seats_stay x0 vs me w mine others j d e = grind (arith, at_set)
 
   -- a seat that has not the turn may change, and none has it still
   pub none_out_before : (vs : List (View M C R)) (me : ℕ) (v w : View M C R) → get_elem? vs me ≡ some v → is_out v ≡ false → NoneOut (set vs me w) → NoneOut vs
-  none_out_before vs me v w at out none j u here = dite (ℕ_discrete j me)
-      (λ e. ap is_out (at_one vs me u v (subst (λ (z : ℕ). get_elem? vs z ≡ some u) e here) at) ∙ out)
-      (λ other. none j u (set_else vs me j w other ∙ here))
+  none_out_before vs me v w at out none j u here = grind (arith, at_one, set_else)
 
 module _ {M C R : Type 0} (steps : M → ℕ → C → R → M → Type 0) (opening : M) (seats : ℕ) where
   pub quiet : (s : State (Desk M C R) (View M C R)) (r : Orderly steps opening seats s) (me : ℕ) (v w : View M C R) (words' : List ℕ) → get_elem? s.views me ≡ some v

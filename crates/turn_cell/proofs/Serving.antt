@@ -1,5 +1,6 @@
 -- The machine comes home, the next ticket is served, and the history has one more entry.
-use Rattle.std.proofs.Common.{◌≡◌, ◌≢◌, ℕ, ◌+◌, ◌%◌, ◌^◌, ◌<◌, Some, List, [], ◌∷◌, ◌++◌, length, get_or, sym, refl, ap, ◌∙◌, subst, arith, length-set, length-append, get_or-set_same, get_or-set_other}
+use Rattle.std.proofs.Common.{◌≡◌, ◌≢◌, ℕ, ◌+◌, ◌%◌, ◌^◌, ◌<◌, Some, List, [], ◌∷◌, ◌++◌, length, get_or, sym, refl, ap, ◌∙◌, subst, arith, length-set}
+use Rattle.std.proofs.Common.{length-append, get_or-set_same, get_or-set_other}
 use Rattle.std.proofs.lemmas.List.{append-nil}
 use Rattle.std.proofs.lemmas.List.Elements.{All-append}
 use mathlib.Core.Option.{some, none}
@@ -21,12 +22,7 @@ use Rattle.turn_cell.proofs.Words.{next_word}
 
 module _ {C R : Type 0} (log : List (Entry C R)) (made : ℕ) (owner : ℕ → ℕ) (e : Entry C R) (me seat : ℕ) (other : seat ≢ me) (mine : owner e.caller ≡ me) where
   fits_on : (k : Known C R) → Fits log made owner seat k → Fits (log ++ e ∷ []) made owner seat k
-  fits_on k f = record {
-    seen = prefix_longer k.seen log (e ∷ []) f.seen;
-    mine = others_stay k.number log e (λ same. other (sym f.owner_is ∙ (ap owner (sym same) ∙ mine))) ∙ f.mine;
-    made_is = f.made_is;
-    owner_is = f.owner_is;
-  }
+  fits_on k f = grind (arith, prefix_longer, others_stay)
 
 module _ {M C R : Type 0} (log : List (Entry C R)) (now after : M) (drawn made : ℕ) (holder owner : ℕ → ℕ) (e : Entry C R) (me seat : ℕ) (other : seat ≢ me) (mine : owner e.caller ≡ me) (turn : holder (length log) ≡ me) where
   others : (v : View M C R) → Knows log now drawn made holder owner seat v → Knows (log ++ e ∷ []) after drawn made holder owner seat v
@@ -66,7 +62,8 @@ module _ {M C R : Type 0} (steps : M → ℕ → C → R → M → Type 0) (open
           owner = r.owner;
           history = leads_on steps opening r.log r.now e d.machine r.history (subst (λ (z : M). Makes steps z e d.machine) knows.3 makes);
           callers = All-append (λ (x : Entry C R). x.caller < r.made) r.log (e ∷ []) r.callers (all_one (λ (x : Entry C R). x.caller < r.made) e f.made_is);
-          serving = get_or-set_same s.words 0 y 0 (omega arith) ∙ (ap (λ (z : ℕ). (z + 1) % 2 ^ 64) r.serving ∙ (next_word (length r.log) ∙ ap (λ (n : ℕ). n % 2 ^ 64) (sym (length-append r.log (e ∷ [])))));
+          serving = get_or-set_same s.words 0 y 0 (omega arith)
+              ∙ (ap (λ (z : ℕ). (z + 1) % 2 ^ 64) r.serving ∙ (next_word (length r.log) ∙ ap (λ (n : ℕ). n % 2 ^ 64) (sym (length-append r.log (e ∷ [])))));
           ticket = get_or-set_other s.words 0 1 y 0 (λ i. omega arith) ∙ r.ticket;
           held = omega (arith, r.held, sum_at tickets s.views id v w at, length-append r.log (e ∷ []));
           each = seats_stay (Knows (r.log ++ e ∷ []) d.machine r.drawn r.made r.holder r.owner) s.views id w
@@ -83,7 +80,9 @@ module _ {M C R : Type 0} (steps : M → ℕ → C → R → M → Type 0) (open
             let desks : d ≡ d' = ap (λ (l : List (ℕ × Desk M C R)). (get_or l 0 (0, d)).1) carried in
             let notes : Some note ≡ Some note' = sym is ∙ (ap (λ (x : Desk M C R). x.note) desks ∙ is') in
             let same : note ≡ note' = cc in
-            subst (λ (z : Note C R). (◌≡◌ {A = Me (Desk M C R) (View M C R)} (w, []) (Idle (having k (noted k.number z)), [])) × (entries_of k.number (k.seen ++ noted k.number z ∷ []) ≡ k.mine ++ noted k.number z ∷ []) × (get_or s.words 0 0 ≡ length k.seen % 2 ^ 64)) same
+            subst (λ (z : Note C R). (◌≡◌ {A = Me (Desk M C R) (View M C R)} (w, []) (Idle (having k (noted k.number z)), []))
+                × (entries_of k.number (k.seen ++ noted k.number z ∷ []) ≡ k.mine ++ noted k.number z ∷ []) × (get_or s.words 0 0 ≡ length k.seen % 2 ^ 64))
+                same
             (refl, ap (λ (l : List (Entry C R)). entries_of k.number (l ++ e ∷ [])) knows.4 ∙ own, r.serving ∙ ap (λ (l : List (Entry C R)). length l % 2 ^ 64) (sym knows.4)),
       )
 

@@ -1,5 +1,5 @@
 -- A caller is taken in by another, which speaks for both from then on.
-use Rattle.std.proofs.Common.{◌≡◌, ◌≢◌, ℕ, zero, suc, false, List, [], ◌∷◌, set, sym, refl, ap, ◌∙◌, arith, length-set}
+use Rattle.std.proofs.Common.{◌≡◌, ◌≢◌, ℕ, zero, suc, false, List, [], ◌∷◌, set, sym, refl, ◌∙◌, arith, length-set}
 use Rattle.std.specs.List.{All}
 use mathlib.Core.Option.{some}
 use lib.ListN.{get_elem?}
@@ -28,12 +28,7 @@ module _ {C R : Type 0} (log : List (Entry C R)) (made : ℕ) (owner : ℕ → �
   fits_still k f = record { seen = f.seen; mine = f.mine; made_is = f.made_is; owner_is = put_same owner n me k.number f.owner_is }
 
   fits_else : (from seat : ℕ) → owner n ≡ from → seat ≢ from → (k : Known C R) → Fits log made owner seat k → Fits log made (put owner n me) seat k
-  fits_else from seat was other k f = record {
-    seen = f.seen;
-    mine = f.mine;
-    made_is = f.made_is;
-    owner_is = put_else owner n me k.number (λ e. other (sym f.owner_is ∙ (ap owner e ∙ was))) ∙ f.owner_is;
-  }
+  fits_else from seat was other k f = grind (arith, put_else)
 
 module _ {M C R : Type 0} (log : List (Entry C R)) (now : M) (drawn made : ℕ) (holder owner : ℕ → ℕ) (n me from seat : ℕ) (was : owner n ≡ from) (other : seat ≢ from) where
   others : (v : View M C R) → Knows log now drawn made holder owner seat v → Knows log now drawn made holder (put owner n me) seat v
@@ -43,7 +38,8 @@ module _ {M C R : Type 0} (log : List (Entry C R)) (now : M) (drawn made : ℕ) 
   others (Holding kn t m) k = (fits_else log made owner n me from seat was other kn k.0, k.1, k.2, k.3, k.4)
   others (Keeper ks) k = λ i d l. fits_else log made owner n me from seat was other _ (k i d l)
 
-joined : {C R : Type 0} (log : List (Entry C R)) (made : ℕ) (owner : ℕ → ℕ) (me : ℕ) (k : Known C R) (ks : List (Known C R)) → Fits log made (put owner k.number me) me k → All (Fits log made owner me) ks
+joined : {C R : Type 0} (log : List (Entry C R)) (made : ℕ) (owner : ℕ → ℕ) (me : ℕ) (k : Known C R) (ks : List (Known C R))
+    → Fits log made (put owner k.number me) me k → All (Fits log made owner me) ks
     → All (Fits log made (put owner k.number me) me) (k ∷ ks)
 joined log made owner me k ks one all zero d l = one
 joined log made owner me k ks one all (suc i) d l = fits_still log made owner k.number me _ (all i d (omega arith))

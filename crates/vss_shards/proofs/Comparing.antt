@@ -1,9 +1,9 @@
 -- Two lists that are compared from the front.
-use Rattle.std.proofs.Common.{◌≡◌, ◌≢◌, ℕ, zero, suc, ◌≤◌, ◌<◌, List, [], ◌∷◌, ◌++◌, length, take, drop, refl, ap, sym, ◌∙◌, arith, Bool, true, false, cond, Option, Some, None, subst, Bor}
+use Rattle.std.proofs.Common.{◌≡◌, ◌≢◌, ℕ, zero, suc, ◌≤◌, List, [], ◌∷◌, ◌++◌, length, take, drop, refl, ap, sym, ◌∙◌, arith, Bool, true, cond, Option, Some, None, subst, Bor}
 use Rattle.std.specs.Prelude.{slice_get, slice_index_or, ◌==◌, not, nat_lt, is_some, IfSome}
 use Rattle.std.specs.Option.{option_eq, option_copied}
 use Rattle.std.proofs.lemmas.Bool.{ltb-true, ltb-false}
-use Rattle.std.proofs.lemmas.Option.{slice_get_read}
+use Rattle.std.proofs.lemmas.Option.{slice_get_read, slice_get_past}
 use Rattle.std.proofs.lemmas.List.{take-append-drop, take_all}
 use Rattle.std.proofs.lemmas.List.Elements.{filter-append}
 use Rattle.std.proofs.Math.Seq.{take-append_seam}
@@ -11,23 +11,12 @@ use Rattle.cow_volume.proofs.Group.{number_is}
 use Rattle.vss_shards.specs.declared.entry.Entry.{Entry}
 use Rattle.vss_shards.specs.Entries.{part_of}
 use Rattle.vss_shards.specs.Gathered.{DifferFirst}
-use Rattle.vss_shards.proofs.Moments.{part_more_own, part_more_other}
 
 -- ## one place of a list
-
-pub take_more : {X : Type 0} → (xs : List X) (i : ℕ) (x : X) → slice_get xs i ≡ Some x → take (suc i) xs ≡ take i xs ++ x ∷ []
-take_more [] i x at = absurd cc
-take_more (y ∷ xs) zero x at = let same : y ≡ x = cc in ap (λ z. z ∷ []) same
-take_more (y ∷ xs) (suc i) x at = ap (λ zs. y ∷ zs) (take_more xs i x at)
 
 pub at_seam : {X : Type 0} → (xs : List X) (x : X) (rest : List X) → slice_get (xs ++ x ∷ rest) (length xs) ≡ Some x
 at_seam [] x rest = refl
 at_seam (y ∷ xs) x rest = at_seam xs x rest
-
-pub past_end : {X : Type 0} → (xs : List X) (i : ℕ) → length xs ≤ i → slice_get xs i ≡ None
-past_end [] i low = refl
-past_end (x ∷ xs) zero low = absurd (omega arith)
-past_end (x ∷ xs) (suc i) low = past_end xs i (omega arith)
 
 pub length_taken : {X : Type 0} → (xs : List X) (i : ℕ) → i ≤ length xs → length (take i xs) ≡ i
 length_taken xs zero low = refl
@@ -43,17 +32,13 @@ drop_at (y ∷ xs) (suc i) x at = drop_at xs i x at
 
 -- a copy of what a list has at a place, or nothing past its end
 pub found_at : {X : Type 0} → (xs : List X) (i : ℕ) (r : Option (Bor X)) → is_some r ≡ nat_lt i (length xs) → IfSome r (λ b. b.now ≡ slice_index_or xs i b.now) → slice_get xs i ≡ option_copied r
-found_at xs i None test is = past_end xs i (let high = ltb-false i (length xs) (sym test) in omega arith)
-found_at xs i (Some b) test is = slice_get_read xs (length xs) i b.now refl (ltb-true i (length xs) (sym test)) is
+found_at xs i r test is = grind (arith, slice_get_past, ltb-false, slice_get_read, ltb-true)
 
 -- ## tests for equality
 
 -- what a test tells apart is not the same
 pub option_apart : {X : Type 0} → (E : X → X → Bool) → ((x : X) → E x x ≡ true) → (o : Option X) (x : X) (r : Bool) → r ≡ true → r ≡ not (option_eq E o (Some x)) → o ≢ Some x
-option_apart {X = X} E same o x r said is e = not_both (option_eq E o (Some x)) r said is (subst (λ (p : Option X). option_eq E p (Some x) ≡ true) (sym e) (same x)) where
-  not_both : (t u : Bool) → u ≡ true → u ≡ not t → t ≡ true → ⊥
-  not_both true u a b s = cc
-  not_both false u a b s = cc
+option_apart x0 same o x r said is e = grind arith
 
 -- ## the part of a volume
 
@@ -62,45 +47,33 @@ pub record Agree (v : ℕ) (listed journal : List Entry) (k at : ℕ) : Type 0 w
   pub within : at ≤ length listed
   pub same : take at listed ≡ part_of v (take k journal)
 
-pub agree_first : (v : ℕ) (listed journal : List Entry) → Agree v listed journal 0 0
-agree_first v listed journal = record { within = omega arith; same = refl }
-
--- an entry of another volume
-pub agree_other : (v : ℕ) (listed journal : List Entry) (k at : ℕ) (e : Entry) → slice_get journal k ≡ Some e → e.volume ≢ v → Agree v listed journal k at → Agree v listed journal (suc k) at
-agree_other v listed journal k at e here other is = record {
-  within = is.within;
-  same = is.same ∙ sym (ap (λ (es : List Entry). part_of v es) (take_more journal k e here) ∙ part_more_other v (take k journal) e other);
-}
-
--- an entry that the list has too
-pub agree_own : (v : ℕ) (listed journal : List Entry) (k at : ℕ) (e : Entry) → slice_get journal k ≡ Some e → e.volume ≡ v → slice_get listed at ≡ Some e → at < length listed → Agree v listed journal k at
-    → Agree v listed journal (suc k) (suc at)
-agree_own v listed journal k at e here own listed_is inside is = record {
-  within = omega arith;
-  same = take_more listed at e listed_is ∙ ap (λ (es : List Entry). es ++ e ∷ []) is.same
-      ∙ sym (ap (λ (es : List Entry). part_of v es) (take_more journal k e here) ∙ part_more_own v (take k journal) e own);
-}
-
 -- the journal's part from an entry on
 part_from : (v : ℕ) (journal : List Entry) (k : ℕ) (e : Entry) → slice_get journal k ≡ Some e → e.volume ≡ v → part_of v journal ≡ part_of v (take k journal) ++ e ∷ part_of v (drop (suc k) journal)
 part_from v journal k e here own =
     ap (λ (es : List Entry). part_of v es) (sym (take-append-drop k journal))
     ∙ filter-append (λ (x : Entry). x.volume == v) (take k journal) (drop k journal)
     ∙ ap (λ (es : List Entry). part_of v (take k journal) ++ part_of v es) (drop_at journal k e here)
-    ∙ ap (λ (t : Bool). part_of v (take k journal) ++ cond t (e ∷ part_of v (drop (suc k) journal)) (part_of v (drop (suc k) journal))) (subst (λ (n : ℕ). (e.volume == n) ≡ true) own (number_is e.volume))
+    ∙ ap (λ (t : Bool). part_of v (take k journal) ++ cond t (e ∷ part_of v (drop (suc k) journal)) (part_of v (drop (suc k) journal)))
+        (subst (λ (n : ℕ). (e.volume == n) ≡ true) own (number_is e.volume))
 
 agree_length : (v : ℕ) (listed journal : List Entry) (k at : ℕ) → Agree v listed journal k at → length (part_of v (take k journal)) ≡ at
 agree_length v listed journal k at is = sym (ap length is.same) ∙ length_taken listed at is.within
 
 -- the journal has another entry there
-pub differ_at : (v : ℕ) (listed journal : List Entry) (k at : ℕ) (e : Entry) (own : Option Entry) → slice_get journal k ≡ Some e → e.volume ≡ v → slice_get listed at ≡ own → own ≢ Some e → Agree v listed journal k at
+pub differ_at : (v : ℕ) (listed journal : List Entry) (k at : ℕ) (e : Entry) (own : Option Entry) → slice_get journal k ≡ Some e → e.volume ≡ v
+    → slice_get listed at ≡ own → own ≢ Some e → Agree v listed journal k at
     → DifferFirst listed (part_of v journal) at own (Some e)
 differ_at v listed journal k at e own here same_volume is_own apart is =
     let all = part_from v journal k e here same_volume in
     let long = agree_length v listed journal k at is in record {
-      before = is.same ∙ sym (ap (λ (es : List Entry). take at es) all ∙ subst (λ (n : ℕ). take n (part_of v (take k journal) ++ e ∷ part_of v (drop (suc k) journal)) ≡ part_of v (take k journal)) long (take-append_seam (part_of v (take k journal)) (e ∷ part_of v (drop (suc k) journal))));
+      before = is.same ∙ sym
+          (ap (λ (es : List Entry). take at es) all
+          ∙ subst (λ (n : ℕ). take n (part_of v (take k journal) ++ e ∷ part_of v (drop (suc k) journal)) ≡ part_of v (take k journal)) long
+          (take-append_seam (part_of v (take k journal)) (e ∷ part_of v (drop (suc k) journal))));
       own_is = is_own;
-      other_is = ap (λ (es : List Entry). slice_get es at) all ∙ subst (λ (n : ℕ). slice_get (part_of v (take k journal) ++ e ∷ part_of v (drop (suc k) journal)) n ≡ Some e) long (at_seam (part_of v (take k journal)) e (part_of v (drop (suc k) journal)));
+      other_is = ap (λ (es : List Entry). slice_get es at) all
+          ∙ subst (λ (n : ℕ). slice_get (part_of v (take k journal) ++ e ∷ part_of v (drop (suc k) journal)) n ≡ Some e) long
+          (at_seam (part_of v (take k journal)) e (part_of v (drop (suc k) journal)));
       apart = apart;
     }
 
@@ -109,16 +82,6 @@ agree_whole : (v : ℕ) (listed journal : List Entry) (k at : ℕ) → length jo
 agree_whole v listed journal k at ended is = is.same ∙ ap (λ (es : List Entry). part_of v es) (take_all k journal ended)
 
 -- and the list has not
-pub differ_past : (v : ℕ) (listed journal : List Entry) (k at : ℕ) (e : Entry) → length journal ≤ k → slice_get listed at ≡ Some e → Agree v listed journal k at → DifferFirst listed (part_of v journal) at (Some e) None
-differ_past v listed journal k at e ended is_own is =
-    let whole = agree_whole v listed journal k at ended is in
-    let long : length (part_of v journal) ≡ at = sym (ap length whole) ∙ length_taken listed at is.within in record {
-      before = whole ∙ sym (take_all at (part_of v journal) (omega arith));
-      own_is = is_own;
-      other_is = past_end (part_of v journal) at (omega arith);
-      apart = λ e. cc;
-    }
-
--- and so has the list
-pub same_whole : (v : ℕ) (listed journal : List Entry) (k at : ℕ) → length journal ≤ k → length listed ≤ at → Agree v listed journal k at → listed ≡ part_of v journal
-same_whole v listed journal k at ended past is = sym (take_all at listed past) ∙ agree_whole v listed journal k at ended is
+pub differ_past : (v : ℕ) (listed journal : List Entry) (k at : ℕ) (e : Entry) → length journal ≤ k → slice_get listed at ≡ Some e → Agree v listed journal k at
+    → DifferFirst listed (part_of v journal) at (Some e) None
+differ_past v listed journal k at e ended is_own is = grind (arith, agree_whole, length_taken, take_all, slice_get_past)

@@ -23,14 +23,12 @@ point_of_newest image point (i ∷ images) older =
       by_test false other low rest = rest
 
 -- a shard as it is given back
-given_image : {D : Type 0} → (s : ShardValue D) (volume : GroupValue D) (p : Part) (number : ℕ) → IsHeldFor s p → HasImage (shard_value s.number volume s.entries (images_after (Some number) p s.images) s.last None) p
-given_image s volume p number held = record {
-  volume = sym held.volume;
-  made = point_of_newest p.image p.count s.images held.newest;
-  settled = record { given = (let same = held.image in omega arith); free = tt };
-}
+given_image : {D : Type 0} → (s : ShardValue D) (volume : GroupValue D) (p : Part) (number : ℕ) → IsHeldFor s p
+    → HasImage (shard_value s.number volume s.entries (images_after (Some number) p s.images) s.last None) p
+given_image s volume p number held = grind (arith, point_of_newest)
 
-pub image_is_made : {D : Type 0} → (told : D → Option (List (List ℕ))) (old new : ShardValue D) (draft_old draft_new : DraftValue) (number : ℕ) → (is : IsGivenImage told old new draft_old draft_new number) → HasImage new is.given.part
+pub image_is_made : {D : Type 0} → (told : D → Option (List (List ℕ))) (old new : ShardValue D) (draft_old draft_new : DraftValue) (number : ℕ)
+    → (is : IsGivenImage told old new draft_old draft_new number) → HasImage new is.given.part
 image_is_made told old new draft_old draft_new number is =
     let held = held_for told old is.given.part is.shard is.given.held_for in
     let same : new ≡ shard_value old.number new.volume old.entries (images_after (Some number) is.given.part old.images) old.last None =

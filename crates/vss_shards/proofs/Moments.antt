@@ -1,16 +1,14 @@
 -- The counts of a journal, and what a beginning of it says of each volume.
 use Rattle.std.proofs.Common.{◌≡◌, ◌≢◌, ℕ, ◌≤◌, ◌<◌, ◌+◌, ◌-◌, List, [], ◌∷◌, ◌++◌, length, take, drop, refl, ap, sym, ◌∙◌, arith, Bool, true, false, cond, Some, None, subst, length-append}
-use Rattle.std.specs.Prelude.{slice_get, slice_set, ◌==◌, if◌then◌else◌, map, All}
+use Rattle.std.specs.Prelude.{slice_set, ◌==◌, if◌then◌else◌, All}
 use Rattle.std.proofs.lemmas.List.{length_push, append-nil, take-append-le, take-append-drop, take_all, take-map}
-use Rattle.std.proofs.lemmas.List.Elements.{All-nil, All-cons, All-push, All-weaker, All-contains, filter-append}
+use Rattle.std.proofs.lemmas.List.Elements.{All-nil, All-cons, All-push, All-weaker, filter-append}
 use Rattle.std.proofs.Math.Seq.{take-append_seam}
-use Rattle.block_data.specs.Runs.{zeros}
-use Rattle.write_history.specs.History.{Write, last_bytes}
 use Rattle.cow_volume.proofs.Group.{same_number, other_number, number_is, number_is_other, slice_get-set_same, slice_get-set_other, length-slice_set}
 use Rattle.vss_shards.specs.declared.entry.Entry.{Entry}
 use Rattle.vss_shards.specs.declared.part.Part.{Part}
 use Rattle.vss_shards.specs.declared.record_fault.RecordFault.TheVariants.{Differs}
-use Rattle.vss_shards.specs.Entries.{write_of, part_of, count_of, most_volumes}
+use Rattle.vss_shards.specs.Entries.{part_of, count_of, most_volumes}
 use Rattle.vss_shards.specs.Shards.{ShardValue}
 use Rattle.vss_shards.specs.Journals.{Cut, JournalValue, IsMoment, IsJournal, AreCounts, first_off, journal_value, most_cuts}
 use Rattle.vss_shards.specs.OneMoment.{IsImageOf, ShowsMoment}
@@ -18,15 +16,10 @@ use Rattle.vss_shards.specs.OneMoment.{IsImageOf, ShowsMoment}
 -- ## one more entry
 
 pub part_more_own : (v : ℕ) (entries : List Entry) (e : Entry) → e.volume ≡ v → part_of v (entries ++ e ∷ []) ≡ part_of v entries ++ e ∷ []
-part_more_own v entries e own =
-    filter-append (λ (x : Entry). x.volume == v) entries (e ∷ [])
-    ∙ ap (λ (t : Bool). part_of v entries ++ cond t (e ∷ []) []) (subst (λ (k : ℕ). (e.volume == k) ≡ true) own (number_is e.volume))
+part_more_own v entries e own = grind (arith, filter-append, number_is)
 
 pub part_more_other : (v : ℕ) (entries : List Entry) (e : Entry) → e.volume ≢ v → part_of v (entries ++ e ∷ []) ≡ part_of v entries
-part_more_other v entries e other =
-    filter-append (λ (x : Entry). x.volume == v) entries (e ∷ [])
-    ∙ ap (λ (t : Bool). part_of v entries ++ cond t (e ∷ []) []) (number_is_other e.volume v other)
-    ∙ append-nil (part_of v entries)
+part_more_other v entries e other = grind (arith, filter-append, number_is_other, append-nil)
 
 pub count_more_own : (entries : List Entry) (e : Entry) → count_of (entries ++ e ∷ []) e.volume ≡ count_of entries e.volume + 1
 count_more_own entries e = ap length (part_more_own e.volume entries e refl) ∙ length_push (part_of e.volume entries) e
@@ -41,19 +34,7 @@ count_within v (e ∷ entries) = by_test (e.volume == v) (count_within v entries
 
 pub counts_more : (counts : List ℕ) (entries : List Entry) (e : Entry) (now : ℕ) → e.volume < most_volumes → now ≡ count_of entries e.volume + 1 → AreCounts counts entries
     → AreCounts (slice_set counts e.volume now) (entries ++ e ∷ [])
-counts_more counts entries e now in_range is are = record {
-  all = length-slice_set counts e.volume now ∙ are.all;
-  each = λ v low. by_test v (e.volume == v) refl low;
-} where
-  by_test : (v : ℕ) (t : Bool) → (e.volume == v) ≡ t → v < most_volumes → slice_get (slice_set counts e.volume now) v ≡ Some (count_of (entries ++ e ∷ []) v)
-  by_test v true same low =
-      let own = same_number e.volume v same in
-      let was : slice_get counts v ≡ Some (count_of entries v) = are.each v low in
-      subst (λ (k : ℕ). slice_get (slice_set counts e.volume now) k ≡ Some (count_of (entries ++ e ∷ []) k)) own
-      (slice_get-set_same counts e.volume (count_of entries e.volume) now (are.each e.volume in_range) ∙ ap Some (is ∙ sym (count_more_own entries e)))
-  by_test v false same low =
-      let other = other_number e.volume v same in
-      slice_get-set_other counts e.volume v now other ∙ are.each v low ∙ ap (λ (p : List Entry). Some (length p)) (sym (part_more_other v entries e other))
+counts_more counts entries e now in_range is are = grind (arith, length-slice_set, same_number, slice_get-set_same, count_more_own, other_number, slice_get-set_other, part_more_other)
 
 -- ## moments
 
@@ -102,14 +83,4 @@ part_taken v at entries =
     ∙ take-append_seam (part_of v (take at entries)) (part_of v (drop at entries))
 
 pub one_moment : {D : Type 0} → (j : JournalValue) (c : Cut) (p : Part) (first now : ShardValue D) (point : ℕ) → IsImageOf j c p first now point → ShowsMoment j c p now point
-one_moment j c p first now point is b =
-    let moment = All-contains (IsMoment j.entries) j.cuts c is.journal.moments is.stored in
-    let count = All-contains (λ (q : Part). q.count ≡ count_of (take c.at j.entries) q.volume) c.parts p moment.counts is.part in
-    let was = is.later.images p.image point is.image.settled is.stands in
-    let made = is.image.made in
-    let same : point ≡ p.count = cc in
-    let number : now.number ≡ p.volume = is.later.number ∙ is.image.volume in
-    let entries : now.entries ≡ part_of p.volume j.entries = is.gathered ∙ ap (λ (v : ℕ). part_of v j.entries) number in
-    ap (λ (ws : List Write). last_bytes b zeros ws)
-    (take-map write_of point now.entries
-    ∙ ap (λ (es : List Entry). map write_of es) (ap (λ (es : List Entry). take point es) entries ∙ (ap (λ (k : ℕ). take k (part_of p.volume j.entries)) (same ∙ count) ∙ part_taken p.volume c.at j.entries)))
+one_moment j c p first now point is b = grind (arith, take-map, part_taken)

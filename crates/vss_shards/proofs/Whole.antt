@@ -4,12 +4,6 @@ use Rattle.std.specs.Prelude.{slice_get, ◌==◌, if◌then◌else◌, Err, nat
 use Rattle.std.proofs.lemmas.List.Elements.{All-head, All-tail}
 use Rattle.std.proofs.lemmas.Bool.{ltb-false}
 use Rattle.write_history.specs.History.{Image, after_set}
-use Rattle.cow_volume.specs.OneVolume.{IsOneUnwritten}
-use Rattle.cow_volume.specs.Calls.{HasCauseAt}
-use Rattle.cow_volume.specs.declared.cause.Cause.{Cause}
-use Rattle.cow_volume.specs.declared.cause.Cause.TheVariants.{NoSuchBlock as NoBlockCause, Volume as VolumeCause, Area as AreaCause}
-use Rattle.cow_volume.specs.declared.write_fault.WriteFault.{WriteFault}
-use Rattle.vss_shards.specs.declared.small.Small.{Small}
 use Rattle.vss_shards.specs.declared.entry.Entry.{Entry}
 use Rattle.vss_shards.specs.declared.part.Part.{Part}
 use Rattle.vss_shards.specs.declared.record_fault.RecordFault.{RecordFault}
@@ -20,22 +14,21 @@ use Rattle.vss_shards.specs.Entries.{part_of, count_of}
 use Rattle.vss_shards.specs.Shards.{ShardValue}
 use Rattle.vss_shards.specs.Journals.{JournalValue, first_off, most_cuts}
 use Rattle.vss_shards.specs.Drafts.{DraftValue}
-use Rattle.vss_shards.specs.Calls.{IsPut, IsRecorded, MayBeWritten, after_write, fault_from}
+use Rattle.vss_shards.specs.Calls.{IsRecorded}
 use Rattle.vss_shards.specs.Gathered.{IsFree, IsPart, IsGathered, IsOffIn, DifferFirst}
-use Rattle.volume_device.specs.declared.device.Device.{Ghosts}
 
 -- ## record_cut
 
 OnlyDiffers : RecordFault → Type 0
-OnlyDiffers Full = ⊥
 OnlyDiffers (Differs v a b) = Unit {0}
-OnlyDiffers OutOfMemory = ⊥
+OnlyDiffers _ = ⊥
 
 only_differs : (entries : List Entry) (parts : List Part) (fault : RecordFault) → first_off entries parts ≡ Some fault → OnlyDiffers fault
 unfolding OnlyDiffers
 only_differs entries [] fault e = absurd cc
 only_differs entries (p ∷ parts) fault e = by_test (p.count == count_of entries p.volume) (only_differs entries parts fault) e where
-  by_test : (t : Bool) → (first_off entries parts ≡ Some fault → OnlyDiffers fault) → (if t then first_off entries parts else Some (Differs p.volume p.count (count_of entries p.volume))) ≡ Some fault → OnlyDiffers fault
+  by_test : (t : Bool) → (first_off entries parts ≡ Some fault → OnlyDiffers fault)
+      → (if t then first_off entries parts else Some (Differs p.volume p.count (count_of entries p.volume))) ≡ Some fault → OnlyDiffers fault
   by_test true rest f = rest f
   by_test false rest f = let same : Differs p.volume p.count (count_of entries p.volume) ≡ fault = cc in subst OnlyDiffers same tt
 
@@ -49,7 +42,8 @@ off_is_refused j d fault room off = by_fault fault (only_differs j.entries d.par
 
 -- ## gather
 
-pub off_is_told : {D : Type 0} → (shards : List (ShardValue D)) (journal : List Entry) (place : ℕ) (s : ShardValue D) (fault : GatherFault) → ((k : ℕ) → IsFree shards k) → ((k : ℕ) → k < place → IsPart shards journal k)
+pub off_is_told : {D : Type 0} → (shards : List (ShardValue D)) (journal : List Entry) (place : ℕ) (s : ShardValue D) (fault : GatherFault)
+    → ((k : ℕ) → IsFree shards k) → ((k : ℕ) → k < place → IsPart shards journal k)
     → slice_get shards place ≡ Some s → IsOffIn s.number s.entries (part_of s.number journal) fault → IsGathered shards journal (Err fault)
 off_is_told shards journal place s (Held w) free before here off = absurd off
 off_is_told shards journal place s (DiffersAt w at own other) free before here off = (
@@ -65,15 +59,6 @@ off_is_told shards journal place s (DiffersAt w at own other) free before here o
 )
 
 -- ## write_on
-
-pub fault_is_told : {D : Type 0} → (ghosts : Ghosts D) (old new : ShardValue D) (block : ℕ) (payload : Small) (fault : WriteFault)
-    → MayBeWritten old block → IsOneUnwritten ghosts old.volume new.volume block fault → new ≡ after_write old new.volume fault.evicted_up_to old.entries
-    → IsPut ghosts old new block payload (Err (fault_from fault.cause))
-fault_is_told ghosts old new block payload fault may unwritten is = by_cause fault.cause refl unwritten.cause where
-  by_cause : (c : Cause) → fault.cause ≡ c → HasCauseAt ghosts.count 0 block old.volume new.volume c → IsPut ghosts old new block payload (Err (fault_from c))
-  by_cause NoBlockCause e cause = (let low = may.in_range in let high = cause.0 in absurd (omega arith))
-  by_cause VolumeCause e cause = record { fault = fault; because = e; unwritten = unwritten; shard = is }
-  by_cause AreaCause e cause = record { fault = fault; because = e; unwritten = unwritten; shard = is }
 
 -- ## images that go
 

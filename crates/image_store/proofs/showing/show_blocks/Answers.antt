@@ -4,10 +4,11 @@ use Rattle.std.proofs.lemmas.Result.{err_from_is_err_and}
 use Rattle.block_data.specs.declared.block_buf.TheConstants.{BLOCK}
 use Rattle.cow_volume.specs.Calls.{blocks_at, blocks_in}
 use Rattle.image_store.specs.Showing.{shown_in}
-use Rattle.image_store.proofs.Failing.{show_after, unfailed_then}
+use Rattle.image_store.proofs.Failing.{show_after}
 use Rattle.image_store.proofs.Plains.{kept_then}
 use Rattle.image_store.proofs.Shown.{bad_shown, read_failed, seen_in, shown_none, shown_more, shown_failed, shown_part, block_of, part_is}
 use Rattle.image_store.proofs.showing.show_blocks.Goals as goal
+use Rattle.cow_volume.proofs.Kept.{unfailed_further}
 
 pub returns-in_err-left-clause-show : goal.returns-in_err-left-clause-show
 returns-in_err-left-clause-show g c =
@@ -60,7 +61,7 @@ loop-b-preserved g c = record {
         (inv.taken ps has) here c.in-Ok.ensures.ok (omega arith) part;
   };
   seen = c.loop-b.invariant.seen;
-  unfailed = unfailed_then g.D.Device.count c.args.group.now c.loop-b.group c.read_which.new.group c.loop-b.invariant.unfailed c.in_ok-read_which.ensures.same;
+  unfailed = unfailed_further g.D.Device.count c.args.group.now c.loop-b.group c.read_which.new.group c.loop-b.invariant.unfailed c.in_ok-read_which.ensures.same;
 }
 
 pub returns-in_err-read_which-clause-failed : goal.returns-in_err-read_which-clause-failed

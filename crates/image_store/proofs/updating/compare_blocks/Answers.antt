@@ -2,10 +2,11 @@ use Rattle.std.proofs.Common.{ℕ, List, length, not, ap, arith, ◌∙◌}
 use Rattle.std.specs.Prelude.{slice_get}
 use Rattle.cow_volume.specs.Calls.{blocks_in}
 use Rattle.std.proofs.lemmas.Result.{err_from_is_err_and}
-use Rattle.image_store.proofs.Failing.{device_after, device_of, pass_failed, unfailed_then}
+use Rattle.image_store.proofs.Failing.{device_after, device_of, pass_failed}
 use Rattle.image_store.proofs.Passes.{marked_more, marked_all, compared, as_many_wanted}
 use Rattle.image_store.proofs.Plains.{kept_then, quiet_kept}
 use Rattle.image_store.proofs.updating.compare_blocks.Goals as goal
+use Rattle.cow_volume.proofs.Kept.{unfailed_further}
 
 pub returns-in_err-read_volume-clause-kept : goal.returns-in_err-read_volume-clause-kept
 returns-in_err-read_volume-clause-kept g c =
@@ -33,7 +34,7 @@ loop-b-preserved g c =
           (g.I.Device.told c.loop-b.input) wanted has (omega arith)
           (omega arith) c.in_ok-read_volume.ensures.now c.in-Ok.ensures.block is c.are_same.ensures.same c.are_same.ensures.differ c.bytes.ensures.bytes c.bytes-in-loop-b.ensures.bytes);
       unfailed = record {
-        group = unfailed_then g.D.Device.count c.args.group.now c.loop-b.group c.read_volume.new.group c.loop-b.invariant.unfailed.group c.in_ok-read_volume.ensures.same;
+        group = unfailed_further g.D.Device.count c.args.group.now c.loop-b.group c.read_volume.new.group c.loop-b.invariant.unfailed.group c.in_ok-read_volume.ensures.same;
         input = c.in-Ok.ensures.cause.same ∙ c.loop-b.invariant.unfailed.input;
       };
     }

@@ -7,9 +7,10 @@ use Rattle.cow_volume.specs.Calls.{sets_in}
 use Rattle.block_data.specs.PayloadBytes.{payload_bytes}
 use Rattle.image_store.proofs.Calls.{copy_kept, put_volumes}
 use Rattle.image_store.proofs.Copied.{area_kept, area_quiet, keeps_then, put_has, put_keeps, put_more}
-use Rattle.image_store.proofs.Failing.{device_after, device_of, unfailed_then}
+use Rattle.image_store.proofs.Failing.{device_after, device_of}
 use Rattle.image_store.proofs.Plains.{quiet_kept}
 use Rattle.image_store.proofs.updating.copy_one.Goals as goal
+use Rattle.cow_volume.proofs.Kept.{unfailed_further}
 
 pub returns-in_err-read_volume-clause-kept : goal.returns-in_err-read_volume-clause-kept
 returns-in_err-read_volume-clause-kept g c =
@@ -36,7 +37,7 @@ returns-clause-kept g c =
     c.put.result c.requires.volume c.requires.in_range c.read_volume.ensures.quiet (rw c.payload.ensures c.in_ok-read_volume.ensures.now) c.put.ensures.put
 
 pub returns-clause-same : goal.returns-clause-same
-returns-clause-same g c = unfailed_then g.D.Device.count c.args.group.now c.read_volume.new.group c.put.new.self c.in_ok-read_volume.ensures.same c.in_ok-put.ensures.put.unfailed
+returns-clause-same g c = unfailed_further g.D.Device.count c.args.group.now c.read_volume.new.group c.put.new.self c.in_ok-read_volume.ensures.same c.in_ok-put.ensures.put.unfailed
 
 pub returns-in_err-read_volume-clause-copies : goal.returns-in_err-read_volume-clause-copies
 returns-in_err-read_volume-clause-copies g c =

@@ -3,12 +3,13 @@ use Rattle.std.proofs.lemmas.Result.{err_from_is_err_and}
 use Rattle.block_data.specs.PayloadBytes.{payload_bytes}
 use Rattle.image_store.proofs.Calls.{room_plains, not_put_kept, put_volumes}
 use Rattle.image_store.proofs.Copied.{area_itself, area_put, area_room}
-use Rattle.image_store.proofs.Failing.{device_after, pass_failed, room_unfailed, unfailed_itself, unfailed_then}
+use Rattle.image_store.proofs.Failing.{device_after, pass_failed, room_unfailed}
 use Rattle.image_store.proofs.Passes.{written_none, written_past, written_more, written_stopped, written_part, written_all, gives_there}
 use Rattle.image_store.proofs.Plains.{kept_then}
 use Rattle.image_store.proofs.Sets.{flag_is}
 use Rattle.image_store.proofs.updating.overwrite_blocks.Goals as goal
 use Rattle.image_store.proofs.updating.overwrite_blocks.Goals.{then-differs-b+else-up_to-gt0+in-Ok+in_ok-put, else-differs-b}
+use Rattle.cow_volume.proofs.Kept.{unfailed_itself, unfailed_further}
 
 pub loop-b-init : goal.loop-b-init
 loop-b-init g c = record {
@@ -59,7 +60,7 @@ returns-in_err-put-clause-failed g c =
     rw (p.1, p.2) (pass_failed g.D.Device.count c.args.v c.args.group.now c.put.new.self (g.I.Device.count c.args.input.now) (g.I.Device.count c.read_device.new.device) c.in_err-put.field-0.0
     (c.in-Ok.ensures.cause.same ∙ c.loop-b.invariant.unfailed.input)
     (device_after g.D.Device.count c.args.v c.args.group.now c.make_room-up_to.new.self c.put.new.self c.in_err-put.field-0.0
-    (unfailed_then g.D.Device.count c.args.group.now c.loop-b.group c.make_room-up_to.new.self c.loop-b.invariant.unfailed.group
+    (unfailed_further g.D.Device.count c.args.group.now c.loop-b.group c.make_room-up_to.new.self c.loop-b.invariant.unfailed.group
     (room_unfailed g.D.Device c.loop-b.group c.make_room-up_to.new.self c.args.v c.loop-b.b c.make_room-up_to.result c.make_room-up_to.ensures.room))
     c.in_err-put.ensures.put.rose))
 
@@ -114,13 +115,15 @@ loop-b-preserved g c =
             (λ wanted. gives_there (g.I.Device.told c.loop-b.input) c.args.differs.now wanted c.loop-b.b w.read_device.new.self (payload_bytes w.payload.result.now) w.in-Ok.ensures.block
             (flag_is c.args.differs.now c.loop-b.b _ true within w.if-differs-b.true) w.payload.ensures)
             w.in_ok-put.ensures.put;
-        area = λ copied. area_put g.D.Device.told c.args.group.now c.loop-b.group w.make_room-up_to.new.self w.put.new.self c.args.v c.args.differs.now c.args.from _ c.loop-b.b w.make_room-up_to.result
+        area = λ copied. area_put g.D.Device.told c.args.group.now c.loop-b.group w.make_room-up_to.new.self w.put.new.self c.args.v c.args.differs.now
+            c.args.from _ c.loop-b.b w.make_room-up_to.result
             w.put.result copied
             (inv.area copied) (omega arith) (omega arith) (flag_is c.args.differs.now c.loop-b.b _ true within w.if-differs-b.true) w.make_room-up_to.ensures.room
             w.put.ensures.area w.put.ensures.images (put_volumes g.D.Device w.make_room-up_to.new.self w.put.new.self c.args.v _ w.put.result w.put.ensures.put);
         room = w.make_room-up_to.ensures.space ∙ inv.room;
         unfailed = record {
-          group = unfailed_then g.D.Device.count c.args.group.now w.make_room-up_to.new.self w.put.new.self (unfailed_then g.D.Device.count c.args.group.now c.loop-b.group w.make_room-up_to.new.self
+          group = unfailed_further g.D.Device.count c.args.group.now w.make_room-up_to.new.self w.put.new.self
+              (unfailed_further g.D.Device.count c.args.group.now c.loop-b.group w.make_room-up_to.new.self
               inv.unfailed.group (room_unfailed g.D.Device c.loop-b.group w.make_room-up_to.new.self c.args.v c.loop-b.b w.make_room-up_to.result w.make_room-up_to.ensures.room))
               w.in_ok-put.ensures.put.unfailed;
           input = w.in-Ok.ensures.cause.same ∙ inv.unfailed.input;

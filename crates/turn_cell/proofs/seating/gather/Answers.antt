@@ -1,4 +1,4 @@
-use Rattle.std.proofs.Common.{rules, ◌≡◌, ◌∷◌, [], ◌++◌, refl, ap, sym, ◌∙◌, subst}
+use Rattle.std.proofs.Common.{◌≡◌, ◌∷◌, [], ◌++◌, ap, sym, ◌∙◌, subst}
 use Rattle.std.specs.List.{All}
 use Rattle.std.specs.Option.{option_to_list}
 use Rattle.turn_cell.specs.Rule.{tickets, is_out, knowns}
@@ -33,7 +33,8 @@ join_seat-requires g c =
       ap (λ (s : _). s.table_id) same ∙ all_last (λ (k : _). k.seat.table_id ≡ c.args.table.now.shared.table_id) rest next own,
       ap (λ (s : _). s.me.1) same ∙ ap (λ (m : _). m.1) next.idle,
       c.requires.table.1,
-      takes_one _ _ _ _ _ _ _ c.loop-caller.invariant.1 c.loop-caller.invariant.2 (subst (λ (s : _). s.me.0 ≡ Rattle.turn_cell.specs.declared.view.View.TheVariants.Idle (known s.me.0)) (sym same) (ap (λ (m : _). m.0) next.idle)),
+      takes_one _ _ _ _ _ _ _ c.loop-caller.invariant.1 c.loop-caller.invariant.2
+          (subst (λ (s : _). s.me.0 ≡ Rattle.turn_cell.specs.declared.view.View.TheVariants.Idle (known s.me.0)) (sym same) (ap (λ (m : _). m.0) next.idle)),
     )
 
 pub loop-caller-preserved : goal.loop-caller-preserved
@@ -47,6 +48,7 @@ loop-caller-preserved g c =
       c.join_seat.ensures.0 ∙ c.loop-caller.invariant.0,
       ap tickets now,
       ap is_out now,
-      ap (λ (v : _). Rattle.std.proofs.Common.map standing rest ++ knowns v) now ∙ speaks_for standing c.loop-caller.callers.items rest next c.loop-caller.seat.me.0 c.into_seat.result.me.0 _ cut is c.loop-caller.invariant.3,
+      ap (λ (v : _). Rattle.std.proofs.Common.map standing rest ++ knowns v) now
+          ∙ speaks_for standing c.loop-caller.callers.items rest next c.loop-caller.seat.me.0 c.into_seat.result.me.0 _ cut is c.loop-caller.invariant.3,
       all_front (λ (k : _). k.seat.table_id ≡ c.args.table.now.shared.table_id) rest (next ∷ []) own,
     )
