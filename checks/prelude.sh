@@ -7,6 +7,7 @@ check="$(basename "$0" .sh)"
 failed=0
 . "$top/tools/program.sh"
 cd "$top" || exit 70
+export PYTHONPATH="$top/checks" PYTHONDONTWRITEBYTECODE=1
 room="$(mktemp -d)" || exit 70
 trap 'rm -rf "$room"' EXIT
 
