@@ -30,7 +30,7 @@ def files_below(folder):
 
 
 def limited(kind, most):
-    """Returns what limits a program before it begins. A file that may not grow further fails the call that writes it."""
+    """Returns what limits a program before it begins. A file that may not grow fails the call that writes it."""
     def limit():
         signal.signal(signal.SIGXFSZ, signal.SIG_IGN)
         resource.setrlimit(kind, (most, most))

@@ -172,7 +172,7 @@ def laws():
 
 
 def answers():
-    """Each line of an example that docs/ANSWERS.md names is such a line, and its report has that answer. Returns how many are named."""
+    """Each line of an example that docs/ANSWERS.md names is such a line, and its report has that answer; how many."""
     count, words, fails, has_examples = 0, [], False, False
     for line in text_of("docs/ANSWERS.md").splitlines():
         cells = re.split(r" *\| *", line)
@@ -181,14 +181,16 @@ def answers():
         if not line.startswith("|") or cells[-2] == "Example":
             has_examples, name = line.startswith("|"), ""
         elif has_examples:
-            for found in filter(None, (re.fullmatch(r"((?:orders/)?[a-z_]+)?(?:^| |$)(\d+)?", it) for it in cells[-2].split(", "))):
-                name, count = found[1] or name, count + 1
-                wrong.extend(f"docs/ANSWERS.md: {name} {found[2] or ''}: {it}" for it in answer_of(cells[1], words, fails, name, found[2]))
+            cited = (re.fullmatch(r"((?:orders/)?[a-z_]+)?(?:^| |$)(\d+)?", it) for it in cells[-2].split(", "))
+            for found in filter(None, cited):
+                name, number, count = found[1] or name, found[2], count + 1
+                faults = answer_of(cells[1], words, fails, name, number)
+                wrong.extend(f"docs/ANSWERS.md: {name} {number or ''}: {it}" for it in faults)
     return count
 
 
 def answer_of(answer, words, fails, name, number):
-    """Yields what is wrong with an answer that a line of an example is said to have; or that a set fails with, if none is named."""
+    """Yields what is wrong with the answer of a line of an example, or with how a set fails if no line is named."""
     if not os.path.exists(f"examples/{name}.scenario"):
         yield "there is no such example"
         return

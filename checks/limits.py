@@ -1,4 +1,5 @@
-"""Scenarios at the limits of docs/FORMATS.md, and with one thing more: limits.py PROGRAM. Says what is wrong, and ends with 1 then."""
+"""Scenarios at the limits of docs/FORMATS.md, and with one thing more: limits.py PROGRAM. Says what is wrong, and ends
+with 1 then."""
 import json
 import re
 import sys
@@ -33,8 +34,8 @@ def runs(what, lines, has):
 
 def refused(what, lines, reason):
     done = run(lines)
-    said = done.stderr.decode().strip()
-    holds(done.returncode == 3 and said == f"vss: {reason}" and not done.stdout, f"{what}: {done.returncode} {said}, and not {reason}")
+    is_so = done.returncode == 3 and done.stderr == f"vss: {reason}\n".encode() and not done.stdout
+    holds(is_so, f"{what}: {done.returncode} {done.stderr}, and not {reason}")
 
 
 def times(count, *lines):
@@ -43,8 +44,9 @@ def times(count, *lines):
 
 
 def writer(name, components, title="Database", level=2, source=1, digit="2"):
-    made = {"class": f"{digit * 8}-{digit * 4}-4{digit * 3}-8{digit * 3}-{digit * 12}", "components": components, "level": level}
-    return f"writer {name} " + json.dumps({**made, "name": title, "source": source, "usage": 3}, separators=(",", ":"))
+    class_id = f"{digit * 8}-{digit * 4}-4{digit * 3}-8{digit * 3}-{digit * 12}"
+    made = {"class": class_id, "components": components, "level": level, "name": title, "source": source, "usage": 3}
+    return f"writer {name} " + json.dumps(made, separators=(",", ":"))
 
 
 def component(name, path="", selectable=True, kind=1):
@@ -74,8 +76,10 @@ def declarations():
     runs("no lane", ["volume C 4 4"], has={"^volume C used 0 of 4 ": 1})
     for count in (33, 64):
         runs(f"{count} lanes", lanes(count), has={r"^\d+ lane l\d+ \d+ VSS_E_BAD_STATE$": count})
-        lines = [*writers(count), "volume C 1 1", "lane a", "begin 9", "gather", "await", *times(count, "component wN main"), *A_SET]
-        runs(f"{count} writers", lines, has={"^= set 1 complete$": 1, r"^\d+ writer w\d+ thaw ok$": count, r"^writer w\d+ ": count})
+        lines = [*writers(count), "volume C 1 1", "lane a", "begin 9", "gather", "await"]
+        lines += times(count, "component wN main")
+        found = {"^= set 1 complete$": 1, r"^\d+ writer w\d+ thaw ok$": count, r"^writer w\d+ ": count}
+        runs(f"{count} writers", lines + A_SET, has=found)
     for count in (33, 65, 128):
         for what, made in ("volumes", volumes), ("areas", areas):
             lines = [*made(count), "lane a", *times(count, "write vN 0 stamp N")]
@@ -104,14 +108,16 @@ def sets():
     lines = [*volumes(65), "lane a", "begin 25", "start", *times(65, "add vN"), "end"]
     runs("volumes of a set", lines, has={r"^\d+ lane a \d+ ok$": 66, most: 1, f"^67 lane a 134{most}": 1})
     # the volumes from the 65th to the 128th of one group, each written after the cut
-    lines = ["area G 128", *times(128, "volume vN 1 in G"), "lane a", "begin 25", "start", *times(128, "add vN")[64:], *PLAIN_SET]
-    lines += times(128, "write vN 0 stamp N")[64:] + times(128, "image 1 vN 0")[64:]
-    read = rf"^\d+ lane a \d+ data {ZEROS}$"
-    runs("later volumes", lines, has={"^= set 1 complete$": 1, r"^image 1 v\d+ ": 64, read: 64, r"^volume v\d+ used 1 of 128 ": 64})
-    lines = ["volume C 4097 4097", "lane a", "begin 25", "start", "add C", *PLAIN_SET, "write C 4096 fill 7", "read C 4096", "image 1 C 4096"]
-    runs("4,097 blocks and slots", [*lines, "query C"], has={
-        r"^\d+ lane a 10 ok$": 1, r"^\d+ lane a 11 data 0707070707070707 ": 1, r"^\d+ lane a 12 data 0000000000000000 ": 1,
-        "^volume C used 1 of 4097 ": 1,
+    lines = ["area G 128", *times(128, "volume vN 1 in G"), "lane a", "begin 25", "start", *times(128, "add vN")[64:]]
+    lines += PLAIN_SET + times(128, "write vN 0 stamp N")[64:] + times(128, "image 1 vN 0")[64:]
+    runs("later volumes", lines, has={
+        "^= set 1 complete$": 1, r"^image 1 v\d+ ": 64, rf"^\d+ lane a \d+ data {ZEROS}$": 64,
+        r"^volume v\d+ used 1 of 128 ": 64,
+    })
+    lines = ["volume C 4097 4097", "lane a", "begin 25", "start", "add C", *PLAIN_SET]
+    runs("4,097 blocks and slots", [*lines, "write C 4096 fill 7", "read C 4096", "image 1 C 4096", "query C"], has={
+        r"^\d+ lane a 10 ok$": 1, r"^\d+ lane a 11 data 0707070707070707 ": 1,
+        r"^\d+ lane a 12 data 0000000000000000 ": 1, "^volume C used 1 of 4097 ": 1,
     })
     lines = ["volume C 1 1", "lane a", "begin 9", "gather", "await", *A_SET]
     runs("orders without a writer", lines, has={"^= set 1 complete$": 1})
@@ -129,14 +135,15 @@ def day():
     logs = [component(f"log{n}", "main", False, 2) for n in (1, 2)]
     lines = [f"volume {v} 1024 2048" for v in "CDE"] + [writer("sql", [component("main"), *logs], "Sql", digit="4")]
     lines += [writer("files", [component("home", kind=2)], "Files", 1, 3, "5"), "lane r"]
-    one = ["begin 9", "gather", "await", "component sql main", "component files home", "start", "add C", "add D", "add E"]
-    lines += (one + A_SET[2:]) * 2 + ["delete 1"]
+    one = ["begin 9", "gather", "await", "component sql main", "component files home", "start", "add D", "add E"]
+    lines += (one + A_SET[1:]) * 2 + ["delete 1"]
     for n in range(1, 9):
         lines.append(f"lane w{n} as {'sql' if n <= 4 else 'files'}")
         lines += [f"write {'CDE'[k % 3]} {128 * (n - 1) + k // 3 % 128} stamp {1000 * n + k}" for k in range(625)]
     # each lane writes blocks of its own, so the contents do not depend on the order
     runs("a day's use", lines, has={
-        "^= set [12] complete$": 2, r"^= (?:evicted|set \d+ failed)": 0, r"^\d+ lane r 40 deleted 3$": 1, "^image 2 [CDE] ": 3, "^image ": 3,
+        "^= set [12] complete$": 2, r"^= (?:evicted|set \d+ failed)": 0, r"^\d+ lane r 40 deleted 3$": 1,
+        "^image 2 [CDE] ": 3, "^image ": 3,
         r"^volume C used \d+ of 2048 6da9c042c379cfd47a1430dc374362e30f0940303a2e74f2551ec9e8b9b306e7$": 1,
         r"^volume D used \d+ of 2048 396f564cb3cd324f7e4e0e94b762b20c35a24798c746bd6cacaf355404a7c409$": 1,
         r"^volume E used \d+ of 2048 f059328affcda27498afea403fe63d80d4df0bdb64b90795d89ba6f7ee8e4650$": 1,

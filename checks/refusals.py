@@ -1,4 +1,5 @@
-"""Words, scenarios and areas that `vss` takes or refuses: refusals.py PROGRAM WRAPPER FOLDER ADDRESSES. Says what is wrong, and ends with 1 then."""
+"""Words, scenarios and areas that `vss` takes or refuses: refusals.py PROGRAM WRAPPER FOLDER ADDRESSES. Says what is
+wrong, and ends with 1 then."""
 import os
 import re
 import resource
@@ -21,19 +22,22 @@ def holds(kind, condition, what):
 
 def refuses(kind, what, done, status, line):
     """A run ended with this status, this line on the standard error, and nothing on the standard output."""
-    is_so = (done.returncode, done.stdout, done.stderr.decode().rstrip("\n")) == (status, b"", line)
-    holds(kind, is_so, f"{what}: status {done.returncode}, \"{done.stderr.decode().strip()[:200]}\", and not {status}, \"{line}\"")
+    said = done.stderr.decode().rstrip("\n")
+    is_so = (done.returncode, done.stdout, said) == (status, b"", line)
+    holds(kind, is_so, f"{what}: status {done.returncode}, \"{said[:200]}\", and not {status}, \"{line}\"")
 
 
 # ## which words are a command
 
 # (words are parted by |, and rows by ;)
 COMMANDS = (
-    "run;run|disks;run|gen;run|run;run|inspect;run| ;run|a-b;run|7;gen|0|disks;gen|7|disks;gen|10|gen;gen|4294967295|disks;gen|7| ;gen|7|7;inspect"
+    "run;run|disks;run|gen;run|run;run|inspect;run| ;run|a-b;run|7;"
+    "gen|0|disks;gen|7|disks;gen|10|gen;gen|4294967295|disks;gen|7| ;gen|7|7;inspect"
 )
 NO_COMMANDS = (
-    "Run;RUN;run ; run;runs;run|;run|-x;run|disks|more;run|disks|;gen;gen|;gen|07;gen|00;gen|+7;gen|-7;gen|7 ;gen|0x7;gen|seven;gen|4294967296;"
-    "gen|42949672950;gen|7|;gen|7|-x;gen|7|disks|more;Inspect;inspect|;inspect|area;inspect|-x;-h;--help;--version;--;-;r\u00fcn;"
+    "Run;RUN;run ; run;runs;run|;run|-x;run|disks|more;run|disks|;gen;gen|;gen|07;gen|00;gen|+7;gen|-7;gen|7 ;gen|0x7;"
+    "gen|seven;gen|4294967296;gen|42949672950;gen|7|;gen|7|-x;gen|7|disks|more;Inspect;inspect|;inspect|area;"
+    "inspect|-x;-h;--help;--version;--;-;r\u00fcn;"
 )
 
 
@@ -46,7 +50,8 @@ def words():
         refuses("words", f"`vss {command}`", ran([PROGRAM, *command], input=b"scenario 1\n"), 2, "vss: usage")
     os.symlink(WRAPPER, f"{FOLDER}/link")
     done = ran([f"{FOLDER}/link", "gen"], input=b"")
-    holds("words", done.returncode == 2 and b"vss: usage\n" in done.stderr and not done.stdout, "a link to ./vss is not ./vss")
+    is_so = done.returncode == 2 and b"vss: usage\n" in done.stderr and not done.stdout
+    holds("words", is_so, "a link to ./vss is not ./vss")
 
 
 # ## scenarios, and lines of them
@@ -74,13 +79,15 @@ def lines():
                 continue
             name = body.split(" ")[1].encode() if body.startswith("volume ") else b""
             is_named = not name or b"\nvolume %s used 0 of " % name in done.stdout
-            holds("lines", done.returncode == 0 and not done.stderr and is_named, f"{body}: {done.stderr}, or another name of the volume")
+            is_so = done.returncode == 0 and not done.stderr and is_named
+            holds("lines", is_so, f"{body}: {done.stderr}, or another name of the volume")
 
 
 # ## inputs of the greatest size and beyond
 
-WRITER = ('{"class":"22222222-2222-4222-8222-222222222222","components":[{"name":"main","path":"","selectable":true,"type":1}],"level":2,'
-          '"name":"Database","source":1,"usage":3}')
+MAIN = '[{"name":"main","path":"","selectable":true,"type":1}]'
+CLASS = '"class":"22222222-2222-4222-8222-222222222222"'
+WRITER = f'{{{CLASS},"components":{MAIN},"level":2,"name":"Database","source":1,"usage":3}}'
 LANE = "scenario 1\nvolume C 4 4\nlane a\n"
 
 
@@ -130,13 +137,14 @@ def large():
         else:
             holds("large inputs", done.returncode == 0 and not done.stderr, f"{what}: {done.returncode} {done.stderr}")
     for text in (filled("", "#", "\n", MOST + 1), "\n" * (MOST + 1)):
-        refuses("large inputs", "a byte too many", ran([PROGRAM, "run"], input=text.encode(), **how), 8, "vss: input too long")
+        done = ran([PROGRAM, "run"], input=text.encode(), **how)
+        refuses("large inputs", "a byte too many", done, 8, "vss: input too long")
 
 
 # ## areas
 
-# where a field stands, and what is told where it is 0, 1 and 4,294,967,295: the first wrong field of the header with what was found there, a record
-# by its slot, or the set and block of the record that is listed
+# where a field stands, and what is told where it is 0, 1 and 4,294,967,295: the first wrong field of the header with
+# what was found there, a record by its slot, or the set and block of the record that is listed
 FIELDS = """
 0 Magic,0 Magic,1 Magic,4294967295
 4 Magic,1095979862 Magic,1095979862 Magic,1095979862
@@ -178,8 +186,10 @@ def listed(data, layout, told):
     done, what = ran([PROGRAM, "inspect"], input=data), f"an area of {len(data)} bytes"
     if word == "listed":
         # examples/area.listing is that of the whole one in layout 2
-        wanted = f"area layout {layout} slots 2 used 1\nvolume 0 blocks 4\nslot 1 set {rest[0]} volume 0 block {rest[1]} {NINES}\nend\n"
-        holds("areas", done.returncode == 0 and done.stdout.decode() == wanted, f"{what}: {done.stdout} {done.stderr}, and not {wanted}")
+        slot = f"slot 1 set {rest[0]} volume 0 block {rest[1]} {NINES}"
+        wanted = f"area layout {layout} slots 2 used 1\nvolume 0 blocks 4\n{slot}\nend\n".encode()
+        is_so = done.returncode == 0 and done.stdout == wanted
+        holds("areas", is_so, f"{what}: {done.stdout} {done.stderr}, and not {wanted}")
     else:
         line = f"area record {rest[0]}" if word == "record" else f"area header {word} {rest[0]}"
         refuses("areas", what, done, 9, f"vss: {line}")
@@ -193,14 +203,15 @@ def areas():
             area(2, word, (int(at), struct.pack("<I", number)))
     area(1, "listed,3,2")
     for at, changed, told in (
-        (20, b"\0\0\0\0", "Blocks,0"), (20, b"\1\0\1\0", "Blocks,65537"), (24, b"\1", "Rest,1"), (16408, b"\1", "record,1"),
-        (16384, b"\3\0\0\0\2", "record,1"), (16, b"\2", "Used,2"),
+        (20, b"\0\0\0\0", "Blocks,0"), (20, b"\1\0\1\0", "Blocks,65537"), (24, b"\1", "Rest,1"),
+        (16408, b"\1", "record,1"), (16384, b"\3\0\0\0\2", "record,1"), (16, b"\2", "Used,2"),
     ):
         area(1, told, (at, changed))
     for size in (7, 16384, 49151, 49153, 65535, 65537):
         area(2, "Magic,1095979862" if size == 7 else "Slots,2", size=size)
     for data, told in (
-        (b"", "Magic,0"), (b"scenario 1\n", "Magic,1852138355"), (b"VSSAREA1\3\0\0\0", "Layout,3"), (b"VSSAREA1\2\0\0\0\2\0\0\0", "Slots,2"),
+        (b"", "Magic,0"), (b"scenario 1\n", "Magic,1852138355"), (b"VSSAREA1\3\0\0\0", "Layout,3"),
+        (b"VSSAREA1\2\0\0\0\2\0\0\0", "Slots,2"),
     ):
         listed(data, 2, told)
 

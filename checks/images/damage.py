@@ -16,7 +16,8 @@ import sys
 from common import files_below, ran, read, write
 
 B = 16384
-NOT_TRUSTED = b"another; it is damaged, so nothing in the folder can be trusted: copy the folder before anything else\n"
+NOT_TRUSTED = b"images: F/images.state: digest: another; it is damaged, so nothing in the folder can be trusted: " \
+    b"copy the folder before anything else\n"
 
 
 class Damage:
@@ -44,9 +45,10 @@ class Damage:
         self.tried += 1
         write(f"F/{name}", data)
         before, got = files_below("F"), self.run(*words)
-        is_told = got.stderr.startswith(b"images: ") and told in got.stderr and (got.stderr.count(b"\n") == 1 or words[0] == "check")
+        is_one = got.stderr.count(b"\n") == 1 or words[0] == "check"
+        is_told = got.stderr.startswith(b"images: ") and told in got.stderr and is_one
         if got.returncode != status or got.stdout or not is_told or files_below("F") != before:
-            sys.exit(f"{name}, {words}: {got.returncode} {got.stdout[:100]} {got.stderr}, wanted {status} {told}, and nothing changed")
+            sys.exit(f"{name}, {words}: {got.returncode} {got.stdout[:100]} {got.stderr}, wanted {status} {told}, no change")
         write(f"F/{name}", self.whole[name])
 
     def state(self):
@@ -55,7 +57,7 @@ class Damage:
         for place in places:
             data = bytearray(state)
             data[place] ^= 0x41
-            self.refuses("images.state", bytes(data), 9, ["list", "F"], b"images: F/images.state: digest: " + NOT_TRUSTED)
+            self.refuses("images.state", bytes(data), 9, ["list", "F"], NOT_TRUSTED)
         for data, told in ((state[:-1], b"digest"), (state + b"x", b"digest"), (b"", b"size"), (state[:31], b"size"), (state + bytes(2_000_000), b"size")):
             self.refuses("images.state", data, 9, ["list", "F"], b"images: F/images.state: " + told)
 
@@ -181,9 +183,11 @@ class Damage:
         whole = b"sha256 " + hashlib.sha256(lines).hexdigest().encode() + b"\n" + lines
         spoilt = [whole[:at] for at in range(len(whole))]
         for data in (lines, whole):
-            spoilt += [data[:at] + bytes([data[at] ^ 1 << bit]) + data[at + 1:] for at in range(len(data)) for bit in range(8)]
+            for at in range(len(data)):
+                spoilt += [data[:at] + bytes([data[at] ^ 1 << bit]) + data[at + 1:] for bit in range(8)]
         all_of_it = [b"update\n", b"revert\n", b"cut\nb\n", b"update\nb\nx\n", b"", b"\xff", lines + bytes(9000)]
-        for hidden, markers in (("b db", [lines, whole, *spoilt]), ("b db wal", all_of_it), ("", [b"cut\n"]), ("wal", [b"revert\nwal\n"])):
+        kinds = {"b db": [lines, whole, *spoilt], "b db wal": all_of_it, "": [b"cut\n"], "wal": [b"revert\nwal\n"]}
+        for hidden, markers in kinds.items():
             for data in markers:
                 write("G/images.open", data)
                 for name in hidden.split() if data in spoilt else ("b", "db", "wal"):
@@ -197,7 +201,8 @@ class Damage:
         """A folder that another process has is refused; readers share it."""
         held = os.open("F", os.O_RDONLY)
         readers, cut = [["list", "F"], ["show", "F", "db"], ["check", "F"]], ["cut", "F", "db"]
-        for how, refused, allowed in ((fcntl.LOCK_EX, [*readers, cut], []), (fcntl.LOCK_SH, [cut, ["update", "F", "db=db"]], readers)):
+        beside = (fcntl.LOCK_EX, [*readers, cut], []), (fcntl.LOCK_SH, [cut, ["update", "F", "db=db"]], readers)
+        for how, refused, allowed in beside:
             fcntl.flock(held, how)
             for words in refused + allowed:
                 got, want = self.run(*words), 10 if words in refused else 0

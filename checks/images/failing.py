@@ -18,7 +18,8 @@ def fail(scene, room, library, kind, first, last, is_short):
     """Lets calls fail. False where there were not so many."""
     place, folder = f"{kind} {first} to {last}{' short' if is_short else ''}", os.path.join(room, "failed")
     shutil.copytree(scene.base, folder)
-    numbers = {"FAIL_CALL": kind, "FAIL_FIRST": str(first), "FAIL_LAST": str(last)} | ({"FAIL_SHORT": "1"} if is_short else {})
+    numbers = {"FAIL_CALL": kind, "FAIL_FIRST": str(first), "FAIL_LAST": str(last)}
+    numbers |= {"FAIL_SHORT": "1"} if is_short else {}
     got = scene.run(folder, scene.call, LD_PRELOAD=library, **numbers)
     *told, counts = got.stderr.splitlines()
     if got.returncode not in (0, 3, 4, 5, 6, 7) or len(told) != (got.returncode not in (0, 7)) \

@@ -18,7 +18,7 @@ from kill import SCENES, Scene
 NOBODY = 65534
 WRITING = [["update", "F", "db=db"], ["cut", "F", "db"], ["delete", "F", "1"], ["revert", "F", "1", "db"]]
 READING = [["list", "F"], ["show", "F", "db"], ["show", "F", "1", "db"], ["check", "F"]]
-TORN = re.compile(rb"images: db: changed while it was read: \d+ bytes and then \d+.*; stop or freeze its writer, .*'begin immediate'")
+TORN = re.compile(rb"images: db: changed while it was read: \d+ bytes and then \d+.*; stop or freeze .*'begin immediate'")
 
 
 class Faults:
@@ -127,7 +127,8 @@ class Faults:
         """A call that is refused, with a line that has this in it, and changes nothing."""
         before = files_below(folder)
         got = ran([self.program, *words], cwd=folder, **how)
-        if got.returncode not in statuses or told not in got.stderr or got.stderr.count(b"\n") != 1 and words[0] != "check" or got.stdout:
+        is_one = got.stderr.count(b"\n") == 1 or words[0] == "check"
+        if got.returncode not in statuses or told not in got.stderr or not is_one or got.stdout:
             sys.exit(f"{row}: {words}: {got.returncode} {got.stdout[:100]} {got.stderr}, wanted {statuses} {told}")
         if files_below(folder) != before:
             sys.exit(f"{row}: {words}: something was changed")
@@ -153,10 +154,11 @@ class Faults:
             if ran([self.program, *words], cwd=base, **how).returncode:
                 sys.exit(f"{words}: refused to one who may read")
             self.count("no right to write", 0)
-        self.refused(base, "no right to write", ["create", "G", "4", "db=db"], (6,), b"G.new: could not be created: Permission denied", **how)
+        denied, new = b": Permission denied", ["create", "G", "4", "db=db"]
+        self.refused(base, "no right to write", new, (6,), b"G.new: could not be created" + denied, **how)
         os.chmod(os.path.join(others, "images.state"), 0)
         for words in WRITING + READING:
-            self.refused(base, "no right to read the state", words, (6,), b"images.state: could not be read: Permission denied", **how)
+            self.refused(base, "no right to read the state", words, (6,), b"images.state: could not be read" + denied, **how)
         os.chmod(others, 0o600)
         for words in WRITING + READING:
             self.refused(base, "no right to enter", words, (3,), b"F: no folder of images (", **how)
@@ -165,7 +167,7 @@ class Faults:
         os.chmod(os.path.join(others, "images.state"), 0o644)
         for name in os.listdir(others):
             os.chown(os.path.join(others, name), NOBODY, NOBODY)
-        self.refused(base, "no right to read the file", ["update", "F", "db=db"], (4,), b"db: could not be read: Permission denied", **how)
+        self.refused(base, "no right to read the file", WRITING[0], (4,), b"db: could not be read" + denied, **how)
 
     def others(self):
         """Something else where a file or a folder has to be."""
@@ -178,13 +180,17 @@ class Faults:
             self.refused(base, "something else as the file", ["update", "F", f"db={name}"], (4,), told)
             self.refused(base, "something else as the file", ["create", "G", "4", f"db={name}"], (4,), told)
         for name in ("F/db.vol", "F/images.area", "F/images.state", "F/images.together"):
-            self.refused(base, "a file of the folder as the file", ["update", "F", f"wal={name}"], (3,), name.encode() + b": is a file of F")
+            told, words = f"{name}: is a file of F".encode(), ["update", "F", f"wal={name}"]
+            self.refused(base, "a file of the folder as the file", words, (3,), told)
         for name in ("db", "pipe", "broken", "none", "/dev/null", "F/F"):
             for words in WRITING + READING:
-                self.refused(base, "something else as the folder", [words[0], name, *words[2:]], (3,), name.encode() + b": no folder of images (")
+                told, words = f"{name}: no folder of images (".encode(), [words[0], name, *words[2:]]
+                self.refused(base, "something else as the folder", words, (3,), told)
         for name in ("F", "db", "pipe", "link", "broken", "F/"):
-            self.refused(base, "something else as the new folder", ["create", name, "4", "db=db"], (3,), b": is there already")
-        self.refused(base, "something else as the new folder", ["create", "none/G", "4", "db=db"], (6,), b"none/G.new: could not be created: No such file")
+            words = ["create", name, "4", "db=db"]
+            self.refused(base, "something else as the new folder", words, (3,), b": is there already")
+        words, told = ["create", "none/G", "4", "db=db"], b"none/G.new: could not be created: No such file"
+        self.refused(base, "something else as the new folder", words, (6,), told)
         if ran([self.program, "list", "link"], cwd=base).returncode:
             sys.exit("a link to the folder is refused")
         for name in ("db.vol", "images.area", "images.state"):

@@ -120,8 +120,8 @@ def drawn(drawing):
 def limits(drawing):
     """As many images as a volume may have and one more, and one volume too many."""
     drawing.keep("db", b"d" * 5)
-    yield from (["create", "F", "1", "db=db", "wal=db"], *[["cut", "F", "db"]] * 513, ["cut", "F", "wal", "db"], ["cut", "F", "wal"])
-    yield from (["delete", "F", "512"], ["cut", "F", "db"], ["list", "F"], ["check", "F"])
+    yield from (["create", "F", "1", "db=db", "wal=db"], *[["cut", "F", "db"]] * 513, ["cut", "F", "wal", "db"])
+    yield from (["cut", "F", "wal"], ["delete", "F", "512"], ["cut", "F", "db"], ["list", "F"], ["check", "F"])
     yield from (["create", "G", "1", *[f"v{v}=db" for v in range(count)]] for count in (129, 128))
     yield ["list", "G"]
 
@@ -136,7 +136,8 @@ def compared(program, folder, number, calls_of):
         got = ran([program, *words], cwd=room)
         told = b"" if line is None else f"images: {line}\n".encode()
         if (status, out, told) != (got.returncode, got.stdout, got.stderr):
-            sys.exit(f"list {number}: {words}: wanted {status} {out[:300]} {told}, got {got.returncode} {got.stdout[:300]} {got.stderr}")
+            wanted = f"wanted {status} {out[:300]} {told}"
+            sys.exit(f"list {number}: {words}: {wanted}, got {got.returncode} {got.stdout[:300]} {got.stderr}")
     shutil.rmtree(room)
     return calls
 

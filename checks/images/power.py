@@ -216,7 +216,8 @@ class Losing:
         while True:
             shutil.copytree(self.scene.base, self.folder)
             disk = Disk(self.folder)
-            got, calls = self.made(disk, self.scene.call, FAIL_CALL="sync", FAIL_FIRST=str(number), FAIL_LAST=str(number))
+            numbers = {"FAIL_CALL": "sync", "FAIL_FIRST": str(number), "FAIL_LAST": str(number)}
+            got, calls = self.made(disk, self.scene.call, **numbers)
             if not any(call[0] == "fail" for call in calls):
                 return
             for call in calls:

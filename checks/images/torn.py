@@ -56,7 +56,8 @@ def main(program, folder, count):
                     sys.exit(f"{got}")
                 if got.returncode == 0:
                     done += 1
-                    db, log = (set(ran([program, "show", "F", name], cwd=room, check=True).stdout.split()) for name in ("db", "log"))
+                    shown = (ran([program, "show", "F", name], cwd=room, check=True) for name in ("db", "log"))
+                    db, log = (set(it.stdout.split()) for it in shown)
                     if len(db) != 1 or len(log) != 1 or int(min(log)) - int(min(db)) not in (0, 1):
                         writer.kill()
                         sys.exit(f"update {turn} is done, and db has {sorted(db)[:3]}, log {sorted(log)[:3]}")

@@ -42,8 +42,8 @@ def folder(name):
 
 def run(text, *words, **others):
     """Runs the program over a text. Python has signals of closed pipes and full files ignored, and so has the program."""
-    how = {"capture_output": False, "stdout": subprocess.PIPE, "stderr": subprocess.PIPE, "restore_signals": False, **others}
-    return ran([PROGRAM, "run", *words], input=text, **how)
+    pipes = {"capture_output": False, "stdout": subprocess.PIPE, "stderr": subprocess.PIPE}
+    return ran([PROGRAM, "run", *words], input=text, restore_signals=False, **{**pipes, **others})
 
 
 def ended(done, status, line=b""):
@@ -86,7 +86,8 @@ def is_full(report):
         path = os.path.join(FOLDER, f"at_most_{most}")
         with open(path, "wb") as out:
             done = run(LONG, stdout=out, preexec_fn=limited(resource.RLIMIT_FSIZE, most))
-        holds(ended(done, 5, b"vss: write fault\n") and read(path) == report[:most], f"a file of at most {most} bytes is not told, or has others")
+        is_told = ended(done, 5, b"vss: write fault\n") and read(path) == report[:most]
+        holds(is_told, f"a file of at most {most} bytes is not told, or has others")
 
 
 def is_read_bytewise():
@@ -159,7 +160,8 @@ def is_refused_where_there_is():
         "file": (lambda path: write(path, b"mine"), lambda path: read(path) == b"mine"),
         "folder": (os.mkdir, lambda path: os.listdir(path) == []),
         "link": (lambda path: os.symlink(mine, path), lambda path: os.path.islink(path) and read(path) == b"mine"),
-        "dead link": (lambda path: os.symlink("none", path), lambda path: os.path.islink(path) and not os.path.exists(path)),
+        "dead link": (lambda path: os.symlink("none", path), lambda path: os.readlink(path) == "none" and
+                      not os.path.exists(path)),
         "pipe": (os.mkfifo, lambda path: stat.S_ISFIFO(os.lstat(path).st_mode)),
     }
     for name in "C.vol", "C.area", "E.vol", "G.shared":

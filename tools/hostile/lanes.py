@@ -1,4 +1,4 @@
-"""Runs of the program for the scripts beside this folder: many, without a shell, some side by side, each with bounds of memory and time."""
+"""Runs of the program for the scripts beside this folder: many, some side by side, with bounds of memory and time."""
 import multiprocessing
 import os
 import resource
@@ -70,7 +70,7 @@ def work(task):
 
 
 def in_lanes(make_worker, tasks, lanes):
-    """Gives what the workers make of the tasks, as it comes. A worker is made with the name of a folder, and has a method `work`."""
+    """Gives what the workers make of the tasks, as it comes. A worker is made with a folder, and has a method `work`."""
     with tempfile.TemporaryDirectory(prefix="hostile-", dir="/dev/shm" if os.path.isdir("/dev/shm") else None) as room:
         with multiprocessing.get_context("fork").Pool(lanes, begin, (make_worker, room)) as pool:
             yield from pool.imap_unordered(work, tasks)

@@ -40,7 +40,8 @@ def json_of(text):
         if depth > DEEPEST:
             raise NoDocument
     try:
-        value = json.loads(text.decode("ascii"), object_pairs_hook=members, parse_int=whole, parse_float=real, parse_constant=refuse)
+        hooks = {"object_pairs_hook": members, "parse_int": whole, "parse_float": real, "parse_constant": refuse}
+        value = json.loads(text.decode("ascii"), **hooks)
         members([(0, value)])
         return value
     except ValueError:
