@@ -171,6 +171,42 @@ def laws():
             wrong.append(f"crates/promises/src/facts.rt: the law `{law}` has no sentence")
 
 
+def answers():
+    """Each line of an example that docs/ANSWERS.md names is such a line, and its report has that answer; how many."""
+    count, words, fails, has_examples = 0, [], False, False
+    for line in text_of("docs/ANSWERS.md").splitlines():
+        cells = re.split(r" *\| *", line)
+        if line.startswith("#"):
+            words, fails = re.findall("`([a-z]+)`", line), "fails" in line
+        if not line.startswith("|") or cells[-2] == "Example":
+            has_examples, name = line.startswith("|"), ""
+        elif has_examples:
+            cited = (re.fullmatch(r"((?:orders/)?[a-z_]+)?(?:^| |$)(\d+)?", it) for it in cells[-2].split(", "))
+            for found in filter(None, cited):
+                name, number, count = found[1] or name, found[2], count + 1
+                faults = answer_of(cells[1], words, fails, name, number)
+                wrong.extend(f"docs/ANSWERS.md: {name} {number or ''}: {it}" for it in faults)
+    return count
+
+
+def answer_of(answer, words, fails, name, number):
+    """Yields what is wrong with the answer of a line of an example, or with how a set fails if no line is named."""
+    if not os.path.exists(f"examples/{name}.scenario"):
+        yield "there is no such example"
+        return
+    report = text_of(f"examples/{name}.report")
+    if not number:
+        if fails and not re.search(rf"^= set \d+ failed {answer.split(', ')[-1]}", report, re.M):
+            yield f"no set fails with {answer}"
+        return
+    word = text_of(f"examples/{name}.scenario").splitlines()[int(number) - 1].split(" ")[0]
+    reply = re.search(rf"^\d+ lane \S+ {number} (\S+)", report, re.M)
+    if words and word not in words:
+        yield f"the line is `{word}`, and none of: {', '.join(words)}"
+    if not reply or answer[0] not in "*`" and reply[1] != answer.split(" ")[0]:
+        yield f"the line is answered {reply and reply[1]}, and not {answer}"
+
+
 def sizes():
     """The README and the pages of docs/ are short, and so is each cell of their tables."""
     if len(text_of("README.md").encode()) > MOST_README:
@@ -218,9 +254,15 @@ def main():
     laws()
     crate_pages()
     sizes()
+    named = answers()
+    if named < 40:
+        wrong.append(f"docs/ANSWERS.md names {named} lines of examples only")
+    for path in glob.glob("examples/*.scenario") + glob.glob("examples/orders/*.scenario"):
+        if f"({path.removeprefix('examples/')})" not in text_of("examples/README.md"):
+            wrong.append(f"examples/README.md does not name {path}")
     for line in wrong:
         print(line, file=sys.stderr)
-    print(f"{len(PAGES)} pages")
+    print(f"{len(PAGES)} pages and {named} answers")
     sys.exit(bool(wrong))
 
 

@@ -1,5 +1,6 @@
 # What the checks have in common. Each reads this file first, and then works in the top folder of the repository, with `top` (that folder),
-# `check` (its own name), `room` (a folder of its own, which is removed at the end) and `failed`. This file is no check.
+# `check` (its own name), `room` (a folder of its own, which is removed at the end) and `failed`. Its scripts in Python find checks/common.py.
+# This file is no check.
 # shellcheck shell=bash
 set -u
 top="$(cd "$(dirname "${BASH_SOURCE[0]}")/.." && pwd)" || exit 70
@@ -7,6 +8,7 @@ check="$(basename "$0" .sh)"
 failed=0
 . "$top/tools/program.sh"
 cd "$top" || exit 70
+export PYTHONPATH="$top/checks" PYTHONDONTWRITEBYTECODE=1
 room="$(mktemp -d)" || exit 70
 trap 'rm -rf "$room"' EXIT
 

@@ -11,7 +11,7 @@ import subprocess
 import sys
 import time
 
-from room import HERE, HOOKS, Room, Wrong
+from room import HERE, HOOKS, Room, Wrong, judged
 
 # The orders before a set is kept, and those behind.
 BEFORE = ("identify", "prepare_backup", "prepare_snapshot", "freeze", "thaw")
@@ -54,8 +54,8 @@ def wrong_answers(room, is_all):
             else:
                 expect(f"{fault} at {order}", got, KEPT, "kept")
         next_one(room, f"wrong answers to {order}")
-    for order in ("freeze",):
-        expect("gone behind its ok to freeze", room.run(room.job(faulty(room, order, "gone"))), NOTHING, "stock: its hook has ended")
+    gone = room.run(room.job(faulty(room, "freeze", "gone")))
+    expect("gone behind its ok to freeze", gone, NOTHING, "stock: its hook has ended")
     next_one(room, "a hook that died while it was frozen")
 
 
@@ -181,18 +181,12 @@ ROWS = (wrong_answers, slow_answers, no_holds, strikes, kills, full_area, outgro
 
 def main(words):
     room, is_all = Room(words[:3], words[3]), words[4:] == ["all"]
-    try:
+    with room:
         for rows in ROWS:
             then = time.monotonic()
             rows(room, is_all)
             print(f"{rows.__name__.replace('_', ' ')}: {time.monotonic() - then:.1f} s", flush=True)
-    finally:
-        steps, longest = room.end()
-    print(f"{len(ROWS)} kinds of faults; {steps} steps of the application, the longest {longest} ms")
+    print(f"{len(ROWS)} kinds of faults; {room.told}")
 
 
-if __name__ == "__main__":
-    try:
-        main(sys.argv[1:])
-    except Wrong as wrong:
-        sys.exit(f"{wrong}")
+judged(main)

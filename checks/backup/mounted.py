@@ -11,7 +11,8 @@ import subprocess
 import sys
 import time
 
-from room import HERE, HOOKS, Room, Wrong, document
+from common import write
+from room import HOOKS, Room, Wrong, document, judged
 
 BLOCKS = 12000
 USER = "nobody"
@@ -65,6 +66,8 @@ class Client:
 class Mounted(Room):
     """A room whose application lies on a file system of its own."""
 
+    server = client = None
+
     def __init__(self, programs, path):
         self.path, self.mount = path, f"{path}/live"
         os.makedirs(self.mount)
@@ -81,18 +84,25 @@ class Mounted(Room):
         self.count += 1
         job = f"{self.path}/job{self.count}"
         hook = f"{sys.executable} {HOOKS}/commands.py --freeze 'fsfreeze -f {self.mount}' --thaw 'fsfreeze -u {self.mount}'"
-        with open(job, "w", encoding="utf-8") as out:
-            out.write(f"job 1\nvolume disk {self.path}/disk\nwriter files {document('Files', '3', 1, 20000)}\nfiles files main disk\nhook files {hook}\n")
+        writer = f"writer files {document('Files', '3', 1, 20000)}\nfiles files main disk\nhook files {hook}\n"
+        write(job, f"job 1\nvolume disk {self.path}/disk\n{writer}".encode())
         return job
 
-    def server(self):
+    def begin_server(self):
         server = Server(f"{self.mount}/pg", f"{self.path}/pg")
         os.mkdir(server.data, 0o700)
         shutil.chown(server.data, USER)
         server.tool("initdb", "-D", server.data, "-A", "trust", "-E", "UTF8", "-N")
         server.start()
         server.ask("CREATE TABLE a (n int PRIMARY KEY); CREATE TABLE b (n int PRIMARY KEY)")
-        return server
+        self.server, self.client = server, Client(server)
+
+    def __exit__(self, *how):
+        super().__exit__(*how)
+        if self.client:
+            self.client.end()
+            self.server.stop()
+        call("umount", self.mount)
 
     def judge_mounted(self, number, client, confirmed):
         """The version of a set, mounted."""
@@ -136,27 +146,15 @@ def back_up(room, client, number):
 
 
 def main(words):
-    room, server, client = Mounted(words[:3], words[3]), None, None
-    try:
+    with Mounted(words[:3], words[3]) as room:
         if shutil.which("initdb") and shutil.which("runuser"):
-            server = room.server()
-            client = Client(server)
+            room.begin_server()
             for _step in range(100):
-                client.step()
+                room.client.step()
         for number in range(1, int(words[4]) + 1):
-            room.judge_mounted(number, client, back_up(room, client, number))
-    finally:
-        steps, longest = room.end()
-        if server:
-            client.end()
-            server.stop()
-        call("umount", room.mount)
-    what = f"{client.sent} transactions of a PostgreSQL server" if client else "no PostgreSQL server is here"
-    print(f"{words[4]} of {words[4]} versions of a file system are whole and of one moment; {steps} steps of the application, the longest {longest} ms; {what}")
+            room.judge_mounted(number, room.client, back_up(room, room.client, number))
+    what = f"{room.client.sent} transactions of a PostgreSQL server" if room.client else "no PostgreSQL server is here"
+    print(f"{words[4]} of {words[4]} versions of a file system are whole and of one moment; {room.told}; {what}")
 
 
-if __name__ == "__main__":
-    try:
-        main(sys.argv[1:])
-    except Wrong as wrong:
-        sys.exit(f"{wrong}")
+judged(main)

@@ -7,6 +7,8 @@ import subprocess
 import sys
 import time
 
+from common import ran, read, write
+
 HERE = os.path.dirname(os.path.abspath(__file__))
 HOOKS = os.path.join(HERE, "..", "..", "hooks")
 VOLUMES = {"app": "app.db", "appwal": "app.db-wal", "stock": "stock.db", "stockwal": "stock.db-wal", "log": "app.log"}
@@ -49,8 +51,7 @@ class Room:
             time.sleep(0.01)
 
     def create(self, folder, slots, blocks):
-        with open(f"{self.path}/empty", "wb"):
-            pass
+        write(f"{self.path}/empty", b"")
         words = [f"{name}:{count}={self.path}/empty" for name, count in blocks.items()]
         subprocess.run([self.images, "create", f"{self.path}/{folder}", str(slots), *words], check=True)
 
@@ -62,13 +63,11 @@ class Room:
         self.count += 1
         path = f"{self.path}/job{self.count}"
         hooks = {"app": self.hook("app"), "stock": self.hook("stock"), **(hooks or {})}
-        with open(path, "w", encoding="utf-8") as out:
-            out.write("job 1\n")
-            for volume, name in VOLUMES.items():
-                out.write(f"volume {volume} {self.path}/live/{name} or-none\n")
-            out.write(f"writer app {document('App', '1', 3, limit)}\nwriter stock {document('Stock', '2', 2, limit)}\n")
-            out.write("files app main app appwal log\nfiles stock main stock stockwal\n")
-            out.write("".join(f"hook {writer} {command}\n" for writer, command in hooks.items()) + more)
+        lines = ["job 1", *(f"volume {volume} {self.path}/live/{name} or-none" for volume, name in VOLUMES.items())]
+        lines += [f"writer app {document('App', '1', 3, limit)}", f"writer stock {document('Stock', '2', 2, limit)}"]
+        lines += ["files app main app appwal log", "files stock main stock stockwal"]
+        lines += [f"hook {writer} {command}" for writer, command in hooks.items()]
+        write(path, ("\n".join(lines) + f"\n{more}").encode())
         return path
 
     def start(self, job, folder="store", record=None, before=()):
@@ -81,8 +80,7 @@ class Room:
         return process
 
     def said(self, process):
-        with open(process.said, encoding="utf-8", errors="replace") as lines:
-            return lines.read()
+        return read(process.said).decode(errors="replace")
 
     def run(self, job, **more):
         """A whole backup, with a record that is judged: its status and its lines."""
@@ -94,12 +92,12 @@ class Room:
         return status, self.said(process)
 
     def judge_record(self, record):
-        again = subprocess.run([self.orders, "again", f"{record}.scenario", f"{record}.report"], capture_output=True, text=True)
+        again = ran([self.orders, "again", f"{record}.scenario", f"{record}.report"])
         if again.returncode != 0:
             raise Wrong(f"{record} is no record: {again.stderr or again.stdout}")
 
     def sets(self, folder="store"):
-        lines = subprocess.run([self.images, "list", f"{self.path}/{folder}"], capture_output=True, text=True, check=True).stdout.split("\n")
+        lines = ran([self.images, "list", f"{self.path}/{folder}"], check=True).stdout.decode().split("\n")
         return sorted({int(line.split()[1]) for line in lines if line.startswith("image ")})
 
     def judge(self, number, folder="store"):
@@ -123,8 +121,7 @@ class Room:
             connection.close()
             if told != "ok" or last != counts[name]:
                 raise Wrong(f"set {number}: {name}: {told}; it counts {counts[name]}, and its last row is {last}")
-        with open(f"{then}/app.log", "rb") as log:
-            lines = log.read().split(b"\n")
+        lines = read(f"{then}/app.log").split(b"\n")
         if lines[-1] or int(lines[-2]) != counts["app.db"] or counts["app.db"] - counts["stock.db"] not in (0, 1):
             raise Wrong(f"set {number}: app.db {counts['app.db']}, stock.db {counts['stock.db']}, the log {lines[-2:]}")
 
@@ -138,9 +135,19 @@ class Room:
         size = self.size("app.log")
         self.wait_for("a step of the application", lambda: self.size("app.log") > size, 20)
 
-    def end(self):
-        """Ends the application; how many steps it made, and the longest."""
-        with open(f"{self.path}/live/stop", "wb"):
-            pass
-        told = self.application.communicate(timeout=60)[0].split()
-        return int(told[0]), int(told[1])
+    def __enter__(self):
+        return self
+
+    def __exit__(self, *_):
+        """Ends the application, which tells how many steps it made, and the longest."""
+        write(f"{self.path}/live/stop", b"")
+        steps, longest = self.application.communicate(timeout=60)[0].split()
+        self.told = f"{steps} steps of the application, the longest {longest} ms"
+
+
+def judged(main):
+    """Runs a script with its words, and ends with what is wrong."""
+    try:
+        main(sys.argv[1:])
+    except Wrong as wrong:
+        sys.exit(f"{wrong}")

@@ -1,11 +1,10 @@
-#!/usr/bin/env python3
-"""Damages the files of a folder of images, one at a time, and sees that each is refused by its file and with its status, and that nothing is changed.
+"""Damages the files of a folder of images, one at a time, and sees that each is refused by its file and with its
+status, and that nothing is changed.
 
-    damage.py PROGRAM FOLDER
-
-Each byte of the state is another, and it is cut off or longer; each of its fields is another below a digest that is made anew; the files of volumes and the
-area have other sizes; the length in a volume's last block has no room; a file is missing, or is a link; each bit of a marker is another. Folders and
-files are for their owner alone. And a second process is refused while a first has the folder.
+Each byte of the state is another, and it is cut off or longer; each of its fields is another below a digest that is
+made anew; the files of volumes and the area have other sizes; the length in a volume's last block has no room; a file
+is missing, or is a link; each bit of a marker is another. Folders and files are for their owner alone. And a second
+process is refused while a first has the folder.
 """
 import fcntl
 import hashlib
@@ -14,55 +13,43 @@ import shutil
 import subprocess
 import sys
 
+from common import files_below, ran, read, write
+
 B = 16384
-
-
-def run(program, room, *words):
-    return subprocess.run([program, *words], cwd=room, capture_output=True, timeout=60, check=False)
-
-
-def sums(folder):
-    """All files and their bytes."""
-    found = {}
-    for name in sorted(os.listdir(folder)):
-        with open(os.path.join(folder, name), "rb") as file:
-            found[name] = file.read()
-    return found
+NOT_TRUSTED = b"images: F/images.state: digest: another; it is damaged, so nothing in the folder can be trusted: " \
+    b"copy the folder before anything else\n"
 
 
 class Damage:
     def __init__(self, program, room):
-        self.program, self.room, self.folder, self.tried = program, room, os.path.join(room, "F"), 0
-        for name, data in (("db", b"a" * B * 2), ("wal", b"log")):
-            with open(os.path.join(room, name), "wb") as file:
-                file.write(data)
+        self.program, self.tried = program, 0
+        os.chdir(room)
+        write("db", b"a" * B * 2)
+        write("wal", b"log")
         self.must("create", "F", "3", "db=db", "wal=wal")
         self.must("cut", "F", "db", "wal")
-        with open(os.path.join(room, "db"), "wb") as file:
-            file.write(b"b" * B * 2)
+        write("db", b"b" * B * 2)
         self.must("update", "F", "db=db")
-        self.whole = sums(self.folder)
+        self.whole = {name.partition("/")[2]: data for name, data in files_below("F").items()}
+
+    def run(self, *words):
+        return ran([self.program, *words])
 
     def must(self, *words):
-        got = run(self.program, self.room, *words)
+        got = self.run(*words)
         if got.returncode:
-            sys.exit(f"damage.py: {words}: {got.returncode} {got.stderr}")
-
-    def put(self, name, data):
-        with open(os.path.join(self.folder, name), "wb") as file:
-            file.write(data)
+            sys.exit(f"{words}: {got.returncode} {got.stderr}")
 
     def refuses(self, name, data, status, words, told):
         """With these bytes in a file, a call ends with this status and a line that has this in it (`check` may have more), and nothing is changed."""
         self.tried += 1
-        self.put(name, data)
-        before = sums(self.folder)
-        got = run(self.program, self.room, *words)
-        if got.returncode != status or got.stdout or not got.stderr.startswith(b"images: ") or told not in got.stderr or got.stderr.count(b"\n") != 1 and words[0] != "check":
-            sys.exit(f"damage.py: {name}, {words}: {got.returncode} {got.stdout[:100]} {got.stderr}, wanted {status} {told}")
-        if sums(self.folder) != before:
-            sys.exit(f"damage.py: {name}, {words}: something was changed")
-        self.put(name, self.whole[name])
+        write(f"F/{name}", data)
+        before, got = files_below("F"), self.run(*words)
+        is_one = got.stderr.count(b"\n") == 1 or words[0] == "check"
+        is_told = got.stderr.startswith(b"images: ") and told in got.stderr and is_one
+        if got.returncode != status or got.stdout or not is_told or files_below("F") != before:
+            sys.exit(f"{name}, {words}: {got.returncode} {got.stdout[:100]} {got.stderr}, wanted {status} {told}, no change")
+        write(f"F/{name}", self.whole[name])
 
     def state(self):
         state = self.whole["images.state"]
@@ -70,7 +57,7 @@ class Damage:
         for place in places:
             data = bytearray(state)
             data[place] ^= 0x41
-            self.refuses("images.state", bytes(data), 9, ["list", "F"], b"images: F/images.state: digest: another; it is damaged, so nothing in the folder can be trusted: copy the folder before anything else\n")
+            self.refuses("images.state", bytes(data), 9, ["list", "F"], NOT_TRUSTED)
         for data, told in ((state[:-1], b"digest"), (state + b"x", b"digest"), (b"", b"size"), (state[:31], b"size"), (state + bytes(2_000_000), b"size")):
             self.refuses("images.state", data, 9, ["list", "F"], b"images: F/images.state: " + told)
 
@@ -145,11 +132,11 @@ class Damage:
 
     def missing(self):
         for name, status in (("db.vol", 6), ("images.area", 6), ("images.state", 3)):
-            os.remove(os.path.join(self.folder, name))
-            got = run(self.program, self.room, "list", "F")
+            os.remove(f"F/{name}")
+            got = self.run("list", "F")
             if got.returncode != status or got.stdout:
-                sys.exit(f"damage.py: without {name}: {got.returncode} {got.stderr}")
-            self.put(name, self.whole[name])
+                sys.exit(f"without {name}: {got.returncode} {got.stderr}")
+            write(f"F/{name}", self.whole[name])
             self.tried += 1
 
     def modes(self):
@@ -160,69 +147,67 @@ class Damage:
             self.must("cut", "G", "db")
             self.must("update", "G", "db=wal")
             os.umask(before)
-            found = {name: os.stat(os.path.join(self.room, "G", name)).st_mode & 0o777 for name in ["", *os.listdir(os.path.join(self.room, "G"))]}
+            found = {name: os.stat(f"G/{name}").st_mode & 0o777 for name in ["", *os.listdir("G")]}
             if found.pop("") != 0o700 or len(found) < 4 or set(found.values()) != {0o600}:
-                sys.exit(f"damage.py: umask {mask:o}: {found}")
-            shutil.rmtree(os.path.join(self.room, "G"))
+                sys.exit(f"umask {mask:o}: {found}")
+            shutil.rmtree("G")
             self.tried += 1
 
     def links(self):
         """No link is followed: what it names is as it was."""
-        other, kept = os.path.join(self.room, "other"), os.path.join(self.room, "kept")
         for name in ("images.state.new", "images.open.new"):
-            shutil.copytree(self.folder, kept)
-            with open(other, "wb") as file:
-                file.write(b"of another")
-            os.symlink(other, os.path.join(self.folder, name))
+            shutil.copytree("F", "kept")
+            write("other", b"of another")
+            os.symlink("../other", f"F/{name}")
             self.must("cut", "F", "db")
-            with open(other, "rb") as file:
-                if file.read() != b"of another" or os.path.lexists(os.path.join(self.folder, name)):
-                    sys.exit(f"damage.py: a link at {name} was followed")
-            shutil.rmtree(self.folder)
-            os.rename(kept, self.folder)
+            if read("other") != b"of another" or os.path.lexists(f"F/{name}"):
+                sys.exit(f"a link at {name} was followed")
+            shutil.rmtree("F")
+            os.rename("kept", "F")
             self.tried += 1
         for name in ("db.vol", "images.area", "images.state"):
-            os.rename(os.path.join(self.folder, name), other)
-            os.symlink(other, os.path.join(self.folder, name))
+            os.rename(f"F/{name}", "other")
+            os.symlink("../other", f"F/{name}")
             for words in (["update", "F", "db=wal"], ["cut", "F", "db"], ["list", "F"], ["show", "F", "db"], ["check", "F"]):
-                got = run(self.program, self.room, *words)
+                got = self.run(*words)
                 if got.returncode != 9 or got.stdout or f"F/{name}: is no file\n".encode() not in got.stderr:
-                    sys.exit(f"damage.py: a link at {name}, {words}: {got.returncode} {got.stderr}")
+                    sys.exit(f"a link at {name}, {words}: {got.returncode} {got.stderr}")
                 self.tried += 1
-            os.remove(os.path.join(self.folder, name))
-            os.rename(other, os.path.join(self.folder, name))
+            os.remove(f"F/{name}")
+            os.rename("other", f"F/{name}")
 
     def markers(self):
         """No marker that was cut off, or of which a bit is another, lets a volume in transit be shown; without a digest it is read as those of earlier programs."""
         self.must("create", "G", "3", "b=db", "db=db", "wal=wal")
-        marker = os.path.join(self.room, "G", "images.open")
         lines = b"update\nb\ndb\n"
         whole = b"sha256 " + hashlib.sha256(lines).hexdigest().encode() + b"\n" + lines
-        spoilt = [data[:at] + bytes([data[at] ^ 1 << bit]) + data[at + 1:] for data in (lines, whole) for at in range(len(data)) for bit in range(8)]
-        spoilt += [whole[:at] for at in range(len(whole))]
+        spoilt = [whole[:at] for at in range(len(whole))]
+        for data in (lines, whole):
+            for at in range(len(data)):
+                spoilt += [data[:at] + bytes([data[at] ^ 1 << bit]) + data[at + 1:] for bit in range(8)]
         all_of_it = [b"update\n", b"revert\n", b"cut\nb\n", b"update\nb\nx\n", b"", b"\xff", lines + bytes(9000)]
-        for data, hidden in [(lines, "b db"), (whole, "b db"), *((data, "b db") for data in spoilt), *((data, "b db wal") for data in all_of_it), (b"cut\n", ""), (b"revert\nwal\n", "wal")]:
-            with open(marker, "wb") as file:
-                file.write(data)
-            hidden = hidden.split()
-            for name in hidden if data in spoilt else ("b", "db", "wal"):
-                got = run(self.program, self.room, "show", "G", name)
-                if got.returncode != (11 if name in hidden else 0):
-                    sys.exit(f"damage.py: the marker {data}: {name} is shown with {got.returncode}, {got.stderr}")
-            self.tried += 1
-        shutil.rmtree(os.path.join(self.room, "G"))
+        kinds = {"b db": [lines, whole, *spoilt], "b db wal": all_of_it, "": [b"cut\n"], "wal": [b"revert\nwal\n"]}
+        for hidden, markers in kinds.items():
+            for data in markers:
+                write("G/images.open", data)
+                for name in hidden.split() if data in spoilt else ("b", "db", "wal"):
+                    got = self.run("show", "G", name)
+                    if got.returncode != (11 if name in hidden.split() else 0):
+                        sys.exit(f"the marker {data}: {name} is shown with {got.returncode}, {got.stderr}")
+                self.tried += 1
+        shutil.rmtree("G")
 
     def in_use(self):
         """A folder that another process has is refused; readers share it."""
-        held = os.open(self.folder, os.O_RDONLY)
-        for how, refused, allowed in ((fcntl.LOCK_EX, ["list", "show", "cut", "check"], []), (fcntl.LOCK_SH, ["cut", "update"], ["list", "show", "check"])):
+        held = os.open("F", os.O_RDONLY)
+        readers, cut = [["list", "F"], ["show", "F", "db"], ["check", "F"]], ["cut", "F", "db"]
+        beside = (fcntl.LOCK_EX, [*readers, cut], []), (fcntl.LOCK_SH, [cut, ["update", "F", "db=db"]], readers)
+        for how, refused, allowed in beside:
             fcntl.flock(held, how)
-            for word in refused + allowed:
-                words = {"list": ["list", "F"], "show": ["show", "F", "db"], "check": ["check", "F"], "cut": ["cut", "F", "db"], "update": ["update", "F", "db=db"]}[word]
-                got = run(self.program, self.room, *words)
-                want = 10 if word in refused else 0
+            for words in refused + allowed:
+                got, want = self.run(*words), 10 if words in refused else 0
                 if got.returncode != want or want and got.stderr != b"images: F: in use by another process\n":
-                    sys.exit(f"damage.py: {word} beside another: {got.returncode} {got.stderr}")
+                    sys.exit(f"{words} beside another: {got.returncode} {got.stderr}")
                 self.tried += 1
             fcntl.flock(held, fcntl.LOCK_UN)
         os.close(held)
@@ -232,35 +217,23 @@ class Damage:
         """While `show` waits for a reader, nothing is written."""
         out, into = os.pipe()
         fcntl.fcntl(into, getattr(fcntl, "F_SETPIPE_SZ", 1031), 4096)
-        with subprocess.Popen([self.program, "show", "F", "db"], cwd=self.room, stdout=into) as shown:
+        with subprocess.Popen([self.program, "show", "F", "db"], stdout=into) as shown:
             os.close(into)
             data = os.read(out, 1)
-            got = run(self.program, self.room, "cut", "F", "db")
+            got = self.run("cut", "F", "db")
             while part := os.read(out, 65536):
                 data += part
         os.close(out)
         if got.returncode != 10 or shown.returncode or data != b"b" * B * 2:
-            sys.exit(f"damage.py: beside `show`: {got.returncode} {got.stderr}; it ended with {shown.returncode}")
+            sys.exit(f"beside `show`: {got.returncode} {got.stderr}; it ended with {shown.returncode}")
         self.tried += 1
 
 
-def main():
-    program, room = os.path.abspath(sys.argv[1]), sys.argv[2]
+def main(program, room):
     damage = Damage(program, room)
-    damage.state()
-    damage.fields()
-    damage.last_set()
-    damage.sizes()
-    damage.lengths()
-    damage.missing()
-    damage.modes()
-    damage.links()
-    damage.markers()
-    damage.in_use()
-    if sums(damage.folder) != damage.whole:
-        sys.exit("damage.py: the folder is another at the end")
-    shutil.rmtree(damage.folder)
-    print(f"{damage.tried} tries refused")
-
-
-main()
+    for part in ("state", "fields", "last_set", "sizes", "lengths", "missing", "modes", "links", "markers", "in_use"):
+        getattr(damage, part)()
+    if {name.partition("/")[2]: data for name, data in files_below("F").items()} != damage.whole:
+        sys.exit("the folder is another at the end")
+    os.chdir("/")
+    return f"{damage.tried} tries refused"

@@ -1,20 +1,19 @@
-#!/usr/bin/env python3
-"""Kills `images` at each call of the system that changes something, and sees that wrong bytes are never given as right ones.
+"""Kills `images` at each call of the system that changes something, and sees that wrong bytes are never given as right
+ones.
 
-    kill.py PROGRAM LIBRARY FOLDER [STEP]
-
-LIBRARY is kill.c as a shared library; with STEP only each so manyth place is tried. Each scene is a folder that was made by some calls, and a call that is
-killed: before its Nth change, in the middle of it, or behind it, until it ends by itself. Then each image that `show` gives has the bytes of its cut; one that
-is not there was deleted, reverted past, or evicted, and one that was printed as evicted is not there; a volume that `show` gives is as before or as after; a call that does not bring all
-volumes in transit to other contents is refused. Once all volumes are updated, all agree.
+Each scene is a folder that was made by some calls, and a call that is killed: before its Nth change, in the middle of
+it, or behind it, until it ends by itself. Then each image that `show` gives has the bytes of its cut; one that is not
+there was deleted, reverted past, or evicted, and one that was printed as evicted is not there; a volume that `show`
+gives is as before or as after; a call that does not bring all volumes in transit to other contents is refused. Once all
+volumes are updated, all agree.
 """
 import copy
 import os
 import shutil
-import subprocess
 import sys
 
 import plain
+from common import ran, write
 
 B = plain.BLOCK
 
@@ -81,14 +80,21 @@ class Scene:
     def keep(self, files):
         for path, data in files.items():
             self.before.files[path] = data
-            with open(os.path.join(self.base, path), "wb") as file:
-                file.write(data)
+            write(os.path.join(self.base, path), data)
 
     def run(self, folder, words, **more):
-        return subprocess.run([self.program, *words], cwd=folder, capture_output=True, timeout=60, check=False, env={**os.environ, **more})
+        return ran([self.program, *words], cwd=folder, env={**os.environ, **more})
 
     def wrong(self, place, what):
-        sys.exit(f"kill.py: {self.name}, {place}: {what}")
+        sys.exit(f"{self.name}, {place}: {what}")
+
+    def look_at_all(self, folder, place, printed):
+        """Looks at what a call left that did not come to its end, and mends it."""
+        if self.call[0] == "create":
+            self.look_at_new(folder, place)
+        else:
+            self.look(folder, place, printed)
+            self.mend(folder, place)
 
     def stores(self):
         """The folder as it was before and after."""
@@ -182,34 +188,29 @@ class Scene:
                 self.wrong(place, f"ended by itself: {got.returncode} {got.stderr}")
             shutil.rmtree(folder)
             return False
-        if self.call[0] == "create":
-            self.look_at_new(folder, place)
-        else:
-            self.look(folder, place, got.stdout)
-            self.mend(folder, place)
+        self.look_at_all(folder, place, got.stdout)
         shutil.rmtree(folder)
         return True
 
 
-def main():
-    program, library, folder = (os.path.abspath(word) for word in sys.argv[1:4])
-    step = int(sys.argv[4]) if len(sys.argv) > 4 else 1
-    places = 0
-    for name in SCENES:
+def scenes(program, folder, names=SCENES):
+    """Yields each scene, with the folder that it has for itself."""
+    for name in names:
         room = os.path.join(folder, name.replace(" ", "_"))
         os.mkdir(room)
-        scene = Scene(program, room, name)
-        count = 0
+        yield Scene(program, room, name), room
+        shutil.rmtree(room)
+
+
+def main(program, library, folder, step=1):
+    """Tries each so manyth place."""
+    places = 0
+    for scene, room in scenes(program, folder):
         for how in ("", "KILL_HALF", "KILL_AFTER"):
             number = 1
             while scene.kill_at(room, library, number, how):
                 number += step
-                count += 1
-        print(f"{name}: killed at {count} places")
-        places += count
-        shutil.rmtree(room)
-    print(f"{places} places")
-
-
-if __name__ == "__main__":
-    main()
+                places += 1
+    if places * step < 600:
+        sys.exit(f"killed at {places} places, and {600 // step} are wanted")
+    return f"killed at {places} places"

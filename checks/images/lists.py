@@ -1,18 +1,17 @@
-#!/usr/bin/env python3
-"""Draws lists of calls of `images`, makes each on real files, and compares what it prints, and its status, with plain.py.
+"""Draws lists of calls of `images`, makes each on real files, and compares what it prints, and its status, with
+plain.py.
 
-    lists.py PROGRAM FOLDER SEED COUNT
-
-Each list has 6 to 14 calls over 1 to 3 files of 0 to 6 blocks, with 0 to 12 slots; some calls have a wrong word, name or set. At the end of each list every volume and
-image is shown, and the folder is checked. Before them, the most images and volumes are made.
+Each list has 6 to 14 calls over 1 to 3 files of 0 to 6 blocks, with 0 to 12 slots; some calls have a wrong word, name
+or set. At the end of each list every volume and image is shown, and the folder is checked. Before them, the most images
+and volumes are made.
 """
 import os
 import random
 import shutil
-import subprocess
 import sys
 
 import plain
+from common import ran, write
 
 EDGES = [0, 1, 16375, 16376, 16377, 16384, 16385, 32760, 32761]
 
@@ -29,8 +28,7 @@ class Drawing:
     def keep(self, path, data):
         """A file of these bytes."""
         self.plain.files[path] = data
-        with open(os.path.join(self.room, path), "wb") as file:
-            file.write(data)
+        write(os.path.join(self.room, path), data)
 
     def new_file(self, path, most):
         """A file of its own bytes, at most so many."""
@@ -107,75 +105,44 @@ class Drawing:
         ])
 
 
-def made(program, room, words):
-    """What the program answers."""
-    run = subprocess.run([program, *words], cwd=room, capture_output=True, timeout=60, check=False)
-    return run.returncode, run.stdout, run.stderr
-
-
-def wanted(answer):
-    """What plain.py answers, as bytes."""
-    status, out, line = answer
-    return status, out, b"" if line is None else f"images: {line}\n".encode()
-
-
-def all_shown(store):
-    """The calls that show everything."""
-    calls = [["list", "F"], ["check", "F"]]
-    for v in store.volumes:
-        calls += [["show", "F", v.name]] + [["show", "F", str(i.set), v.name] for i in v.images]
-    return calls
-
-
-def one_list(program, room, draw):
-    """Makes one list, and answers how many calls it had."""
-    drawing = Drawing(draw, room)
-    calls = 0
-
-    def compare(words):
-        nonlocal calls
-        calls += 1
-        want, got = wanted(drawing.plain.answer(words)), made(program, room, words)
-        if want != got:
-            sys.exit(f"{words}: wanted {want[0]} {want[1][:300]} {want[2]}, got {got[0]} {got[1][:300]} {got[2]}")
-
-    compare(drawing.create())
-    for _ in range(draw.randint(5, 13)):
-        compare(drawing.call())
+def drawn(drawing):
+    """Yields the calls of a drawn list, and at the end such as show everything."""
+    yield drawing.create()
+    for _ in range(drawing.draw.randint(5, 13)):
+        yield drawing.call()
     if "F" in drawing.plain.stores:
-        for words in all_shown(drawing.plain.stores["F"]):
-            compare(words)
+        yield from (["list", "F"], ["check", "F"])
+        for v in drawing.plain.stores["F"].volumes:
+            yield ["show", "F", v.name]
+            yield from (["show", "F", str(i.set), v.name] for i in v.images)
+
+
+def limits(drawing):
+    """As many images as a volume may have and one more, and one volume too many."""
+    drawing.keep("db", b"d" * 5)
+    yield from (["create", "F", "1", "db=db", "wal=db"], *[["cut", "F", "db"]] * 513, ["cut", "F", "wal", "db"])
+    yield from (["cut", "F", "wal"], ["delete", "F", "512"], ["cut", "F", "db"], ["list", "F"], ["check", "F"])
+    yield from (["create", "G", "1", *[f"v{v}=db" for v in range(count)]] for count in (129, 128))
+    yield ["list", "G"]
+
+
+def compared(program, folder, number, calls_of):
+    """Makes a list, compares each answer, and returns how many calls it had."""
+    room, calls = os.path.join(folder, "list"), 0
+    os.mkdir(room)
+    drawing = Drawing(random.Random(number), room)
+    for calls, words in enumerate(calls_of(drawing), 1):
+        status, out, line = drawing.plain.answer(words)
+        got = ran([program, *words], cwd=room)
+        told = b"" if line is None else f"images: {line}\n".encode()
+        if (status, out, told) != (got.returncode, got.stdout, got.stderr):
+            wanted = f"wanted {status} {out[:300]} {told}"
+            sys.exit(f"list {number}: {words}: {wanted}, got {got.returncode} {got.stdout[:300]} {got.stderr}")
+    shutil.rmtree(room)
     return calls
 
 
-def limits(program, room):
-    """As many images as a volume may have and one more, and one volume too many."""
-    drawing = Drawing(random.Random(0), room)
-    drawing.keep("db", b"d" * 5)
-    calls = [["create", "F", "1", "db=db", "wal=db"], *[["cut", "F", "db"]] * 513, ["cut", "F", "wal", "db"], ["cut", "F", "wal"], ["delete", "F", "512"], ["cut", "F", "db"], ["list", "F"],
-             ["check", "F"], ["create", "G", "1", *[f"v{v}=db" for v in range(129)]], ["create", "G", "1", *[f"v{v}=db" for v in range(128)]], ["list", "G"]]
-    for words in calls:
-        want, got = wanted(drawing.plain.answer(words)), made(program, room, words)
-        if want != got:
-            sys.exit(f"limits: {words}: wanted {want}, got {got}")
-
-
-def main():
-    program, folder, seed, count = os.path.abspath(sys.argv[1]), sys.argv[2], int(sys.argv[3]), int(sys.argv[4])
-    calls = 0
-    room = os.path.join(folder, "limits")
-    os.mkdir(room)
-    limits(program, room)
-    shutil.rmtree(room)
-    for number in range(seed, seed + count):
-        room = os.path.join(folder, f"list{number}")
-        os.mkdir(room)
-        try:
-            calls += one_list(program, room, random.Random(number))
-        except SystemExit as ended:
-            sys.exit(f"list {number}: {ended}")
-        shutil.rmtree(room)
-    print(f"{count} lists, {calls} calls agree")
-
-
-main()
+def main(program, folder, seed, count):
+    compared(program, folder, 0, limits)
+    calls = sum(compared(program, folder, number, drawn) for number in range(seed, seed + count))
+    return f"{count} lists, {calls} calls agree"

@@ -1,8 +1,9 @@
-"""A folder of images as whole copies of files: what each call of `images` prints, and with which status it ends. A second reading, written from the description of the
-calls alone.
+"""A folder of images as whole copies of files: what each call of `images` prints, and with which status it ends. A
+second reading, written from the description of the calls alone.
 
-A volume is the bytes of its file and a number of blocks; an image is a copy of these bytes. Blocks come in only where images go for want of slots: an image uses a slot
-for each block that was overwritten between its cut and the next one's on the same volume.
+A volume is the bytes of its file and a number of blocks; an image is a copy of these bytes. Blocks come in only where
+images go for want of slots: an image uses a slot for each block that was overwritten between its cut and the next one's
+on the same volume.
 """
 import hashlib
 import struct

@@ -1,21 +1,20 @@
-#!/usr/bin/env python3
-"""Takes the power away from `images` at each call of the system that changes something, on a model of a disk, and sees that wrong bytes are never given as right ones.
+"""Takes the power away from `images` at each call of the system that changes something, on a model of a disk, and sees
+that wrong bytes are never given as right ones.
 
-    power.py PROGRAM LIBRARY FOLDER [STEP [SCENE..]]
-
-LIBRARY is record.c as a shared library; with STEP only each so manyth place is tried. Each scene of kill.py is run once, and what it changes is recorded. For each place
-in it folders are made of what a disk may have then: what was synced, and of the rest nothing; or the names alone; or the contents alone; or drawn parts of both, twice. A
-file's contents are synced by a sync of the file, and names by one of their folder. Of contents each 4,096 bytes may be there or not, of the names of a folder the first so
-many changes. Such a folder is then as after a kill. And the call is killed at each place, or one of its syncs fails: then what was written before that is in memory, and
-never comes to the disk by itself. All volumes are updated, and the power goes: they have their files.
+Each scene of kill.py is run once, and what it changes is recorded. For each place in it folders are made of what a disk
+may have then: what was synced, and of the rest nothing; or the names alone; or the contents alone; or drawn parts of
+both, twice. A file's contents are synced by a sync of the file, and names by one of their folder. Of contents each
+4,096 bytes may be there or not, of the names of a folder the first so many changes. Such a folder is then as after a
+kill. And the call is killed at each place, or one of its syncs fails: then what was written before that is in memory,
+and never comes to the disk by itself. All volumes are updated, and the power goes: they have their files.
 """
 import copy
 import os
 import random
 import shutil
-import sys
 
-from kill import SCENES, Scene
+from common import read, write
+from kill import scenes
 
 PIECE = 4096
 
@@ -32,13 +31,12 @@ class File:
 
     @staticmethod
     def change(data, size, piece):
+        end = size + len(piece or b"")
+        data.extend(bytes(max(0, end - len(data))))
         if piece is None:
             del data[size:]
         else:
-            data.extend(bytes(max(0, size + len(piece) - len(data))))
-            data[size:size + len(piece)] = piece
-        if piece is None and len(data) < size:
-            data.extend(bytes(size - len(data)))
+            data[size:end] = piece
 
     def sync(self):
         self.synced, self.changes = self.after(lambda _: True), []
@@ -99,11 +97,7 @@ def disk_of(path):
     folder = Folder()
     for name in os.listdir(path):
         at = os.path.join(path, name)
-        if os.path.isdir(at):
-            folder.now[name] = disk_of(at)
-        else:
-            with open(at, "rb") as file:
-                folder.now[name] = File(file.read())
+        folder.now[name] = disk_of(at) if os.path.isdir(at) else File(read(at))
     folder.sync()
     return folder
 
@@ -157,118 +151,110 @@ class Disk:
             if isinstance(thing, Folder):
                 self.make(at, keeps, thing)
             else:
-                with open(at, "wb") as file:
-                    file.write(thing.after(keeps))
+                write(at, thing.after(keeps))
 
 
 def calls_of(record):
-    """The calls of a record."""
+    """The calls of a record, which goes."""
     with open(record, "rb") as file:
         while line := file.readline():
             call, path, number, size = line.decode().rstrip("\n").split("\t")
             yield call, path, number, file.read(int(size)) if call in ("write", "print") else b""
-
-
-def ways_of(scene, number):
-    """The ways in which the power may go here."""
-    draw = random.Random(f"{scene.name} {number}")
-    ways = {"nothing": lambda _: False, "names": lambda what: what == "names", "contents": lambda what: what == "contents"}
-    return ways | {f"drawn {turn}": lambda _: draw.random() < 0.5 for turn in range(2)}
-
-
-def lose(scene, room, disk, place, number):
-    """Looks at each folder that a loss of power may leave here. How many were there."""
-    ways = ways_of(scene, number)
-    for way, keeps in ways.items():
-        at, folder = f"{place}, {way}", os.path.join(room, "lost")
-        disk.make(folder, keeps)
-        if scene.call[0] == "create":
-            scene.look_at_new(folder, at)
-        else:
-            scene.look(folder, at, disk.printed)
-            scene.mend(folder, at)
-        shutil.rmtree(folder)
-    return len(ways)
-
-
-def repair(scene, room, library, disk, place):
-    """Updates all volumes on this disk, and takes the power away then: they have their files. How many folders were there."""
-    folder, record, names = os.path.join(room, "again"), os.path.join(room, "record again"), [v.name for v in scene.stores()[0].volumes]
-    disk = copy.deepcopy(disk)
-    disk.make(folder, None)
-    disk.base = folder
-    got = scene.run(folder, ["update", "F", *[f"{name}={name}" for name in names]], LD_PRELOAD=library, RECORD=record)
-    if got.returncode:
-        scene.wrong(place, f"update: {got.returncode} {got.stderr}")
-    for call in calls_of(record):
-        disk.do(*call)
     os.remove(record)
-    shutil.rmtree(folder)
-    ways = ways_of(scene, place)
-    for way, keeps in ways.items():
-        disk.make(folder, keeps)
-        for name in names:
-            shown = scene.run(folder, ["show", "F", name])
-            if shown.returncode or shown.stdout != scene.before.files[name]:
-                scene.wrong(f"{place}, an update, and a loss of power, {way}", f"{name}: {shown.returncode} {shown.stderr}")
-        if scene.run(folder, ["check", "F"]).returncode:
-            scene.wrong(f"{place}, an update, and a loss of power, {way}", "not whole")
-        shutil.rmtree(folder)
-    return len(ways)
 
 
-def fail_each(scene, own, library, step):
-    """Lets each sync of the call fail, and repairs. How many folders were there."""
-    tried, number = 0, 1
-    while True:
-        folder, record = os.path.join(own, "failed"), os.path.join(own, "record of it")
-        shutil.copytree(scene.base, folder)
-        disk = Disk(folder)
-        got = scene.run(folder, scene.call, LD_PRELOAD=library, RECORD=record, FAIL_SYNC=str(number))
-        calls = list(calls_of(record))
+class Losing:
+    """A scene whose power goes."""
+
+    def __init__(self, scene, room, library):
+        self.scene, self.library, self.tried = scene, library, 0
+        self.folder, self.record = os.path.join(room, "folder"), os.path.join(room, "record")
+
+    def after_losses(self, disk, place, number):
+        """Yields each way in which the power may go here, with its folder."""
+        draw = random.Random(f"{self.scene.name} {number}")
+        ways = {"nothing": lambda _: False, "names": lambda what: what == "names", "contents": lambda what: what == "contents"}
+        for way, keeps in {**ways, **{f"drawn {turn}": lambda _: draw.random() < 0.5 for turn in range(2)}}.items():
+            disk.make(self.folder, keeps)
+            yield f"{place}, {way}"
+            shutil.rmtree(self.folder)
+            self.tried += 1
+
+    def lose(self, disk, place, number):
+        """Looks at each folder that a loss of power may leave here."""
+        for at in self.after_losses(disk, place, number):
+            self.scene.look_at_all(self.folder, at, disk.printed)
+
+    def made(self, disk, words, **how):
+        """Makes a call in its folder and then on this disk. Returns how it ended, and the calls."""
+        disk.base = self.folder
+        got = self.scene.run(self.folder, words, LD_PRELOAD=self.library, RECORD=self.record, **how)
+        shutil.rmtree(self.folder)
+        return got, list(calls_of(self.record))
+
+    def repair(self, disk, place):
+        """Updates all volumes on this disk, and takes the power away then: they have their files."""
+        scene, names = self.scene, [v.name for v in self.scene.stores()[0].volumes]
+        disk = copy.deepcopy(disk)
+        disk.make(self.folder, None)
+        got, calls = self.made(disk, ["update", "F", *[f"{name}={name}" for name in names]])
+        if got.returncode:
+            scene.wrong(place, f"update: {got.returncode} {got.stderr}")
         for call in calls:
             disk.do(*call)
-        os.remove(record)
-        shutil.rmtree(folder)
-        if not any(call[0] == "fail" for call in calls):
-            return tried
-        if got.returncode != 6:
-            scene.wrong(f"sync {number} fails", f"{got.returncode} {got.stderr}")
-        tried += repair(scene, own, library, disk, f"sync {number} failed")
-        number += (step + 2) // 3
+        for at in self.after_losses(disk, f"{place}, an update, and a loss of power", place):
+            for name in names:
+                shown = scene.run(self.folder, ["show", "F", name])
+                if shown.returncode or shown.stdout != scene.before.files[name]:
+                    scene.wrong(at, f"{name}: {shown.returncode} {shown.stderr}")
+            if scene.run(self.folder, ["check", "F"]).returncode:
+                scene.wrong(at, "not whole")
 
+    def fail_each(self, step):
+        """Lets each sync of the call fail, and repairs."""
+        number = 1
+        while True:
+            shutil.copytree(self.scene.base, self.folder)
+            disk = Disk(self.folder)
+            numbers = {"FAIL_CALL": "sync", "FAIL_FIRST": str(number), "FAIL_LAST": str(number)}
+            got, calls = self.made(disk, self.scene.call, **numbers)
+            if not any(call[0] == "fail" for call in calls):
+                return
+            for call in calls:
+                disk.do(*call)
+            if got.returncode != 6:
+                self.scene.wrong(f"sync {number} fails", f"{got.returncode} {got.stderr}")
+            self.repair(disk, f"sync {number} failed")
+            number += (step + 2) // 3
 
-def main():
-    program, library, room = (os.path.abspath(word) for word in sys.argv[1:4])
-    step, total = int(sys.argv[4]) if len(sys.argv) > 4 else 1, 0
-    for name in sys.argv[5:] or SCENES:
-        own = os.path.join(room, name.replace(" ", "_"))
-        os.mkdir(own)
-        scene = Scene(program, own, name)
-        folder, record = os.path.join(own, "run"), os.path.join(own, "record")
-        shutil.copytree(scene.base, folder)
-        disk = Disk(folder)
-        got = scene.run(folder, scene.call, LD_PRELOAD=library, RECORD=record)
+    def lose_at_each(self, step):
+        """Takes the power away at each so manyth place."""
+        scene, is_new = self.scene, self.scene.call[0] == "create"
+        shutil.copytree(scene.base, self.folder)
+        disk = Disk(self.folder)
+        got, calls = self.made(disk, scene.call)
         if got.returncode:
             scene.wrong("the whole run", got.stderr)
-        tried = lose(scene, own, disk, "before all", 0)
-        for number, (call, path, more, data) in enumerate(calls_of(record), 1):
+        self.lose(disk, "before all", 0)
+        for number, (call, path, more, data) in enumerate(calls, 1):
             disk.do(call, path, more, data)
             if call != "print" and number % step == 0:
                 place = f"after call {number}, {call} {os.path.basename(path)}"
-                tried += lose(scene, own, disk, place, number)
-                if scene.call[0] != "create":
-                    tried += repair(scene, own, library, disk, place)
-        if scene.call[0] != "create":
-            tried += fail_each(scene, own, library, step)
-        disk.make(os.path.join(own, "end"), lambda _: False)
-        if scene.run(os.path.join(own, "end"), ["list", "F"]).stdout != scene.after.answer(["list", "F"])[1]:
+                self.lose(disk, place, number)
+                if not is_new:
+                    self.repair(disk, place)
+        if not is_new:
+            self.fail_each(step)
+        disk.make(self.folder, lambda _: False)
+        if scene.run(self.folder, ["list", "F"]).stdout != scene.after.answer(["list", "F"])[1]:
             scene.wrong("the end", "done, and not all of it lasts")
-        print(f"{name}: {tried} folders after a loss of power", flush=True)
-        total += tried
-        shutil.rmtree(own)
-    print(f"{total} folders")
 
 
-if __name__ == "__main__":
-    main()
+def main(program, library, folder, step=1):
+    """Tries each so manyth place."""
+    tried = 0
+    for scene, room in scenes(program, folder):
+        losing = Losing(scene, room, library)
+        losing.lose_at_each(step)
+        tried += losing.tried
+    return f"{tried} folders after a loss of power"

@@ -1,9 +1,8 @@
-#!/usr/bin/env python3
-"""Where the standard error of `images` is a terminal, a line there shows how far it is, at most ten times a second, and is gone at the end; where it is none, nothing is written.
+"""Where the standard error of `images` is a terminal, a line there shows how far it is, at most ten times a second, and
+is gone at the end; where it is none, nothing is written.
 
-    terminal.py PROGRAM FOLDER
-
-It is tried with `show`, of which the output is taken slowly, and with the second pass of `update`, which waits in its midst.
+It is tried with `show`, of which the output is taken slowly, and with the second pass of `update`, which waits in its
+midst.
 """
 import os
 import pty
@@ -11,6 +10,8 @@ import re
 import subprocess
 import sys
 import time
+
+from common import ran, write
 
 MIB = 1 << 20
 CLEAR = "\r\x1b[K"
@@ -23,7 +24,7 @@ def shown(program, room, error):
         while run.stdout.read(MIB):
             time.sleep(0.3)
     if run.returncode:
-        sys.exit(f"terminal.py: status {run.returncode}")
+        sys.exit(f"status {run.returncode}")
     return time.monotonic() - began
 
 
@@ -66,35 +67,29 @@ def told(ours, theirs):
 def try_update(program, room, ours, theirs):
     """4 MiB are overwritten of which 100 blocks can be copied."""
     for calls, byte in ((["create", "G", "100", "log=log"], b"a"), (["cut", "G", "log"], b"b")):
-        with open(os.path.join(room, "log"), "wb") as file:
-            file.write(byte * (4 * MIB))
-        subprocess.run([program, *calls], cwd=room, check=True)
+        write(os.path.join(room, "log"), byte * (4 * MIB))
+        ran([program, *calls], cwd=room, check=True)
     printed = updated(program, room, theirs)
     if printed != "evicted set 1 log\nlog written 256 copied 100\n":
-        sys.exit(f"terminal.py: update printed {printed!r}")
+        sys.exit(f"update printed {printed!r}")
     text = told(ours, theirs)
     lines = re.findall(r"\rimages: (compared|copied|written) \d of \d MiB\x1b\[K", text)
     if "copied" not in lines or not text.endswith(CLEAR):
-        sys.exit(f"terminal.py: update told {text!r}")
+        sys.exit(f"update told {text!r}")
 
 
-def main():
-    program, room = os.path.abspath(sys.argv[1]), sys.argv[2]
-    with open(os.path.join(room, "db"), "wb") as file:
-        file.truncate(6 * MIB)
-    subprocess.run([program, "create", "F", "1", "db=db"], cwd=room, check=True)
+def main(program, room):
+    write(os.path.join(room, "db"), bytes(6 * MIB))
+    ran([program, "create", "F", "1", "db=db"], cwd=room, check=True)
     ours, theirs = pty.openpty()
     took = shown(program, room, theirs)
     text = told(ours, theirs)
     lines = re.findall(r"\rimages: shown \d of 7 MiB\x1b\[K", text)
     if not 1 <= len(lines) <= 10 * took or text != "".join(lines) + CLEAR:
-        sys.exit(f"terminal.py: {took:.1f} s: {text!r}")
+        sys.exit(f"{took:.1f} s: {text!r}")
     with open(os.path.join(room, "told"), "wb") as file:
         shown(program, room, file)
     if os.path.getsize(os.path.join(room, "told")):
-        sys.exit("terminal.py: a line where there is no terminal")
+        sys.exit("a line where there is no terminal")
     try_update(program, room, ours, theirs)
-    print(f"{len(lines)} lines")
-
-
-main()
+    return f"{len(lines)} lines on a terminal"

@@ -1,10 +1,9 @@
-#!/usr/bin/env python3
-"""Updates a folder of images from two files while a process writes them, and sees that no update that is done has files of two moments.
+"""Updates a folder of images from two files while a process writes them, and sees that no update that is done has files
+of two moments.
 
-    torn.py PROGRAM FOLDER COUNT
-
-The writer counts: it brings a number into all of `log` and then into all of `db`, and pauses now and then. It writes in place and puts the time of the last change
-back, or it renames new files into place. So at each moment each file has one number, and that of `log` is the one of `db` or the next. COUNT updates are made of each kind.
+The writer counts: it brings a number into all of `log` and then into all of `db`, and pauses now and then. It writes in
+place and puts the time of the last change back, or it renames new files into place. So at each moment each file has one
+number, and that of `log` is the one of `db` or the next. COUNT updates are made of each kind.
 """
 import os
 import random
@@ -13,8 +12,9 @@ import subprocess
 import sys
 import time
 
+from common import ran
+
 SIZE = 60000
-OWN = os.path.abspath(__file__)
 TOLD = re.compile(rb"images: (log|db): changed while it was read: \d+ bytes and then \d+.*; stop or freeze its writer, as SQLite's lock does: sqlite3 .*'begin immediate'.*\n")
 
 
@@ -42,40 +42,32 @@ def write_on(renames):
         time.sleep(draw.choice([0, 0.002, 0.02, 0.1]))
 
 
-def numbers_of(program, name):
-    """The numbers in a volume."""
-    return set(subprocess.run([program, "show", "F", name], capture_output=True, check=True).stdout.split())
-
-
-def main():
-    program, folder, count = os.path.abspath(sys.argv[1]), sys.argv[2], int(sys.argv[3])
+def main(program, folder, count):
     for renames in (False, True):
-        room = os.path.join(folder, "renames" if renames else "in_place")
+        room, done = os.path.join(folder, f"renames {renames}"), 0
         os.mkdir(room)
-        os.chdir(room)
         for name in ("log", "db"):
-            write(name, 0, True)
-        subprocess.run([program, "create", "F", "0", "db=db", "log=log"], check=True)
-        with subprocess.Popen([sys.executable, OWN, "write", str(int(renames))]) as writer:
-            done = 0
+            write(os.path.join(room, name), 0, True)
+        ran([program, "create", "F", "0", "db=db", "log=log"], cwd=room, check=True)
+        with subprocess.Popen([sys.executable, __file__, str(int(renames))], cwd=room) as writer:
             for turn in range(count):
-                got = subprocess.run([program, "update", "--tries", "1", "F", "db=db", "log=log"], capture_output=True, check=False)
+                got = ran([program, "update", "--tries", "1", "F", "db=db", "log=log"], cwd=room)
                 if got.returncode not in (0, 12) or got.returncode and not TOLD.fullmatch(got.stderr):
-                    sys.exit(f"torn.py: {got}")
+                    sys.exit(f"{got}")
                 if got.returncode == 0:
                     done += 1
-                    db, log = numbers_of(program, "db"), numbers_of(program, "log")
+                    shown = (ran([program, "show", "F", name], cwd=room, check=True) for name in ("db", "log"))
+                    db, log = (set(it.stdout.split()) for it in shown)
                     if len(db) != 1 or len(log) != 1 or int(min(log)) - int(min(db)) not in (0, 1):
                         writer.kill()
-                        sys.exit(f"torn.py: update {turn} is done, and db has {sorted(db)[:3]}, log {sorted(log)[:3]}")
+                        sys.exit(f"update {turn} is done, and db has {sorted(db)[:3]}, log {sorted(log)[:3]}")
+            is_there = writer.poll() is None
             writer.kill()
-        if not done:
-            sys.exit("torn.py: no update was done")
+        if not done or not is_there:
+            sys.exit("no update was done, or the writer has ended")
         print(f"{'renamed' if renames else 'in place'}: {done} of {count} updates were done, all of one moment")
-        os.chdir(folder)
+    return f"{2 * count} updates under a writer"
 
 
-if sys.argv[1] == "write":
-    write_on(sys.argv[2] == "1")
-else:
-    main()
+if __name__ == "__main__":
+    write_on(sys.argv[1] == "1")

@@ -1,107 +1,85 @@
-#!/usr/bin/env python3
-"""`restore` makes a file whole or leaves what is there; `prune` and `--keep` keep the newest sets; `--wait` waits for another process.
-
-    words.py PROGRAM FOLDER
-"""
+"""`restore` makes a file whole or leaves what is there; `prune` and `--keep` keep the newest sets; `--wait` waits for
+another process."""
 import fcntl
 import os
 import resource
-import signal
-import subprocess
 import sys
 import threading
 
+from common import limited, ran, read, write
+
 B = 16384
-program, room = os.path.abspath(sys.argv[1]), sys.argv[2]
-tried = 0
-
-
-def path(name):
-    return os.path.join(room, name)
-
-
-def put(name, data):
-    with open(path(name), "wb") as file:
-        file.write(data)
-
-
-def get(name):
-    with open(path(name), "rb") as file:
-        return file.read()
-
-
-def call(status, told, *words, **more):
-    """A call ends with this status, and says this: on the standard output at 0, else in its line on the standard error."""
-    global tried
-    tried += 1
-    got = subprocess.run([program, *words], cwd=room, capture_output=True, timeout=60, check=False, **more)
-    said = got.stdout if status == 0 else got.stderr
-    if got.returncode != status or (told not in said.decode() if status else said.decode() != told):
-        sys.exit(f"words.py: {words}: {got.returncode} {got.stdout} {got.stderr}, wanted {status} {told}")
 
 
 def has(name, data, mode):
-    if get(name) != data or os.stat(path(name)).st_mode & 0o7777 != mode:
-        sys.exit(f"words.py: {name}: {len(get(name))} bytes of mode {os.stat(path(name)).st_mode:o}")
-    if os.path.exists(path(name + ".restored")):
-        sys.exit(f"words.py: {name}.restored was left")
+    if read(name) != data or os.stat(name).st_mode & 0o7777 != mode or os.path.exists(f"{name}.restored"):
+        sys.exit(f"{name}: {len(read(name))} bytes of mode {os.stat(name).st_mode:o}, or a file beside it was left")
 
 
-def small_files():
-    """No file of the process grows past two blocks, and a call that would is one that failed."""
-    signal.signal(signal.SIGXFSZ, signal.SIG_IGN)
-    resource.setrlimit(resource.RLIMIT_FSIZE, (2 * B, 2 * B))
+def main(program, room):
+    os.chdir(room)
+    tried = 0
 
+    def call(status, told, *words, **how):
+        """A call ends with this status, and says this: on the standard output at 0, else in its line on the standard error."""
+        nonlocal tried
+        tried += 1
+        got = ran([program, *words], **how)
+        said = (got.stderr if status else got.stdout).decode()
+        if got.returncode != status or (told not in said if status else said != told):
+            sys.exit(f"{words}: {got.returncode} {got.stdout} {got.stderr}, wanted {status} {told}")
 
-first, second, third = (bytes([byte]) * (3 * B) for byte in b"abc")
-put("db", first)
-call(0, "", "create", "F", "6", "db=db", "log=-")
-call(0, "set 1\n", "cut", "F", "db", "log")
-put("db", second)
-call(0, "db written 3 copied 3\n", "update", "F", "db=db")
-call(0, "set 2\n", "cut", "F", "db")
+    first, second, third = (bytes([byte]) * (3 * B) for byte in b"abc")
+    write("db", first)
+    call(0, "", "create", "F", "6", "db=db", "log=-")
+    call(0, "set 1\n", "cut", "F", "db", "log")
+    write("db", second)
+    call(0, "db written 3 copied 3\n", "update", "F", "db=db")
+    call(0, "set 2\n", "cut", "F", "db")
 
-call(0, "", "restore", "F", "1", "db", "out")
-has("out", first, 0o600)
-call(3, "out: is there already; --over takes its place", "restore", "F", "2", "db", "out")
-has("out", first, 0o600)
-os.chmod(path("out"), 0o640)
-call(0, "", "restore", "--over", "F", "2", "db", "out")
-has("out", second, 0o640)
-call(5, "out.restored: could not be written", "restore", "--over", "F", "1", "db", "out", preexec_fn=small_files)
-has("out", second, 0o640)
-call(13, "set 1 of log: its file was not there", "restore", "--over", "F", "1", "log", "out")
-call(3, "there is no image of it", "restore", "--over", "F", "9", "db", "out")
-has("out", second, 0o640)
-call(0, "", "restore", "F", "db", "now")
-has("now", second, 0o600)
-os.symlink("out", path("link"))
-call(3, "link: is no file", "restore", "--over", "F", "1", "db", "link")
-call(5, "nowhere/out.restored: could not be made: No such file", "restore", "F", "1", "db", "nowhere/out")
-put("left.restored", b"of somebody else")
-call(3, "left.restored: is left of a restore that did not end", "restore", "F", "1", "db", "left")
-if get("left.restored") != b"of somebody else" or os.path.exists(path("left")):
-    sys.exit("words.py: left.restored was touched")
+    call(0, "", "restore", "F", "1", "db", "out")
+    has("out", first, 0o600)
+    call(3, "out: is there already; --over takes its place", "restore", "F", "2", "db", "out")
+    has("out", first, 0o600)
+    os.chmod("out", 0o640)
+    call(0, "", "restore", "--over", "F", "2", "db", "out")
+    has("out", second, 0o640)
+    small_files = limited(resource.RLIMIT_FSIZE, 2 * B)
+    call(5, "out.restored: could not be written", "restore", "--over", "F", "1", "db", "out", preexec_fn=small_files)
+    has("out", second, 0o640)
+    call(13, "set 1 of log: its file was not there", "restore", "--over", "F", "1", "log", "out")
+    call(3, "there is no image of it", "restore", "--over", "F", "9", "db", "out")
+    has("out", second, 0o640)
+    call(0, "", "restore", "F", "db", "now")
+    has("now", second, 0o600)
+    os.symlink("out", "link")
+    call(3, "link: is no file", "restore", "--over", "F", "1", "db", "link")
+    call(5, "nowhere/out.restored: could not be made: No such file", "restore", "F", "1", "db", "nowhere/out")
+    write("left.restored", b"of somebody else")
+    call(3, "left.restored: is left of a restore that did not end", "restore", "F", "1", "db", "left")
+    if read("left.restored") != b"of somebody else" or os.path.exists("left"):
+        sys.exit("left.restored was touched")
 
-put("db", third)
-call(0, "db written 3 copied 3\n", "update", "--keep", "2", "F", "db=db")
-call(0, "set 3\n", "cut", "F", "db")
-put("db", first)
-call(3, "sets: 2 would be left, and 3 are wanted at least", "update", "--keep", "3", "F", "db=db")
-call(0, "", "restore", "--over", "F", "1", "db", "out")
-has("out", first, 0o640)
-call(0, "deleted set 1: 2\n", "prune", "--keep", "2", "F")
-call(0, "", "prune", "--keep", "2", "F")
-call(3, "there is no image of it", "show", "F", "1", "db")
-call(0, "deleted set 2: 1\n", "prune", "--keep", "1", "F")
-for words in (["prune", "F"], ["prune", "--keep", "0", "F"], ["list", "--over", "F"], ["cut", "--keep", "1", "F", "db"], ["restore", "F", "db"],
-              ["create", "--wait", "1", "G", "1", "db=db"], ["list", "--wait", "1", "--wait", "1", "F"]):
-    call(2, "usage: ", *words)
+    write("db", third)
+    call(0, "db written 3 copied 3\n", "update", "--keep", "2", "F", "db=db")
+    call(0, "set 3\n", "cut", "F", "db")
+    write("db", first)
+    call(3, "sets: 2 would be left, and 3 are wanted at least", "update", "--keep", "3", "F", "db=db")
+    call(0, "", "restore", "--over", "F", "1", "db", "out")
+    has("out", first, 0o640)
+    call(0, "deleted set 1: 2\n", "prune", "--keep", "2", "F")
+    call(0, "", "prune", "--keep", "2", "F")
+    call(3, "there is no image of it", "show", "F", "1", "db")
+    call(0, "deleted set 2: 1\n", "prune", "--keep", "1", "F")
+    for words in (["prune", "F"], ["prune", "--keep", "0", "F"], ["list", "--over", "F"], ["cut", "--keep", "1", "F", "db"], ["restore", "F", "db"],
+                  ["create", "--wait", "1", "G", "1", "db=db"], ["list", "--wait", "1", "--wait", "1", "F"]):
+        call(2, "usage: ", *words)
 
-held = os.open(path("F"), os.O_RDONLY)
-fcntl.flock(held, fcntl.LOCK_EX)
-call(10, "in use by another process", "list", "F")
-call(10, "in use by another process", "list", "--wait", "1", "F")
-threading.Timer(0.5, lambda: fcntl.flock(held, fcntl.LOCK_UN)).start()
-call(0, "set 4\n", "cut", "--wait", "30", "F", "db")
-print(f"{tried} calls of restore, prune, --keep and --wait")
+    held = os.open("F", os.O_RDONLY)
+    fcntl.flock(held, fcntl.LOCK_EX)
+    call(10, "in use by another process", "list", "F")
+    call(10, "in use by another process", "list", "--wait", "1", "F")
+    threading.Timer(0.5, lambda: fcntl.flock(held, fcntl.LOCK_UN)).start()
+    call(0, "set 4\n", "cut", "--wait", "30", "F", "db")
+    os.chdir("/")
+    return f"{tried} calls of restore, prune, --keep and --wait"

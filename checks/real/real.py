@@ -13,6 +13,8 @@ import subprocess
 import sys
 import time
 
+from common import limited, ran, read, write
+
 PROGRAM, FOLDER = sys.argv[1:]
 BLOCK = 16384
 SET_PIPE_SIZE = 1031  # F_SETPIPE_SZ
@@ -40,8 +42,8 @@ def folder(name):
 
 def run(text, *words, **others):
     """Runs the program over a text. Python has signals of closed pipes and full files ignored, and so has the program."""
-    others.setdefault("stdout", subprocess.PIPE)
-    return subprocess.run([PROGRAM, "run", *words], input=text, stderr=subprocess.PIPE, restore_signals=False, check=False, **others)
+    pipes = {"capture_output": False, "stdout": subprocess.PIPE, "stderr": subprocess.PIPE}
+    return ran([PROGRAM, "run", *words], input=text, restore_signals=False, **{**pipes, **others})
 
 
 def ended(done, status, line=b""):
@@ -76,16 +78,16 @@ def is_full(report):
     """Standard output takes no byte, or so many and no more, as a file of a limited size does: a write that comes short is gone on with."""
     with open("/dev/full", "wb") as full:
         holds(ended(run(LONG, stdout=full), 5, b"vss: write fault\n"), "a full device is not told")
-        generated = subprocess.run([PROGRAM, "gen", "7"], stdout=full, stderr=subprocess.PIPE, check=False)
+        generated = subprocess.run([PROGRAM, "gen", "7"], stdout=full, stderr=subprocess.PIPE)
         holds(ended(generated, 5, b"vss: write fault\n"), "a full device is not told of a generated run")
     holds(ended(run(LONG, preexec_fn=lambda: os.close(1)), 5, b"vss: write fault\n"), "a closed output is not told")
     holds(ended(run(LONG, preexec_fn=lambda: os.close(0)), 4, b"vss: read fault\n"), "a closed input is not told")
     for most in (1, 4096, len(report) - 1):
         path = os.path.join(FOLDER, f"at_most_{most}")
         with open(path, "wb") as out:
-            done = run(LONG, stdout=out, preexec_fn=lambda most=most: resource.setrlimit(resource.RLIMIT_FSIZE, (most, most)))
-        with open(path, "rb") as out:
-            holds(ended(done, 5, b"vss: write fault\n") and out.read() == report[:most], f"a file of at most {most} bytes is not told, or has others")
+            done = run(LONG, stdout=out, preexec_fn=limited(resource.RLIMIT_FSIZE, most))
+        is_told = ended(done, 5, b"vss: write fault\n") and read(path) == report[:most]
+        holds(is_told, f"a file of at most {most} bytes is not told, or has others")
 
 
 def is_read_bytewise():
@@ -99,9 +101,7 @@ def is_read_bytewise():
     for n in range(len(text)):
         ours.send(text[n:n + 1])
     ours.close()
-    status = program.wait()
-    with open(path, "rb") as out:
-        holds(status == 0 and out.read() == run(text).stdout, "a text that comes byte by byte has another report")
+    holds(program.wait() == 0 and read(path) == run(text).stdout, "a text that comes byte by byte has another report")
 
 
 def is_cut_off():
@@ -119,8 +119,7 @@ def is_cut_off():
 # ## files
 
 def contents(path):
-    with open(path, "rb") as file:
-        data = file.read()
+    data = read(path)
     return [data[at:at + BLOCK] for at in range(0, len(data), BLOCK)]
 
 
@@ -154,41 +153,29 @@ def is_in_files():
 
 def is_refused_where_there_is():
     """What has the name of a device already is no device, whatever it is, and is left as it is."""
+    mine = os.path.join(FOLDER, "mine")
+    write(mine, b"mine")
+    # how each kind is made, and whether it is as it was
+    kinds = {
+        "file": (lambda path: write(path, b"mine"), lambda path: read(path) == b"mine"),
+        "folder": (os.mkdir, lambda path: os.listdir(path) == []),
+        "link": (lambda path: os.symlink(mine, path), lambda path: os.path.islink(path) and read(path) == b"mine"),
+        "dead link": (lambda path: os.symlink("none", path), lambda path: os.readlink(path) == "none" and
+                      not os.path.exists(path)),
+        "pipe": (os.mkfifo, lambda path: stat.S_ISFIFO(os.lstat(path).st_mode)),
+    }
     for name in "C.vol", "C.area", "E.vol", "G.shared":
-        for kind in "file", "folder", "link", "dead_link", "pipe":
-            disks = folder(f"{kind}_{name}")
-            path, other = os.path.join(disks, name), os.path.join(FOLDER, f"other_{kind}_{name}")
-            if kind == "folder":
-                os.mkdir(path)
-            elif kind == "pipe":
-                os.mkfifo(path)
-            elif kind == "dead_link":
-                os.symlink(other, path)
-            else:
-                with open(path if kind == "file" else other, "wb") as file:
-                    file.write(b"mine")
-                if kind == "link":
-                    os.symlink(other, path)
-            there = rb"created: File exists \(os error 17\)"
+        for kind, (make, is_kept) in kinds.items():
+            disks = folder(f"{kind} {name}")
+            path, there = os.path.join(disks, name), rb"created: File exists \(os error 17\)"
+            make(path)
             holds(failed(run(SET, disks), path, there), f"a {kind} {name} that is there is not told")
             holds(os.listdir(disks) == [name], f"where a {kind} {name} is there other files are left")
-            if kind == "folder":
-                holds(os.listdir(path) == [], f"a folder {name} that is there is changed")
-            elif kind == "pipe":
-                holds(stat.S_ISFIFO(os.lstat(path).st_mode), f"a {kind} {name} that is there is changed")
-            elif kind == "dead_link":
-                holds(os.path.islink(path) and not os.path.exists(other), f"a {kind} {name} that is there is followed")
-            else:
-                with open(path, "rb") as file:
-                    holds(file.read() == b"mine", f"a {kind} {name} that is there is changed")
-    mine = os.path.join(FOLDER, "mine")
-    with open(mine, "wb") as file:
-        file.write(b"mine")
+            holds(is_kept(path), f"a {kind} {name} that is there is changed, or followed")
     for place, reason in ((os.path.join(FOLDER, "none"), rb"No such file or directory \(os error 2\)"), ("n" * 300, rb"File name too long \(os error 36\)"),
                           (mine, rb"Not a directory \(os error 20\)")):
         holds(failed(run(SET, place), f"{place}/C.vol", b"created: " + reason), f"a folder that is not there is not told: {reason}")
-    with open(mine, "rb") as file:
-        holds(file.read() == b"mine", "a file in a folder's place is changed")
+    holds(read(mine) == b"mine", "a file in a folder's place is changed")
 
 
 # ## what is made to last

@@ -8,12 +8,11 @@ import concurrent.futures
 import sys
 from pathlib import Path
 
-sys.dont_write_bytecode = True  # nothing is written beside the sources
-import groups  # noqa: E402
-import mirrors  # noqa: E402
-import recover  # noqa: E402
-import shards  # noqa: E402
-from rows import rows_of, wrong_by_program, wrong_by_rules  # noqa: E402
+import groups
+import mirrors
+import recover
+import shards
+from rows import rows_of, wrong_by_program, wrong_by_rules
 
 # the rules of a subject, or None where the rows are made otherwise, and its lists
 SUBJECTS = {
@@ -24,8 +23,8 @@ SUBJECTS = {
 
 def rows_by_hand(subject, rules):
     """The rows by hand of a subject, by their files."""
-    files = sorted(it for it in Path(__file__).parent.glob("*.rows") if it.stem == subject or it.stem.startswith("recover_") and subject == "recover"
-                   or it.stem.startswith("shards_") and subject == "shards")
+    files = sorted(Path(__file__).parent.glob(f"{subject}.rows")) + sorted(Path(__file__).parent.glob(f"{subject}_*.rows"))
+    files = [it for it in files if it.stem not in SUBJECTS or it.stem == subject]
     return {it.name: rows_of(it, None if rules else subject) for it in files}
 
 
@@ -37,9 +36,9 @@ def main(program):
             by_hand = rows_by_hand(subject, rules)
             for name, rows in by_hand.items():
                 wrongs += wrong_by_rules(name, rules, rows) if rules else []
-            lists = module.lists() if module else {}
-            of_lists = {f"{subject} {name}": rows if rules is None else [row for one in made for row in one.rows] for name, made in lists.items()
-                        for rows in [made]}
+            of_lists = {}
+            for name, made in module.lists().items() if module else ():
+                of_lists[f"{subject} {name}"] = [row for one in made for row in one.rows] if rules else made
             for name, rows in {**by_hand, **of_lists}.items():
                 jobs.append(pool.submit(wrong_by_program, name, [program, word], rows))
                 count[word] = count.get(word, 0) + sum(len(lines) for _, lines in rows)

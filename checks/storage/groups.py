@@ -4,7 +4,7 @@ import hashlib
 import random
 import struct
 
-from rows import Subject, as_result, fails, written
+from rows import Subject, as_result, fails, reverted, written
 from volumes import Group, Refused, some
 
 NAMES = [bytes([letter]) for letter in b"CDEFGHIJKLMNOPQRSTUVWXYZ"]
@@ -18,72 +18,32 @@ class Groups(Subject):
     def reply(self, word, *rest):
         values = [int(n) for n in rest]
         if word == "group":
-            slots, *blocks = values
-            self.group = Group(blocks, slots, self.taken_failing())
+            self.group = Group(values[1:], values[0], self.taken_failing())
             return None
-        return getattr(self, word.replace("-", "_"))(*values)
+        group = self.group
+        return {
+            "write": lambda *place: written(*group.write(*place)),
+            "read": lambda *place: as_result(lambda: some(group.read(*place))),
+            "image": lambda *place: as_result(lambda: some(group.image(*place))),
+            "lend": lambda v, block: lent(group.devices[v], block),
+            "lend-image": lambda *place: as_result(lambda: lent(*group.shown(*place))),
+            "cut": lambda *image: str(group.cut(*image) or "()"),
+            "drop": lambda *image: as_result(lambda: group.drop(*image)),
+            "revert": lambda *image: reverted(lambda: group.revert(*image), "Fault {}"),
+            "flush": lambda v: as_result(lambda: group.devices[v].call("flush")),
+            "sync": lambda: as_result(group.sync),
+            "slots": lambda: str(len(group.slots)),
+            "used_all": lambda: str(group.used()),
+            "used": lambda v: str(group.used(v)),
+            "used_by": lambda v, set_: some(group.used(v, set_)) if set_ in group.images[v] else "None",
+            "images": lambda v: str(group.images[v]),
+            "up_to": lambda *place: str(group.goes_up_to(*place)),
+        }[word](*values)
 
-    def write(self, *place):
-        return written(*self.group.write(*place))
 
-    def read(self, *place):
-        return as_result(lambda: some(self.group.read(*place)))
-
-    def image(self, *place):
-        return as_result(lambda: some(self.group.image(*place)))
-
-    @staticmethod
-    def lent(device, place):
-        content = device.lend(place)
-        return "None" if content is None else some(some(content))
-
-    def lend(self, v, block):
-        return self.lent(self.group.devices[v], block)
-
-    def lend_image(self, *place):
-        return as_result(lambda: self.lent(*self.group.shown(*place)))
-
-    def cut(self, *image):
-        self.group.cut(*image)
-        return "()"
-
-    def drop(self, *image):
-        return as_result(lambda: self.group.drop(*image))
-
-    def revert(self, *image):
-        try:
-            cause, restored = self.group.revert(*image)
-        except Refused as refusal:
-            return f"Err({refusal})"
-        return "Ok(())" if cause is None else f"Err(Fault {{ restored: {restored}, cause: {cause} }})"
-
-    def flush(self, v):
-        return as_result(lambda: self.group.devices[v].call("flush"))
-
-    def sync(self):
-        return as_result(self.group.sync)
-
-    def slots(self):
-        return str(len(self.group.slots))
-
-    def used_all(self):
-        return str(self.group.used())
-
-    def used(self, v):
-        return str(self.group.used(v))
-
-    def used_by(self, *image):
-        try:
-            self.group.has(*image)
-        except Refused:
-            return "None"
-        return some(self.group.used(*image))
-
-    def images(self, v):
-        return str(self.group.images[v])
-
-    def up_to(self, *place):
-        return str(self.group.goes_up_to(*place))
+def lent(device, place):
+    content = device.lend(place)
+    return "None" if content is None else some(some(content))
 
 
 # ## taken apart and up again

@@ -4,7 +4,7 @@ import collections
 import random
 import re
 
-from rows import Subject, as_result, fails, written
+from rows import Subject, as_result, fails, reverted, written
 from volumes import Mended, Refused, some
 
 
@@ -25,66 +25,36 @@ class Recover(Subject):
 
     def reply(self, word, *rest):
         if word in ("write", "recover"):
-            return getattr(self, word)(*map(int, rest[:-2]), payload(*rest[-2:]))
-        return getattr(self, "new_volume" if word == "volume" else word)(*map(int, rest))
+            rest = [*map(int, rest[:-2]), payload(*rest[-2:])]
+        values, volume = [it if isinstance(it, bytes) else int(it) for it in rest], self.volume
+        if word == "volume":
+            self.volume = Mended(*values, self.taken_failing(), bytes(8))
+            return None
+        return {
+            "write": lambda *place: written(*volume.write(*place)),
+            "read": lambda block: as_result(lambda: shown(volume.read(block))),
+            "image": lambda *place: as_result(lambda: shown(volume.image(*place))),
+            "cut": lambda set_: "()" if volume.cut(set_) else "unmet",
+            "drop": lambda set_: as_result(lambda: volume.drop(set_)),
+            "revert": lambda set_: reverted(lambda: volume.revert(set_), "Other(Fault {})"),
+            "pre_final": lambda *opened: pre_final(volume, *opened),
+            "recover": lambda *place: as_result(lambda: volume.recover(*place)),
+            "post_final": lambda: some(volume.post_final()),
+            "window": lambda: some(volume.window),
+            "images": lambda: str(volume.images),
+            "used": lambda: str(volume.copies.used()),
+            "overlay_used": lambda: str(len(volume.mended)),
+            "flush": lambda: as_result(volume.flush),
+            "sync": lambda: as_result(volume.sync),
+            "again": lambda *final: volume.again(final),
+        }[word](*values)
 
-    def new_volume(self, blocks, slots, overlay_slots):
-        self.volume = Mended(blocks, slots, overlay_slots, self.taken_failing(), bytes(8))
 
-    def write(self, block, content):
-        return written(*self.volume.write(block, content))
-
-    def read(self, block):
-        return as_result(lambda: shown(self.volume.read(block)))
-
-    def image(self, set_, block):
-        return as_result(lambda: shown(self.volume.image(set_, block)))
-
-    def cut(self, set_):
-        return "()" if self.volume.cut(set_) else "unmet"
-
-    def drop(self, set_):
-        return as_result(lambda: self.volume.drop(set_))
-
-    def revert(self, set_):
-        try:
-            cause, restored = self.volume.revert(set_)
-        except Refused as refusal:
-            return f"Err({refusal})"
-        return "Ok(())" if cause is None else f"Err(Other(Fault {{ restored: {restored}, cause: {cause} }}))"
-
-    def pre_final(self, set_, *claims):
-        try:
-            return "Ok(())" if self.volume.pre_final(set_, list(zip(claims[::3], claims[1::3], claims[2::3]))) else "unmet"
-        except Refused as refusal:
-            return f"Err({refusal})"
-
-    def recover(self, set_, writer, block, content):
-        return as_result(lambda: self.volume.recover(set_, writer, block, content))
-
-    def post_final(self):
-        return some(self.volume.post_final())
-
-    def window(self):
-        return some(self.volume.window)
-
-    def images(self):
-        return str(self.volume.images)
-
-    def used(self):
-        return str(self.volume.copies.used())
-
-    def overlay_used(self):
-        return str(len(self.volume.mended))
-
-    def flush(self):
-        return as_result(self.volume.flush)
-
-    def sync(self):
-        return as_result(self.volume.sync)
-
-    def again(self, *final):
-        self.volume.again(final)
+def pre_final(volume, set_, *claims):
+    try:
+        return "Ok(())" if volume.pre_final(set_, list(zip(claims[::3], claims[1::3], claims[2::3]))) else "unmet"
+    except Refused as refusal:
+        return f"Err({refusal})"
 
 
 # ## claims

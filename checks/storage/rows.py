@@ -65,6 +65,15 @@ def written(cause, gone):
     return f"Err(WriteFault {{ cause: {cause}, evicted_up_to: {gone} }})"
 
 
+def reverted(work, fault):
+    """What a revert answers, as Rust prints it, with a fault of this form."""
+    try:
+        cause, restored = work()
+    except Refused as refusal:
+        return f"Err({refusal})"
+    return "Ok(())" if cause is None else f"Err({fault.format(f'{{ restored: {restored}, cause: {cause} }}')})"
+
+
 def rows_of(path, subject):
     """The rows of a file; an empty line begins anew, by a call for this subject if one is named."""
     rows = []

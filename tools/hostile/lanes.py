@@ -1,14 +1,13 @@
-"""Runs of the program for the scripts beside this one: many, without a shell, some side by side, each with bounds of memory and time."""
+"""Runs of the program for the scripts beside this folder: many, some side by side, with bounds of memory and time."""
 import multiprocessing
 import os
 import resource
 import signal
+import sys
 import tempfile
 
 TOP = os.path.dirname(os.path.dirname(os.path.dirname(os.path.realpath(__file__))))
-PROVED = f"{TOP}/crates/vss/out/vss"
-TRIAL = f"{TOP}/crates/trials_in_threads/out/trials_in_threads"
-ORDERS = f"{TOP}/crates/vss_tools/out/vss_tools"
+PROVED, TRIAL, TOOLS = (f"{TOP}/crates/{name}/out/{name}" for name in ("vss", "trials_in_threads", "vss_tools"))
 
 
 class Hung(Exception):
@@ -19,11 +18,8 @@ class Ended:
     """How a run ended: its status, or the signal that stopped it below 0; what it wrote; its highest memory in KiB; its seconds of processor."""
 
     def __init__(self, status, out, err, usage):
-        self.status = status
-        self.out = out
-        self.err = err
-        self.kib = usage.ru_maxrss
-        self.seconds = usage.ru_utime + usage.ru_stime
+        self.status, self.out, self.err = status, out, err
+        self.kib, self.seconds = usage.ru_maxrss, usage.ru_utime + usage.ru_stime
 
     def __str__(self):
         return f"status {self.status}, {len(self.out)} bytes, {self.err.decode(errors='replace').strip()!r}"
@@ -33,30 +29,24 @@ def on_alarm(_signal, _frame):
     raise Hung
 
 
-def contents(handle):
-    size = os.lseek(handle, 0, os.SEEK_END)
-    return os.pread(handle, size, 0)
-
-
 class Runner:
     """Runs programs one after another in a folder of its own, with a bound on the addresses that one may take."""
 
-    def __init__(self, most_bytes=None, seconds=60):
-        self.seconds = seconds
-        self.room = tempfile.mkdtemp(prefix="hostile-", dir="/dev/shm" if os.path.isdir("/dev/shm") else None)
+    def __init__(self, room, most_bytes=None, seconds=60):
+        self.seconds, self.room = seconds, tempfile.mkdtemp(dir=room)
         self.handles = [os.open(f"{self.room}/{name}", os.O_RDWR | os.O_CREAT) for name in ("in", "out", "err")]
         signal.signal(signal.SIGALRM, on_alarm)
         if most_bytes:
             resource.setrlimit(resource.RLIMIT_AS, (most_bytes, resource.RLIM_INFINITY))
 
-    def run(self, argv, text, env=None):
+    def run(self, argv, text=b"", env=None):
         """Returns how the run over this input ended; a run that does not end in time is stopped, and has status -9."""
         for handle, bytes_in in zip(self.handles, (text, b"", b"")):
             os.ftruncate(handle, 0)
             os.pwrite(handle, bytes_in, 0)
             os.lseek(handle, 0, os.SEEK_SET)
         actions = [(os.POSIX_SPAWN_DUP2, handle, number) for number, handle in enumerate(self.handles)]
-        child = os.posix_spawn(argv[0], argv, os.environ if env is None else env, file_actions=actions)
+        child = os.posix_spawn(argv[0], argv, {**os.environ, **(env or {})}, file_actions=actions)
         signal.setitimer(signal.ITIMER_REAL, self.seconds)
         try:
             _, status, usage = os.wait4(child, 0)
@@ -64,45 +54,26 @@ class Runner:
             os.kill(child, signal.SIGKILL)
             _, status, usage = os.wait4(child, 0)
         signal.setitimer(signal.ITIMER_REAL, 0)
-        return Ended(os.waitstatus_to_exitcode(status), contents(self.handles[1]), contents(self.handles[2]), usage)
-
-    def close(self):
-        for handle, name in zip(self.handles, ("in", "out", "err")):
-            os.close(handle)
-            os.unlink(f"{self.room}/{name}")
-        os.rmdir(self.room)
+        _, out, err = (os.pread(it, os.fstat(it).st_size, 0) for it in self.handles)
+        return Ended(os.waitstatus_to_exitcode(status), out, err, usage)
 
 
-def work_through(make_worker, tasks, done):
-    """The loop of one lane. It ends with None, also where something is wrong with the script."""
-    try:
-        worker = make_worker()
-        for task in iter(tasks.get, None):
-            done.put(worker.work(task))
-        worker.close()
-    finally:
-        done.put(None)
+def begin(make_worker, room):
+    """Begins a lane, whose worker makes its tasks."""
+    global worker
+    signal.signal(signal.SIGTERM, lambda *_: sys.exit(1))
+    worker = make_worker(room)
+
+
+def work(task):
+    return worker.work(task)
 
 
 def in_lanes(make_worker, tasks, lanes):
-    """Gives what the workers make of the tasks, as it comes. A worker has `work` and `close`."""
-    waiting, done = multiprocessing.Queue(), multiprocessing.Queue()
-    for task in [*tasks, *[None] * lanes]:
-        waiting.put(task)
-    workers = [multiprocessing.Process(target=work_through, args=(make_worker, waiting, done)) for _ in range(lanes)]
-    for worker in workers:
-        worker.start()
-    left = lanes
-    while left:
-        made = done.get()
-        if made is None:
-            left -= 1
-        else:
-            yield made
-    for worker in workers:
-        worker.join()
-        if worker.exitcode:
-            raise SystemExit("a lane of this script did not go to its end")
+    """Gives what the workers make of the tasks, as it comes. A worker is made with a folder, and has a method `work`."""
+    with tempfile.TemporaryDirectory(prefix="hostile-", dir="/dev/shm" if os.path.isdir("/dev/shm") else None) as room:
+        with multiprocessing.get_context("fork").Pool(lanes, begin, (make_worker, room)) as pool:
+            yield from pool.imap_unordered(work, tasks)
 
 
 def lane_numbers(report):

@@ -1,145 +1,51 @@
 """A second reading of a metadata document, written from docs/FORMATS.md: its class, and the full names of its components with their flags; and the
 component document of a session that selects all of them."""
+import json
 import re
 
-SPACE = b" \t\n\r"
-NUMBER = re.compile(rb"-?(?:0|[1-9][0-9]*)(\.[0-9]+)?([eE][+-]?[0-9]+)?")
-PLAIN = re.compile(rb'[^"\\\x00-\x1f]*')
-ESCAPES = {b'"': '"', b"\\": "\\", b"/": "/", b"b": "\b", b"f": "\f", b"n": "\n", b"r": "\r", b"t": "\t"}
 HEX = re.compile(r"[0-9A-Fa-f]+")
 DEEPEST = 127
 
 
-class NotJson(Exception):
-    """The text is no JSON."""
-
-
 class NoDocument(Exception):
-    """The value is no metadata document."""
+    """The text is no JSON, or its value is no metadata document."""
 
 
-class Json:
-    """A reader of a JSON text."""
+def whole(digits):
+    """Returns the number that digits are, one with a fraction where 64 bits do not have it."""
+    return int(digits) if len(digits) < 21 and -2**63 <= int(digits) < 2**64 else real(digits)
 
-    def __init__(self, text):
-        self.text = text
-        self.at = 0
 
-    def skip(self):
-        while self.text[self.at:self.at + 1] and self.text[self.at] in SPACE:
-            self.at += 1
-        return self.text[self.at:self.at + 1]
+def real(digits):
+    if abs(float(digits)) == float("inf"):
+        raise NoDocument
+    return float(digits)
 
-    def expect(self, word):
-        if not self.text.startswith(word, self.at):
-            raise NotJson
-        self.at += len(word)
 
-    def value(self, depth):
-        first = self.skip()
-        if first in (b"{", b"["):
-            if depth == DEEPEST:
-                raise NotJson
-            return self.members(depth + 1) if first == b"{" else self.items(depth + 1)
-        if first == b'"':
-            return self.string()
-        for word, meaning in ((b"true", True), (b"false", False), (b"null", None)):
-            if self.text.startswith(word, self.at):
-                self.at += len(word)
-                return meaning
-        return self.number()
+def members(pairs):
+    """Returns the members of an object, of which none may have half a character."""
+    json.dumps(pairs, ensure_ascii=False).encode()
+    return dict(pairs)
 
-    def number(self):
-        found = NUMBER.match(self.text, self.at)
-        if not found:
-            raise NotJson
-        self.at = found.end()
-        if found[1] is None and found[2] is None:
-            whole = int(found[0])
-            if -2**63 <= whole < 2**64:
-                return whole
-        real = float(found[0])
-        if real in (float("inf"), float("-inf")):
-            raise NotJson
-        return real
 
-    def string(self):
-        self.expect(b'"')
-        parts = []
-        while True:
-            plain = PLAIN.match(self.text, self.at)
-            self.at = plain.end()
-            parts.append(plain[0].decode("ascii"))
-            if self.text[self.at:self.at + 1] == b'"':
-                self.at += 1
-                return "".join(parts)
-            self.expect(b"\\")
-            parts.append(self.escape())
-
-    def escape(self):
-        letter = self.text[self.at:self.at + 1]
-        self.at += 1
-        if letter in ESCAPES:
-            return ESCAPES[letter]
-        if letter != b"u":
-            raise NotJson
-        unit = self.unit()
-        if 0xDC00 <= unit < 0xE000:
-            raise NotJson
-        if 0xD800 <= unit < 0xDC00:
-            self.expect(b"\\u")
-            low = self.unit()
-            if not 0xDC00 <= low < 0xE000:
-                raise NotJson
-            unit = 0x10000 + (unit - 0xD800) * 1024 + low - 0xDC00
-        return chr(unit)
-
-    def unit(self):
-        digits = self.text[self.at:self.at + 4].decode("ascii", "replace")
-        if len(digits) != 4 or not HEX.fullmatch(digits):
-            raise NotJson
-        self.at += 4
-        return int(digits, 16)
-
-    def items(self, depth):
-        self.expect(b"[")
-        found = []
-        if self.skip() == b"]":
-            self.at += 1
-            return found
-        while True:
-            found.append(self.value(depth))
-            if self.skip() == b"]":
-                self.at += 1
-                return found
-            self.expect(b",")
-
-    def members(self, depth):
-        self.expect(b"{")
-        found = {}
-        if self.skip() == b"}":
-            self.at += 1
-            return found
-        while True:
-            if self.skip() != b'"':
-                raise NotJson
-            name = self.string()
-            self.skip()
-            self.expect(b":")
-            found[name] = self.value(depth)
-            if self.skip() == b"}":
-                self.at += 1
-                return found
-            self.expect(b",")
+def refuse(_word):
+    raise NoDocument
 
 
 def json_of(text):
-    """Returns the value of a JSON text, or raises NotJson."""
-    reader = Json(text)
-    value = reader.value(0)
-    if reader.skip():
-        raise NotJson
-    return value
+    """Returns the value of a JSON text, or raises NoDocument."""
+    depth = 0
+    for sign in re.sub(rb'"(?:[^"\\]|\\.)*"', b"", text):
+        depth += (sign in b"[{") - (sign in b"]}")
+        if depth > DEEPEST:
+            raise NoDocument
+    try:
+        hooks = {"object_pairs_hook": members, "parse_int": whole, "parse_float": real, "parse_constant": refuse}
+        value = json.loads(text.decode("ascii"), **hooks)
+        members([(0, value)])
+        return value
+    except ValueError:
+        raise NoDocument from None
 
 
 def is_whole(value, low, high):
@@ -184,9 +90,6 @@ def component_of(value):
 def metadata_of(text):
     """Returns the class and the components of a metadata document, or None where the text is none."""
     try:
-        # a line of a scenario has no other bytes
-        if not text.isascii():
-            raise NotJson
         value = json_of(text)
         needed = {"class", "name", "level", "usage", "source", "components"}
         if not isinstance(value, dict) or not needed <= set(value) <= needed | {"freeze_timeout"}:
@@ -205,7 +108,7 @@ def metadata_of(text):
         if len({name for name, _ in components}) != len(components):
             raise NoDocument
         return class_id, components
-    except (NotJson, NoDocument):
+    except NoDocument:
         return None
 
 

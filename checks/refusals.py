@@ -1,0 +1,228 @@
+"""Words, scenarios and areas that `vss` takes or refuses: refusals.py PROGRAM WRAPPER FOLDER ADDRESSES. Says what is
+wrong, and ends with 1 then."""
+import os
+import re
+import resource
+import struct
+import sys
+
+from common import limited, ran, read
+
+PROGRAM, WRAPPER, FOLDER, ADDRESSES = sys.argv[1:]
+BLOCK, MOST = 16384, 16777216
+NUMBERS = (0, 1, 2**32 - 1)
+wrongs, counts = [], {}
+
+
+def holds(kind, condition, what):
+    counts[kind] = counts.get(kind, 0) + 1
+    if not condition:
+        wrongs.append(f"{kind}: {what}")
+
+
+def refuses(kind, what, done, status, line):
+    """A run ended with this status, this line on the standard error, and nothing on the standard output."""
+    said = done.stderr.decode().rstrip("\n")
+    is_so = (done.returncode, done.stdout, said) == (status, b"", line)
+    holds(kind, is_so, f"{what}: status {done.returncode}, \"{said[:200]}\", and not {status}, \"{line}\"")
+
+
+# ## which words are a command
+
+# (words are parted by |, and rows by ;)
+COMMANDS = (
+    "run;run|disks;run|gen;run|run;run|inspect;run| ;run|a-b;run|7;"
+    "gen|0|disks;gen|7|disks;gen|10|gen;gen|4294967295|disks;gen|7| ;gen|7|7;inspect"
+)
+NO_COMMANDS = (
+    "Run;RUN;run ; run;runs;run|;run|-x;run|disks|more;run|disks|;gen;gen|;gen|07;gen|00;gen|+7;gen|-7;gen|7 ;gen|0x7;"
+    "gen|seven;gen|4294967296;gen|42949672950;gen|7|;gen|7|-x;gen|7|disks|more;Inspect;inspect|;inspect|area;"
+    "inspect|-x;-h;--help;--version;--;-;r\u00fcn;"
+)
+
+
+def words():
+    # a folder that is not there is a folder's name all the same
+    for command in COMMANDS.split(";"):
+        done = ran([PROGRAM, *command.split("|")], input=b"scenario 1\n", cwd=FOLDER)
+        holds("words", done.returncode != 2, f"`vss {command}` is refused")
+    for command in [it.split("|") for it in NO_COMMANDS.split(";")] + [[], [b"\xff"]]:
+        refuses("words", f"`vss {command}`", ran([PROGRAM, *command], input=b"scenario 1\n"), 2, "vss: usage")
+    os.symlink(WRAPPER, f"{FOLDER}/link")
+    done = ran([f"{FOLDER}/link", "gen"], input=b"")
+    is_so = done.returncode == 2 and b"vss: usage\n" in done.stderr and not done.stdout
+    holds("words", is_so, "a link to ./vss is not ./vss")
+
+
+# ## scenarios, and lines of them
+
+def text_of(shown):
+    """Returns the bytes of a text in a table, where \\n, \\t and \\\\ are a newline, a tab and a backslash."""
+    return re.sub(r"\\(.)", lambda it: {"n": "\n", "t": "\t"}.get(it[1], it[1]), shown).encode()
+
+
+def lines():
+    """Each line of checks/lines.table; where one that is read declares a volume, the report has that name."""
+    before = ""
+    for row in read("checks/lines.table").decode().split("\n"):
+        head, _, body = row.rstrip('"').partition('"')
+        if head == "after ":
+            before = body
+        elif head.startswith("text "):
+            _, number, reason = head.split()
+            refuses("lines", body, ran([PROGRAM, "run"], input=text_of(body)), 3, f"vss: line {number}: {reason}")
+        elif row and not row.startswith("#"):
+            text = text_of(f"{before}{body}\\n")
+            done = ran([PROGRAM, "run"], input=text)
+            if head != "read ":
+                refuses("lines", body, done, 3, f"vss: line {text.count(10)}: {head.strip()}")
+                continue
+            name = body.split(" ")[1].encode() if body.startswith("volume ") else b""
+            is_named = not name or b"\nvolume %s used 0 of " % name in done.stdout
+            is_so = done.returncode == 0 and not done.stderr and is_named
+            holds("lines", is_so, f"{body}: {done.stderr}, or another name of the volume")
+
+
+# ## inputs of the greatest size and beyond
+
+MAIN = '[{"name":"main","path":"","selectable":true,"type":1}]'
+CLASS = '"class":"22222222-2222-4222-8222-222222222222"'
+WRITER = f'{{{CLASS},"components":{MAIN},"level":2,"name":"Database","source":1,"usage":3}}'
+LANE = "scenario 1\nvolume C 4 4\nlane a\n"
+
+
+def filled(before, letter, behind, size=MOST):
+    """Returns a text of so many bytes, filled up with a letter."""
+    return f"{before}{letter * (size - len(before) - len(behind))}{behind}"
+
+
+def large_inputs():
+    """Yields texts, each with the number and the reason of the line that is refused, or with nothing."""
+    # one line of the greatest size
+    yield filled("scenario 1\n# ", "x", "\n"), None
+    yield filled("scenario 1\n# ", "x", ""), (2, "NoNewline")
+    yield filled("scenario 1\n# ", "x", "\t\n"), (2, "BadByte")
+    yield filled("", "x", "\n"), (1, "UnknownWord")
+    yield filled("", " ", "\n"), (1, "UnknownWord")
+    yield filled("scenario ", "1", "\n"), (1, "OutOfRange")
+    yield filled("scenario 1\nvolume ", "x", " 1 1\n"), (2, "BadName")
+    yield filled("scenario 1\nvolume C ", "9", " 1\n"), (2, "OutOfRange")
+    yield filled("scenario 1\nvolume C 4 ", "0", "\n"), (2, "BadNumber")
+    yield filled(f"{LANE}start", " ", "\n"), (4, "BadCount")
+    yield filled(f"{LANE}tick ", "1", "\n"), (4, "OutOfRange")
+    yield filled(f"{LANE}write C 1 stamp ", "8", "\n"), (4, "OutOfRange")
+    yield filled(f"{LANE}read ", "C", " 1\n"), (4, "UnknownName")
+    yield filled(f"scenario 1\nwriter db {WRITER}\nlane a\ncomponent db ", "x", "\n"), None
+    yield filled('scenario 1\nwriter db {"name":"', "x", '"}\n'), (2, "BadDocument")
+    yield filled("scenario 1\nwriter db ", " ", f"{WRITER}\n"), None
+    yield filled("scenario 1\nwriter db ", "[", "\n"), (2, "BadDocument")
+    yield filled('scenario 1\nwriter db {"components":[', ",", "]}\n"), (2, "BadDocument")
+    yield filled("scenario 1\nwriter db ", "7", "\n"), (2, "BadDocument")
+    # the most lines, and deep documents
+    yield "scenario 1\n" + "\n" * 100000 + "lane a\nfinish\n", (100003, "UnknownWord")
+    yield "scenario 1\n" + "\n" * 100000 + "lane a\nstatus\n", None
+    yield "\n" * MOST, (MOST + 1, "Empty")
+    yield "scenario 1\n" + "#\n" * 500000, None
+    for depth in (126, 127, 128, 1000, 100000):
+        yield 'scenario 1\nwriter db {"components":' + "[" * depth + "]" * depth + "}\n", (2, "BadDocument")
+    yield "scenario 1\nwriter db " + '{"a":' * 100000 + "\n", (2, "BadDocument")
+
+
+def large():
+    how = {} if ADDRESSES == "unlimited" else {"preexec_fn": limited(resource.RLIMIT_AS, int(ADDRESSES) * 1024)}
+    for text, refused in large_inputs():
+        done, what = ran([PROGRAM, "run"], input=text.encode(), **how), f"{text[:40]!r}, {len(text)} bytes"
+        if refused:
+            refuses("large inputs", what, done, 3, f"vss: line {refused[0]}: {refused[1]}")
+        else:
+            holds("large inputs", done.returncode == 0 and not done.stderr, f"{what}: {done.returncode} {done.stderr}")
+    for text in (filled("", "#", "\n", MOST + 1), "\n" * (MOST + 1)):
+        done = ran([PROGRAM, "run"], input=text.encode(), **how)
+        refuses("large inputs", "a byte too many", done, 8, "vss: input too long")
+
+
+# ## areas
+
+# where a field stands, and what is told where it is 0, 1 and 4,294,967,295: the first wrong field of the header with
+# what was found there, a record by its slot, or the set and block of the record that is listed
+FIELDS = """
+0 Magic,0 Magic,1 Magic,4294967295
+4 Magic,1095979862 Magic,1095979862 Magic,1095979862
+8 Layout,0 Rest,4 Layout,4294967295
+12 Slots,0 Slots,1 Slots,4294967295
+16 Used,0 listed,3,2 Used,4294967295
+20 Volumes,0 listed,3,2 Volumes,4294967295
+24 Blocks,0 record,1 Blocks,4294967295
+28 listed,3,2 Rest,1 Rest,255
+16380 listed,3,2 Rest,1 Rest,255
+16384 listed,3,2 Used,1 Used,1
+16388 listed,3,2 record,0 record,0
+16392 listed,3,2 record,0 record,0
+16396 listed,3,2 record,0 record,0
+16400 record,1 listed,1,2 listed,4294967295,2
+16404 listed,3,0 listed,3,1 record,1
+16408 listed,3,2 record,1 record,1
+16412 listed,3,2 record,1 record,1
+16416 listed,3,2 record,2 record,2
+16420 listed,3,2 record,2 record,2
+32764 listed,3,2 record,1023 record,1023
+""".strip()
+NINES = "cf606a7d35c98e2effc07a6477adc0adb4fe90931f6932be10d0302190e8b627"
+
+
+def area(layout, told, *numbers, size=4 * BLOCK):
+    """Compares what is told of an area with these bytes at these places, of this length."""
+    # 2 slots for a volume of 4 blocks, with a record for set 3 and block 2 in slot 1, which is full of nines
+    head = struct.pack("<5I", 2, 2, 1, 1, 4) if layout == 2 else struct.pack("<5I", 1, 2, 1, 4, 0)
+    data = bytearray((b"VSSAREA1" + head).ljust(BLOCK + 16, b"\0") + struct.pack("<2I", 3, 2))
+    data = bytearray(data.ljust(3 * BLOCK, b"\0") + b"\x09" * BLOCK)
+    for at, changed in numbers:
+        data[at:at + len(changed)] = changed
+    listed(bytes(data.ljust(size, b"\0"))[:size], layout, told)
+
+
+def listed(data, layout, told):
+    word, *rest = told.split(",")
+    done, what = ran([PROGRAM, "inspect"], input=data), f"an area of {len(data)} bytes"
+    if word == "listed":
+        # examples/area.listing is that of the whole one in layout 2
+        slot = f"slot 1 set {rest[0]} volume 0 block {rest[1]} {NINES}"
+        wanted = f"area layout {layout} slots 2 used 1\nvolume 0 blocks 4\n{slot}\nend\n".encode()
+        is_so = done.returncode == 0 and done.stdout == wanted
+        holds("areas", is_so, f"{what}: {done.stdout} {done.stderr}, and not {wanted}")
+    else:
+        line = f"area record {rest[0]}" if word == "record" else f"area header {word} {rest[0]}"
+        refuses("areas", what, done, 9, f"vss: {line}")
+
+
+def areas():
+    area(2, "listed,3,2")
+    for row in FIELDS.split("\n"):
+        at, *told = row.split()
+        for number, word in zip(NUMBERS, told):
+            area(2, word, (int(at), struct.pack("<I", number)))
+    area(1, "listed,3,2")
+    for at, changed, told in (
+        (20, b"\0\0\0\0", "Blocks,0"), (20, b"\1\0\1\0", "Blocks,65537"), (24, b"\1", "Rest,1"),
+        (16408, b"\1", "record,1"), (16384, b"\3\0\0\0\2", "record,1"), (16, b"\2", "Used,2"),
+    ):
+        area(1, told, (at, changed))
+    for size in (7, 16384, 49151, 49153, 65535, 65537):
+        area(2, "Magic,1095979862" if size == 7 else "Slots,2", size=size)
+    for data, told in (
+        (b"", "Magic,0"), (b"scenario 1\n", "Magic,1852138355"), (b"VSSAREA1\3\0\0\0", "Layout,3"),
+        (b"VSSAREA1\2\0\0\0\2\0\0\0", "Slots,2"),
+    ):
+        listed(data, 2, told)
+
+
+def main():
+    for part in (words, lines, large, areas):
+        part()
+    for wrong in wrongs:
+        print(f"refusals: {wrong}", file=sys.stderr)
+    print(", ".join(f"{count} {kind}" for kind, count in counts.items()))
+    return int(bool(wrongs))
+
+
+sys.exit(main())
