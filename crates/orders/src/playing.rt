@@ -1,4 +1,5 @@
-//! A run by an order, from its beginning to its report. Its devices are in memory, and are given back to their maker.
+//! A run by an order, from its beginning to its report. Its devices are in memory. At the end of a run that has a report its maker gets them
+//! back, though no clause says so; else they are dropped.
 
 ghost use Rattle.std.specs.Prelude.{◌≡◌, IfOk, IfErr, IsErrOf};
 ghost use Rattle.vss_names.specs.Faults.{Rose};

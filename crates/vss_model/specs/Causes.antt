@@ -1,8 +1,9 @@
 -- Why a set fails: its act gives a cause. A veto to PrepareBackup, PrepareSnapshot or Freeze; a limit of which more ticks have
 -- gone by; a device that fails a flush; `abort` or `end` by the lane that owns the session; or a write for which the set's own
--- image goes. Each cause but the last is said here in words of its own, read off the running agenda and its log, and in none of the
--- words by which the definitions make a set fail; so where these were wrong, a set would fail without a cause. The write alone is said
--- in their words. (Which causes there are is this project's own.)
+-- image goes. Each cause but the last is said here a second time, read off the running agenda and its log. It shares with the
+-- definitions the numbers of the limits, a writer's time-out and open order, which groups are left, and how long an idle stretch
+-- is; but no word by which a set fails there, so if one were wrong, a set would fail without a cause. The write alone is said in
+-- their words. (Which causes there are is this project's own.)
 use Rattle.std.specs.Prelude.{ℕ, ◌+◌, ◌==◌, nat_lt, Bool, true, false, List, [], ◌∷◌, fold, ◌&&◌, ◌||◌, if◌then◌else◌, Option, Some, None, slice_get}
 use Rattle.std.specs.List.{list_any}
 use Rattle.vss_names.specs.declared.order.Order.{Order}
