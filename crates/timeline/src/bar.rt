@@ -44,12 +44,27 @@ impl Bar<'_> {
         letters.saturating_mul(LETTER)
     }
 
+    /// Whether these words have room in it.
+    fn has_room(&self) -> bool {
+        self.from
+            .saturating_add(LETTER)
+            .saturating_add(self.name_width())
+            < self.to
+    }
+
+    /// The class of these words: those on the full colour of an image are light.
+    pub fn class_of_name(&self) -> &'static str {
+        match self.kind {
+            BarKind::Used => "used",
+            BarKind::Image => if self.has_room() { "light" } else { "small" },
+            _ => "small",
+        }
+    }
+
     /// Where these words begin: in it, or behind its end where they have no room in it.
     pub fn name_at(&self) -> u64 {
-        let within = self.from.saturating_add(LETTER);
-        let has_room = within.saturating_add(self.name_width()) < self.to;
-        if has_room || self.kind.is_words() {
-            within
+        if self.has_room() || self.kind.is_words() {
+            self.from.saturating_add(LETTER)
         } else if self.ending.sign().is_none() {
             self.to.max(self.from.saturating_add(4)).saturating_add(3)
         } else {
@@ -64,8 +79,8 @@ impl Bar<'_> {
             .saturating_add(LETTER)
     }
 
-    /// Whether what is written in it is left out: it shares its place with others, since too many last at once; or it has no room, and
-    /// the image that goes on behind it has the same words.
+    /// Whether what is written in it is left out: it is of an image that is not drawn; or it has no room, and the image that goes on behind
+    /// it has the same words.
     pub fn is_mute(&self) -> bool {
         if MOST_TRACKS <= self.track {
             return self.kind != BarKind::More;

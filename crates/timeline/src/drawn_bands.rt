@@ -2,7 +2,6 @@
 
 use crate::band_row::BandRow;
 use crate::bar::Bar;
-use crate::bar_kind::BarKind;
 use crate::frame::Frame;
 use crate::layout::Layout;
 use crate::mark::Mark;
@@ -117,17 +116,18 @@ fn add_name(frame: &mut Frame<'_>, bar: &Bar<'_>, y: u64) -> Result<(), OutOfMem
     if bar.kind.is_sign() || bar.is_mute() {
         return Ok(());
     }
-    let class = match bar.kind {
-        BarKind::Image => "light",
-        BarKind::Used => "used",
-        _ => "small",
-    };
     let more = if bar.kind.has_number() {
         Part::Number(bar.number)
     } else {
         NOTHING
     };
-    frame.words(class, bar.name_at(), y, bar.kind.words(), more)
+    frame.words(
+        bar.class_of_name(),
+        bar.name_at(),
+        y,
+        bar.kind.words(),
+        more,
+    )
 }
 
 /// Adds how a bar ends, where it is not as it should or goes on.

@@ -75,15 +75,12 @@ impl<'a> RowBars<'a> {
 
     /// Frees the place of a bar.
     fn free(&mut self, bar: &Bar<'a>) {
-        if MOST_TRACKS <= bar.track {
-            return;
-        }
         if let Some(free_from) = self.tracks.get_mut(bar.track) {
             *free_from = if bar.to == 0 { 0 } else { bar.end_of_words() };
         }
     }
 
-    /// Ends the bars that are picked.
+    /// Ends the bars that are picked. One that had no place is not drawn.
     pub fn end(
         &mut self,
         done: &mut Vec<Bar<'a>>,
@@ -93,7 +90,7 @@ impl<'a> RowBars<'a> {
     ) -> Result<(), OutOfMemory> {
         for at in 0..self.open.len() {
             if let Some(bar) = self.open.get(at).copied() {
-                if pick.takes(&bar) {
+                if bar.track < MOST_TRACKS && pick.takes(&bar) {
                     let bar = Bar {
                         to: x,
                         ending,
@@ -112,11 +109,13 @@ impl<'a> RowBars<'a> {
     pub fn stand(&mut self, done: &mut Vec<Bar<'a>>, x: u64) -> Result<(), OutOfMemory> {
         for bar in self.open.iter_mut() {
             if bar.kind == BarKind::Making {
-                done.push(Bar {
-                    to: x,
-                    ending: Ending::Done,
-                    ..*bar
-                })?;
+                if bar.track < MOST_TRACKS {
+                    done.push(Bar {
+                        to: x,
+                        ending: Ending::Done,
+                        ..*bar
+                    })?;
+                }
                 bar.kind = BarKind::Image;
                 bar.from = x;
             }
