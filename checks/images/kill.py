@@ -159,8 +159,9 @@ class Scene:
             shown = self.run(folder, ["show", "F", str(number), name])
             if shown.returncode not in (0, 3) or shown.returncode == 0 and shown.stdout != data:
                 self.wrong(place, f"image {number} of {name} after an update: {shown.returncode} {shown.stderr}")
-        if self.run(folder, ["check", "F"]).returncode:
-            self.wrong(place, "check after an update")
+        checked = self.run(folder, ["check", "F"])
+        if checked.returncode:
+            self.wrong(place, f"check after an update: {checked.returncode} {checked.stderr}")
 
     def look_at_new(self, folder, place):
         """After a create that was killed: no folder at all, or a whole one; what is left of it is refused by name."""

@@ -11,9 +11,10 @@ import struct
 BLOCK = 16384
 FORMS = {
     "create": "create [--tries N] F SLOTS NAME[:BLOCKS]=FILE ..",
-    "cut": "cut F NAME ..",
+    "cut": "cut [--note TEXT] F NAME ..",
     "update": "update [--tries N] [--keep N] F NAME=FILE ..",
     "list": "list F",
+    "sets": "sets F",
     "show": "show F [SET] NAME",
     "restore": "restore [--over] F [SET] NAME FILE",
     "digest": "digest F [SET] NAME",

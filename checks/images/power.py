@@ -238,7 +238,7 @@ class Losing:
         self.lose(disk, "before all", 0)
         for number, (call, path, more, data) in enumerate(calls, 1):
             disk.do(call, path, more, data)
-            if call != "print" and number % step == 0:
+            if call == "unlink" or call != "print" and number % step == 0:
                 place = f"after call {number}, {call} {os.path.basename(path)}"
                 self.lose(disk, place, number)
                 if not is_new:

@@ -1,10 +1,13 @@
 """`restore` makes a file whole or leaves what is there; `prune` and `--keep` keep the newest sets; `--wait` waits for
 another process."""
+import datetime
 import fcntl
 import os
+import re
 import resource
 import sys
 import threading
+import time
 
 from common import limited, ran, read, write
 
@@ -35,7 +38,17 @@ def main(program, room):
     call(0, "set 1\n", "cut", "F", "db", "log")
     write("db", second)
     call(0, "db written 3 copied 3\n", "update", "F", "db=db")
-    call(0, "set 2\n", "cut", "F", "db")
+    call(0, "set 2\n", "cut", "--note", "nightly, before the upgrade", "F", "db")
+    sets = ran([program, "sets", "F"]).stdout.decode()
+    told = re.fullmatch(r"set 1 (\S+)Z images 2 used 3\nset 2 (\S+)Z images 1 used 0: nightly, before the upgrade\n", sets)
+    moments = [datetime.datetime.fromisoformat(moment + "+00:00").timestamp() for moment in told.groups()] if told else []
+    if not told or not time.time() - 60 < moments[0] <= moments[1] <= time.time():
+        sys.exit(f"sets: {sets}")
+    os.rename("F/images.dates", "dates")
+    call(0, "set 1 - images 2 used 3\nset 2 - images 1 used 0\n", "sets", "F")
+    os.rename("dates", "F/images.dates")
+    for note in ("two\nlines", "\x7f", "\u00e9", "n" * 101):
+        call(2, "usage: cut [--note TEXT] F NAME ..", "cut", "--note", note, "F", "db")
 
     call(0, "", "restore", "F", "1", "db", "out")
     has("out", first, 0o600)
@@ -71,6 +84,8 @@ def main(program, room):
     call(0, "", "prune", "--keep", "2", "F")
     call(3, "there is no image of it", "show", "F", "1", "db")
     call(0, "deleted set 2: 1\n", "prune", "--keep", "1", "F")
+    if len(read("F/images.dates").splitlines()) != 3:
+        sys.exit("a set that went lost its line before the next cut")
     for words in (["prune", "F"], ["prune", "--keep", "0", "F"], ["list", "--over", "F"], ["cut", "--keep", "1", "F", "db"], ["restore", "F", "db"],
                   ["create", "--wait", "1", "G", "1", "db=db"], ["list", "--wait", "1", "--wait", "1", "F"]):
         call(2, "usage: ", *words)
@@ -81,5 +96,7 @@ def main(program, room):
     call(10, "in use by another process", "list", "--wait", "1", "F")
     threading.Timer(0.5, lambda: fcntl.flock(held, fcntl.LOCK_UN)).start()
     call(0, "set 4\n", "cut", "--wait", "30", "F", "db")
+    if [line.split()[0] for line in read("F/images.dates").splitlines()] != [b"3", b"4"]:
+        sys.exit("a set that went kept its line")
     os.chdir("/")
-    return f"{tried} calls of restore, prune, --keep and --wait"
+    return f"{tried} calls of restore, sets, prune, --keep and --wait"
