@@ -46,7 +46,7 @@ END
 # by the clock a time is as wide as it is long: here 20 and 3,000 ticks, as in a record of a backup, which the wrapper takes by its one name
 by_clock() {
   printf 'scenario 1\nlane a\ntick 20\nbegin 9\ntick 3000\nend\n' > "$room/record.scenario"
-  "$(program vss)" < "$room/record.scenario" > "$room/record.report" || wrong "a run of two times"
+  "$(program vss)" run < "$room/record.scenario" > "$room/record.report" || wrong "a run of two times"
   "$1" --clock "$room/record.scenario" "$room/record.report" > "$room/out" || wrong "a clock is not drawn"
   widths="$(sed -n "s/^<rect class='passing' .* width='\([0-9]*\)' .*/\1/p" "$room/out" | tr '\n' ' ')"
   [ "$widths" = "6 993 " ] || wrong "times of 20 and 3,000 ticks are $widths wide"
