@@ -102,31 +102,32 @@ class Scene:
 
     def images(self):
         """Each image that stood before or after, and its bytes."""
-        found = {}
-        for store in self.stores():
-            for v in store.volumes:
-                for i in v.images:
-                    found[v.name, i.set] = i.data
-        return found
+        return {(v.name, i.set): i.data for store in self.stores() for v in store.volumes for i in v.images}
 
     def may_miss(self, name, number):
         """Whether an image may be missing."""
         return any(v.name == name and v.image(number) is None for store in self.stores() for v in store.volumes)
 
+    def shown_image(self, folder, place, name, number, data):
+        """Shows an image. Whether it is there, and then it has its bytes."""
+        got = self.run(folder, ["show", "F", str(number), name])
+        if got.returncode == 0 and got.stdout != data or got.returncode not in (0, 3):
+            self.wrong(place, f"image {number} of {name}: {got.returncode} {got.stderr}")
+        return got.returncode == 0
+
     def look(self, folder, place, printed):
         """Shows everything after a kill. The volumes that are in transit are answered."""
         torn = self.call[0] in ("update", "revert") and os.path.exists(os.path.join(folder, "F", "images.open"))
         for (name, number), data in self.images().items():
-            got = self.run(folder, ["show", "F", str(number), name])
-            if got.returncode == 0 and got.stdout != data or got.returncode not in (0, 3):
-                self.wrong(place, f"image {number} of {name}: {got.returncode} {got.stderr}")
-            if got.returncode == 3 and not self.may_miss(name, number):
+            is_there = self.shown_image(folder, place, name, number, data)
+            if not is_there and not self.may_miss(name, number):
                 self.wrong(place, f"image {number} of {name} is gone")
-            if got.returncode == 0 and f"evicted set {number} {name}\n".encode() in printed:
+            if is_there and f"evicted set {number} {name}\n".encode() in printed:
                 self.wrong(place, f"image {number} of {name} was printed as evicted, and is there")
         for v, w in zip(self.stores()[0].volumes, self.stores()[-1].volumes):
             got = self.run(folder, ["show", "F", v.name])
-            if got.returncode == 0 and got.stdout not in (v.data, w.data) or got.returncode not in (0, 11) or got.returncode == 11 and not torn:
+            is_right = got.stdout in (v.data, w.data) if got.returncode == 0 else got.returncode == 11 and torn
+            if not is_right:
                 self.wrong(place, f"{v.name}: {got.returncode} {got.stderr}")
         self.look_at_calls(folder, place, torn, printed)
 
@@ -137,31 +138,39 @@ class Scene:
             self.wrong(place, f"check: {check.returncode} {check.stdout} {check.stderr}")
         listed = self.run(folder, ["list", "F"])
         if torn:
-            others = [["update", "F", "db=db"], ["revert", "F", "1", "db"]] if len(self.call) == 4 and self.call[0] == "update" else []
-            for words in (["list", "F"], ["cut", "F", "db"], ["delete", "F", "1"], *others):
+            words_of = [["list", "F"], ["cut", "F", "db"], ["delete", "F", "1"]]
+            if len(self.call) == 4 and self.call[0] == "update":
+                words_of += [["update", "F", "db=db"], ["revert", "F", "1", "db"]]
+            for words in words_of:
                 got = self.run(folder, words)
                 if got.returncode != 11 or got.stdout:
                     self.wrong(place, f"{words}: {got.returncode} {got.stdout} {got.stderr}")
-        elif listed.returncode != 0 or not printed and self.call[0] != "update" and listed.stdout not in [p.answer(["list", "F"])[1] for p in (self.before, self.after)]:
+            return
+        lists = [p.answer(["list", "F"])[1] for p in (self.before, self.after)]
+        if listed.returncode != 0 or not printed and self.call[0] != "update" and listed.stdout not in lists:
             self.wrong(place, f"list: {listed.returncode} {listed.stdout} {listed.stderr}")
 
-    def mend(self, folder, place):
-        """Updates all, and compares again."""
-        names = [v.name for v in self.stores()[0].volumes]
-        got = self.run(folder, ["update", "F", *[f"{name}={name}" for name in names]])
-        if got.returncode:
-            self.wrong(place, f"update: {got.returncode} {got.stderr}")
-        for name in names:
+    def names(self):
+        return [v.name for v in self.stores()[0].volumes]
+
+    def look_at_files(self, folder, place):
+        """Each volume has its file, and all is whole."""
+        for name in self.names():
             shown = self.run(folder, ["show", "F", name])
             if shown.returncode or shown.stdout != self.before.files[name]:
                 self.wrong(place, f"{name} after an update: {shown.returncode} {shown.stderr}")
-        for (name, number), data in self.images().items():
-            shown = self.run(folder, ["show", "F", str(number), name])
-            if shown.returncode not in (0, 3) or shown.returncode == 0 and shown.stdout != data:
-                self.wrong(place, f"image {number} of {name} after an update: {shown.returncode} {shown.stderr}")
         checked = self.run(folder, ["check", "F"])
         if checked.returncode:
             self.wrong(place, f"check after an update: {checked.returncode} {checked.stderr}")
+
+    def mend(self, folder, place):
+        """Updates all, and compares again."""
+        got = self.run(folder, ["update", "F", *[f"{name}={name}" for name in self.names()]])
+        if got.returncode:
+            self.wrong(place, f"update: {got.returncode} {got.stderr}")
+        self.look_at_files(folder, place)
+        for (name, number), data in self.images().items():
+            self.shown_image(folder, f"{place}, an update", name, number, data)
 
     def look_at_new(self, folder, place):
         """After a create that was killed: no folder at all, or a whole one; what is left of it is refused by name."""

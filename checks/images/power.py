@@ -194,21 +194,15 @@ class Losing:
 
     def repair(self, disk, place):
         """Updates all volumes on this disk, and takes the power away then: they have their files."""
-        scene, names = self.scene, [v.name for v in self.scene.stores()[0].volumes]
         disk = copy.deepcopy(disk)
         disk.make(self.folder, None)
-        got, calls = self.made(disk, ["update", "F", *[f"{name}={name}" for name in names]])
+        got, calls = self.made(disk, ["update", "F", *[f"{name}={name}" for name in self.scene.names()]])
         if got.returncode:
-            scene.wrong(place, f"update: {got.returncode} {got.stderr}")
+            self.scene.wrong(place, f"update: {got.returncode} {got.stderr}")
         for call in calls:
             disk.do(*call)
         for at in self.after_losses(disk, f"{place}, an update, and a loss of power", place):
-            for name in names:
-                shown = scene.run(self.folder, ["show", "F", name])
-                if shown.returncode or shown.stdout != scene.before.files[name]:
-                    scene.wrong(at, f"{name}: {shown.returncode} {shown.stderr}")
-            if scene.run(self.folder, ["check", "F"]).returncode:
-                scene.wrong(at, "not whole")
+            self.scene.look_at_files(self.folder, at)
 
     def fail_each(self, step):
         """Lets each sync of the call fail, and repairs."""

@@ -1,10 +1,12 @@
-"""Volumes behind locks of their own: two writers and one who makes a cut, in every order of their calls; the most images, cuts and entries; and writers
-of three shards and one who makes cuts of all, in threads.
+"""Volumes behind locks of their own: two writers and one who makes a cut, in every order of their calls; the most
+images, cuts and entries; and writers of three shards and one who makes cuts of all, in threads.
 
-What is replied is computed from lists of writes alone: a held volume refuses a write; an image has what the writes before it was held left. In threads
-each of 3 writers makes 2,000 writes, the nth of which puts n into block n modulo 4; 12 cuts are made meanwhile. What has to be so is computed from the
-numbers that the entries of each writer have in the journal.
+What is replied is computed from lists of writes alone: a held volume refuses a write; an image has what the writes
+before it was held left. In threads each of 3 writers makes 2,000 writes, the nth of which puts n into block n modulo 4;
+12 cuts are made meanwhile. What has to be so is computed from the numbers that the entries of each writer have in the
+journal.
 """
+import itertools
 import re
 import subprocess
 
@@ -19,13 +21,11 @@ GIVEN_UP = ["collect 1", "collect 0", "give_back 1", "give_back 0"]
 
 def orders(*lists):
     """Every order of the members of these lists, each of which keeps its own."""
-    lists = [items for items in lists if items]
-    if not lists:
+    if not any(lists):
         yield []
     for place, items in enumerate(lists):
-        rest = lists[:place] + [items[1:]] + lists[place + 1 :]
-        for order in orders(*rest):
-            yield [items[0]] + order
+        if items:
+            yield from ([items[0], *order] for order in orders(*lists[:place], items[1:], *lists[place + 1:]))
 
 
 def content(writes, block):
@@ -180,12 +180,9 @@ def calls():
     yield "shards"
     yield f"threads {WRITES} {CUTS}"
     yield "cuts"
-    for cut in range(1, CUTS + 1):
-        yield f"cut {cut}"
-    for cut in range(1, CUTS + 1):
-        for volume in range(SHARDS):
-            for block in range(BLOCKS):
-                yield f"image {volume} {cut} {block}"
+    yield from (f"cut {cut}" for cut in range(1, CUTS + 1))
+    for cut, volume, block in itertools.product(range(1, CUTS + 1), range(SHARDS), range(BLOCKS)):
+        yield f"image {volume} {cut} {block}"
     yield "fill 0 0 255"
     yield "gather"
 
@@ -198,40 +195,28 @@ def image_of(count, block):
 
 def is_one_prefix(entries, parts):
     """Whether some first so many entries of the journal have just these many of each volume."""
-    least, most = 0, SHARDS * WRITES
-    for volume, _, count in parts:
-        own = entries[volume]
-        if count > 0:
-            least = max(least, own[count - 1])
-        if count < len(own):
-            most = min(most, own[count] - 1)
-    return least <= most
+    last = [entries[volume][count - 1] for volume, _, count in parts if count]
+    following = [number for volume, _, count in parts for number in entries[volume][count:count + 1]]
+    return max(last, default=0) < min(following, default=SHARDS * WRITES + 1)
 
 
 def what_is_so(reply, tally):
     """Each thing that has to be so, and whether it is. Adds to the tally how many cuts fell between writes."""
     numbers = re.fullmatch(r"Entries\(\[(.*)\]\)", reply[f"threads {WRITES} {CUTS}"]).group(1)
     entries = [[int(n) for n in own.split(", ")] for own in re.findall(r"\[([^]]*)\]", numbers)]
-    yield "each writer made its writes, in order", [len(own) for own in entries] == [WRITES] * SHARDS and all(
-        own == sorted(own) for own in entries
-    )
+    is_in_order = all(own == sorted(own) for own in entries)
+    yield "each writer made its writes, in order", [len(own) for own in entries] == [WRITES] * SHARDS and is_in_order
     yield "each number of the journal is of one entry", sorted(sum(entries, [])) == list(range(1, SHARDS * WRITES + 1))
     yield "the journal has no other entry", reply["fill 0 0 255"] == f"Write(Ok({SHARDS * WRITES + 1}))"
     yield "each cut was made", reply["cuts"] == f"Cuts({CUTS})"
-    cuts = []
-    for cut in range(1, CUTS + 1):
-        found = re.findall(r"volume: (\d+), image: (\d+), count: (\d+)", reply[f"cut {cut}"])
-        cuts.append([tuple(int(n) for n in part) for part in found])
-    yield "each cut has its image of each volume", all(
-        [part[:2] for part in parts] == [(volume, cut) for volume in range(SHARDS)] for cut, parts in enumerate(cuts, 1)
-    )
-    yield "each cut is one prefix of the journal", all(is_one_prefix(entries, parts) for parts in cuts)
-    yield "each image is its volume after that prefix", all(
-        reply[f"image {volume} {image} {block}"] == image_of(count, block)
-        for parts in cuts
-        for volume, image, count in parts
-        for block in range(BLOCKS)
-    )
+    part = re.compile(r"volume: (\d+), image: (\d+), count: (\d+)")
+    cuts = [[tuple(map(int, it)) for it in part.findall(reply[f"cut {cut}"])] for cut in range(1, CUTS + 1)]
+    for cut, parts in enumerate(cuts, 1):
+        yield f"cut {cut} has its image of each volume", [it[:2] for it in parts] == [(v, cut) for v in range(SHARDS)]
+        yield f"cut {cut} is one prefix of the journal", is_one_prefix(entries, parts)
+        for (volume, image, count), block in itertools.product(parts, range(BLOCKS)):
+            is_so = reply[f"image {volume} {image} {block}"] == image_of(count, block)
+            yield f"block {block} of image {image} of volume {volume} is that after the prefix", is_so
     yield "all is one whole", reply["gather"] == "Gather(Ok(()))"
     tally.append(sum(0 < sum(count for _, _, count in parts) < SHARDS * WRITES for parts in cuts))
 
