@@ -22,7 +22,7 @@ use shown::Shown;
 use std::io::{BufRead, BufReader};
 use std::process::ExitCode;
 use std::thread::Threads;
-use std::time::Instant;
+use std::time::{Duration, Instant};
 use std::{env, fs, io};
 use vss_play::StepFault;
 
@@ -68,6 +68,11 @@ fn take(
     Ok(next)
 }
 
+/// The moment so many milliseconds later: what is below a millisecond counts for the next time.
+fn later(then: Option<Instant>, ms: u32) -> Option<Instant> {
+    then?.checked_add(Duration::from_millis(u64::from(ms)))
+}
+
 /// Reads lines and takes what they say, to the end of the backup. The end of the lines gives it up.
 fn talk(
     program: &Program,
@@ -86,9 +91,7 @@ fn talk(
             break;
         };
         let ms = since(program, last);
-        if ms > 0 {
-            last = Instant::now(&program.rt).ok();
-        }
+        last = later(last, ms);
         let happened = Happened::of(line.as_str(), shown.names());
         if let Next::Over = take(program, backup, shown, ms, happened)? {
             return Ok(());
