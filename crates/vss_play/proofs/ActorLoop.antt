@@ -5,8 +5,8 @@ use Rattle.std.specs.List.{All}
 use Rattle.std.proofs.lemmas.List.{append-nil, length-append}
 use Rattle.std.proofs.lemmas.List.Elements.{All-append, All-nil, All-cons}
 use Rattle.write_history.specs.declared.actor.Actor.{Actor}
-use Rattle.vss_play.specs.declared.stepped.Stepped.{Stepped}
-use Rattle.vss_play.specs.declared.stepped.Stepped.TheVariants as stepped
+use Rattle.vss_play.specs.declared.moved.Moved.{Moved}
+use Rattle.vss_play.specs.declared.moved.Moved.TheVariants.{Finished}
 use Rattle.vss_play.specs.Acting.{Turn, IsBlocked, HasTurns, EndsWith, EndsBlocked, HasLeft, HasWanted, IsLooping}
 
 one_more : {X : Type 0} (P : X → Type 0) (xs : List X) (x : X) → All P xs → P x → All P (xs ++ x ∷ [])
@@ -50,28 +50,21 @@ turns actor old now new e n so_far one call = record {
   of = one_more (λ x. x.call ≡ actor) so_far.more e so_far.of call;
 }
 
-ended : (actor : Actor) (answer : Stepped) (old now new : List Turn) (e : Turn) (n : ℕ) → (so_far : IsLooping actor old now n) → new ≡ now ++ e ∷ [] → e.answer ≡ Ok answer → EndsWith answer (so_far.more ++ e ∷ [])
+ended : (actor : Actor) (answer : Moved) (old now new : List Turn) (e : Turn) (n : ℕ) → (so_far : IsLooping actor old now n) → new ≡ now ++ e ∷ [] → e.answer ≡ Ok answer → EndsWith answer (so_far.more ++ e ∷ [])
 ended actor answer old now new e n so_far one is = record { before = so_far.more; last = e; is = refl; answered = is }
 
-pub left_finished : (actor : Actor) (old now new : List Turn) (e : Turn) (n : ℕ) → IsLooping actor old now n → new ≡ now ++ e ∷ [] → e.answer ≡ Ok stepped.Finished → HasLeft old new
+pub left_finished : (actor : Actor) (old now new : List Turn) (e : Turn) (n : ℕ) → IsLooping actor old now n → new ≡ now ++ e ∷ [] → e.answer ≡ Ok Finished → HasLeft old new
 left_finished actor old now new e n so_far one is = record {
   more = so_far.more ++ e ∷ [];
   is = grown old now new so_far.more e so_far.is one;
-  why = inl (ended actor stepped.Finished old now new e n so_far one is);
-}
-
-pub left_full : (actor : Actor) (old now new : List Turn) (e : Turn) (n : ℕ) → IsLooping actor old now n → new ≡ now ++ e ∷ [] → e.answer ≡ Ok stepped.TrailFull → HasLeft old new
-left_full actor old now new e n so_far one is = record {
-  more = so_far.more ++ e ∷ [];
-  is = grown old now new so_far.more e so_far.is one;
-  why = inr (inl (ended actor stepped.TrailFull old now new e n so_far one is));
+  why = inl (ended actor Finished old now new e n so_far one is);
 }
 
 pub left_blocked : (actor : Actor) (old now new : List Turn) (e : Turn) (n : ℕ) → IsLooping actor old now n → new ≡ now ++ e ∷ [] → IsBlocked e → n + 1 ≡ 1000 → HasLeft old new
 left_blocked actor old now new e n so_far one b many = record {
   more = so_far.more ++ e ∷ [];
   is = grown old now new so_far.more e so_far.is one;
-  why = inr (inr (subst (λ k. EndsBlocked k (so_far.more ++ e ∷ [])) many (more_blocked so_far.more e n so_far.ends b)));
+  why = inr (subst (λ k. EndsBlocked k (so_far.more ++ e ∷ [])) many (more_blocked so_far.more e n so_far.ends b));
 }
 
 pub wanted : (actor : Actor) (old now new : List Turn) (e : Turn) (n : ℕ) → IsLooping actor old now n → new ≡ now ++ e ∷ [] → IsErr e.answer → HasWanted old new

@@ -9,11 +9,11 @@ use Rattle.write_history.specs.declared.actor.Actor.{Actor}
 use Rattle.write_history.specs.declared.move_item.Move.{Move}
 use Rattle.turn_cell.specs.History.{Leads}
 use Rattle.vss_model.specs.Trail.{is_fault, faults}
-use Rattle.vss_play.specs.declared.stepped.Stepped.{Stepped}
-use Rattle.vss_play.specs.declared.stepped.Stepped.TheVariants as stepped
+use Rattle.vss_play.specs.declared.moved.Moved.{Moved}
+use Rattle.vss_play.specs.declared.moved.Moved.TheVariants.{Moved as HasMoved, Blocked, Finished}
 use Rattle.provider.specs.Devices.{AreLater}
 use Rattle.vss_play.specs.Played.{Played, AreCounted, IsOnward, IsPlayedOut, IsPlayedInTurn}
-use Rattle.vss_play.specs.Acting.{Turn, IsStep, mover_if, movers, IsLedBy, IsLed}
+use Rattle.vss_play.specs.Acting.{Turn, IsPlayedInThreads, IsStep, mover_if, movers, IsLedBy, IsLed}
 use Rattle.vss_play.proofs.ClosingLines.{longer_trans, onward_still}
 use Rattle.vss_play.proofs.FaultMarks.{later-trans, counted_one, counted_then}
 
@@ -32,7 +32,7 @@ unmarked false e = refl
 clean_one : (m : Move) (xs ys : List ℕ) → (is_fault m.mark ≡ false → ys ≡ xs) → faults (m ∷ []) ≡ 0 → ys ≡ xs
 clean_one m xs ys now e = now (unmarked (is_fault m.mark) e)
 
-abbrev pub steps_of : {D : Type 0} → Ghosts D → Played D → ℕ → Actor → Stepped → Played D → Type 0
+abbrev pub steps_of : {D : Type 0} → Ghosts D → Played D → ℕ → Actor → Moved → Played D → Type 0
 steps_of ghosts before caller actor reply after = IsStep ghosts before actor reply after
 
 pub onward_on : {D : Type 0} (ghosts : Ghosts D) (p q r : Played D) → IsOnward ghosts p q → IsOnward ghosts q r → IsOnward ghosts p r
@@ -59,9 +59,9 @@ led_none : {D : Type 0} (ghosts : Ghosts D) (p q : Played D) → q ≡ p → IsL
 led_none {D} ghosts p q same =
     subst (λ (x : Played D). IsLedBy ghosts p [] x) (sym same) (record { onward = onward_still ghosts p; by = refl })
 
-led_one : {D : Type 0} (ghosts : Ghosts D) (p q : Played D) (actor : Actor) (r : Result Stepped OutOfMemory)
+led_one : {D : Type 0} (ghosts : Ghosts D) (p q : Played D) (actor : Actor) (r : Result Moved OutOfMemory)
     → MatchResult r (λ reply. IsStep ghosts p actor reply q) (λ _. q ≡ p) → IsLedBy ghosts p (mover_if actor r) q
-led_one ghosts p q actor (Ok stepped.Moved) h =
+led_one ghosts p q actor (Ok HasMoved) h =
     let m : Move = record { actor = actor; mark = h.mark } in
     record {
       onward = record {
@@ -76,9 +76,8 @@ led_one ghosts p q actor (Ok stepped.Moved) h =
       };
       by = refl;
     }
-led_one ghosts p q actor (Ok stepped.Blocked) h = led_none ghosts p q h.0
-led_one ghosts p q actor (Ok stepped.Finished) h = led_none ghosts p q h.0
-led_one ghosts p q actor (Ok stepped.TrailFull) h = led_none ghosts p q h.0
+led_one ghosts p q actor (Ok Blocked) h = led_none ghosts p q h.0
+led_one ghosts p q actor (Ok Finished) h = led_none ghosts p q h.0
 led_one ghosts p q actor (Err e) h = led_none ghosts p q h
 
 -- by its entries a run goes on
@@ -91,3 +90,7 @@ led ghosts p (e ∷ es) q h =
 pub played_after : {D : Type 0} (ghosts : Ghosts D) (p q : Played D) → IsOnward ghosts p q → (r : Result (Played D) OutOfMemory) → IfOk r (IsPlayedInTurn ghosts q) → IfOk r (IsPlayedOut ghosts p)
 played_after ghosts p q onward (Ok last) h = record { onward = onward_on ghosts p q last onward h.played.onward; complete = h.played.complete }
 played_after ghosts p q onward (Err e) h = h
+
+-- a run in threads goes on to its end
+pub played_to_the_end : {D : Type 0} (ghosts : Ghosts D) (p q : Played D) → IsPlayedInThreads ghosts p q → IsPlayedOut ghosts p q
+played_to_the_end ghosts p q h = played_after ghosts p h.middle (led ghosts p h.history h.middle h.leads).onward (Ok q) h.in_turn

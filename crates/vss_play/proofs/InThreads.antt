@@ -12,8 +12,8 @@ use Rattle.turn_cell.specs.declared.view.Known.{Known}
 use Rattle.turn_cell.specs.History.{Leads, entries_of}
 use Rattle.turn_cell.specs.Steps.{newcomer}
 use Rattle.turn_cell.specs.TurnEnd.{Stands}
-use Rattle.vss_play.specs.declared.stepped.Stepped.{Stepped}
-use Rattle.vss_play.specs.Played.{Played, IsPlayedInTurn}
+use Rattle.vss_play.specs.declared.moved.Moved.{Moved}
+use Rattle.vss_play.specs.Played.{Played, IsKept, IsPlayedInTurn}
 use Rattle.vss_play.specs.Acting.{Turn, HasTurns, HasLeft, HasWanted, HasPlayed, HasActed, IsPlayedInThreads, actors_in_threads}
 use Rattle.vss_play.proofs.Histories.{steps_of}
 
@@ -23,7 +23,7 @@ left_or (Ok done) a b = inl a
 left_or (Err e) a b = inr b
 
 -- what a newcomer made is what its actor played
-played_by : (actor : Actor) (i : ℕ) (old new : Known Actor Stepped) (history : List Turn) → old ≡ newcomer i → HasActed (Some actor) old new → Stands history new → HasPlayed actor (entries_of i history)
+played_by : (actor : Actor) (i : ℕ) (old new : Known Actor Moved) (history : List Turn) → old ≡ newcomer i → HasActed (Some actor) old new → Stands history new → HasPlayed actor (entries_of i history)
 played_by actor i old new history first acted stands =
     let none : old.mine ≡ [] = ap (λ k. k.mine) first in
     let is : entries_of i history ≡ new.mine = ap (λ (n : ℕ). entries_of n history) (sym (acted.0 ∙ ap (λ k. k.number) first)) ∙ stands.1 in
@@ -37,7 +37,7 @@ at_map f (x ∷ xs) zero d e l = refl
 at_map f (x ∷ xs) (suc i) d e l = at_map f xs i d e (omega arith)
 
 -- each actor played by its caller
-pub all_played : {C : Type 0} (standing : C → Known Actor Stepped) (actors : List Actor) (olds news : List C) (history : List Turn) → length news ≡ length olds → length olds ≡ length actors
+pub all_played : {C : Type 0} (standing : C → Known Actor Moved) (actors : List Actor) (olds news : List C) (history : List Turn) → length news ≡ length olds → length olds ≡ length actors
     → ((i : ℕ) (d : C) → i < length olds → standing (slice_index_or olds i d) ≡ newcomer i)
     → ((i : ℕ) (d : C) → i < length olds → HasActed (slice_get actors i) (standing (slice_index_or olds i d)) (standing (slice_index_or news i d)))
     → All (Stands history) (map standing news) → (i : ℕ) (actor : Actor) → slice_get actors i ≡ Some actor → HasPlayed actor (entries_of i history)
@@ -54,19 +54,20 @@ pub all_of : {X Y : Type 0} (f : X → Y) (P : Y → Type 0) (n : ℕ) (xs ys : 
 all_of f P n xs ys is h = subst (λ (l : List _). All P (map f l)) (ap (λ k. take k (xs ++ ys)) (sym is) ∙ take-append_seam xs ys) h
 
 -- so the run went on in threads, and then in turn
-pub played_in_threads : {D C : Type 0} (ghosts : Ghosts D) (standing : C → Known Actor Stepped) (first play middle : Played D) (actors : List Actor)
+pub played_in_threads : {D C : Type 0} (ghosts : Ghosts D) (standing : C → Known Actor Moved) (first play middle : Played D) (actors : List Actor)
     (olds news : List C) (history : List Turn) (seats : ℕ)
-    → first ≡ play → actors ≡ actors_in_threads play.plan → seats ≡ length actors → length news ≡ length olds → length olds ≡ length actors
+    → IsKept ghosts.told middle → first ≡ play → actors ≡ actors_in_threads play.plan → seats ≡ length actors → length news ≡ length olds → length olds ≡ length actors
     → Leads (steps_of ghosts) first history middle → All (λ e. e.caller < seats) history
     → ((i : ℕ) (d : C) → i < length olds → standing (slice_index_or olds i d) ≡ newcomer i)
     → ((i : ℕ) (d : C) → i < length olds → HasActed (slice_get actors i) (standing (slice_index_or olds i d)) (standing (slice_index_or news i d)))
     → All (Stands history) (map standing news) → (r : Result (Played D) OutOfMemory) → IfOk r (IsPlayedInTurn ghosts middle) → IfOk r (IsPlayedInThreads ghosts play)
-played_in_threads {D} ghosts standing first play middle actors olds news history seats start are seated same many leads numbered new acted stands (Ok last) in_turn = record {
+played_in_threads {D} ghosts standing first play middle actors olds news history seats keeps start are seated same many leads numbered new acted stands (Ok last) in_turn = record {
   history = history;
   middle = middle;
+  keeps = keeps;
   leads = subst (λ (p : Played D). Leads (steps_of ghosts) p history middle) start leads;
   callers = subst (λ (n : ℕ). All (λ e. e.caller < n) history) (seated ∙ ap length are) numbered;
   each = λ i actor at. all_played standing actors olds news history same many new acted stands i actor (ap (λ (xs : List Actor). slice_get xs i) are ∙ at);
   in_turn = in_turn;
 }
-played_in_threads ghosts standing first play middle actors olds news history seats start are seated same many leads numbered new acted stands (Err e) in_turn = tt
+played_in_threads ghosts standing first play middle actors olds news history seats keeps start are seated same many leads numbered new acted stands (Err e) in_turn = tt

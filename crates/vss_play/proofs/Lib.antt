@@ -1,6 +1,7 @@
 pub mod LaneLines
 pub mod Serving
 pub mod Asked
+pub mod OneByOne
 pub mod Replies
 pub mod Numbers
 pub mod FewEvicted

@@ -1,6 +1,7 @@
 -- What a core that its caller drives keeps.
-use Rattle.std.proofs.Common.{◌≡◌, ℕ, ◌+◌, ◌<◌, List, [], ◌∷◌, ◌++◌, Option, Some, arith, length-append}
-use Rattle.std.specs.Prelude.{slice_get}
+use Rattle.std.proofs.Common.{◌≡◌, ℕ, ◌+◌, ◌<◌, List, [], ◌∷◌, ◌++◌, length, take, Option, Some, arith, length-append}
+use Rattle.std.specs.Prelude.{drop, slice_get}
+use Rattle.std.proofs.lemmas.List.{length-drop, length-take-le}
 use Rattle.volume_device.specs.declared.device.Device.{Ghosts}
 use Rattle.scenario.specs.Plan.{Plan, LaneLine, lines_of}
 use Rattle.scenario.specs.Bounds.{IsPlan}
@@ -11,20 +12,22 @@ use Rattle.vss_model.specs.Outcome.{told_act}
 use Rattle.vss_report.specs.ToldLines.{IsActor}
 use Rattle.vss_world.specs.Stands.{WorldValue, IsOf, IsStanding, Stands}
 use Rattle.vss_world.specs.Moves.{IsMoved, IsEvent}
+use Rattle.vss_play.specs.declared.given.Given.{Given}
 use Rattle.vss_play.specs.Running.{AreInPlan}
 use Rattle.vss_play.specs.Serving.{IsServing, actor_by}
 use Rattle.vss_play.proofs.OneMove.{numbers_by}
 use Rattle.vss_play.proofs.LaneLines.{lane_in, line_is_op}
 
 -- at first
-pub serving_new : {D : Type 0} (told : D → Option (List (List ℕ))) (s : Plan) (w : WorldValue D) → IsOf w s → Stands told w s [] → IsServing told s w 0
-serving_new told s w of stands =
-    record { of = of; standing = record { acts = []; few = omega arith; stands = stands }; many = omega arith; most = omega arith }
+pub serving_new : {D : Type 0} (told : D → Option (List (List ℕ))) (s : Plan) (w : WorldValue D) (given : List Given) → IsOf w s → Stands told w s [] → length given ≡ length s.writers
+    → IsServing told s w 0 given
+serving_new told s w given of stands each =
+    record { of = of; standing = record { acts = []; few = omega arith; stands = stands }; many = omega arith; most = omega arith; each = each }
 
 -- and after a move
-pub serving_on : {D : Type 0} (ghosts : Ghosts D) (s : Plan) (old new : WorldValue D) (n m : ℕ) (event : Event) (o : Outcome)
-    → n < 2097151 → m ≡ n + 1 → IsServing ghosts.told s old n → IsMoved ghosts old new s event o → IsServing ghosts.told s new m
-serving_on ghosts s old new n m event o few next k moves =
+pub serving_on : {D : Type 0} (ghosts : Ghosts D) (s : Plan) (old new : WorldValue D) (n m : ℕ) (given : List Given) (event : Event) (o : Outcome)
+    → n < 2097151 → m ≡ n + 1 → IsServing ghosts.told s old n given → IsMoved ghosts old new s event o → IsServing ghosts.told s new m given
+serving_on ghosts s old new n m given event o few next k moves =
     let acts = k.standing.acts in
     let more = length-append acts (told_act event o.told ∷ []) in
     let many = k.many in
@@ -37,6 +40,7 @@ serving_on ghosts s old new n m event o few next k moves =
       };
       many = omega arith;
       most = omega arith;
+      each = k.each;
     }
 
 -- a lane's line is an event of the scenario
@@ -55,3 +59,10 @@ pub numbers_of : {D : Type 0} (ghosts : Ghosts D) (s : Plan) (old new : WorldVal
     → IsEvent s event → IsStanding ghosts.told old s → IsMoved ghosts old new s event o → AreInPlan s (actor_by event) o new.evicted
 numbers_of ghosts s old new event o is standing moves =
     numbers_by ghosts s old new standing.acts (actor_by event) event o (actor_of s event is) standing.stands moves
+
+-- a list that was lent whole has as many members as before
+pub given_back : {X : Type 0} (n : ℕ) (new old : List X) → length old ≡ n → length (take n (new ++ drop (length new) old)) ≡ n
+given_back n new old full =
+    let all = length-append new (drop (length new) old) in
+    let rest = length-drop (length new) old in
+    length-take-le n (new ++ drop (length new) old) (omega arith)

@@ -13,37 +13,25 @@ use Rattle.turn_cell.specs.declared.view.Known.{Known}
 use Rattle.turn_cell.specs.History.{Leads, entries_of}
 use Rattle.vss_play.specs.declared.moved.Moved.{Moved}
 use Rattle.vss_play.specs.declared.moved.Moved.TheVariants.{Moved as HasMoved, Blocked, Finished}
-use Rattle.vss_play.specs.declared.step_fault.StepFault.{StepFault}
-use Rattle.vss_play.specs.declared.step_fault.StepFault.TheVariants.{TrailFull}
-use Rattle.vss_play.specs.declared.stepped.Stepped.{Stepped}
-use Rattle.vss_play.specs.declared.stepped.Stepped.TheVariants as stepped
-use Rattle.vss_play.specs.Played.{Played, IsTurn, IsOnward, IsPlayedInTurn}
+use Rattle.vss_play.specs.Played.{Played, IsKept, IsTurn, IsOnward, IsPlayedInTurn}
 
 -- those who act in threads of their own: the lanes by number, the writers by number, and the provider
 abbrev pub actors_in_threads : Plan → List Actor
 actors_in_threads s = map (λ i. Lane i) (range_with_len 0 (length s.lanes)) ++ map (λ w. Writer w) (range_with_len 0 (length s.writers)) ++ Advance ∷ []
 
--- the reply as the call by itself answers
-abbrev pub outcome_of : Stepped → Result Moved StepFault
-outcome_of stepped.Moved = Ok HasMoved
-outcome_of stepped.Blocked = Ok Blocked
-outcome_of stepped.Finished = Ok Finished
-outcome_of stepped.TrailFull = Err TrailFull
-
 -- a move of the machine
-abbrev pub IsStep : {D : Type 0} → Ghosts D → Played D → Actor → Stepped → Played D → Type 0
-IsStep ghosts before actor reply after = IsTurn ghosts before after actor (outcome_of reply)
+abbrev pub IsStep : {D : Type 0} → Ghosts D → Played D → Actor → Moved → Played D → Type 0
+IsStep ghosts before actor reply after = IsTurn ghosts before after actor (Ok reply)
 
 -- an entry of the history
 abbrev pub Turn : Type 0
-Turn = Entry Actor Stepped
+Turn = Entry Actor Moved
 
 -- the actor of an entry by which a move was made
-abbrev pub mover_if : Actor → Result Stepped OutOfMemory → List Actor
-mover_if actor (Ok stepped.Moved) = actor ∷ []
-mover_if actor (Ok stepped.Blocked) = []
-mover_if actor (Ok stepped.Finished) = []
-mover_if actor (Ok stepped.TrailFull) = []
+abbrev pub mover_if : Actor → Result Moved OutOfMemory → List Actor
+mover_if actor (Ok HasMoved) = actor ∷ []
+mover_if actor (Ok Blocked) = []
+mover_if actor (Ok Finished) = []
 mover_if actor (Err e) = []
 
 -- the actors of the entries by which a move was made, in order
@@ -64,7 +52,7 @@ IsLed ghosts old entries new = IsLedBy ghosts old (movers entries) new
 -- ## an actor's loop
 
 abbrev pub IsBlocked : Turn → Type 0
-IsBlocked e = e.answer ≡ Ok stepped.Blocked
+IsBlocked e = e.answer ≡ Ok Blocked
 
 -- some more entries were made, all of this actor
 pub record HasTurns (actor : Actor) (old new : List Turn) : Type 0 where
@@ -73,7 +61,7 @@ pub record HasTurns (actor : Actor) (old new : List Turn) : Type 0 where
   pub of : All (λ e. e.call ≡ actor) more
 
 -- the last of these entries answered so
-pub record EndsWith (answer : Stepped) (entries : List Turn) : Type 0 where
+pub record EndsWith (answer : Moved) (entries : List Turn) : Type 0 where
   pub before : List Turn
   pub last : Turn
   pub is : entries ≡ before ++ last ∷ []
@@ -87,11 +75,11 @@ pub record EndsBlocked (n : ℕ) (entries : List Turn) : Type 0 where
   pub many : length last ≡ n
   pub blocked : All IsBlocked last
 
--- an actor left for a reason: its last entry answered Finished or TrailFull, or its last 1,000 answered Blocked
+-- an actor left for a reason: its last entry answered Finished, or its last 1,000 answered Blocked
 pub record HasLeft (old new : List Turn) : Type 0 where
   pub more : List Turn
   pub is : new ≡ old ++ more
-  pub why : EndsWith stepped.Finished more ⊎ (EndsWith stepped.TrailFull more ⊎ EndsBlocked 1000 more)
+  pub why : EndsWith Finished more ⊎ EndsBlocked 1000 more
 
 -- an actor left because memory was wanting: its last entry answered so
 pub record HasWanted (old new : List Turn) : Type 0 where
@@ -117,15 +105,16 @@ pub record HasPlayed (actor : Actor) (entries : List Turn) : Type 0 where
   pub why : HasLeft [] entries ⊎ HasWanted [] entries
 
 -- the caller of an actor, where there is one, made some more entries until it left
-abbrev pub HasActed : Option Actor → Known Actor Stepped → Known Actor Stepped → Type 0
+abbrev pub HasActed : Option Actor → Known Actor Moved → Known Actor Moved → Type 0
 HasActed None old new = Unit {0}
 HasActed (Some actor) old new = (new.number ≡ old.number) × HasTurns actor old.mine new.mine × (HasLeft old.mine new.mine ⊎ HasWanted old.mine new.mine)
 
 -- The run went on by a history that has the entries of one caller for each actor, and no others, each of which called for its actor alone
--- until it left; the rest was made in turn.
+-- until it left; the run then stood for its own trail, and the rest was made in turn.
 pub record IsPlayedInThreads {D : Type 0} (ghosts : Ghosts D) (old new : Played D) : Type 0 where
   pub history : List Turn
   pub middle : Played D
+  pub keeps : IsKept ghosts.told middle
   pub leads : Leads (λ before caller actor reply after. IsStep ghosts before actor reply after) old history middle
   pub callers : All (λ e. e.caller < length (actors_in_threads old.plan)) history
   pub each : (i : ℕ) (actor : Actor) → slice_get (actors_in_threads old.plan) i ≡ Some actor → HasPlayed actor (entries_of i history)

@@ -8,3 +8,4 @@ pub mod Acting
 pub mod Digested
 pub mod Serving
 pub mod Resting
+pub mod Asking

@@ -9,7 +9,6 @@ use crate::gate::Gate;
 use crate::guest::Guest;
 use crate::moved::Moved;
 use crate::play::Play;
-use crate::stepped::Stepped;
 use std::sync::Wait;
 use turn_cell::{Caller, Turn};
 use volume_device::Device;
@@ -19,28 +18,23 @@ use write_history::Actor;
 /// How many answers Blocked in a row an actor takes before it leaves.
 const MOST_BLOCKED: u32 = 1_000;
 
-/// One step of an actor, with the gate before it and after it. Where memory is wanting or the trail is full, `after` is not called.
+/// One step of an actor, with the gate before it and after it. If memory is wanting, `after` is not called.
 fn take_one<R: Wait, D: Device, G: Gate>(
     rt: &R,
     turn: &Turn<Play<D>>,
     caller: &mut Caller<Play<D>>,
     actor: Actor,
     gate: &G,
-) -> Result<Stepped, OutOfMemory>
+) -> Result<Moved, OutOfMemory>
     requires { Calls caller.old turn.now }
     ensures seen { IsPrefix (seen caller.old) (seen caller.new) }
     ensures mine { mine caller.new ≡ mine caller.old ++ record { caller = number caller.old; call = actor; answer = result } ∷ [] }
     ensures same { IsSame caller.old caller.new }
 {
     gate.before(actor);
-    let stepped = turn.call(rt, caller, actor)?.reply;
-    match stepped {
-        Stepped::Moved => gate.after(actor, Moved::Moved),
-        Stepped::Blocked => gate.after(actor, Moved::Blocked),
-        Stepped::Finished => gate.after(actor, Moved::Finished),
-        Stepped::TrailFull => {}
-    }
-    Ok(stepped)
+    let moved = turn.call(rt, caller, actor)?.reply;
+    gate.after(actor, moved);
+    Ok(moved)
 }
 
 /// Makes the moves of one actor as `take_turns` does. Where it was blocked it waits as this guest does.
@@ -62,19 +56,18 @@ pub(crate) fn take_turns_as<R: Wait, D: Device, G: Gate>(
     let mut blocked = 0u32;
     for _ in rt.forever() {
         match take_one(rt, turn, caller, actor, gate)? {
-            Stepped::Moved => {
+            Moved::Moved => {
                 blocked = 0;
                 guest.has_moved();
             }
-            Stepped::Blocked => {
+            Moved::Blocked => {
                 blocked += 1;
                 if blocked == MOST_BLOCKED {
                     return Ok(());
                 }
                 guest.wait(rt);
             }
-            Stepped::Finished => return Ok(()),
-            Stepped::TrailFull => return Ok(()),
+            Moved::Finished => return Ok(()),
         }
     }
     unreachable!()
@@ -82,7 +75,7 @@ pub(crate) fn take_turns_as<R: Wait, D: Device, G: Gate>(
 
 /// Makes the moves of one actor over a run that it shares with others, each by one call of the turn, with `gate.before` before it
 /// and `gate.after` after it while no turn is held. Where it was blocked it lets other threads run before it asks again. It leaves once it is
-/// finished or the trail is full, or where it was blocked 1,000 times in a row; and where memory is wanting, which changes nothing of the run.
+/// finished, or where it was blocked 1,000 times in a row; and where memory is wanting, which changes nothing of the run.
 pub fn take_turns<R: Wait, D: Device, G: Gate>(
     rt: &R,
     turn: &Turn<Play<D>>,

@@ -90,5 +90,7 @@ pub fn play_all<R: Threads + Wait + Sync, D: Device + Send, G: Gate>(
         gate,
         &room,
     );
-    play_in_turn(alloc, turn.close(callers))
+    let played = turn.close(callers);
+    let _kept = played.lines();
+    play_in_turn(alloc, played)
 }

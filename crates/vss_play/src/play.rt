@@ -189,7 +189,7 @@ impl<D: Device> Play<D> {
         turns_come_to_an_end();
         match self.trail.reserve() {
             Ok(()) => {}
-            Err(TrailFault::Full) => return Err(StepFault::TrailFull),
+            Err(TrailFault::Full) => unreachable!(),
             Err(TrailFault::OutOfMemory) => return Err(StepFault::OutOfMemory),
         }
         let most = bytes_for(&self.scenario, event);

@@ -1,4 +1,4 @@
-ghost use Rattle.std.specs.Prelude.{true, ◌≡◌, ◌<◌, ◌≤◌, ◌+◌, [], Some, length, slice_get, OnOk, OnErr, IfOk, IfSome, IsErrOf};
+ghost use Rattle.std.specs.Prelude.{true, ◌≡◌, ◌<◌, ◌≤◌, ◌+◌, ◌⊎◌, ◌↔◌, [], Some, length, min, replicate, slice_get, OnOk, OnErr, IfOk, IfSome, IsErrOf};
 ghost use Rattle.vss_names.specs.Faults.{Rose};
 ghost use Rattle.cow_volume.specs.Calls.{counted_as};
 ghost use Rattle.coordinator.specs.OpenOrders.{standing_in};
@@ -9,10 +9,13 @@ ghost use Rattle.vss_world.specs.Moves.{IsEvent, IsStepped, AreListed, takes_mem
 ghost use Rattle.vss_world.specs.Stands.{IsOf, Stands, IsStanding, IfStands};
 ghost use Rattle.vss_world.specs.declared.reply.Reply.TheVariants.{Moved};
 ghost use Rattle.vss_report.specs.ToldLines.{most_bytes};
+ghost use Rattle.vss_play.specs.Asking.{AreAsked, nothing};
+ghost use Rattle.vss_play.specs.Played.{AreNamed, IsDropped, IsUndone, device_names};
 ghost use Rattle.vss_play.specs.Running.{AreInPlan};
-ghost use Rattle.vss_play.specs.Serving.{AreToldOf, actor_by};
+ghost use Rattle.vss_play.specs.Serving.{AreToldOf, actor_by, line_at, moves_in};
 
-use crate::asking::{Given, first_answer, none_given, tell_aborts};
+use crate::asking::{first_answer, none_given, tell_aborts};
+use crate::given::Given;
 use crate::new_groups::open_new;
 use crate::play_fault::PlayFault;
 use crate::step_fault::StepFault;
@@ -45,7 +48,7 @@ fn actor_of(event: Event) -> Actor
 }
 
 /// The core with its scenario, for callers who make the events and whose writers are their own. It writes no report.
-/// Contracts see the scenario, the core and how many moves it made.
+/// Contracts see the scenario, the core, how many moves it made, and what each writer was given.
 #[derive(Drop)]
 pub struct Service<D: Device> {
     scenario: Scenario,
@@ -60,14 +63,17 @@ impl<D: Device> Model for Service<D> {
 
     ghost Value = { ServiceValue D };
 
-    ghost view = { λ s. record { plan = s.scenario; world = s.world; moves = s.moves } };
+    ghost view = { λ s. record {
+        plan = s.scenario; world = s.world; moves = s.moves; given = s.given.items;
+    } };
 
-    ghost invariant = { λ s. IsServing D.told s.scenario s.world s.moves };
+    ghost invariant = { λ s. IsServing D.told s.scenario s.world s.moves s.given.items };
 }
 
 impl<D: Device> Service<D> {
     /// A service of which nothing has happened yet, over devices that the maker makes, as for a run: those of the
-    /// volumes, and then those of the areas. Where one is refused, the maker gets back the others.
+    /// volumes, and then those of the areas. If one is refused, the maker gets back the others. If memory is refused once all are made,
+    /// they are dropped.
     pub fn new<M: Maker<Made = D>>(
         alloc: Global,
         scenario: Scenario,
@@ -77,6 +83,21 @@ impl<D: Device> Service<D> {
         ensures plan { IfOk result (λ service. service.plan ≡ scenario) }
         ensures stands { IfOk result (λ service. Stands D.told service.world scenario []) }
         ensures unmoved { IfOk result (λ service. service.moves ≡ 0) }
+        ensures given { IfOk result (λ service.
+            service.given ≡ replicate (length scenario.writers) nothing) }
+        ensures tells { M.tells maker.new ≡ M.tells maker.old }
+        ensures named { OnOk result (AreNamed (device_names scenario)
+            (M.named maker.old) (M.named maker.new)) }
+        ensures kept { OnOk result (M.kept maker.new ≡ M.kept maker.old) }
+        ensures undone { IsErrOf result PlayFault.Failed → IsUndone D.count scenario
+            (M.named maker.old) (M.named maker.new) (M.kept maker.old) (M.kept maker.new) }
+        ensures wanting { IsErrOf result PlayFault.OutOfMemory → IsUndone D.count scenario
+            (M.named maker.old) (M.named maker.new) (M.kept maker.old) (M.kept maker.new)
+            ⊎ IsDropped scenario
+            (M.named maker.old) (M.named maker.new) (M.kept maker.old) (M.kept maker.new) }
+        ensures places { IfOk result (λ service.
+            length service.world.devices ≤ M.places maker.new) }
+        ensures later { M.count maker.old ≤ M.count maker.new }
         ensures unfailed { OnOk result (M.count maker.new ≡ M.count maker.old) }
         ensures unmade { IsErrOf result PlayFault.OutOfMemory → M.count maker.new ≡ M.count maker.old }
         ensures rose { IsErrOf result PlayFault.Failed → Rose (M.count maker.old) (M.count maker.new) }
@@ -139,17 +160,31 @@ impl<D: Device> Service<D> {
     /// that it was not told of, and gives the first of them its open order, and then the next, until one answers. A writer is given an order
     /// once; none where no writer answers.
     pub fn ask<W: VssWriter>(&mut self, writers: &mut [W]) -> Option<Event>
-        ensures same { self.new ≡ self.old }
+        ensures same { self.new ≡ record self.old { given = self.new.given } }
+        ensures many { length self.new.given ≡ length self.old.plan.writers }
         ensures event { IfSome result (IsEvent self.old.plan) }
+        ensures asked { IfStands D.told self.old.world self.old.plan (λ st.
+            AreAsked W.VssWriter st.course
+            (min (length self.old.plan.writers) (length writers.old))
+            self.old.given self.new.given writers.old writers.new result) }
     {
-        tell_aborts(self.world.rows(&self.scenario), &mut self.given, writers);
-        first_answer(&self.scenario, &self.world, &mut self.given, writers)
+        let count = (self.scenario.writers() as usize).min(writers.len());
+        let rows = self.world.rows(&self.scenario);
+        tell_aborts(rows, count, &mut self.given, writers);
+        first_answer(
+            &self.scenario,
+            &self.world,
+            count as u32,
+            &mut self.given,
+            writers,
+        )
     }
 
     /// The event of a line of a lane, counted from 0, with the line's number in the text; none where the lane has no such line.
     #[tactic(auto, using(crate::proofs::Serving::line_in))]
     pub fn line(&self, lane: u32, at: u32) -> Option<(Event, u32)>
-        ensures { IfSome result (λ next. IsEvent self.now.plan next.0) }
+        ensures line { result ≡ line_at self.now.plan lane at }
+        ensures event { IfSome result (λ next. IsEvent self.now.plan next.0) }
     {
         let _facts = self.scenario.lanes();
         let line = self.scenario.line(lane, at)?;
@@ -162,8 +197,9 @@ impl<D: Device> Service<D> {
         requires { IsEvent self.old.plan event }
         ensures same { OnErr result (self.new ≡ self.old) }
         ensures plan { self.new.plan ≡ self.old.plan }
-        ensures moves { self.new.moves ≤ self.old.moves + 1 }
-        ensures full { IsErrOf result StepFault.TrailFull → self.old.moves ≡ 2097151 }
+        ensures given { self.new.given ≡ self.old.given }
+        ensures moves { IfOk result (λ reply. self.new.moves ≡ self.old.moves + moves_in reply) }
+        ensures full { IsErrOf result StepFault.TrailFull ↔ (self.old.moves ≡ 2097151) }
         ensures takes { IsErrOf result StepFault.OutOfMemory → takes_memory event ≡ true }
         ensures stepped { IfOk result (IsStepped D.Device self.old.world self.new.world self.old.plan event) }
         ensures listed { IfOk result (λ reply. AreListed reply self.new.world.listed) }
@@ -194,8 +230,11 @@ impl<D: Device> Service<D> {
         ensures same { OnErr result (self.new ≡ self.old) }
         ensures untold { OnErr result (out.new.bytes ≡ out.old.bytes) }
         ensures plan { self.new.plan ≡ self.old.plan }
+        ensures given { self.new.given ≡ self.old.given }
+        ensures moves { IfOk result (λ reply. self.new.moves ≡ self.old.moves + moves_in reply) }
         ensures full { IsErrOf result StepFault.TrailFull → self.old.moves ≡ 2097151 }
         ensures stepped { IfOk result (IsStepped D.Device self.old.world self.new.world self.old.plan event) }
+        ensures listed { IfOk result (λ reply. AreListed reply self.new.world.listed) }
         ensures lines { IfOk result (λ reply. AreToldOf D.told self.new.plan self.new.world self.new.moves line event reply out.old.bytes out.new.bytes) }
     {
         let _kept = self.world();
@@ -220,6 +259,8 @@ impl<D: Device> Service<D> {
     fn fail(&mut self, alloc: Global) -> Result<Reply, StepFault>
         ensures same { OnErr result (self.new ≡ self.old) }
         ensures plan { self.new.plan ≡ self.old.plan }
+        ensures given { self.new.given ≡ self.old.given }
+        ensures moves { IfOk result (λ reply. self.new.moves ≡ self.old.moves + moves_in reply) }
         ensures full { IsErrOf result StepFault.TrailFull → self.old.moves ≡ 2097151 }
         ensures stepped { IfOk result (IsStepped (counted_as D.Device true) self.old.world self.new.world self.old.plan event.Provider) }
     {
@@ -245,6 +286,8 @@ impl<D: Device> Service<D> {
         ensures same { OnErr result (self.new ≡ self.old) }
         ensures untold { OnErr result (out.new.bytes ≡ out.old.bytes) }
         ensures plan { self.new.plan ≡ self.old.plan }
+        ensures given { self.new.given ≡ self.old.given }
+        ensures moves { IfOk result (λ reply. self.new.moves ≡ self.old.moves + moves_in reply) }
         ensures full { IsErrOf result StepFault.TrailFull → self.old.moves ≡ 2097151 }
         ensures stepped { IfOk result (IsStepped (counted_as D.Device true) self.old.world self.new.world self.old.plan event.Provider) }
         ensures lines { IfOk result (λ reply. AreToldOf D.told self.new.plan self.new.world self.new.moves 0 event.Provider reply out.old.bytes out.new.bytes) }

@@ -2,7 +2,7 @@ use Rattle.std.proofs.Common.{refl, ap, subst, sym, ◌∙◌, arith, Ok}
 use Rattle.std.specs.Prelude.{Result, Err, IsErr, OnErr}
 use Rattle.std.proofs.lemmas.Bool.Decides.{nat_tests}
 use Rattle.turn_cell.proofs.Histories.{prefix_self, prefix_trans}
-use Rattle.vss_play.proofs.ActorLoop.{begins, moved, blocked_once, turns, left_finished, left_full, left_blocked, wanted}
+use Rattle.vss_play.proofs.ActorLoop.{begins, moved, blocked_once, turns, left_finished, left_blocked, wanted}
 use Rattle.vss_play.proofs.actor_loop.take_turns_as.Goals as goal
 
 when_err : {T E P : Type 0} (r : Result T E) → P → OnErr r P
@@ -58,11 +58,5 @@ pub returns-in_err-take_one-clause-wanting : goal.returns-in_err-take_one-clause
 returns-in_err-take_one-clause-wanting g c =
     when_err _ (wanted c.args.actor _ _ _ _ _ c.loop.invariant.3 c.take_one.ensures.mine (subst (λ r. IsErr r) (sym c.in_err-take_one.was) refl))
 
-pub returns-in-TrailFull-clause-mine : goal.returns-in-TrailFull-clause-mine
-returns-in-TrailFull-clause-mine g c = turns c.args.actor _ _ _ _ _ c.loop.invariant.3 c.take_one.ensures.mine refl
-
 pub returns-in-Finished-clause-left : goal.returns-in-Finished-clause-left
 returns-in-Finished-clause-left g c = left_finished c.args.actor _ _ _ _ _ c.loop.invariant.3 c.take_one.ensures.mine (c.in_ok-take_one.was ∙ ap Ok c.in-Finished.is)
-
-pub returns-in-TrailFull-clause-left : goal.returns-in-TrailFull-clause-left
-returns-in-TrailFull-clause-left g c = left_full c.args.actor _ _ _ _ _ c.loop.invariant.3 c.take_one.ensures.mine (c.in_ok-take_one.was ∙ ap Ok c.in-TrailFull.is)
