@@ -1,7 +1,7 @@
 -- One group was called: for which histories all groups stand afterwards.
-use Rattle.std.proofs.Common.{◌≡◌, ℕ, zero, suc, ◌==◌, List, [], ◌∷◌, length, refl, ap, sym, ◌∙◌, subst, Bool, true, false, Option, Some, slice_get, slice_set}
+use Rattle.std.proofs.Common.{◌≡◌, ℕ, zero, suc, List, [], ◌∷◌, length, refl, ap, sym, ◌∙◌, subst, Option, Some, slice_get, slice_set}
+use Rattle.std.proofs.Common.{arith}
 use Rattle.provider.proofs.Words.{AreGroups, GroupValue, History, IsGroup, IsPlaceOf, Plan, StandsFor, change_at, changed_at, of_group, place_in, same_number, slice_get-set_other, slice_get-set_same}
-use Rattle.provider.proofs.Words.{true≢false}
 use Rattle.vss_model.proofs.Words.{number_is}
 use Rattle.provider.proofs.InGroup.{changed_in_group, changed_elsewhere}
 
@@ -10,17 +10,7 @@ use Rattle.provider.proofs.InGroup.{changed_in_group, changed_elsewhere}
 -- for each member: the changed one, and the others
 pub each_set : {X : Type 0} (P : ℕ → X → Type 0) (xs : List X) (g : ℕ) (x y : X) → slice_get xs g ≡ Some x → P g y → ((k : ℕ) (z : X) → (g ≡ k → ⊥) → slice_get xs k ≡ Some z → P k z)
     → (k : ℕ) (z : X) → slice_get (slice_set xs g y) k ≡ Some z → P k z
-each_set {X = X} P xs g x y was here others k z e = by_test (g == k) refl
-  where
-    by_test : (t : Bool) → (g == k) ≡ t → P k z
-    by_test true f =
-        let same : g ≡ k = number_is g k f in
-        let is : Some y ≡ Some z = sym (slice_get-set_same xs g x y was) ∙ subst (λ (n : ℕ). slice_get (slice_set xs g y) n ≡ Some z) (sym same) e in
-        let value : y ≡ z = cc in
-        subst (λ (n : ℕ). P n z) same (subst (λ (q : X). P g q) value here)
-    by_test false f =
-        let apart : (g ≡ k → ⊥) = λ same. true≢false (sym (same_number g k same) ∙ f) in
-        others k z apart (sym (slice_get-set_other xs g k y apart) ∙ e)
+each_set x0 xs g x y was here others k z e = grind (arith, number_is, slice_get-set_same, same_number, slice_get-set_other)
 
 -- ## the groups
 

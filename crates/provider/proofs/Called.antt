@@ -2,8 +2,8 @@
 use Rattle.std.proofs.Common.{◌≡◌, ℕ, zero, suc, ◌<◌, List, [], ◌∷◌, length, refl, ap, sym, ◌∙◌, subst, arith, Bool, true, false, Option, Some, All, map, slice_get, slice_set}
 use Rattle.std.specs.Prelude.{Result, Ok, Err, OnOk, IfErr}
 use Rattle.std.proofs.lemmas.List.{length-map}
-use Rattle.vss_model.specs.Words.{History, Image, Plan, VolumeRow, Write, blocks_of, change_at, cut, dropped, point_in, reverted, reverted_in_part, sets_of, to_restore, written}
-use Rattle.provider.specs.Words.{Area, Cause, DeviceRose, Fault, Ghosts, GroupValue, HasCauseAt, HasImageCause as HasGroupImageCause, ImageFault, IsPutOr, IsRevert as IsGroupRevert, IsSameDevice}
+use Rattle.vss_model.specs.Words.{History, Image, Plan, Write, blocks_of, change_at, cut, dropped, point_in, reverted, reverted_in_part, sets_of, to_restore, written}
+use Rattle.provider.specs.Words.{Area, Cause, DeviceRose, Fault, Ghosts, GroupValue, HasCauseAt, HasImageCause as HasGroupImageCause, ImageFault, IsPutOr, IsRevert as IsGroupRevert}
 use Rattle.provider.specs.Words.{IsUnfailed, IsUnseen, NoSuchBlock, RevertFault, StandsFor, Volume, VolumeRose, blocks_at, changed_at, history_at as group_history_at, is_among, sets_at}
 use Rattle.provider.proofs.Words.{AreGroups, AreKept, CanCutOn, HasCause, HasDigestCause, HasImageCause, IsCallOn, IsCutOn, IsDropped, IsGroupDrop, IsKeptGroup, IsPut, IsQuiet, IsQuietGroup, IsRevert}
 use Rattle.provider.proofs.Words.{LastsAt, ProviderValue, RoseAlone, counts_of, devices_of, fault_of, history_at, quiet_stands, slice_get-set_other, slice_set-same, volume_place}
@@ -37,45 +37,27 @@ module _ {D : Type 0} (count : D → ℕ) {s : Plan} {old new : List (GroupValue
 
   pub cause_of : {T : Type 0} (result : Result T Cause) → OnOk result (IsUnfailed count c.found.here c.after) → IfErr result (DeviceRose count c.found.within c.found.here c.after)
       → HasCause count s v (fault_of result) old new
-  cause_of (Ok done) same rose = counts_still same
-  cause_of (Err cause) same rose = rose_of cause rose
+  cause_of result same rose = grind (arith, counts_still, rose_of)
 
 -- a call on a block that there is fails by a device
 pub by_device : {D : Type 0} (count : D → ℕ) (u b : ℕ) (x y : GroupValue D) → b < blocks_at x u → (cause : Cause) → HasCauseAt count u b x y cause → DeviceRose count u x y cause
-by_device count u b x y low NoSuchBlock h = let high = h.0 in absurd (omega arith)
-by_device count u b x y low Volume h = h.1
-by_device count u b x y low Area h = h.1
+by_device count u b x y low cause h = grind arith
 
 -- likewise on an image, where it stands
 pub by_fault : {D : Type 0} (count : D → ℕ) (u set b : ℕ) (x y : GroupValue D) → b < blocks_at x u → (fault : ImageFault) → HasGroupImageCause count u set b x y fault
     → HasDigestCause count u set x y fault
-by_fault count u set b x y low image.NoSuchImage h = h
-by_fault count u set b x y low image.NoSuchBlock h = let high = h.1 in absurd (omega arith)
-by_fault count u set b x y low image.Volume h = (h.0, h.2)
-by_fault count u set b x y low image.Area h = (h.0, h.2)
+by_fault count u set b x y low fault h = grind arith
 
 pub flush_rose : {D : Type 0} (count : D → ℕ) (u : ℕ) (x y : GroupValue D) (result : Result Unit Cause) → IfErr result (λ cause. cause ≡ Volume)
     → IfErr result (λ cause. VolumeRose count u x y) → IfErr result (DeviceRose count u x y)
-flush_rose count u x y (Ok done) is rose = tt
-flush_rose count u x y (Err cause) is rose = subst (λ (why : Cause). DeviceRose count u x y why) (sym is) rose
+flush_rose count u x y result is rose = grind arith
 
 -- a call on a block that there is does not lend for want of the image
 pub unseen_image : (sets : List ℕ) (blocks set b : ℕ) → b < blocks → (fault : ImageFault) → IsUnseen sets blocks set b fault → (fault ≡ image.NoSuchImage) × (is_among set sets ≡ false)
-unseen_image sets blocks set b low image.NoSuchImage h = (refl, h)
-unseen_image sets blocks set b low image.NoSuchBlock h = let high = h.1 in absurd (omega arith)
-unseen_image sets blocks set b low image.Volume h = elim h [ ]
-unseen_image sets blocks set b low image.Area h = elim h [ ]
+unseen_image sets blocks set b low fault h = grind arith
 
 same_kept : {D : Type 0} (device : Ghosts D) (x y : GroupValue D) → y.devices ≡ x.devices → y.area ≡ x.area → IsKeptGroup device x y
-same_kept {D = D} device x y devices area =
-    let same = kept_itself device x in
-    record {
-      volumes = ap (λ (a : _). a.volumes) area;
-      slots = ap (λ (a : _). length a.records) area;
-      area = subst (λ (d : D). IsSameDevice device x.area.device d) (sym (ap (λ (a : _). a.device) area)) same.area;
-      devices = ap length devices;
-      each = λ v d e at there. same.each v d e at (sym (ap (λ (ds : List D). slice_get ds v) devices) ∙ there);
-    }
+same_kept device x y devices area = grind (arith, kept_itself)
 
 -- ## what was called
 
@@ -84,14 +66,7 @@ module _ {D : Type 0} (device : Ghosts D) {s : Plan} {old new : List (GroupValue
   all_kept kept = kept_one device old new c.found.group c.found.here c.after c.found.at c.is kept
 
   pub call_of : IsKeptGroup device c.found.here c.after → IsCallOn device s v old new
-  call_of kept = record {
-    kept = all_kept kept;
-    elsewhere = λ r k e apart.
-        let row : Some c.found.place.row ≡ Some r = sym c.found.place.is_row ∙ e in
-        let same : c.found.place.row ≡ r = cc in
-        ap (λ (zs : List (GroupValue D)). slice_get zs k) c.is
-        ∙ slice_get-set_other old c.found.group k c.after (λ h. apart (sym h ∙ c.found.place.group_is ∙ ap (λ (z : VolumeRow). z.group) same));
-  }
+  call_of kept = grind (arith, all_kept, slice_get-set_other)
 
   pub devices_still : c.after.devices ≡ c.found.here.devices → c.after.area.device ≡ c.found.here.area.device → devices_of new ≡ devices_of old
   devices_still devices area = ap devices_of c.is ∙ devices_same old c.found.group c.found.here c.after c.found.at devices area
@@ -126,8 +101,7 @@ module _ {D : Type 0} (device : Ghosts D) {s : Plan} {old new : List (GroupValue
   image_cause_of set (Err image.Area) has same why = (image_of device.told c.found set true why.0, rose_of device.count c Area why.1)
 
   pub drop_kept : (set : ℕ) (b : Bool) → IsGroupDrop device c.found.here c.after c.found.within set b → AreKept device old new
-  drop_kept set false h = all_kept (subst (λ (y : GroupValue D). IsKeptGroup device c.found.here y) (sym h.1) (kept_itself device c.found.here))
-  drop_kept set true h = all_kept h.1.kept
+  drop_kept set b h = grind (arith, all_kept, kept_itself)
 
   pub dropped_of : (set : ℕ) (b : Bool) → IsGroupDrop device c.found.here c.after c.found.within set b → IsDropped device s old new v set b
   dropped_of set false h = (image_of device.told c.found set false h.0, groups_still h.1)
@@ -216,11 +190,7 @@ module _ {D : Type 0} (told : D → Option (List (List ℕ))) {s : Plan} {v : �
   sets_same = sets_here told f can.histories can.stand
 
   pub room_of : length (sets_at f.here f.within) < 512
-  room_of =
-      let same = ap length sets_same in
-      let long = length-map (history_at can.histories v).images (λ (i : Image). i.set) in
-      let room = can.room in
-      omega (arith, same, long, room)
+  room_of = grind (arith, sets_same, length-map)
 
   lesser : (images : List Image) → All (λ (i : Image). i.set < p.set) images → All (λ (n : ℕ). n < p.set) (sets_of images)
   lesser [] all k d low = absurd (omega arith)

@@ -1,6 +1,6 @@
 -- Counting the devices of groups.
 use Rattle.std.proofs.Common.{◌≡◌, ℕ, ◌+◌, ◌<◌, ◌≤◌, ◌*◌, List, [], ◌∷◌, ◌++◌, length, take, refl, ap, sym, ◌∙◌, subst, arith, Some, slice_get, ◌==◌, Bool, true, false}
-use Rattle.provider.proofs.Words.{AreWhole, GroupValue, devices_of, length-append, nat_tests, slice_get_within, take-length, take_next}
+use Rattle.provider.proofs.Words.{GroupValue, devices_of, length-append, nat_tests, take_next}
 use Rattle.vss_model.proofs.Words.{number_is}
 
 devices_more : {D : Type 0} (groups : List (GroupValue D)) (x : GroupValue D) → length (devices_of (groups ++ x ∷ [])) ≡ length (devices_of groups) + (length x.devices + 1)
@@ -16,9 +16,6 @@ pub record AreCounted {D : Type 0} (groups : List (GroupValue D)) (i count : ℕ
   pub count_is : count ≡ length (devices_of (take i groups))
   pub most : count ≤ i * 4294967296
   pub whole : (k : ℕ) (x : GroupValue D) → k < i → slice_get groups k ≡ Some x → length x.devices ≡ length x.area.volumes
-
-pub counted_none : {D : Type 0} (groups : List (GroupValue D)) → AreCounted groups 0 0
-counted_none groups = record { count_is = refl; most = omega arith; whole = λ k x low at. absurd (omega arith) }
 
 pub counted_more : {D : Type 0} (groups : List (GroupValue D)) (i count volumes : ℕ) (x : GroupValue D) → slice_get groups i ≡ Some x → volumes ≡ length x.area.volumes
     → length x.devices ≡ length x.area.volumes → volumes < 4294967296
@@ -46,10 +43,3 @@ counted_more {D = D} groups i count volumes x at many whole few c =
       where
         below : (k i : ℕ) → k < i + 1 → (k == i) ≡ false → k < i
         below k i low e = grind (arith, nat_tests)
-
--- all of them
-pub counted_all : {D : Type 0} (groups : List (GroupValue D)) (i count : ℕ) → i ≡ length groups → AreCounted groups i count → (count ≡ length (devices_of groups)) × AreWhole groups
-counted_all groups i count long c = (
-  c.count_is ∙ ap (λ (xs : List (GroupValue _)). length (devices_of xs)) (ap (λ (n : ℕ). take n groups) long ∙ take-length groups),
-  λ g x at. let within = slice_get_within groups g x at in c.whole g x (omega (arith, within, long)) at,
-)

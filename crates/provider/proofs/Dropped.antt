@@ -1,7 +1,7 @@
 -- The images of a set go from all volumes of a group.
 use Rattle.std.proofs.Common.{◌≡◌, ℕ, zero, suc, ◌+◌, ◌<◌, ◌≤◌, ◌==◌, List, [], ◌∷◌, length, refl, ap, sym, ◌∙◌, subst, arith, Bool, true, false, Option, map, take, not, ◌||◌, ◌++◌, if◌then◌else◌}
 use Rattle.provider.proofs.Words.{Ghosts, GroupValue, History, Image, IsGroupDrop, IsKeptGroup, IsWithout, StandsFor, changed_at, count_images, dropped, has_image, history_in, is_among, place_at}
-use Rattle.provider.proofs.Words.{sets_at, sets_in, sets_of, slice_get_inside, take-length, take_next, true≢false, without_set}
+use Rattle.provider.proofs.Words.{sets_at, sets_in, sets_of, slice_get_inside, take-length, take_next, without_set}
 use Rattle.provider.specs.Words.{history_at}
 use Rattle.provider.proofs.Kept.{kept_then}
 use Rattle.provider.proofs.Looked.{point_among}
@@ -10,8 +10,7 @@ use Rattle.provider.proofs.Looked.{point_among}
 
 without_if : (b c : Bool) (n : ℕ) (i : Image) (images : List Image) → (i.set == n) ≡ b → ((i.set == n) || c) ≡ false → (c ≡ false → without_set n images ≡ images)
     → (if not b then i ∷ without_set n images else without_set n images) ≡ i ∷ images
-without_if true c n i images e f h = let t : (true || c) ≡ false = subst (λ (x : Bool). (x || c) ≡ false) e f in absurd (true≢false t)
-without_if false c n i images e f h = let t : c ≡ false = subst (λ (x : Bool). (x || c) ≡ false) e f in ap (λ (xs : List Image). i ∷ xs) (h t)
+without_if b c n i images e f h = grind arith
 
 without_none : (n : ℕ) (images : List Image) → is_among n (sets_of images) ≡ false → without_set n images ≡ images
 without_none n [] e = refl
@@ -134,14 +133,4 @@ dropped_same {D = D} device first old new u n stood within was call =
 
 pub dropped_all : {D : Type 0} (device : Ghosts D) (old new : GroupValue D) (k n stood : ℕ) → k ≡ length old.area.volumes → k < 4294967296 → IsDroppedTo device old new k n stood
     → IsWithout device old new n stood
-dropped_all device old new k n stood e few h = record {
-  kept = h.kept;
-  devices = h.devices;
-  area = h.area;
-  stands = λ hs stands.
-      let long : k ≡ length hs = e ∙ sym stands.histories in
-      subst (λ (ks : List History). StandsFor device.told new ks) (all_first n hs) (subst (λ (m : ℕ). StandsFor device.told new (dropped_first m n hs)) long (h.stands hs stands));
-  number = λ hs stands. h.number hs stands ∙ ap (count_images n) (ap (λ (m : ℕ). take m hs) (e ∙ sym stands.histories) ∙ take-length hs);
-  none = h.none;
-  most = let l = h.low in omega (arith, l, few);
-}
+dropped_all device old new k n stood e few h = grind (arith, all_first, take-length)

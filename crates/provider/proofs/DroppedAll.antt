@@ -1,7 +1,7 @@
 -- The images of a set go from the volumes of all groups.
 use Rattle.std.proofs.Common.{◌≡◌, ℕ, zero, suc, ◌+◌, ◌<◌, ◌≤◌, ◌==◌, ◌*◌, List, [], ◌∷◌, length, refl, ap, sym, ◌∙◌, subst, arith, Bool, true, false, Some, map, slice_get, slice_set, if◌then◌else◌}
 use Rattle.provider.proofs.Words.{AreGroups, AreWithout, Ghosts, GroupValue, History, IsWithout, Plan, StandsFor, VolumeRow, count_images, devices_of, dropped, has_image, length-map, length-slice_set}
-use Rattle.provider.proofs.Words.{nat_tests, of_group, of_group_if, same_number, slice_get-set_other, slice_get-set_same, slice_get_inside, slice_get_within, slice_set-same, true≢false}
+use Rattle.provider.proofs.Words.{nat_tests, of_group, of_group_if, same_number, slice_get-set_other, slice_get-set_same, slice_get_inside, slice_get_within, slice_set-same}
 use Rattle.vss_model.proofs.Words.{number_is}
 use Rattle.provider.proofs.Flat.{devices_same}
 use Rattle.provider.proofs.Kept.{keeps}
@@ -9,8 +9,7 @@ use Rattle.provider.proofs.Kept.{keeps}
 -- ## all groups
 
 mapped_if : (b : Bool) (f : History → History) (h : History) (hs ks : List History) → ks ≡ map f hs → of_group_if b (f h) ks ≡ map f (of_group_if b h hs)
-mapped_if true f h hs ks e = ap (λ (xs : List History). f h ∷ xs) e
-mapped_if false f h hs ks e = e
+mapped_if b f h hs ks e = grind arith
 
 mapped : (g : ℕ) (f : History → History) (rows : List VolumeRow) (hs : List History) → of_group g rows (map f hs) ≡ map f (of_group g rows hs)
 mapped g f [] hs = refl
@@ -23,8 +22,7 @@ sum_below zero f = 0
 sum_below (suc k) f = sum_below k f + f k
 
 sum_same : (k : ℕ) (f h : ℕ → ℕ) → ((i : ℕ) → f i ≡ h i) → sum_below k f ≡ sum_below k h
-sum_same zero f h e = refl
-sum_same (suc k) f h e = ap (λ n. n + f k) (sum_same k f h e) ∙ ap (λ n. sum_below k h + n) (e k)
+sum_same k f h e = grind arith
 
 sum_zero : (k : ℕ) → sum_below k (λ i. 0) ≡ 0
 sum_zero zero = refl
@@ -65,8 +63,7 @@ sum_one (suc k) g n low = by_test (g == k) refl (λ below. sum_one k g n below)
         less e low = grind (arith, nat_tests)
 
 counted_if : (n : ℕ) (b : Bool) (h : History) (hs : List History) → count_images n (of_group_if b h hs) ≡ (if b then (if has_image n h then 1 else 0) else 0) + count_images n hs
-counted_if n true h hs = refl
-counted_if n false h hs = let z : count_images n hs ≡ 0 + count_images n hs = omega arith in z
+counted_if n b h hs = grind arith
 
 -- each volume is in one of the groups, so what is counted group by group is all
 pub count_all : (n k : ℕ) (rows : List VolumeRow) (hs : List History) → length hs ≡ length rows → ((v : ℕ) (r : VolumeRow) → slice_get rows v ≡ Some r → r.group < k)
@@ -102,38 +99,7 @@ pub record AreWithoutTo {D : Type 0} (device : Ghosts D) (old new : List (GroupV
 
 pub without_more : {D : Type 0} (device : Ghosts D) (first old : List (GroupValue D)) (k n stood more : ℕ) (x y : GroupValue D) → slice_get old k ≡ Some x
     → AreWithoutTo device first old k n stood → IsWithout device x y n more → AreWithoutTo device first (slice_set old k y) (k + 1) n (stood + more)
-without_more {D = D} device first old k n stood more x y at was now =
-    let first_at : slice_get first k ≡ Some x = sym (was.rest k (omega arith)) ∙ at in
-    let low = was.most in
-    let less = now.most in
-    record {
-      number = length-slice_set old k y ∙ was.number;
-      done = λ g p q l e f. by_test g p q l e f (k == g) refl;
-      rest = λ g l. slice_get-set_other old k g y (λ same. absurd (omega arith)) ∙ was.rest g (omega arith);
-      devices = devices_same old k x y at now.devices now.area ∙ was.devices;
-      so_many = λ s hs are.
-          let next : suc k ≡ k + 1 = omega arith in
-          ap (λ (m : ℕ). m + more) (was.so_many s hs are)
-          ∙ ap (λ (m : ℕ). sum_below k (λ g. count_images n (of_group g s.volumes hs)) + m) (now.number (of_group k s.volumes hs) (are.each k x first_at).stands)
-          ∙ ap (λ (m : ℕ). sum_below m (λ g. count_images n (of_group g s.volumes hs))) next;
-      none = λ e. let a : more ≡ 0 = omega arith in let b : stood ≡ 0 = omega arith in ap (slice_set old k) (now.none a) ∙ slice_set-same old k x at ∙ was.none b;
-      most = omega (arith, low, less);
-    }
-  where
-    by_test : (g : ℕ) (p q : GroupValue D) → g < k + 1 → slice_get first g ≡ Some p → slice_get (slice_set old k y) g ≡ Some q → (t : Bool) → (k == g) ≡ t → (m : ℕ) × IsWithout device p q n m
-    by_test g p q l e f true t =
-        let same : k ≡ g = number_is k g t in
-        let one : Some x ≡ Some p = sym at ∙ was.rest k (omega arith) ∙ ap (slice_get first) same ∙ e in
-        let old_is : x ≡ p = cc in
-        let two : Some y ≡ Some q = sym (slice_get-set_same old k x y at) ∙ ap (slice_get (slice_set old k y)) same ∙ f in
-        let new_is : y ≡ q = cc in
-        (more, subst (λ (z : GroupValue D). IsWithout device z q n more) old_is (subst (λ (z : GroupValue D). IsWithout device x z n more) new_is now))
-    by_test g p q l e f false t =
-        let apart : (k ≡ g → ⊥) = λ same. true≢false (sym (same_number k g same) ∙ t) in
-        was.done g p q (less g l t) e (sym (slice_get-set_other old k g y apart) ∙ f)
-      where
-        less : (g : ℕ) → g < k + 1 → (k == g) ≡ false → g < k
-        less g l t = grind (arith, nat_tests)
+without_more device first old k n stood more x y at was now = grind (arith, length-slice_set, slice_get-set_other, devices_same, slice_set-same, number_is, slice_get-set_same, same_number)
 
 pub without_all : {D : Type 0} (device : Ghosts D) (old new : List (GroupValue D)) (k n stood : ℕ) → k ≡ length old → AreWithoutTo device old new k n stood → AreWithout device old new n stood
 without_all {D = D} device old new k n stood long h = record {

@@ -1,5 +1,6 @@
 -- One group is brought to where it lasts, against the histories of all volumes.
-use Rattle.std.proofs.Common.{◌≡◌, ℕ, ◌+◌, ◌==◌, List, [], ◌∷◌, ◌++◌, refl, ap, sym, ◌∙◌, subst, Bool, true, false, Some, map, slice_get, slice_set, if◌then◌else◌, OnOk, Result, Ok, Err}
+use Rattle.std.proofs.Common.{◌≡◌, ℕ, ◌+◌, ◌==◌, List, [], ◌∷◌, ◌++◌, refl, ap, sym, ◌∙◌, subst, Bool, Some, map, slice_get, slice_set, if◌then◌else◌, OnOk, Result, Ok, Err}
+use Rattle.std.proofs.Common.{arith}
 use Rattle.provider.proofs.Words.{AreLasting, AreStored, Cause, Copy, Ghosts, GroupValue, HasGroups, HasSyncCause, History, IsSync, IsSynced, Plan, VolumeRow, blocks_in_group, copies, copies_from}
 use Rattle.provider.proofs.Words.{copies_of, of_group, of_group_if, placed, slice_get-set_other}
 use Rattle.provider.specs.Words.{IsSynced as IsGroupSynced, placed as all_placed}
@@ -11,8 +12,7 @@ use Rattle.provider.proofs.Flat.{rose_area, counts_same}
 
 pub copies_if : (b : Bool) (v n : ℕ) (h : History) (ns : List ℕ) (hs : List History) (cs : ℕ → List Copy) → ((w : ℕ) → cs w ≡ copies_from w (all_placed ns) hs)
     → (if b then copies_of v n h.writes h.images ++ cs (v + 1) else cs v) ≡ copies_from v (all_placed (of_group_if b n ns)) (of_group_if b h hs)
-copies_if true v n h ns hs cs e = ap (λ (xs : List Copy). copies_of v n h.writes h.images ++ xs) (e (v + 1))
-copies_if false v n h ns hs cs e = e v
+copies_if b v n h ns hs cs e = grind arith
 
 pub copies_in_group : (g v : ℕ) (rows : List VolumeRow) (hs : List History) → copies_from v (map (placed g) rows) hs ≡ copies_from v (all_placed (blocks_in_group g rows)) (of_group g rows hs)
 copies_in_group g v [] hs = refl
@@ -67,5 +67,4 @@ module _ {D : Type 0} (device : Ghosts D) (old : List (GroupValue D)) (g : ℕ) 
       )
 
   pub sync_cause : (result : Result Unit Cause) → IsSync device x y result → (s : Plan) → HasGroups s old → HasSyncCause device.count s g result old new
-  sync_cause (Ok done) h s has = counts_same device.count old g x y was h.2
-  sync_cause (Err cause) h s has = (h.1, rose_area device.count s old new g x y has was refl h.2)
+  sync_cause result h s has = grind (arith, counts_same, rose_area)

@@ -2,8 +2,8 @@
 -- each group.
 use Rattle.std.proofs.Common.{◌≡◌, ◌<◌, ℕ, zero, suc, ◌+◌, ◌-◌, List, [], ◌∷◌, ◌++◌, length, refl, ap, sym, ◌∙◌, subst, arith, append_assoc, Some, map, slice_get, slice_set}
 use Rattle.provider.proofs.Words.{AreaRose, GroupValue, HasGroups, IsPlaceOf, IsUnfailed, Plan, Rose, RoseAlone, VolumeRose, VolumeRow, area_place, blocks_in_group, counts_of, devices_of, first_place}
-use Rattle.provider.proofs.Words.{get_some_left, length-append, length-map, map-append, map-id, place_in, set-append_left, set-append_right, slice_get_map, slice_get_within, volume_place}
-use Rattle.provider.proofs.Words.{volume_place_in, volumes_area, volumes_area_in}
+use Rattle.provider.proofs.Words.{get_some_left, length-append, length-map, map-append, map-id, set-append_left, set-append_right, slice_get_map, slice_get_within, volume_place}
+use Rattle.provider.proofs.Words.{volumes_area, volumes_area_in}
 
 -- ## joined lists
 
@@ -56,10 +56,7 @@ lens_are : {D : Type 0} (s : Plan) (groups : List (GroupValue D)) → HasGroups 
 lens_are s groups has k z at = has.devices k z at ∙ ap length (has.volumes k z at)
 
 volume_place_is : (s : Plan) (v g u : ℕ) → IsPlaceOf s v g u → volume_place s v ≡ first_place g s.volumes + u
-volume_place_is s v g u place =
-    ap (volume_place_in s.volumes v) place.is_row
-    ∙ ap (λ (n : ℕ). first_place n s.volumes + place_in place.row.group s.volumes v) (sym place.group_is)
-    ∙ ap (λ (n : ℕ). first_place g s.volumes + n) (sym place.within_is)
+volume_place_is s v g u place = grind arith
 
 -- a device of a group's volume stands in the list of all
 pub device_at : {D : Type 0} (s : Plan) (groups : List (GroupValue D)) (g u : ℕ) (x : GroupValue D) (d : D) → HasGroups s groups → slice_get groups g ≡ Some x → slice_get x.devices u ≡ Some d
@@ -133,13 +130,7 @@ mapped_set {X = X} f (z ∷ groups) lens (suc g) i x y n long at inside set =
 -- that of volume u
 volume_set : {D X : Type 0} (f : D → X) (x y : GroupValue D) (u : ℕ) (n : X) → u < length x.devices → map f y.devices ≡ slice_set (map f x.devices) u n → f y.area.device ≡ f x.area.device
     → map f (group_devices y) ≡ slice_set (map f (group_devices x)) u n
-volume_set {X = X} f x y u n low devices area =
-    let many = length-map x.devices f in
-    map-append f y.devices (y.area.device ∷ [])
-    ∙ ap (λ (xs : List X). xs ++ f y.area.device ∷ []) devices
-    ∙ ap (λ (z : X). slice_set (map f x.devices) u n ++ z ∷ []) area
-    ∙ sym (set-append_left (map f x.devices) (f x.area.device ∷ []) u n (omega (arith, low, many)))
-    ∙ ap (λ (xs : List X). slice_set xs u n) (sym (map-append f x.devices (x.area.device ∷ [])))
+volume_set f x y u n low devices area = grind (arith, length-map, map-append, set-append_left)
 
 -- that of the area
 area_set : {D X : Type 0} (f : D → X) (x y : GroupValue D) (u : ℕ) → u ≡ length x.devices → map f y.devices ≡ map f x.devices

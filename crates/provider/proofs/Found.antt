@@ -1,8 +1,8 @@
 -- The group of a volume is found among all groups, or called: what that says of the volume of the scenario.
-use Rattle.std.proofs.Common.{◌≡◌, ℕ, ◌<◌, List, length, refl, ap, sym, ◌∙◌, subst, arith, Bool, true, Option, Some, None, get_or, slice_get, is_some, IfSome, OnOk, Result, Ok, Err}
+use Rattle.std.proofs.Common.{◌≡◌, ℕ, ◌<◌, List, length, refl, ap, sym, ◌∙◌, subst, arith, Bool, true, Option, Some, None, get_or, slice_get, is_some, IfSome, OnOk, Result}
 use Rattle.provider.proofs.Words.{AreGroups, AtPoint, GroupValue, HasGroups, HasImage, History, IfShown, IfStandFor, IsDigestAt, IsDigestShown, IsNow, IsPlaceOf, IsPointOf, Plan, ProviderValue}
 use Rattle.provider.proofs.Words.{StandsFor, VolumeRow, Write, and_parts, blocks_at, blocks_of, concat, content, contents, device_read, devices_of, history_at, is_among, of_group, one_place, place_at}
-use Rattle.provider.proofs.Words.{place_in, sets_at, sets_in, sets_of, sha256, slice_get_inside, told_at, told_by, told_in, told_of, used, used_by, volume_place, volumes_area}
+use Rattle.provider.proofs.Words.{place_in, sets_at, sets_in, sets_of, sha256, slice_get_inside, told_at, told_in, used, used_by, volume_place}
 use Rattle.provider.specs.Calls.{IsDigestTold}
 use Rattle.provider.specs.Words.{IsBytes, IsSeen, history_at as group_history_at}
 use Rattle.provider.proofs.Places.{history_of_place, group_below, group_there, within_there, blocks_are}
@@ -75,28 +75,16 @@ module _ {D : Type 0} {s : Plan} {groups : List (GroupValue D)} {v : ℕ} (f : F
       (e.0, e.1, volume_device_at s groups v f.group f.within f.here e.0 f.has f.place f.at e.1)
 
   pub device_is : (d : D) → slice_get (devices_of groups) (volume_place s v) ≡ Some d → slice_get f.here.devices f.within ≡ Some d
-  device_is d at =
-      let e = own_device in
-      let one : Some e.0 ≡ Some d = sym e.2 ∙ at in
-      let same : e.0 ≡ d = cc in
-      e.1 ∙ ap (λ (z : _). Some z) same
+  device_is d at = grind (arith, own_device)
 
   -- what it tells, and what that of the area does
   pub told_here : (told : D → Option (List (List ℕ))) → (d : D) × (slice_get f.here.devices f.within ≡ Some d)
       × (told_at told s (devices_of groups) v ≡ told_in (told f.here.area.device) (told d))
-  told_here told =
-      let e = own_device in
-      let area : told_by told (devices_of groups) (volumes_area s v) ≡ told f.here.area.device =
-      ap (told_by told (devices_of groups)) (area_of_place s v f.group f.within f.place) ∙ ap (told_of told) (area_device_at s groups f.group f.here f.has f.at) in
-      (e.0, e.1, ap (λ o. told_in o (told_by told (devices_of groups) (volume_place s v))) area ∙ ap (λ o. told_in (told f.here.area.device) (told_of told o)) e.2)
+  told_here told = grind (arith, own_device, area_of_place, area_device_at)
 
   -- wherever the volume is said to be, it is there
   pub there : (P : GroupValue D → ℕ → Type 0) → P f.here f.within → (k w : ℕ) (x : GroupValue D) → IsPlaceOf s v k w → slice_get groups k ≡ Some x → P x w
-  there P here k w x place at =
-      let one = one_place s.volumes v f.group f.within k w f.place place in
-      let found : Some f.here ≡ Some x = sym f.at ∙ ap (slice_get groups) (sym one.0) ∙ at in
-      let same : f.here ≡ x = cc in
-      subst (λ (n : ℕ). P x n) (sym one.1) (subst (λ (z : GroupValue D). P z f.within) same here)
+  there x0 here k w x place at = grind (arith, one_place)
 
 -- ## images and slots
 
@@ -155,21 +143,15 @@ module _ {D : Type 0} (told : D → Option (List (List ℕ))) {s : Plan} {groups
 
 -- what a block is now is so at the present end
 pub at_end : {D : Type 0} (told : D → Option (List (List ℕ))) (g : GroupValue D) (u b : ℕ) (bytes : List ℕ) → IsNow told g u b bytes → AtPoint told g u None (λ ws p. bytes ≡ content ws p b)
-at_end told g u b bytes now hs d p stands at tells area end = now hs d stands at tells area ∙ ap (λ (n : ℕ). content (group_history_at hs u).writes n b) (sym end)
+at_end told g u b bytes now hs d p stands at tells area end = grind arith
 
 -- likewise, as the image of a set shows it
 pub at_seen : {D : Type 0} (told : D → Option (List (List ℕ))) (g : GroupValue D) (u : ℕ) (set : Option ℕ) (b : ℕ) (bytes : List ℕ) → IsSeen told g u set b bytes
     → AtPoint told g u set (λ ws p. bytes ≡ content ws p b)
-at_seen told g u None b bytes seen = at_end told g u b bytes seen
-at_seen told g u (Some set) b bytes seen = seen
+at_seen told g u set b bytes seen = grind (arith, at_end)
 
 pub some_map : {X : Type 0} (P Q : X → Type 0) (o : Option X) → IfSome o P → ((x : X) → P x → Q x) → IfSome o Q
-some_map P Q None h f = tt
-some_map P Q (Some x) h f = f x h
+some_map x0 x1 o h f = grind arith
 
 pub on_ok : {T E : Type 0} (P Q : Type 0) (r : Result T E) → (P → Q) → OnOk r P → OnOk r Q
-on_ok P Q (Ok x) f h = f h
-on_ok P Q (Err e) f h = tt
-
-pub some_of : {X : Type 0} (P : X → Type 0) (o : Option X) (x : X) → o ≡ Some x → IfSome o P → P x
-some_of P o x e h = subst (λ (q : Option _). IfSome q P) e h
+on_ok x0 x1 r f h = grind arith

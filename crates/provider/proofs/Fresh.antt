@@ -1,10 +1,9 @@
 -- Groups of new volumes stand for histories of zeros.
-use Rattle.std.proofs.Common.{◌≡◌, ℕ, ◌==◌, List, [], ◌∷◌, refl, ap, sym, ◌∙◌, subst, Bool, true, false, Option, map}
+use Rattle.std.proofs.Common.{◌≡◌, ℕ, ◌==◌, List, [], ◌∷◌, refl, ap, sym, ◌∙◌, subst, Bool, Option, map, arith}
 use Rattle.provider.proofs.Words.{AreFresh, AreGroups, GroupValue, History, Plan, StandsFor, VolumeRow, blocks_in_group, fresh, length-map, of_group, of_group_if}
 
 fresh_if : (b : Bool) (n : ℕ) (ns : List ℕ) (hs : List History) → hs ≡ map (λ (k : ℕ). fresh) ns → of_group_if b fresh hs ≡ map (λ (k : ℕ). fresh) (of_group_if b n ns)
-fresh_if true n ns hs e = ap (λ (xs : List History). fresh ∷ xs) e
-fresh_if false n ns hs e = e
+fresh_if b n ns hs e = grind arith
 
 fresh_in_group : (g : ℕ) (rows : List VolumeRow) → of_group g rows (map (λ (r : VolumeRow). fresh) rows) ≡ map (λ (n : ℕ). fresh) (blocks_in_group g rows)
 fresh_in_group g [] = refl

@@ -31,14 +31,7 @@ devices_split x rest = append_assoc x.devices (x.area.device ∷ []) (devices_of
 
 pub groups_room : {D : Type 0} (all rest less : List (GroupValue D)) (x : GroupValue D) (list : List D) (room : ℕ) → rest ≡ x ∷ less → AreMoving all rest list room
     → length list + length (devices_of (x ∷ [])) ≤ room
-groups_room all rest less x list room next m =
-    let a = length-append list (devices_of rest) in
-    let b = ap length m.kept in
-    let c = ap (λ (xs : List (GroupValue _)). length (devices_of xs)) next in
-    let d = ap length (devices_split x less) in
-    let e = length-append (devices_of (x ∷ [])) (devices_of less) in
-    let f = m.enough in
-    omega (arith, a, b, c, d, e, f)
+groups_room all rest less x list room next m = grind (arith, length-append, devices_split)
 
 pub groups_all : {D : Type 0} (all rest : List (GroupValue D)) (list : List D) (room : ℕ) → rest ≡ [] → AreMoving all rest list room → list ≡ devices_of all
 groups_all {D = D} all rest list room done m = sym (append-nil list) ∙ ap (λ (xs : List (GroupValue D)). list ++ devices_of xs) (sym done) ∙ m.kept

@@ -1,10 +1,9 @@
 -- The blocks of a volume, or of an image, are hashed one after another.
 use Rattle.std.proofs.Common.{slice_set, ◌≡◌, ℕ, ◌+◌, List, [], ◌∷◌, ◌++◌, length, refl, ap, sym, ◌∙◌, subst, arith, true, Option, Some, slice_get, is_some}
-use Rattle.provider.proofs.Words.{Adds, Area, AreaRose, AtPoint, Cause, DeviceRose, Ghosts, GroupValue, HasDigestCause, HasTaken, Hasher, ImageFault, ImageRose, IsQuietGroup, IsUnfailed}
-use Rattle.provider.proofs.Words.{NoSuchBlock as NoBlock, NoSuchImage, Rose, Volume, VolumeRose, Write, append-nil, concat, concat-append, content, contents, is_among, map-range_with_len_more}
+use Rattle.provider.proofs.Words.{Adds, AreaRose, AtPoint, Cause, DeviceRose, Ghosts, GroupValue, HasDigestCause, HasTaken, Hasher, ImageFault, ImageRose, IsQuietGroup, IsUnfailed}
+use Rattle.provider.proofs.Words.{Rose, VolumeRose, Write, append-nil, concat, concat-append, content, contents, is_among, map-range_with_len_more}
 use Rattle.provider.proofs.Words.{quiet_stands, same_Some, sets_at, slice_get_inside, slice_get_map, slice_get_within, unfailed_further}
 use Rattle.provider.specs.Words.{history_at}
-use Rattle.cow_volume.specs.declared.image_fault.ImageFault.TheVariants.{NoSuchBlock}
 use Rattle.cow_volume.specs.declared.image_fault.ImageFault.TheVariants as image
 use Rattle.provider.proofs.Kept.{kept_itself, kept_then}
 
@@ -14,13 +13,7 @@ pub quiet_same : {D : Type 0} (device : Ghosts D) (x : GroupValue D) → IsQuiet
 quiet_same device x = record { kept = kept_itself device x; records = refl; images = refl; blocks = refl; slots = refl }
 
 pub quiet_then : {D : Type 0} (device : Ghosts D) (x y z : GroupValue D) → IsQuietGroup device x y → IsQuietGroup device y z → IsQuietGroup device x z
-quiet_then device x y z h k = record {
-  kept = kept_then device x y z h.kept k.kept;
-  records = k.records ∙ h.records;
-  images = k.images ∙ h.images;
-  blocks = k.blocks ∙ h.blocks;
-  slots = k.slots ∙ h.slots;
-}
+quiet_then device x y z h k = grind (arith, kept_then)
 
 -- what holds at a point after quiet calls holds of the group as it was
 at_first : {D : Type 0} (device : Ghosts D) (first now : GroupValue D) (u : ℕ) (set : Option ℕ) (P : List Write → ℕ → Type 0) → IsQuietGroup device first now → AtPoint device.told now u set P
@@ -83,19 +76,14 @@ volume_since {D = D} count first old new u same long rose =
     }
 
 area_since : {D : Type 0} (count : D → ℕ) (first old new : GroupValue D) → IsUnfailed count first old → AreaRose count old new → AreaRose count first new
-area_since count first old new same rose = record { rose = subst (λ (n : ℕ). Rose n (count new.area.device)) same.area rose.rose; devices = rose.devices ∙ same.devices }
+area_since count first old new same rose = grind arith
 
 pub rose_since : {D : Type 0} (count : D → ℕ) (first old new : GroupValue D) (u : ℕ) (cause : Cause) → IsUnfailed count first old → length old.devices ≡ length first.devices
     → DeviceRose count u old new cause → DeviceRose count u first new cause
-rose_since count first old new u NoBlock same long rose = rose
-rose_since count first old new u Volume same long rose = volume_since count first old new u same long rose
-rose_since count first old new u Area same long rose = area_since count first old new same rose
+rose_since count first old new u cause same long rose = grind (arith, volume_since, area_since)
 
 -- so there is no digest of the image, which stood
 pub digest_cause : {D : Type 0} (count : D → ℕ) (first old new : GroupValue D) (u set : ℕ) (fault : ImageFault) → is_among set (sets_at first u) ≡ true → IsUnfailed count first old
     → length old.devices ≡ length first.devices
     → ImageRose count u old new fault → HasDigestCause count u set first new fault
-digest_cause count first old new u set NoSuchImage has same long rose = elim rose [ ]
-digest_cause count first old new u set NoSuchBlock has same long rose = rose
-digest_cause count first old new u set image.Volume has same long rose = (has, volume_since count first old new u same long rose)
-digest_cause count first old new u set image.Area has same long rose = (has, area_since count first old new same rose)
+digest_cause count first old new u set fault has same long rose = grind (arith, volume_since, area_since)

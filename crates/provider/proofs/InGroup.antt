@@ -1,7 +1,7 @@
 -- What is said of all volumes with a mark for a group is what is said of the group's volumes alone.
-use Rattle.std.proofs.Common.{◌≡◌, ℕ, zero, suc, ◌+◌, ◌==◌, List, [], ◌∷◌, length, refl, ap, sym, ◌∙◌, arith, Bool, true, false, Option, Some, map, slice_get, ◌&&◌, not, find, if◌then◌else◌}
+use Rattle.std.proofs.Common.{◌≡◌, ℕ, zero, suc, ◌+◌, ◌==◌, List, [], ◌∷◌, length, refl, ap, sym, ◌∙◌, arith, Bool, true, false, Option, Some, map, slice_get, not, find, if◌then◌else◌}
 use Rattle.provider.proofs.Words.{History, VolumeRow, after_set, as_many_gone, blocks_in_group, change_at, changed_at, count_if, evicted_up_to, gone_up_to, group_used, lacks_slot, ne_eqb}
-use Rattle.provider.proofs.Words.{needs_slot_in, of_group, of_group_if, place_in, placed, range_with_len, same_number, unwrap_or, used}
+use Rattle.provider.proofs.Words.{of_group, of_group_if, place_in, placed, range_with_len, same_number, unwrap_or, used}
 use Rattle.provider.specs.Words.{placed as all_placed}
 use Rattle.vss_model.proofs.Words.{number_is}
 
@@ -9,8 +9,7 @@ use Rattle.vss_model.proofs.Words.{number_is}
 
 used_if : (b : Bool) (n x : ℕ) (h : History) (ns : List ℕ) (hs : List History) → x ≡ group_used (all_placed ns) hs
     → (if b then used n h.writes h.images else 0) + x ≡ group_used (all_placed (of_group_if b n ns)) (of_group_if b h hs)
-used_if true n x h ns hs e = ap (λ y. used n h.writes h.images + y) e
-used_if false n x h ns hs e = let z : 0 + x ≡ x = omega arith in z ∙ e
+used_if b n x h ns hs e = grind arith
 
 pub used_in_group : (g : ℕ) (rows : List VolumeRow) (hs : List History)
     → group_used (map (placed g) rows) hs ≡ group_used (all_placed (blocks_in_group g rows)) (of_group g rows hs)
@@ -27,8 +26,7 @@ used_in_group g (r ∷ rows) (h ∷ hs) =
 
 gone_if : (b : Bool) (m n : ℕ) (h : History) (ns : List ℕ) (hs ks : List History) → ks ≡ gone_up_to m (all_placed ns) hs
     → of_group_if b (if b then record { writes = h.writes; images = after_set m h.images } else h) ks ≡ gone_up_to m (all_placed (of_group_if b n ns)) (of_group_if b h hs)
-gone_if true m n h ns hs ks e = ap (λ xs. record { writes = h.writes; images = after_set m h.images } ∷ xs) e
-gone_if false m n h ns hs ks e = e
+gone_if b m n h ns hs ks e = grind arith
 
 pub gone_in_group : (g m : ℕ) (rows : List VolumeRow) (hs : List History)
     → of_group g rows (gone_up_to m (map (placed g) rows) hs) ≡ gone_up_to m (all_placed (blocks_in_group g rows)) (of_group g rows hs)
@@ -42,10 +40,7 @@ gone_in_group g m (r ∷ rows) (h ∷ hs) =
     gone_if (r.group == g) m r.blocks h (blocks_in_group g rows) (of_group g rows hs) (of_group g rows (gone_up_to m (map (placed g) rows) hs)) (gone_in_group g m rows hs)
 
 both_not : (b c : Bool) (x y : History) (xs ys : List History) → (b ≡ true → c ≡ true → ⊥) → xs ≡ ys → of_group_if c (if b then x else y) xs ≡ of_group_if c y ys
-both_not true true x y xs ys h e = absurd (h refl refl)
-both_not true false x y xs ys h e = e
-both_not false true x y xs ys h e = ap (λ zs. y ∷ zs) e
-both_not false false x y xs ys h e = e
+both_not b c x y xs ys h e = grind arith
 
 -- those of another group stay
 pub gone_elsewhere : (g other m : ℕ) (rows : List VolumeRow) (hs : List History) → (g ≡ other → ⊥)
@@ -59,12 +54,10 @@ gone_elsewhere g other m (r ∷ rows) (h ∷ hs) apart =
 -- ## a volume of the group
 
 get_if : {X : Type 0} (b : Bool) (x : X) (xs : List X) (i : ℕ) (o : Option X) → slice_get xs i ≡ o → slice_get (of_group_if b x xs) (count_if b i) ≡ o
-get_if true x xs i o e = e
-get_if false x xs i o e = e
+get_if b x xs i o e = grind arith
 
 get_first : {X : Type 0} (b : Bool) (x : X) (xs : List X) → b ≡ true → slice_get (of_group_if b x xs) 0 ≡ Some x
-get_first true x xs e = refl
-get_first false x xs e = cc
+get_first b x xs e = grind arith
 
 pub at_place : {X : Type 0} (g : ℕ) (rows : List VolumeRow) (xs : List X) (v : ℕ) (r : VolumeRow) → slice_get rows v ≡ Some r → r.group ≡ g
     → length xs ≡ length rows → slice_get (of_group g rows xs) (place_in g rows v) ≡ slice_get xs v
@@ -76,12 +69,10 @@ at_place g (q ∷ rows) (x ∷ xs) (suc v) r e f long =
     get_if (q.group == g) x (of_group g rows xs) (place_in g rows v) (slice_get xs v) (at_place g rows xs v r e f rest)
 
 change_if : (b : Bool) (f : History → History) (x : History) (xs ys : List History) (i : ℕ) → xs ≡ changed_at i f ys → of_group_if b x xs ≡ changed_at (count_if b i) f (of_group_if b x ys)
-change_if true f x xs ys i e = ap (λ zs. x ∷ zs) e
-change_if false f x xs ys i e = e
+change_if b f x xs ys i e = grind arith
 
 change_first : (b : Bool) (f : History → History) (x : History) (xs : List History) → b ≡ true → of_group_if b (f x) xs ≡ changed_at 0 f (of_group_if b x xs)
-change_first true f x xs e = refl
-change_first false f x xs e = cc
+change_first b f x xs e = grind arith
 
 pub changed_in_group : (g : ℕ) (f : History → History) (rows : List VolumeRow) (hs : List History) (v : ℕ) (r : VolumeRow) → slice_get rows v ≡ Some r → r.group ≡ g
     → of_group g rows (change_at v f hs) ≡ changed_at (place_in g rows v) f (of_group g rows hs)
@@ -92,12 +83,10 @@ changed_in_group g f (q ∷ rows) (h ∷ hs) (suc v) r e is =
     change_if (q.group == g) f h (of_group g rows (change_at v f hs)) (of_group g rows hs) (place_in g rows v) (changed_in_group g f rows hs v r e is)
 
 same_if : (b : Bool) (x : History) (xs ys : List History) → xs ≡ ys → of_group_if b x xs ≡ of_group_if b x ys
-same_if true x xs ys e = ap (λ zs. x ∷ zs) e
-same_if false x xs ys e = e
+same_if b x xs ys e = grind arith
 
 left_out : (b : Bool) (x y : History) (xs : List History) → b ≡ false → of_group_if b x xs ≡ of_group_if b y xs
-left_out true x y xs e = cc
-left_out false x y xs e = refl
+left_out b x y xs e = grind arith
 
 not_same : (a b c : ℕ) → a ≡ b → (b ≡ c → ⊥) → (a == c) ≡ false
 not_same a b c e apart = ne_eqb a c (λ same. apart (sym e ∙ same))
@@ -115,23 +104,13 @@ changed_elsewhere g other f (q ∷ rows) (h ∷ hs) (suc v) r e is apart = same_
 pub lacks_in_group : (slots g v b m : ℕ) (rows : List VolumeRow) (r : VolumeRow) (hs : List History) → slice_get rows v ≡ Some r → r.group ≡ g → length hs ≡ length rows
     → lacks_slot slots (map (placed g) rows) v b (gone_up_to m (map (placed g) rows) hs)
     ≡ lacks_slot slots (all_placed (blocks_in_group g rows)) (place_in g rows v) b (gone_up_to m (all_placed (blocks_in_group g rows)) (of_group g rows hs))
-lacks_in_group slots g v b m rows r hs e is long =
-    let gone = gone_up_to m (map (placed g) rows) hs in
-    let there = at_place g rows gone v r e is (as_many_gone m (map (placed g) rows) hs ∙ long) in
-    let needs = ap (λ o. needs_slot_in o b) (sym there ∙ ap (λ xs. slice_get xs (place_in g rows v)) (gone_in_group g m rows hs)) in
-    let uses = used_in_group g rows gone ∙ ap (λ xs. group_used (all_placed (blocks_in_group g rows)) xs) (gone_in_group g m rows hs) in
-    ap (λ t. t && (group_used (map (placed g) rows) gone == slots)) needs
-    ∙ ap (λ n. needs_slot_in (slice_get (gone_up_to m (all_placed (blocks_in_group g rows)) (of_group g rows hs)) (place_in g rows v)) b && (n == slots)) uses
+lacks_in_group slots g v b m rows r hs e is long = grind (arith, at_place, as_many_gone, gone_in_group, used_in_group)
 
 find_if : (b c : Bool) (x : ℕ) (o p : Option ℕ) → b ≡ c → o ≡ p → (if b then Some x else o) ≡ (if c then Some x else p)
-find_if true true x o p e f = refl
-find_if false false x o p e f = f
-find_if true false x o p e f = cc
-find_if false true x o p e f = cc
+find_if b c x o p e f = grind arith
 
 pub find_same : (p q : ℕ → Bool) (xs : List ℕ) → ((x : ℕ) → p x ≡ q x) → find p xs ≡ find q xs
-find_same p q [] same = refl
-find_same p q (x ∷ xs) same = find_if (p x) (q x) x (find p xs) (find q xs) (same x) (find_same p q xs same)
+find_same p q xs same = grind (arith, find_if)
 
 pub evicted_in_group : (sets slots g v b : ℕ) (rows : List VolumeRow) (r : VolumeRow) (hs : List History) → slice_get rows v ≡ Some r → r.group ≡ g → length hs ≡ length rows
     → evicted_up_to sets slots (map (placed g) rows) v b hs ≡ evicted_up_to sets slots (all_placed (blocks_in_group g rows)) (place_in g rows v) b (of_group g rows hs)

@@ -1,9 +1,8 @@
 -- What every call keeps, from what it keeps of each group.
-use Rattle.std.proofs.Common.{◌≡◌, ℕ, zero, suc, ◌+◌, ◌<◌, ◌≤◌, ◌==◌, List, [], ◌∷◌, ◌++◌, length, refl, ap, sym, ◌∙◌, subst, arith, Bool, true, false, Option, Some, None, map, slice_get, slice_set}
+use Rattle.std.proofs.Common.{◌≡◌, ℕ, zero, suc, ◌+◌, ◌<◌, ◌≤◌, ◌==◌, List, [], ◌∷◌, ◌++◌, length, refl, ap, sym, ◌∙◌, subst, arith, Bool, true, false, Option, Some, map, slice_get, slice_set}
 use Rattle.std.proofs.Common.{◌&&◌, is_some, Vec}
 use Rattle.provider.proofs.Words.{AreKept, AreLater, Ghosts, GroupValue, IsKeptGroup, IsProvider, IsSameDevice, Plan, VolumeRow, counts_of, devices_of, length-map, length-slice_set, map-append}
-use Rattle.provider.proofs.Words.{same_number, slice_get-set_other, slice_get-set_same, slice_get_inside, slice_get_within, tells_from, tells_of, told_at, told_by, told_in, true≢false, volume_place}
-use Rattle.provider.proofs.Words.{volumes_area}
+use Rattle.provider.proofs.Words.{same_number, slice_get-set_other, slice_get-set_same, slice_get_inside, slice_get_within, tells_from, tells_of, told_at, told_by, told_in, true≢false}
 use Rattle.vss_model.proofs.Words.{number_is}
 use Rattle.std.specs.declared.alloc.Global.{Global}
 
@@ -76,10 +75,7 @@ later_all device (x ∷ xs) (y ∷ ys) long each =
 
 -- a volume tells where its device and that of its area do
 pub both_tell : (slots own : Option (List (List ℕ))) → is_some (told_in slots own) ≡ (is_some own && is_some slots)
-both_tell None None = refl
-both_tell None (Some x) = refl
-both_tell (Some y) None = refl
-both_tell (Some y) (Some x) = refl
+both_tell slots own = grind arith
 
 abbrev AreTelling : {D : Type 0} → (D → Option (List (List ℕ))) → List D → List D → Type 0
 AreTelling told ds es = map (λ d. is_some (told d)) es ≡ map (λ d. is_some (told d)) ds
@@ -93,13 +89,7 @@ tells_there told (suc place) (d ∷ ds) (x ∷ es) e = let rest : AreTelling tol
 
 tells_same : {D : Type 0} (told : D → Option (List (List ℕ))) (s : Plan) (ds es : List D) (v : ℕ) (rows : List VolumeRow) → AreTelling told ds es
     → tells_from told s es v rows ≡ tells_from told s ds v rows
-tells_same told s ds es v [] e = refl
-tells_same told s ds es v (r ∷ rows) e =
-    let area = tells_there told (volumes_area s v) ds es e in
-    let own = tells_there told (volume_place s v) ds es e in
-    let here : is_some (told_at told s es v) ≡ is_some (told_at told s ds v) = both_tell _ _ ∙ ap (λ b. b && is_some (told_by told es (volumes_area s v))) own
-    ∙ ap (λ b. is_some (told_by told ds (volume_place s v)) && b) area ∙ sym (both_tell _ _) in
-    ap (λ b. b ∷ tells_from told s es (v + 1) rows) here ∙ ap (λ bs. is_some (told_at told s ds v) ∷ bs) (tells_same told s ds es (v + 1) rows e)
+tells_same told s ds es v rows e = grind (arith, tells_there, both_tell)
 
 -- the number of a volume counts up from where the list begins
 tells_from-at : {D : Type 0} (told : D → Option (List (List ℕ))) (s : Plan) (ds : List D) (n v : ℕ) (rows : List VolumeRow) → v < length rows
@@ -136,25 +126,13 @@ same_device : {D : Type 0} (device : Ghosts D) (d : D) → IsSame device d d
 same_device device d = record { tells = refl; size_is = refl; lends = refl; later = omega arith }
 
 pub kept_itself : {D : Type 0} (device : Ghosts D) (x : GroupValue D) → IsKeptGroup device x x
-kept_itself device x = record {
-  volumes = refl;
-  slots = refl;
-  area = same_device device x.area.device;
-  devices = refl;
-  each = λ v d e at there. let one : Some d ≡ Some e = sym at ∙ there in let same : d ≡ e = cc in subst (λ (z : _). IsSame device d z) same (same_device device d);
-}
+kept_itself device x = grind (arith, same_device)
 
 pub kept_same : {D : Type 0} (device : Ghosts D) (groups : List (GroupValue D)) → AreKept device groups groups
-kept_same device groups = keeps device groups groups refl
-    (λ g x y at there. let one : Some x ≡ Some y = sym at ∙ there in let same : x ≡ y = cc in subst (λ (z : GroupValue _). IsKeptGroup device x z) same (kept_itself device x))
+kept_same device groups = grind (arith, keeps, kept_itself)
 
 device_trans : {D : Type 0} (device : Ghosts D) (a b c : D) → IsSame device a b → IsSame device b c → IsSame device a c
-device_trans device a b c h k = record {
-  tells = k.tells ∙ h.tells;
-  size_is = k.size_is ∙ h.size_is;
-  lends = k.lends ∙ h.lends;
-  later = let m = h.later in let n = k.later in omega (arith, m, n);
-}
+device_trans device a b c h k = grind arith
 
 pub kept_then : {D : Type 0} (device : Ghosts D) (x y z : GroupValue D) → IsKeptGroup device x y → IsKeptGroup device y z → IsKeptGroup device x z
 kept_then {D = D} device x y z h k = record {
@@ -211,15 +189,4 @@ same_length size xs ys e = sym (length-map ys size) ∙ ap length e ∙ length-m
 
 pub provider_kept : {D : Type 0} (device : Ghosts D) (old new : List (GroupValue D)) (volumes : Vec ℕ Global) (list : Vec D Global) → AreKept device old new → IsProvider old volumes list
     → IsProvider new volumes list
-provider_kept device old new volumes list kept is =
-    let many = kept.number in
-    let few = is.few_groups in
-    let long = same_length device.size (devices_of old) (devices_of new) kept.sizes in
-    let room = is.room in
-    record {
-      few_groups = omega (arith, many, few);
-      few = is.few;
-      places = is.places;
-      empty = is.empty;
-      room = omega (arith, long, room);
-    }
+provider_kept device old new volumes list kept is = grind (arith, same_length)

@@ -1,10 +1,9 @@
 -- Whether an image stands, by the list of sets.
-use Rattle.std.proofs.Common.{◌≡◌, ℕ, ◌==◌, List, [], ◌∷◌, refl, ap, sym, ◌∙◌, Bool, true, false, Option, Some, ◌||◌, is_some, if◌then◌else◌}
+use Rattle.std.proofs.Common.{◌≡◌, ℕ, ◌==◌, List, [], ◌∷◌, refl, ap, sym, ◌∙◌, Bool, Option, Some, ◌||◌, is_some, if◌then◌else◌, arith}
 use Rattle.provider.proofs.Words.{GroupValue, HasImage, IfStandFor, Image, Plan, history_at, is_among, point_in, sets_of}
 
 point_if : (b : Bool) (p : ℕ) (o : Option ℕ) (c : Bool) → is_some o ≡ c → is_some (if b then Some p else o) ≡ (b || c)
-point_if true p o c e = refl
-point_if false p o c e = e
+point_if b p o c e = grind arith
 
 pub point_among : (set : ℕ) (images : List Image) → is_some (point_in set images) ≡ is_among set (sets_of images)
 point_among set [] = refl

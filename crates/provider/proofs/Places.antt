@@ -1,7 +1,7 @@
 -- Where a volume is within its group, and what stands there.
-use Rattle.std.proofs.Common.{◌≡◌, ℕ, ◌<◌, List, length, refl, ap, sym, ◌∙◌, subst, Option, Some, None, map, slice_get}
-use Rattle.provider.proofs.Words.{GroupValue, HasGroups, History, IsPlaceOf, Plan, VolumeRow, blocks_at, blocks_in as plan_blocks_in, blocks_in_group, blocks_of, history_at}
-use Rattle.provider.proofs.Words.{history_in as group_history_in, length-map, of_group, place_in, slice_get_inside, slice_get_map, slice_get_within}
+use Rattle.std.proofs.Common.{◌≡◌, ℕ, ◌<◌, List, length, ap, sym, ◌∙◌, subst, Option, Some, slice_get, arith}
+use Rattle.provider.proofs.Words.{GroupValue, HasGroups, History, IsPlaceOf, Plan, blocks_at, blocks_in as plan_blocks_in, blocks_in_group, blocks_of, history_at}
+use Rattle.provider.proofs.Words.{history_in as group_history_in, length-map, of_group, slice_get_inside, slice_get_map, slice_get_within}
 use Rattle.vss_model.specs.Words.{history_in}
 use Rattle.provider.specs.Words.{blocks_in as group_blocks_in, history_at as group_history_at}
 use Rattle.provider.proofs.InGroup.{at_place}
@@ -10,11 +10,7 @@ use Rattle.provider.proofs.InGroup.{at_place}
 
 -- the group has the volume, and it has its blocks
 pub blocks_there : (s : Plan) (v g u : ℕ) (p : IsPlaceOf s v g u) → slice_get (blocks_in_group g s.volumes) u ≡ Some p.row.blocks
-blocks_there s v g u p =
-    let at = at_place p.row.group s.volumes (map (λ (z : VolumeRow). z.blocks) s.volumes) v p.row p.is_row refl (length-map s.volumes (λ (z : VolumeRow). z.blocks))
-    ∙ slice_get_map (λ (z : VolumeRow). z.blocks) s.volumes v p.row p.is_row in
-    subst (λ (n : ℕ). slice_get (blocks_in_group g s.volumes) n ≡ Some p.row.blocks) (sym p.within_is)
-    (subst (λ (n : ℕ). slice_get (blocks_in_group n s.volumes) (place_in p.row.group s.volumes v) ≡ Some p.row.blocks) (sym p.group_is) at)
+blocks_there s v g u p = grind (arith, at_place, length-map, slice_get_map)
 
 pub place_within : (s : Plan) (v g u : ℕ) (p : IsPlaceOf s v g u) → u < length (blocks_in_group g s.volumes)
 place_within s v g u p = slice_get_within _ u _ (blocks_there s v g u p)
@@ -38,13 +34,8 @@ blocks_are s groups v g u x place has at =
 -- ## its history
 
 same_history : (o : Option History) → group_history_in o ≡ history_in o
-same_history None = refl
-same_history (Some h) = refl
+same_history o = grind arith
 
 -- the volume's history, found in its group
 pub history_of_place : (s : Plan) (hs : List History) (v g u : ℕ) → IsPlaceOf s v g u → length hs ≡ length s.volumes → group_history_at (of_group g s.volumes hs) u ≡ history_at hs v
-history_of_place s hs v g u place long =
-    ap (λ (k : ℕ). group_history_at (of_group k s.volumes hs) u) place.group_is
-    ∙ ap (λ (n : ℕ). group_history_at (of_group place.row.group s.volumes hs) n) place.within_is
-    ∙ ap group_history_in (at_place place.row.group s.volumes hs v place.row place.is_row refl long)
-    ∙ same_history (slice_get hs v)
+history_of_place s hs v g u place long = grind (arith, at_place, same_history)

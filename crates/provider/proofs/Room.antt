@@ -1,7 +1,7 @@
 -- Room is made in one group for a write: which images go of all volumes, and by which numbers they are told.
 use Rattle.std.proofs.Common.{◌≡◌, ℕ, zero, suc, ◌+◌, ◌≤◌, ◌==◌, List, [], ◌∷◌, ◌++◌, length, refl, ap, sym, ◌∙◌, subst, arith, Bool, true, false, Option, Some, map, slice_get, ◌&&◌, if◌then◌else◌}
 use Rattle.provider.proofs.Words.{AreGroups, Evicted, Ghosts, GoUpTo, GroupValue, HasRoom, History, IsEvicted, IsKeptGroup, IsLastSet, IsRoomMade, Placed, Plan, StandsFor, VolumeRow, as_many_gone}
-use Rattle.provider.proofs.Words.{blocks_in_group, evicted_of, evicted_up_to, flat_map, flat_map-cons, gone_group, gone_row, gone_up_to, group_of, has_image, holders, images_going, length-map}
+use Rattle.provider.proofs.Words.{blocks_in_group, evicted_of, evicted_up_to, flat_map, flat_map-cons, gone_group, gone_up_to, group_of, has_image, holders, images_going, length-map}
 use Rattle.provider.proofs.Words.{made_room, map-append, of_group, of_group_if, place_in, placed, placed_in, range_with_len, renumbered, sets_at, sets_of, slice_get_inside, slice_get_within, slots_in}
 use Rattle.provider.proofs.Words.{slots_of, volume_after, volume_in}
 use Rattle.provider.specs.Words.{HasRoom as HasGroupRoom, holders as group_holders, images_going as group_images, lacks_slot, placed as all_placed}
@@ -140,15 +140,7 @@ module _ {D : Type 0} (told : D → Option (List (List ℕ))) {s : Plan} {groups
 
 module _ {D : Type 0} (device : Ghosts D) {s : Plan} {old new : List (GroupValue D)} {v : ℕ} (c : Called s old new v) where
   room_kept : (up_to : ℕ) → c.after ≡ gone_group up_to c.found.here → IsKeptGroup device c.found.here c.after
-  room_kept up_to left =
-      let same = kept_itself device c.found.here in
-      subst (λ (y : GroupValue D). IsKeptGroup device c.found.here y) (sym left) (record {
-        volumes = same.volumes;
-        slots = length-map c.found.here.area.records (gone_row up_to);
-        area = same.area;
-        devices = same.devices;
-        each = same.each;
-      })
+  room_kept up_to left = grind (arith, kept_itself, length-map)
 
   pub room_of : (b up_to : ℕ) (gone : List Evicted) → HasGroupRoom device.told c.found.here c.after c.found.within b up_to
       → gone ≡ map (renumbered s c.found.group) (group_images up_to c.found.here.images)

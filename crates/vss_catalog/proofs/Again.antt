@@ -1,5 +1,6 @@
 -- Bytes that are read as a catalog are those that are written of it, and it is allowed.
-use Rattle.std.proofs.Common.{ℕ, zero, suc, ◌≡◌, ◌<◌, ◌≤◌, ◌+◌, ◌-◌, ◌*◌, Bool, true, false, ◌&&◌, if◌then◌else◌, nat_le, nat_lt, nat_eq, List, [], ◌∷◌, ◌++◌, length, take, drop, codes, Result, Ok, Err, refl, sym, ap, ◌∙◌, arith}
+use Rattle.std.proofs.Common.{ℕ, zero, suc, ◌≡◌, ◌<◌, ◌≤◌, ◌+◌, ◌-◌, ◌*◌, Bool, true, false, if◌then◌else◌, nat_lt, nat_eq, List, [], ◌∷◌, ◌++◌, length, take}
+use Rattle.std.proofs.Common.{drop, codes, Result, Ok, Err, refl, sym, ap, ◌∙◌, arith}
 use Rattle.std.specs.List.{flat_map}
 use Rattle.std.specs.Str.{bytes_eq}
 use Rattle.std.proofs.lemmas.Bool.Decides.{nat_tests}
@@ -8,21 +9,21 @@ use Rattle.block_data.specs.Digest.{sha256}
 use Rattle.vss_catalog.specs.Allowed.{AreRising, IsEntry, AreEntries, IsCatalog, AreBytes}
 use Rattle.vss_catalog.specs.Entries.{EntryValue}
 use Rattle.vss_names.specs.Names.{is_name}
-use Rattle.vss_catalog.specs.Reading.{◌>>=◌, number_in, name_of_length, name_in, blocks_in, count_in, set_in, sets_in, entry_in, end_in, entries_in, letters_in, volumes_in, body_in, front_of, is_sealed, catalog_in}
+use Rattle.vss_catalog.specs.Reading.{◌>>=◌, number_in, name_of_length, name_in, blocks_in, count_in, set_in, sets_in, entry_in, end_in, entries_in}
+use Rattle.vss_catalog.specs.Reading.{letters_in, volumes_in, body_in, front_of, is_sealed, catalog_in}
 use Rattle.vss_catalog.specs.Written.{number_bytes, entry_bytes, size_of, body_of, bytes_of}
 use Rattle.vss_catalog.specs.declared.catalog_fault.CatalogFault.{CatalogFault}
-use Rattle.vss_catalog.specs.declared.catalog_fault.CatalogFault.TheVariants.{Digest, Magic, Volumes, Short, Name, Blocks, Images, Order}
+use Rattle.vss_catalog.specs.declared.catalog_fault.CatalogFault.TheVariants.{Digest, Magic, Short, Order}
 use Rattle.vss_catalog.proofs.Numbers.{number-again, bytes-past, bytes-in}
-use Rattle.vss_catalog.proofs.Steps.{passed, if_true, and_left, and_right, is_at_most, is_below, is_not_below}
+use Rattle.vss_catalog.proofs.Steps.{passed, if_true, is_at_most, is_below, is_not_below}
+use Rattle.diff_area.proofs.Valid.{and_left, and_right}
 
 -- a test that has to be passed, before a second
 first_if : {A : Type 0} (b : Bool) (r : Result A CatalogFault) (y : A) (f : CatalogFault) → (if b then r else Err f) ≡ Ok y → (b ≡ true) × (r ≡ Ok y)
-first_if true r y f h = (refl, h)
-first_if false r y f h = absurd cc
+first_if b r y f h = grind arith
 
 not_if : {A : Type 0} (b : Bool) (r : Result A CatalogFault) (y : A) (f : CatalogFault) → (if b then Err f else r) ≡ Ok y → (b ≡ false) × (r ≡ Ok y)
-not_if true r y f h = absurd cc
-not_if false r y f h = (refl, h)
+not_if b r y f h = grind arith
 
 -- ## names
 
@@ -32,17 +33,7 @@ record IsNamed (v at len : ℕ) (rest name : List ℕ) : Type 0 where
   bytes : rest ≡ name ++ drop (length name) rest
 
 name_of-again : (v at len : ℕ) (rest name : List ℕ) → name_of_length v at rest len ≡ Ok name → IsNamed v at len rest name
-name_of-again v at len rest name h =
-    let range = first_if _ _ name (Name v) h in
-    let whole = not_if _ _ name (Short at) range.1 in
-    let test = if_true _ (take len rest) name (Name v) whole.1 in
-    let enough = is_not_below (length rest) len whole.0 in
-    let l : length name ≡ len = ap length (sym test.1) ∙ length-take-le len rest enough in
-    record {
-      named = ap is_name (sym test.1) ∙ test.0;
-      len_is = l;
-      bytes = sym (take-append-drop len rest) ∙ ap (λ (xs : List ℕ). xs ++ drop len rest) test.1 ∙ ap (λ (n : ℕ). name ++ drop n rest) (sym l);
-    }
+name_of-again v at len rest name h = grind (arith, first_if, not_if, if_true, is_not_below, length-take-le, take-append-drop)
 
 record StartsWithName (rest name : List ℕ) : Type 0 where
   named : is_name name ≡ true
@@ -56,31 +47,19 @@ name-again v at rest name are h =
     let is = name_of-again v (at + 4) p.value (drop 4 rest) name p.next in
     record {
       named = is.named;
-      bytes = n.bytes ∙ ap (λ (k : ℕ). number_bytes k ++ drop 4 rest) (sym is.len_is) ∙ ap (λ (xs : List ℕ). number_bytes (length name) ++ xs) (is.bytes ∙ ap (λ (xs : List ℕ). name ++ xs) (drop-drop (length name) 4 rest));
+      bytes = n.bytes ∙ ap (λ (k : ℕ). number_bytes k ++ drop 4 rest) (sym is.len_is)
+          ∙ ap (λ (xs : List ℕ). number_bytes (length name) ++ xs) (is.bytes ∙ ap (λ (xs : List ℕ). name ++ xs) (drop-drop (length name) 4 rest));
     }
 
 -- ## numbers
 
 blocks-again : (v at n : ℕ) (rest : List ℕ) → AreBytes rest → blocks_in v at rest ≡ Ok n → (0 < n) × (n ≤ 65536) × (rest ≡ number_bytes n ++ drop 4 rest)
 unfolding blocks_in
-blocks-again v at n rest are h =
-    let p = passed (number_in at rest) (λ m. if nat_le 1 m && nat_le m 65536 then Ok m else Err (Blocks v m)) n h in
-    let test = if_true _ p.value n (Blocks v p.value) p.next in
-    let low = is_at_most 1 p.value (and_left (nat_le 1 p.value) (nat_le p.value 65536) test.0) in
-    let high = is_at_most p.value 65536 (and_right (nat_le 1 p.value) (nat_le p.value 65536) test.0) in
-    let is = number-again at p.value rest are p.first in
-    let same = test.1 in
-    (omega arith, omega arith, is.bytes ∙ ap (λ (k : ℕ). number_bytes k ++ drop 4 rest) same)
+blocks-again v at n rest are h = grind (arith, passed, if_true, is_at_most, and_left, and_right, number-again)
 
 count-again : (v at n : ℕ) (rest : List ℕ) → AreBytes rest → count_in v at rest ≡ Ok n → (n ≤ 512) × (rest ≡ number_bytes n ++ drop 4 rest)
 unfolding count_in
-count-again v at n rest are h =
-    let p = passed (number_in at rest) (λ m. if nat_le m 512 then Ok m else Err (Images v m)) n h in
-    let test = if_true _ p.value n (Images v p.value) p.next in
-    let high = is_at_most p.value 512 test.0 in
-    let is = number-again at p.value rest are p.first in
-    let same = test.1 in
-    (omega arith, is.bytes ∙ ap (λ (k : ℕ). number_bytes k ++ drop 4 rest) same)
+count-again v at n rest are h = grind (arith, passed, if_true, is_at_most, number-again)
 
 set-again : (v last at set : ℕ) (rest : List ℕ) → AreBytes rest → set_in v last at rest ≡ Ok set → (last < set) × (set < 4294967296) × (rest ≡ number_bytes set ++ drop 4 rest)
 unfolding set_in
@@ -99,10 +78,10 @@ pub record StartsWithSets (n last : ℕ) (rest sets : List ℕ) : Type 0 where
   pub bytes : rest ≡ flat_map number_bytes sets ++ drop (4 * length sets) rest
 
 sets-none : (last : ℕ) (rest sets : List ℕ) → sets ≡ [] → StartsWithSets 0 last rest sets
-sets-none last rest [] h = record { rise = tt; many = refl; bytes = refl }
-sets-none last rest (s ∷ sets) h = absurd cc
+sets-none last rest sets h = grind arith
 
-sets-one : (n last set : ℕ) (rest more sets : List ℕ) → last < set → set < 4294967296 → rest ≡ number_bytes set ++ drop 4 rest → StartsWithSets n set (drop 4 rest) more → set ∷ more ≡ sets → StartsWithSets (suc n) last rest sets
+sets-one : (n last set : ℕ) (rest more sets : List ℕ) → last < set → set < 4294967296 → rest ≡ number_bytes set ++ drop 4 rest
+    → StartsWithSets n set (drop 4 rest) more → set ∷ more ≡ sets → StartsWithSets (suc n) last rest sets
 sets-one n last set rest more [] low high e is same = absurd cc
 sets-one n last set rest more (s ∷ sets) low high e is same =
     let head : set ≡ s = cc in
@@ -148,7 +127,8 @@ entry-joined rest name sets blocks a b c d =
     c ∙ ap (λ (xs : List ℕ). number_bytes (length sets) ++ xs) (drop-drop 4 (8 + length name) rest ∙ ap (λ (n : ℕ). drop n rest) l ∙ d2) in
     let b2 : drop (4 + length name) rest ≡ number_bytes blocks ++ (number_bytes (length sets) ++ (flat_map number_bytes sets ++ left)) =
     b ∙ ap (λ (xs : List ℕ). number_bytes blocks ++ xs) (drop-drop 4 (4 + length name) rest ∙ ap (λ (n : ℕ). drop n rest) k ∙ c2) in
-    let grouped : number_bytes (length name) ++ (name ++ (number_bytes blocks ++ (number_bytes (length sets) ++ (flat_map number_bytes sets ++ left)))) ≡ number_bytes (length name) ++ name ++ number_bytes blocks ++ number_bytes (length sets) ++ flat_map number_bytes sets ++ left = simp append_assoc in
+    let grouped : number_bytes (length name) ++ (name ++ (number_bytes blocks ++ (number_bytes (length sets) ++ (flat_map number_bytes sets ++ left))))
+        ≡ number_bytes (length name) ++ name ++ number_bytes blocks ++ number_bytes (length sets) ++ flat_map number_bytes sets ++ left = simp append_assoc in
     a ∙ ap (λ (xs : List ℕ). number_bytes (length name) ++ (name ++ xs)) b2 ∙ grouped
 
 entry-again : (v at : ℕ) (rest : List ℕ) (e : EntryValue) → AreBytes rest → entry_in v at rest ≡ Ok e → StartsWithEntry rest e
@@ -180,18 +160,10 @@ record AreWritten (n : ℕ) (rest : List ℕ) (es : List EntryValue) : Type 0 wh
   bytes : rest ≡ flat_map entry_bytes es
 
 none-again : (at : ℕ) (rest : List ℕ) (es : List EntryValue) → end_in at rest ≡ Ok es → AreWritten 0 rest es
-none-again at [] [] h = record { each = tt; many = refl; bytes = refl }
-none-again at [] (e ∷ es) h = absurd cc
-none-again at (b ∷ rest) es h = absurd cc
+none-again at rest es h = grind arith
 
 entries-one : (n : ℕ) (rest : List ℕ) (e : EntryValue) (more es : List EntryValue) → StartsWithEntry rest e → AreWritten n (drop (size_of e) rest) more → e ∷ more ≡ es → AreWritten (suc n) rest es
-entries-one n rest e more es one others same =
-    let all : AreWritten (suc n) rest (e ∷ more) = record {
-      each = (one.is, others.each);
-      many = ap suc others.many;
-      bytes = one.bytes ∙ ap (λ (xs : List ℕ). entry_bytes e ++ xs) others.bytes;
-    } in
-    rw same at all
+entries-one n rest e more es one others same = grind arith
 
 entries-again : (n v at : ℕ) (rest : List ℕ) (es : List EntryValue) → AreBytes rest → entries_in n v at rest ≡ Ok es → AreWritten n rest es
 unfolding entries_in
@@ -226,26 +198,16 @@ letters-again body rest h =
 
 volumes-again : (n : ℕ) (rest : List ℕ) → AreBytes rest → volumes_in rest ≡ Ok n → (0 < n) × (n ≤ 128) × (rest ≡ number_bytes n ++ drop 4 rest)
 unfolding volumes_in
-volumes-again n rest are h =
-    let p = passed (number_in 8 rest) (λ m. if nat_le 1 m && nat_le m 128 then Ok m else Err (Volumes m)) n h in
-    let test = if_true _ p.value n (Volumes p.value) p.next in
-    let low = is_at_most 1 p.value (and_left (nat_le 1 p.value) (nat_le p.value 128) test.0) in
-    let high = is_at_most p.value 128 (and_right (nat_le 1 p.value) (nat_le p.value 128) test.0) in
-    let is = number-again 8 p.value rest are p.first in
-    let same = test.1 in
-    (omega arith, omega arith, is.bytes ∙ ap (λ (k : ℕ). number_bytes k ++ drop 4 rest) same)
+volumes-again n rest are h = grind (arith, passed, if_true, is_at_most, and_left, and_right, number-again)
 
 record IsBody (body : List ℕ) (es : List EntryValue) : Type 0 where
   is : IsCatalog es
   bytes : body_of es ≡ body
 
-body-joined : (body rest : List ℕ) (n : ℕ) (es : List EntryValue) → body ≡ codes "VSSCAT01" ++ rest → rest ≡ number_bytes n ++ drop 4 rest → length es ≡ n → drop 4 rest ≡ flat_map entry_bytes es → body_of es ≡ body
+body-joined : (body rest : List ℕ) (n : ℕ) (es : List EntryValue) → body ≡ codes "VSSCAT01" ++ rest → rest ≡ number_bytes n ++ drop 4 rest → length es ≡ n
+    → drop 4 rest ≡ flat_map entry_bytes es → body_of es ≡ body
 unfolding body_of
-body-joined body rest n es a b c d =
-    append_assoc (codes "VSSCAT01") (number_bytes (length es)) (flat_map entry_bytes es)
-    ∙ ap (λ (k : ℕ). codes "VSSCAT01" ++ (number_bytes k ++ flat_map entry_bytes es)) c
-    ∙ ap (λ (xs : List ℕ). codes "VSSCAT01" ++ (number_bytes n ++ xs)) (sym d)
-    ∙ ap (λ (xs : List ℕ). codes "VSSCAT01" ++ xs) (sym b) ∙ sym a
+body-joined body rest n es a b c d = grind (arith, append_assoc)
 
 body-again : (body : List ℕ) (es : List EntryValue) → AreBytes body → body_in body ≡ Ok es → IsBody body es
 unfolding body_in

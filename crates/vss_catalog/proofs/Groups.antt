@@ -1,7 +1,6 @@
 -- The entries of a group, and its names.
-use Rattle.std.proofs.Common.{ℕ, zero, suc, ◌≡◌, ◌<◌, ◌≤◌, ◌+◌, ◌^◌, true, ◌==◌, List, [], ◌∷◌, ◌++◌, length, map, slice_get, refl, sym, subst, ap, ◌∙◌, arith, Some, All, get_or}
+use Rattle.std.proofs.Common.{ℕ, zero, suc, ◌≡◌, ◌<◌, ◌≤◌, ◌+◌, ◌^◌, true, List, [], ◌∷◌, ◌++◌, length, map, slice_get, refl, sym, subst, ap, ◌∙◌, arith, Some, All, get_or}
 use Rattle.std.specs.List.{range_with_len, AllPairs}
-use Rattle.std.proofs.lemmas.Bool.Decides.{nat_tests}
 use Rattle.std.proofs.lemmas.Option.{get_or_from_slice_get}
 use Rattle.std.proofs.lemmas.List.FromFn.{map-range_with_len_more}
 use Rattle.vss_names.specs.TextValue.{TextValue}
@@ -14,13 +13,12 @@ use Rattle.vss_catalog.specs.Entries.{EntryValue}
 use Rattle.vss_catalog.specs.Group.{are_names_for, entry_at, entries_of}
 use Rattle.vss_names.specs.Names.{is_name}
 use Rattle.vss_catalog.specs.Names.{are_names, bytes_in}
-use Rattle.vss_catalog.proofs.Steps.{and_left, and_right}
-
-equal : (a b : ℕ) → (a == b) ≡ true → a ≡ b
-equal a b h = grind (arith, nat_tests)
+use Rattle.diff_area.proofs.Valid.{and_left, and_right}
+use Rattle.cow_volume.proofs.Group.{same_number}
+use Rattle.cow_volume.proofs.Rows.{get_inside}
 
 pub as_many : {D : Type 0} (g : GroupValue D) (names : List TextValue) → are_names_for g names ≡ true → length names ≡ length g.area.volumes
-as_many g names h = equal (length names) (length g.area.volumes) (and_left _ _ h)
+as_many g names h = same_number (length names) (length g.area.volumes) (and_left _ _ h)
 
 pub each_name : {D : Type 0} (g : GroupValue D) (names : List TextValue) → are_names_for g names ≡ true → are_names names ≡ true
 each_name g names h = and_right _ _ h
@@ -31,11 +29,10 @@ entries-next g names v e old new is so h =
     is ∙ ap (λ (es : List EntryValue). es ++ e ∷ []) so ∙ ap (λ (x : EntryValue). map (entry_at g names) (range_with_len 0 v) ++ x ∷ []) h
     ∙ sym (map-range_with_len_more (entry_at g names) 0 v v (omega arith))
 
-pub is_entry : {D : Type 0} (g : GroupValue D) (names : List TextValue) (v : ℕ) (e : EntryValue) (name : List ℕ) (blocks : ℕ) (sets : List ℕ) → e ≡ record { name = name; blocks = blocks; images = sets }
+pub is_entry : {D : Type 0} (g : GroupValue D) (names : List TextValue) (v : ℕ) (e : EntryValue) (name : List ℕ) (blocks : ℕ) (sets : List ℕ)
+    → e ≡ record { name = name; blocks = blocks; images = sets }
     → name ≡ bytes_in (slice_get names v) → blocks ≡ blocks_at g v → sets ≡ sets_at g v → e ≡ entry_at g names v
-is_entry g names v e name blocks sets is a b c =
-    let from : List ℕ → ℕ → List ℕ → EntryValue = λ n m s. record { name = n; blocks = m; images = s } in
-    is ∙ ap (λ (n : List ℕ). from n blocks sets) a ∙ ap (λ (m : ℕ). from (bytes_in (slice_get names v)) m sets) b ∙ ap (from (bytes_in (slice_get names v)) (blocks_at g v)) c
+is_entry g names v e name blocks sets is a b c = grind arith
 
 -- ## what holds of a group's catalog
 
@@ -44,7 +41,8 @@ rising last [] up fit above = tt
 rising last (s ∷ rest) up fit above =
     let low : last < s = above 0 s (omega arith) in
     let narrow : s < 2 ^ 32 = (fit 0 s (omega arith)).1 in
-    (low, narrow, rising s rest (λ i j d l inside. up (suc i) (suc j) d (omega arith) (omega arith)) (λ k d inside. fit (suc k) d (omega arith)) (λ k d inside. up 0 (suc k) d (omega arith) (omega arith)))
+    (low, narrow, rising s rest (λ i j d l inside. up (suc i) (suc j) d (omega arith) (omega arith)) (λ k d inside. fit (suc k) d (omega arith))
+        (λ k d inside. up 0 (suc k) d (omega arith) (omega arith)))
 
 images_rise : (sets : List ℕ) → AreImages sets → AreRising 0 sets
 images_rise sets are = rising 0 sets are.ascend are.above_zero (λ k d inside. (are.above_zero k d inside).0)
@@ -53,11 +51,6 @@ a_name : (names : List TextValue) (v : ℕ) → are_names names ≡ true → v <
 a_name [] v h l = absurd (omega arith)
 a_name (n ∷ ns) zero h l = and_left _ _ h
 a_name (n ∷ ns) (suc v) h l = a_name ns v (and_right _ _ h) (omega arith)
-
-get_inside : {X : Type 0} (xs : List X) (v : ℕ) → v < length xs → (x : X) × (slice_get xs v ≡ Some x)
-get_inside [] v l = absurd (omega arith)
-get_inside (x ∷ xs) zero l = (x, refl)
-get_inside (x ∷ xs) (suc v) l = get_inside xs v (omega arith)
 
 module _ {D : Type 0} (g : GroupValue D) (names : List TextValue) (named : are_names_for g names ≡ true) (volumes : AreVolumes g.area.volumes) (many : length g.images ≡ length g.area.volumes) (rise : (v : ℕ) (sets : List ℕ) → slice_get g.images v ≡ Some sets → AreImages sets) where
   entry_allowed : (v : ℕ) → v < length g.area.volumes → IsEntry (entry_at g names v)
@@ -89,8 +82,4 @@ module _ {D : Type 0} (g : GroupValue D) (names : List TextValue) (named : are_n
   length-entries first (suc n) = ap suc (length-entries (first + 1) n)
 
   pub catalog_allowed : IsCatalog (entries_of g names)
-  catalog_allowed =
-      let long = length-entries 0 (length g.area.volumes) in
-      let some_volume = volumes.some in
-      let few_volumes = volumes.few in
-      record { some = omega arith; few = omega arith; each = entries_allowed 0 (length g.area.volumes) (omega arith) }
+  catalog_allowed = grind (arith, length-entries, entries_allowed)

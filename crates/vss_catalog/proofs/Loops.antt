@@ -1,8 +1,8 @@
 -- What was read so far, and then what is still to be read, is what is read of all.
-use Rattle.std.proofs.Common.{ℕ, zero, suc, ◌≡◌, ◌<◌, ◌≤◌, ◌+◌, ◌-◌, ◌*◌, List, [], ◌∷◌, ◌++◌, length, drop, Result, Ok, Err, refl, sym, ap, ◌∙◌, arith}
+use Rattle.std.proofs.Common.{ℕ, zero, suc, ◌≡◌, ◌<◌, ◌≤◌, ◌+◌, ◌-◌, ◌*◌, List, [], ◌∷◌, ◌++◌, length, drop, Result, Ok, Err, refl, ap, ◌∙◌, arith}
 use Rattle.std.proofs.lemmas.List.{drop-drop, drop_all}
 use Rattle.vss_catalog.specs.Entries.{EntryValue}
-use Rattle.vss_catalog.specs.Reading.{◌>>=◌, set_in, sets_in, entry_in, entries_in, end_in, Tells}
+use Rattle.vss_catalog.specs.Reading.{set_in, sets_in, entry_in, entries_in, end_in, Tells}
 use Rattle.vss_catalog.specs.Written.{size_of}
 use Rattle.vss_catalog.specs.declared.catalog_fault.CatalogFault.{CatalogFault}
 use Rattle.vss_catalog.specs.declared.catalog_fault.CatalogFault.TheVariants.{Rest}
@@ -11,18 +11,12 @@ use Rattle.vss_catalog.proofs.Steps.{after, after-none, after-end, after-one, te
 -- ## sets
 
 pub sets-start : (v count at : ℕ) (rest sets : List ℕ) → sets ≡ [] → sets_in v count 0 at rest ≡ after sets (sets_in v (count - 0) 0 (at + 4 * 0) (drop (4 * 0) rest))
-sets-start v count at rest sets e =
-    let n : count ≡ count - 0 = omega arith in
-    let place : at ≡ at + 4 * 0 = omega arith in
-    sym (after-none (sets_in v count 0 at rest)) ∙ ap (λ (m : ℕ). after [] (sets_in v m 0 at rest)) n
-    ∙ ap (λ (a : ℕ). after [] (sets_in v (count - 0) 0 a rest)) place
-    ∙ ap (λ (xs : List ℕ). after xs (sets_in v (count - 0) 0 (at + 4 * 0) rest)) (sym e)
+sets-start v count at rest sets e = grind (arith, after-none)
 
-sets-first : (v n last at set : ℕ) (rest sets : List ℕ) → set_in v last at rest ≡ Ok set → after sets (sets_in v (suc n) last at rest) ≡ after (sets ++ set ∷ []) (sets_in v n set (at + 4) (drop 4 rest))
+sets-first : (v n last at set : ℕ) (rest sets : List ℕ) → set_in v last at rest ≡ Ok set
+    → after sets (sets_in v (suc n) last at rest) ≡ after (sets ++ set ∷ []) (sets_in v n set (at + 4) (drop 4 rest))
 unfolding sets_in
-sets-first v n last at set rest sets e =
-    ap (after sets) (ap (λ q. q >>= (λ s. sets_in v n s (at + 4) (drop 4 rest) >>= (λ more. Ok (s ∷ more)))) e)
-    ∙ after-one sets set (sets_in v n set (at + 4) (drop 4 rest))
+sets-first v n last at set rest sets e = grind (arith, after-one)
 
 pub sets-step : (v count k last at set : ℕ) (rest sets : List ℕ) → k < count → set_in v last (at + 4 * k) (drop (4 * k) rest) ≡ Ok set
     → after sets (sets_in v (count - k) last (at + 4 * k) (drop (4 * k) rest)) ≡ after (sets ++ set ∷ []) (sets_in v (count - (k + 1)) set (at + 4 * (k + 1)) (drop (4 * (k + 1)) rest))
@@ -37,8 +31,7 @@ sets-step v count k last at set rest sets h e =
 
 sets-first-fault : (v n last at : ℕ) (f : CatalogFault) (rest sets : List ℕ) → set_in v last at rest ≡ Err f → after sets (sets_in v (suc n) last at rest) ≡ Err f
 unfolding sets_in
-sets-first-fault v n last at f rest sets e =
-    ap (after sets) (ap (λ q. q >>= (λ s. sets_in v n s (at + 4) (drop 4 rest) >>= (λ more. Ok (s ∷ more)))) e)
+sets-first-fault v n last at f rest sets e = grind arith
 
 pub sets-fault : (v count k last at : ℕ) (f : CatalogFault) (rest sets : List ℕ) → k < count → set_in v last (at + 4 * k) (drop (4 * k) rest) ≡ Err f
     → after sets (sets_in v (count - k) last (at + 4 * k) (drop (4 * k) rest)) ≡ Err f
@@ -49,24 +42,17 @@ sets-fault v count k last at f rest sets h e =
 
 pub sets-end : (v count k last at : ℕ) (rest sets : List ℕ) → count ≤ k → after sets (sets_in v (count - k) last at rest) ≡ Ok sets
 unfolding sets_in
-sets-end v count k last at rest sets h =
-    let n : count - k ≡ zero = omega arith in
-    ap (λ (m : ℕ). after sets (sets_in v m last at rest)) n ∙ after-end sets
+sets-end v count k last at rest sets h = grind (arith, after-end)
 
 -- ## entries
 
 pub entries-start : (count : ℕ) (rest : List ℕ) (es : List EntryValue) → es ≡ [] → entries_in count 0 12 rest ≡ after es (entries_in (count - 0) 0 (12 + 0) (drop 0 rest))
-entries-start count rest es e =
-    let n : count ≡ count - 0 = omega arith in
-    sym (after-none (entries_in count 0 12 rest)) ∙ ap (λ (m : ℕ). after [] (entries_in m 0 12 rest)) n
-    ∙ ap (λ (xs : List EntryValue). after xs (entries_in (count - 0) 0 12 rest)) (sym e)
+entries-start count rest es e = grind (arith, after-none)
 
 entries-first : (n v at : ℕ) (e : EntryValue) (rest : List ℕ) (es : List EntryValue) → entry_in v at rest ≡ Ok e
     → after es (entries_in (suc n) v at rest) ≡ after (es ++ e ∷ []) (entries_in n (v + 1) (at + size_of e) (drop (size_of e) rest))
 unfolding entries_in
-entries-first n v at e rest es h =
-    ap (after es) (ap (λ q. q >>= (λ s. entries_in n (v + 1) (at + size_of s) (drop (size_of s) rest) >>= (λ more. Ok (s ∷ more)))) h)
-    ∙ after-one es e (entries_in n (v + 1) (at + size_of e) (drop (size_of e) rest))
+entries-first n v at e rest es h = grind (arith, after-one)
 
 pub entries-step : (count v from : ℕ) (e : EntryValue) (rest : List ℕ) (es : List EntryValue) → v < count → entry_in v (12 + from) (drop from rest) ≡ Ok e
     → after es (entries_in (count - v) v (12 + from) (drop from rest)) ≡ after (es ++ e ∷ []) (entries_in (count - (v + 1)) (v + 1) (12 + (from + size_of e)) (drop (from + size_of e) rest))
@@ -80,8 +66,7 @@ entries-step count v from e rest es h is =
 
 entries-first-fault : (n v at : ℕ) (f : CatalogFault) (rest : List ℕ) (es : List EntryValue) → entry_in v at rest ≡ Err f → after es (entries_in (suc n) v at rest) ≡ Err f
 unfolding entries_in
-entries-first-fault n v at f rest es h =
-    ap (after es) (ap (λ q. q >>= (λ s. entries_in n (v + 1) (at + size_of s) (drop (size_of s) rest) >>= (λ more. Ok (s ∷ more)))) h)
+entries-first-fault n v at f rest es h = grind arith
 
 pub entries-fault : (count v from : ℕ) (f : CatalogFault) (rest : List ℕ) (es : List EntryValue) (all : Result (List EntryValue) CatalogFault) → v < count
     → all ≡ after es (entries_in (count - v) v (12 + from) (drop from rest)) → Tells f (entry_in v (12 + from) (drop from rest)) → Tells f all
@@ -100,12 +85,8 @@ end-some at (suc from) (b ∷ rest) h = end-some at from rest (omega arith)
 
 pub entries-end : (count v at from : ℕ) (rest : List ℕ) (es : List EntryValue) → count ≤ v → length rest ≤ from → after es (entries_in (count - v) v at (drop from rest)) ≡ Ok es
 unfolding entries_in
-entries-end count v at from rest es h k =
-    let n : count - v ≡ zero = omega arith in
-    ap (λ (m : ℕ). after es (entries_in m v at (drop from rest))) n ∙ ap (after es) (end-none at from rest k) ∙ after-end es
+entries-end count v at from rest es h k = grind (arith, end-none, after-end)
 
 pub entries-more : (count v at from : ℕ) (rest : List ℕ) (es : List EntryValue) → count ≤ v → from < length rest → after es (entries_in (count - v) v at (drop from rest)) ≡ Err (Rest at)
 unfolding entries_in
-entries-more count v at from rest es h k =
-    let n : count - v ≡ zero = omega arith in
-    ap (λ (m : ℕ). after es (entries_in m v at (drop from rest))) n ∙ ap (after es) (end-some at from rest k)
+entries-more count v at from rest es h k = grind (arith, end-some)

@@ -1,12 +1,11 @@
 -- Numbers as they are written and read.
-use Rattle.std.proofs.Common.{ℕ, zero, suc, ◌≡◌, ◌<◌, ◌≤◌, ◌+◌, ◌*◌, ◌/◌, ◌%◌, List, [], ◌∷◌, ◌++◌, length, take, drop, Ok, Err, refl, sym, ap, ◌∙◌, arith}
+use Rattle.std.proofs.Common.{ℕ, zero, suc, ◌≡◌, ◌<◌, ◌≤◌, ◌+◌, ◌*◌, ◌/◌, ◌%◌, List, [], ◌∷◌, ◌++◌, length, take, drop, Ok, sym, ap, ◌∙◌, arith}
 use Rattle.std.proofs.lemmas.List.{length-append, drop_at}
 use Rattle.byteorder.specs.Endian.{little_number}
 use Rattle.byteorder.specs.Numbers.{little_number-reads_back, length-bytes_low_first}
 use Rattle.vss_catalog.specs.Allowed.{AreBytes}
 use Rattle.vss_catalog.specs.Reading.{number_in}
 use Rattle.vss_catalog.specs.Written.{number_bytes}
-use Rattle.vss_catalog.specs.declared.catalog_fault.CatalogFault.TheVariants.{Short}
 use Rattle.vss_catalog.proofs.Steps.{fails, if_false, not_below, is_not_below}
 
 pub length-number_bytes : (n : ℕ) → length (number_bytes n) ≡ 4
@@ -19,12 +18,7 @@ reads rest n h = little_number-reads_back 4 n rest h
 
 -- a number that is written is read
 pub number-back : (at n : ℕ) (rest : List ℕ) → n < 4294967296 → number_in at (number_bytes n ++ rest) ≡ Ok n
-number-back at n rest h =
-    let bytes = number_bytes n ++ rest in
-    let l = length-append (number_bytes n) rest in
-    let k = length-number_bytes n in
-    let enough : 4 ≤ length bytes = omega arith in
-    fails _ (Err (Short at)) (Ok (little_number 4 bytes)) (not_below (length bytes) 4 enough) ∙ ap Ok (reads rest n h)
+number-back at n rest h = grind (arith, length-append, length-number_bytes, fails, not_below, reads)
 
 pub past-number : (n : ℕ) (rest : List ℕ) → drop 4 (number_bytes n ++ rest) ≡ rest
 past-number n rest = drop_at (number_bytes n) rest 4 (length-number_bytes n)
@@ -38,17 +32,12 @@ record Digits (n a b c d : ℕ) : Type 0 where
   narrow : n < 4294967296
 
 digits : (n a b c d : ℕ) → n ≡ a + 256 * (b + 256 * (c + 256 * d)) → a < 256 → b < 256 → c < 256 → d < 256 → Digits n a b c d
-digits n a b c d e ha hb hc hd =
-    let one : n / 256 ≡ b + 256 * (c + 256 * d) = omega arith in
-    let two : n / 65536 ≡ c + 256 * d = omega arith in
-    let three : n / 16777216 ≡ d = omega arith in
-    record { first = omega arith; second = rw one (omega arith); third = rw two (omega arith); fourth = rw three (omega arith); narrow = omega arith }
+digits n a b c d e ha hb hc hd = grind arith
 
-bytes-again : (a b c d : ℕ) (more : List ℕ) → a < 256 → b < 256 → c < 256 → d < 256 → (little_number 4 (a ∷ b ∷ c ∷ d ∷ more) < 4294967296) × (number_bytes (little_number 4 (a ∷ b ∷ c ∷ d ∷ more)) ≡ a ∷ b ∷ c ∷ d ∷ [])
+bytes-again : (a b c d : ℕ) (more : List ℕ) → a < 256 → b < 256 → c < 256 → d < 256
+    → (little_number 4 (a ∷ b ∷ c ∷ d ∷ more) < 4294967296) × (number_bytes (little_number 4 (a ∷ b ∷ c ∷ d ∷ more)) ≡ a ∷ b ∷ c ∷ d ∷ [])
 unfolding number_bytes
-bytes-again a b c d more ha hb hc hd =
-    let is = digits (little_number 4 (a ∷ b ∷ c ∷ d ∷ more)) a b c d (omega arith) ha hb hc hd in
-    (is.narrow, rw (is.first, is.second, is.third, is.fourth) refl)
+bytes-again a b c d more ha hb hc hd = grind (arith, digits)
 
 pub record IsNumber (n : ℕ) (rest : List ℕ) : Type 0 where
   pub narrow : n < 4294967296
@@ -66,9 +55,7 @@ of_bytes (a ∷ b ∷ c ∷ d ∷ more) n are h e =
 
 -- a number that is read was written so
 pub number-again : (at n : ℕ) (rest : List ℕ) → AreBytes rest → number_in at rest ≡ Ok n → IsNumber n rest
-number-again at n rest are h =
-    let test = if_false _ (little_number 4 rest) n (Short at) h in
-    of_bytes rest n are (is_not_below (length rest) 4 test.0) test.1
+number-again at n rest are h = grind (arith, if_false, of_bytes, is_not_below)
 
 pub bytes-past : (n : ℕ) (rest : List ℕ) → AreBytes rest → AreBytes (drop n rest)
 bytes-past zero rest are = are

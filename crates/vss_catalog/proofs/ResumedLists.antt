@@ -1,10 +1,10 @@
 -- The lists of a catalog are such as a group is taken up again with; and those of a group's catalog are the group's own.
-use Rattle.std.proofs.Common.{ℕ, zero, suc, ◌≡◌, ◌<◌, ◌≤◌, ◌+◌, ◌^◌, List, [], ◌∷◌, length, map, slice_get, refl, sym, ap, ◌∙◌, arith, Some, All, add-zero, zero-add}
+use Rattle.std.proofs.Common.{ℕ, zero, suc, ◌≡◌, ◌<◌, ◌+◌, ◌^◌, List, [], ◌∷◌, length, map, slice_get, refl, sym, ap, ◌∙◌, arith, Some, All, add-zero}
 use Rattle.std.specs.List.{range_with_len, AllPairs}
 use Rattle.std.proofs.lemmas.List.Elements.{All-cons}
 use Rattle.std.proofs.lemmas.List.Kept.{AllPairs-cons}
 use Rattle.vss_names.specs.TextValue.{TextValue}
-use Rattle.cow_volume.specs.Calls.{sets_at, sets_in}
+use Rattle.cow_volume.specs.Calls.{sets_at}
 use Rattle.cow_volume.specs.GroupValue.{GroupValue}
 use Rattle.diff_map.specs.MapValue.{AreImages}
 use Rattle.vss_catalog.specs.Allowed.{AreRising, AreEntries, IsCatalog}
@@ -51,6 +51,4 @@ images_of g names first zero = refl
 images_of g names first (suc n) = ap (λ (ss : List (List ℕ)). sets_at g first ∷ ss) (images_of g names (first + 1) n)
 
 pub own_lists : {D : Type 0} (g : GroupValue D) (names : List TextValue) → length g.images ≡ length g.area.volumes → lists_of (entries_of g names) ≡ g.images
-own_lists g names many =
-    images_of g names 0 (length g.area.volumes) ∙ ap (λ (n : ℕ). map (sets_at g) (range_with_len 0 n)) (sym many)
-    ∙ same_lists (sets_at g) g.images 0 (λ v sets at. ap (λ (k : ℕ). sets_in (slice_get g.images k)) (zero-add v) ∙ ap sets_in at)
+own_lists g names many = grind (arith, images_of, same_lists)
