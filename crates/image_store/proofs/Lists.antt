@@ -66,7 +66,7 @@ reverted_lists ghosts old new set v (Ok done) l same is = (
   λ hs stands.
       let p = point_of ghosts.told old.group hs v set stands l is.image in
       lists_changed ghosts.told old.group new.group hs v (reverted set p.0) (sets_up_to set) l is.kept.volumes stands (is.stands hs p.0 stands p.1)
-          (λ h. sets-filter (λ s. not (nat_lt set s)) h.images),
+      (λ h. sets-filter (λ s. not (nat_lt set s)) h.images),
 )
 reverted_lists ghosts old new set v (Err NoSuchImage) l same is = (is.0, same is.1)
 reverted_lists ghosts old new set v (Err (Fault restored cause)) l same is = (

@@ -186,7 +186,7 @@ module _ (g : GroupValue Held) (ps : List Plain) (v : â„•) (found : List (List â
       let is : IsPut own (with_volume g v now) (record { devices = slice_set (slice_set g.devices v (Some now)) v (Some (slice_set now b bytes)); area = g.area; images = g.images }) v
       (record { block = b; bytes = bytes }) =
       put_again own (slice_set g.devices v (Some now)) (record { area = g.area; images = g.images }) v (Some now)
-          (record { block = b; bytes = bytes }) low at (Some (slice_set now b bytes)) (Ok tt) has_copy
+      (record { block = b; bytes = bytes }) low at (Some (slice_set now b bytes)) (Ok tt) has_copy
       (record { tells = refl; size_is = refl; lends = refl; later = omega arith }, refl) in
       let after = put_plains own (with_volume g v now) (record { devices = slice_set (slice_set g.devices v (Some now)) v (Some (slice_set now b bytes)); area = g.area; images = g.images })
       (on_volume v (with_blocks now) ps) v b bytes within low is has in

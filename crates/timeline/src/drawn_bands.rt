@@ -52,7 +52,10 @@ fn add_passing(frame: &mut Frame<'_>, mark: &Mark<'_>, bottom: u64) -> Result<()
     if mark.place.passed == 0 {
         return Ok(());
     }
-    let x = mark.place.x.saturating_sub(mark.place.gap.saturating_add(10));
+    let x = mark
+        .place
+        .x
+        .saturating_sub(mark.place.gap.saturating_add(10));
     frame.rect("passing", x, 0, mark.place.gap, bottom)?;
     if mark.place.gap < TOLD {
         return Ok(());

@@ -40,7 +40,7 @@ module _ {M C R : Type 0} (steps : M → ℕ → C → R → M → Type 0) where
   -- the machine's move, with its note
   pub carries : (m n : Sat M C R) (d d' after : Desk M C R) (note : Note C R) (e : Entry C R) → m ≡ (Holding (known m.0) (ticket_of m.0) d.machine, (0, d) ∷ []) → m.1 ≡ (0, d') ∷ rest m.1
       → n ≡ (m.0, (0, after) ∷ rest m.1) → note.call.value ≡ e.call → note.answer.value ≡ e.answer → e.caller ≡ (known m.0).number
-          → after.note ≡ Rattle.std.proofs.Common.Some note → Makes steps d'.machine e after.machine
+      → after.note ≡ Rattle.std.proofs.Common.Some note → Makes steps d'.machine e after.machine
       → Carries steps n e
   carries m n d d' after note e holds here moved call_is answer_is caller_is is_noted makes =
       let carried : m.1 ≡ (0, d) ∷ [] = ap (λ (z : Sat M C R). z.1) holds in

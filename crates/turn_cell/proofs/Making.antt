@@ -54,7 +54,7 @@ module _ {M C R : Type 0} (steps : M → ℕ → C → R → M → Type 0) (open
         held = omega (arith, r.held, sum_at tickets s.views id (Maker r.made) left here, sum_by_push tickets vs right);
         each = λ j u there. ⊎_elim
             (λ (a : get_elem? vs j ≡ some u). seats_stay K s.views id left (knows.0, refl)
-                (λ i d other b. others r.log r.now r.drawn r.made r.holder r.owner (length vs) i (λ e. other (e ∙ sym knows.0)) d (r.each i d b)) j u a)
+            (λ i d other b. others r.log r.now r.drawn r.made r.holder r.owner (length vs) i (λ e. other (e ∙ sym knows.0)) d (r.each i d b)) j u a)
             (λ (t : (j ≡ length vs) × (right ≡ u)). subst (K j) t.1 record {
               seen = (r.log, refl);
               mine = none_yet r.made r.log r.callers;

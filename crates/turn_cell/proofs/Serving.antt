@@ -81,8 +81,8 @@ module _ {M C R : Type 0} (steps : M → ℕ → C → R → M → Type 0) (open
             let notes : Some note ≡ Some note' = sym is ∙ (ap (λ (x : Desk M C R). x.note) desks ∙ is') in
             let same : note ≡ note' = cc in
             subst (λ (z : Note C R). (◌≡◌ {A = Me (Desk M C R) (View M C R)} (w, []) (Idle (having k (noted k.number z)), []))
-                × (entries_of k.number (k.seen ++ noted k.number z ∷ []) ≡ k.mine ++ noted k.number z ∷ []) × (get_or s.words 0 0 ≡ length k.seen % 2 ^ 64))
-                same
+            × (entries_of k.number (k.seen ++ noted k.number z ∷ []) ≡ k.mine ++ noted k.number z ∷ []) × (get_or s.words 0 0 ≡ length k.seen % 2 ^ 64))
+            same
             (refl, ap (λ (l : List (Entry C R)). entries_of k.number (l ++ e ∷ [])) knows.4 ∙ own, r.serving ∙ ap (λ (l : List (Entry C R)). length l % 2 ^ 64) (sym knows.4)),
       )
 

@@ -128,7 +128,7 @@ entry-joined rest name sets blocks a b c d =
     let b2 : drop (4 + length name) rest ≡ number_bytes blocks ++ (number_bytes (length sets) ++ (flat_map number_bytes sets ++ left)) =
     b ∙ ap (λ (xs : List ℕ). number_bytes blocks ++ xs) (drop-drop 4 (4 + length name) rest ∙ ap (λ (n : ℕ). drop n rest) k ∙ c2) in
     let grouped : number_bytes (length name) ++ (name ++ (number_bytes blocks ++ (number_bytes (length sets) ++ (flat_map number_bytes sets ++ left))))
-        ≡ number_bytes (length name) ++ name ++ number_bytes blocks ++ number_bytes (length sets) ++ flat_map number_bytes sets ++ left = simp append_assoc in
+    ≡ number_bytes (length name) ++ name ++ number_bytes blocks ++ number_bytes (length sets) ++ flat_map number_bytes sets ++ left = simp append_assoc in
     a ∙ ap (λ (xs : List ℕ). number_bytes (length name) ++ (name ++ xs)) b2 ∙ grouped
 
 entry-again : (v at : ℕ) (rest : List ℕ) (e : EntryValue) → AreBytes rest → entry_in v at rest ≡ Ok e → StartsWithEntry rest e

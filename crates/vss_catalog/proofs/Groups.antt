@@ -40,9 +40,12 @@ rising : (last : ℕ) (sets : List ℕ) → AllPairs (λ s t. s < t) sets → Al
 rising last [] up fit above = tt
 rising last (s ∷ rest) up fit above =
     let low : last < s = above 0 s (omega arith) in
-    let narrow : s < 2 ^ 32 = (fit 0 s (omega arith)).1 in
-    (low, narrow, rising s rest (λ i j d l inside. up (suc i) (suc j) d (omega arith) (omega arith)) (λ k d inside. fit (suc k) d (omega arith))
-        (λ k d inside. up 0 (suc k) d (omega arith) (omega arith)))
+    let narrow : s < 2 ^ 32 = (fit 0 s (omega arith)).1 in (
+      low,
+      narrow,
+      rising s rest (λ i j d l inside. up (suc i) (suc j) d (omega arith) (omega arith)) (λ k d inside. fit (suc k) d (omega arith))
+          (λ k d inside. up 0 (suc k) d (omega arith) (omega arith)),
+    )
 
 images_rise : (sets : List ℕ) → AreImages sets → AreRising 0 sets
 images_rise sets are = rising 0 sets are.ascend are.above_zero (λ k d inside. (are.above_zero k d inside).0)

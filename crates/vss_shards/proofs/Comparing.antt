@@ -54,7 +54,7 @@ part_from v journal k e here own =
     ∙ filter-append (λ (x : Entry). x.volume == v) (take k journal) (drop k journal)
     ∙ ap (λ (es : List Entry). part_of v (take k journal) ++ part_of v es) (drop_at journal k e here)
     ∙ ap (λ (t : Bool). part_of v (take k journal) ++ cond t (e ∷ part_of v (drop (suc k) journal)) (part_of v (drop (suc k) journal)))
-        (subst (λ (n : ℕ). (e.volume == n) ≡ true) own (number_is e.volume))
+    (subst (λ (n : ℕ). (e.volume == n) ≡ true) own (number_is e.volume))
 
 agree_length : (v : ℕ) (listed journal : List Entry) (k at : ℕ) → Agree v listed journal k at → length (part_of v (take k journal)) ≡ at
 agree_length v listed journal k at is = sym (ap length is.same) ∙ length_taken listed at is.within

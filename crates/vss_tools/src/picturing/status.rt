@@ -37,7 +37,9 @@ impl fmt::Display for Status<'_> {
         match self {
             Status::Done => f.write_str("done"),
             Status::Usage => {
-                f.write_str("usage: vss_timeline [--text] [--clock] [--from N] [--to N] [SCENARIO REPORT]")
+                f.write_str(
+                    "usage: vss_timeline [--text] [--clock] [--from N] [--to N] [SCENARIO REPORT]",
+                )
             }
             Status::WriteFault => f.write_str("write fault"),
             Status::OutOfMemory => f.write_str("out of memory"),

@@ -50,7 +50,7 @@ returns-then-up_to-gt0-clause-copied g c =
     let marks = c.requires.marks in
     copied_stopped g.D.Device.told c.args.group.now c.loop-b.group c.make_room-up_to.new.self c.args.v c.args.differs.now c.args.from c.args.to c.loop-b.b c.args.copied.now c.loop-b.copied
     c.make_room-up_to.result (subst AreImages c.images.ensures.images c.images.ensures.rise)
-        (flag_is c.args.differs.now c.loop-b.b _ true (omega arith) c.if-differs-b.true) (omega arith) (omega arith)
+    (flag_is c.args.differs.now c.loop-b.b _ true (omega arith) c.if-differs-b.true) (omega arith) (omega arith)
     c.loop-b.invariant.copies c.make_room-up_to.ensures.room
 
 pub returns-in_err-more-clause-copied : goal.returns-in_err-more-clause-copied
@@ -63,7 +63,7 @@ returns-in_err-more-clause-copied g c =
       omega arith,
       copied_part_with_room g.D.Device.told c.args.group.now c.loop-b.group c.make_room-up_to.new.self c.copy_one.new.group c.args.v c.args.differs.now c.args.from c.loop-b.b
           c.args.copied.now c.loop-b.copied c.make_room-up_to.result are c.loop-b.invariant.copies c.make_room-up_to.ensures.room c.if-up_to-gt0.false
-              c.copy_one.ensures.copies c.in_err-more.ensures.none,
+          c.copy_one.ensures.copies c.in_err-more.ensures.none,
     )
 
 pub returns-clause-copied : goal.returns-clause-copied
@@ -82,8 +82,8 @@ loop-b-preserved g c =
         copies = copied_with_room g.D.Device.told c.args.group.now c.loop-b.group w.make_room-up_to.new.self w.copy_one.new.group c.args.v c.args.differs.now
             c.args.from c.loop-b.b c.args.copied.now c.loop-b.copied _
             w.make_room-up_to.result w.in_ok-more.more
-                (subst AreImages c.images.ensures.images c.images.ensures.rise) c.loop-b.invariant.copies w.make_room-up_to.ensures.room w.if-up_to-gt0.false
-                w.copy_one.ensures.copies
+            (subst AreImages c.images.ensures.images c.images.ensures.rise) c.loop-b.invariant.copies w.make_room-up_to.ensures.room w.if-up_to-gt0.false
+            w.copy_one.ensures.copies
             w.in_ok-more.ensures.has w.in_ok-more.ensures.more (w.saturating_add.ensures ∙ ap (λ n. min (c.loop-b.copied + n) (2 ^ 32 - 1)) (w.from.ensures ∙ bool_is w.in_ok-more.more));
         kept = copy_more g.D.Device.told c.args.group.now c.loop-b.group w.make_room-up_to.new.self w.copy_one.new.group c.args.v c.loop-b.b w.make_room-up_to.result c.loop-b.invariant.kept
             w.if-up_to-gt0.false w.make_room-up_to.ensures.room w.copy_one.ensures.kept;

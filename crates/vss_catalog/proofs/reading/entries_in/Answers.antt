@@ -34,8 +34,8 @@ loop-v-preserved c =
       read = l.invariant.read ∙ step
           ∙ ap (λ (n : ℕ). after (l.entries.items ++ entry ∷ []) (entries_in (c.args.count - (l.v + 1)) (l.v + 1) (12 + (l.from + n)) (drop (l.from + n) c.args.rest.now))) (sym size)
           ∙ ap (λ (es : List EntryValue). after es
-              (entries_in (c.args.count - (l.v + 1)) (l.v + 1) (12 + (l.from + c.size-from.result)) (drop (l.from + c.size-from.result) c.args.rest.now)))
-              (sym pushed);
+          (entries_in (c.args.count - (l.v + 1)) (l.v + 1) (12 + (l.from + c.size-from.result)) (drop (l.from + c.size-from.result) c.args.rest.now)))
+          (sym pushed);
       many = let n = l.invariant.many in let m = length-append l.entries.items (entry ∷ []) in let e = ap length pushed in omega arith;
       near = let n = l.invariant.near in omega arith;
     }

@@ -18,7 +18,7 @@ returns-in_err-compare g c =
     let off : IsOffIn c.shard-item.result.number c.shard-item.result.entries (part_of c.shard-item.result.number c.args.journal.now.entries) c.in_err-compare.field-0.0 =
     rw (← c.shard.view_is, ← c.journal.view_is, ← c.deref.ensures.value, ← c.deref-in-loop-shard.ensures.value) c.in_err-compare.ensures.differ in
     let told = off_is_told c.args.shards.now c.args.journal.now.entries c.loop-shard.shard-index c.shard-item.result c.in_err-compare.field-0.0
-        c.in_ok-all_free.ensures.free c.loop-shard.invariant here off in
+    c.in_ok-all_free.ensures.free c.loop-shard.invariant here off in
     let p = err_from_is_err_and c.from_residual-in_err-compare.result c.from_residual-in_err-compare.ensures.1 in
     rw (p.1, p.2) told
 
@@ -28,4 +28,4 @@ loop-shard-preserved g c =
     let here = at_place c.args.shards.now c.loop-shard.shard-index c.shard-item.result within c.shard-item.is in
     λ k l s at. more_at (λ (x : ShardValue _). x.entries ≡ part_of x.number c.args.journal.now.entries) c.args.shards.now c.loop-shard.shard-index c.shard-item.result
     here (rw (← c.shard.view_is, ← c.journal.view_is, ← c.deref.ensures.value, ← c.deref-in-loop-shard.ensures.value) c.in_ok-compare.ensures.same)
-        (λ j x before is. c.loop-shard.invariant j before x is) k s l at
+    (λ j x before is. c.loop-shard.invariant j before x is) k s l at

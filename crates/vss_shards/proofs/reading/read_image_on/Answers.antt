@@ -13,8 +13,8 @@ pub returns-clause-shown : goal.returns-clause-shown
 returns-clause-shown g c =
     let s = shard_value c.shard.inside.number c.shard.inside.volume c.shard.inside.entries.items c.shard.inside.images.items c.shard.inside.last c.shard.inside.held in
     rw (← c.shard.view_is)
-        (on_ok_weaker c.read_image_into.result
-        (read_shown g.D.Device.told s c.args.image c.args.block c.read_image_into.new.out c.shard.invariant.0) c.read_image_into.ensures.shown)
+    (on_ok_weaker c.read_image_into.result
+    (read_shown g.D.Device.told s c.args.image c.args.block c.read_image_into.new.out c.shard.invariant.0) c.read_image_into.ensures.shown)
 
 pub returns-clause-goes_on : goal.returns-clause-goes_on
 returns-clause-goes_on g c = rw (← c.shard.view_is)

@@ -17,8 +17,8 @@ returns-clause-under_way g c =
     let old = store_of c.self.inside.group c.self.inside.names.items c.self.inside.last in
     let new = store_of c.copy_blocks.new.group c.self.inside.names.items c.self.inside.last in
     rw (← c.self.view_is)
-        (λ committed p stands copies under. copy_under_way g.D.Device.told committed old new c.args.v c.args.differs.now c.args.from c.args.to c.args.copied.now
-        c.copy_blocks.new.copied
+    (λ committed p stands copies under. copy_under_way g.D.Device.told committed old new c.args.v c.args.differs.now c.args.from c.args.to c.args.copied.now
+    c.copy_blocks.new.copied
     c.copy_blocks.new.gone.items c.copy_blocks.result p c.copy_blocks.ensures.copied
-        (ahead g.D.Device.told old new c.copy_blocks.new.gone.items c.copy_blocks.result refl c.copy_blocks.ensures.copying p stands)
+    (ahead g.D.Device.told old new c.copy_blocks.new.gone.items c.copy_blocks.result refl c.copy_blocks.ensures.copying p stands)
     stands copies under)

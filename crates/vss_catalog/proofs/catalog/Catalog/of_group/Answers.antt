@@ -22,7 +22,7 @@ loop-v-preserved g c =
     let entry = c.in_ok-entry.entry in
     let pushed : c.push.new.self.items ≡ l.entries.items ++ entry ∷ [] = c.in_ok-push.ensures.items in
     let is = is_entry c.args.group.now c.args.names.now l.v entry c.name_at-name.result.now c.blocks-in-loop-v.result c.in_ok-sets.sets c.in_ok-entry.ensures
-        c.name_at-name.ensures.bytes c.blocks-in-loop-v.ensures (c.in_ok-sets.ensures ∙ c.images.ensures.images) in
+    c.name_at-name.ensures.bytes c.blocks-in-loop-v.ensures (c.in_ok-sets.ensures ∙ c.images.ensures.images) in
     record {
       entries = entries-next c.args.group.now c.args.names.now l.v entry l.entries.items c.push.new.self.items pushed l.invariant.entries is;
       many = let n = l.invariant.many in let m = length-append l.entries.items (entry ∷ []) in let e = ap length pushed in omega arith;
