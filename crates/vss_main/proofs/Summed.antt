@@ -26,12 +26,15 @@ use Rattle.vss_report.proofs.DigestBytes.{digest_if}
 use Rattle.generated.specs.Scenario.{Shape, shape_of, own_shape, IsGenerated}
 use Rattle.generated.proofs.Ending.{ends_in_blocks, ends_well}
 use Rattle.vss_play.specs.declared.play_fault.PlayFault.{PlayFault}
+use Rattle.vss_play.specs.Acting.{IsPlayedInThreads}
 use Rattle.vss_play.specs.Closing.{history_after}
 use Rattle.vss_play.specs.Digested.{AreDigests, bytes_after}
-use Rattle.vss_play.specs.Played.{Played, AreNamed, device_names, IsFresh, IsPlayedOut, tells_in, AnyRose}
+use Rattle.vss_play.specs.Played.{Played, AreNamed, device_names, IsFresh, tells_in, AnyRose}
+use Rattle.vss_play.proofs.Histories.{played_to_the_end}
 use Rattle.vss_play.proofs.MakerCount.{rose-positive, rose-counted, member-le-sum}
+use Rattle.vss_main.specs.TopCall.{IsOwnTrail}
 use Rattle.vss_main.specs.Generated.{IsOfNumber, AreEight, IsSummed, IsDigested, IsDigestedTo}
-use Rattle.vss_main.proofs.Ran.{IsWhole, same_plan, ends_complete, all_told, made-of, marks_below, not_less}
+use Rattle.vss_main.proofs.Ran.{IsWhole, same_plan, own_trail, ends_complete, all_told, made-of, marks_below, not_less}
 
 length_map : {X Y : Type 0} (f : X → Y) (xs : List X) → length (map f xs) ≡ length xs
 length_map f [] = refl
@@ -147,14 +150,15 @@ unmarked_as trail moves b same is e = no_mark trail (ap (list_any (λ m. is_faul
 -- a run that was begun, played to its end and digested
 pub whole-digested : {D : Type 0} {ghosts : Ghosts D} {tells : Bool} {named_first named_last : Option (List (List ℕ))}
     {kept_first kept_made kept_last : Option (List D)} {places first made last : ℕ} {s : Plan} {p q : Played D} {result : Result (List (List ℕ)) PlayFault}
-    → IsFresh ghosts tells s p → AreNamed (device_names s) named_first named_last → made ≡ first → IsPlayedOut ghosts p q → length p.devices ≤ places → kept_made ≡ kept_first
+    → IsFresh ghosts tells s p → AreNamed (device_names s) named_first named_last → made ≡ first → IsPlayedInThreads ghosts p q → length p.devices ≤ places → kept_made ≡ kept_first
     → (ended : IsDigested ghosts q places kept_made kept_last made last result)
     → IsWhole ghosts tells named_first named_last kept_first kept_made kept_last places first made last s p q ended.new
-whole-digested fresh named unmoved played enough kept_new ended = record {
+whole-digested fresh named unmoved threads enough kept_new ended = record {
   fresh = fresh;
   named = named;
   unmoved = unmoved;
-  played = played;
+  played = played_to_the_end _ _ _ threads;
+  threads = threads;
   enough = enough;
   kept_new = kept_new;
   quiet = ended.quiet;
@@ -179,6 +183,7 @@ module _ {D : Type 0} {ghosts : Ghosts D} {tells : Bool} {named_first named_last
       let generated : IsGenerated n r.plan = subst (λ (x : Plan). IsGenerated n x) (sym same) of_number.generated in
       subst (λ (x : Plan). IsSummed ghosts tells named_first named_last kept_first kept_last first last n x text) same (record {
         made = made-of h ends.3;
+        own = subst (λ (x : Plan). IsOwnTrail ghosts tells x r.trail) (sym same) (own_trail h);
         unmarked = unmarked;
         ends_well = ends_well n r.plan r.trail generated legal complete unmarked;
         digests = digests;

@@ -20,7 +20,7 @@ use Rattle.vss_play.specs.Lasting.{HaveLasted}
 use Rattle.vss_play.specs.Played.{Played, AnyRose, AreasHold, IsKept, IsQuietPlay, tells_in}
 use Rattle.vss_main.specs.Command.{IsStoreOf}
 use Rattle.vss_main.specs.Outside.{SinkAndMaker}
-use Rattle.vss_main.specs.TopCall.{AreGivenBack, MadeRun, IsDoneOrWantsMemory}
+use Rattle.vss_main.specs.TopCall.{AreGivenBack, IsOwnTrail, MadeRun, IsDoneOrWantsMemory}
 use Rattle.vss_main.specs.declared.status.Status.{Status}
 use Rattle.vss_main.specs.declared.status.Status.TheVariants.{Done, WriteFault, DeviceFault, OutOfMemory}
 
@@ -42,6 +42,7 @@ pub record AreEight (digests : List (List ℕ)) : Type 0 where
 pub record IsSummed {D : Type 0} (ghosts : Ghosts D) (tells : Bool) (named_first named_last : Option (List (List ℕ))) (kept_first kept_last : Option (List D))
     (count_first count_last n : ℕ) (s : Plan) (text : List ℕ) : Type 0 where
   pub made : MadeRun ghosts.told named_first named_last kept_first kept_last count_first count_last s
+  pub own : IsOwnTrail ghosts tells s made.trail
   pub unmarked : faults made.trail ≡ 0
   -- its four sets are complete, nothing was evicted, and each volume has the contents whose digest stands in the summary
   pub ends_well : EndsWell n s made.trail
