@@ -27,7 +27,8 @@ unfolding value_of_text
 read-of_value text d e = value-if (is_utf8 text) (read text) d e
 
 -- the value of a document
-document-value : (ms : List (Option Meta)) (text : List ℕ) (d : Data) (c : Context) (h : Held) → length ms < 2 ^ 32 → value_of_text text ≡ Some d → IsDocument ms text c h → d ≡ document ms h.selected c
+document-value : (ms : List (Option Meta)) (text : List ℕ) (d : Data) (c : Context) (h : Held) → length ms < 2 ^ 32 → value_of_text text ≡ Some d
+    → IsDocument ms text c h → d ≡ document ms h.selected c
 document-value ms text d c h few value is = grind (arith, same_Some, read-of_value, read-document_text)
 
 pub context-of : (ms : List (Option Meta)) (text : List ℕ) (d : Data) (c : Context) (h : Held) → length ms < 2 ^ 32 → value_of_text text ≡ Some d → IsDocument ms text c h → context_in d ≡ Some c
@@ -60,11 +61,13 @@ document-alone ms text d c h allowed few value is = record {
 pub no-context : (ms : List (Option Meta)) (text : List ℕ) (d : Data) → length ms < 2 ^ 32 → value_of_text text ≡ Some d → context_in d ≡ None → TellsOfText ms NotDocument text
 no-context ms text d few value none = ((d, value), λ c h is. none-some c (sym none ∙ context-of ms text d c h few value is))
 
-no-selection : (ms : List (Option Meta)) (text : List ℕ) (d : Data) (fault : DocFault) → AreAllowed ms → length ms < 2 ^ 32 → value_of_text text ≡ Some d → Lacks fault (selected_in ms d) → TellsOfText ms fault text
+no-selection : (ms : List (Option Meta)) (text : List ℕ) (d : Data) (fault : DocFault) → AreAllowed ms → length ms < 2 ^ 32 → value_of_text text ≡ Some d
+    → Lacks fault (selected_in ms d) → TellsOfText ms fault text
 no-selection ms text d fault allowed few value lacks = grind (arith, none-some, selected-of)
 
 -- a value that names no selection
-pub no-selection-handed_on : {T : Type 0} (r : Result T DocFault) (ms : List (Option Meta)) (text : List ℕ) (d : Data) (fault : DocFault) → IsErrAnd r (λ f. f ≡ fault) → AreAllowed ms → length ms < 2 ^ 32
+pub no-selection-handed_on : {T : Type 0} (r : Result T DocFault) (ms : List (Option Meta)) (text : List ℕ) (d : Data) (fault : DocFault)
+    → IsErrAnd r (λ f. f ≡ fault) → AreAllowed ms → length ms < 2 ^ 32
     → value_of_text text ≡ Some d → Lacks fault (selected_in ms d) → IfErr r (λ f. TellsOfText ms f text)
 no-selection-handed_on r ms text d fault is allowed few value lacks = grind (arith, no-selection)
 

@@ -1,5 +1,6 @@
 -- The metadata of one writer, by its number.
-use Rattle.std.proofs.Common.{◌≡◌, ◌∙◌, ℕ, zero, suc, ◌+◌, ◌<◌, ◌≤◌, ◌==◌, ◌↔◌, append_assoc, append-nil, is_some, if◌then◌else◌, List, [], ◌∷◌, ◌++◌, length, drop, map, nat_le, Bool, true, false, ◌&&◌, Option, None, Some, option_map, slice_get, arith, refl, sym, ap, subst}
+use Rattle.std.proofs.Common.{◌≡◌, ◌∙◌, ℕ, zero, suc, ◌+◌, ◌<◌, ◌≤◌, ◌==◌, ◌↔◌, append_assoc, append-nil, is_some, if◌then◌else◌, List, [], ◌∷◌, ◌++◌, length}
+use Rattle.std.proofs.Common.{drop, map, nat_le, Bool, true, false, ◌&&◌, Option, None, Some, option_map, slice_get, arith, refl, sym, ap, subst}
 use Rattle.std.specs.Prelude.{Result, IfOk}
 use Rattle.std.proofs.lemmas.Bool.Decides.{nat_tests}
 use Rattle.std.proofs.lemmas.Bool.{eqb-true, false≢true}

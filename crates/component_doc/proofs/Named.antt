@@ -23,7 +23,8 @@ pub named-more : (ms : List (Option Meta)) (values : List Value) (i : ℕ) (v : 
 unfolding named_by_all
 named-more ms values i v old new within is names = grind (arith, drop_more)
 
-pub Lacks-named : (fault : DocFault) (ms : List (Option Meta)) (values : List Value) (i : ℕ) (v : Value) (old : List Pair) → i < length values → v ≡ get_or values i v → Lacks fault (named_by ms old (view v))
+pub Lacks-named : (fault : DocFault) (ms : List (Option Meta)) (values : List Value) (i : ℕ) (v : Value) (old : List Pair) → i < length values
+    → v ≡ get_or values i v → Lacks fault (named_by ms old (view v))
     → Lacks fault (named_by_all ms old (items_view (drop i values)))
 unfolding named_by_all
 Lacks-named fault ms values i v old within is lacks = grind (arith, drop_more, Lacks-and_then)

@@ -87,7 +87,8 @@ behind-ahead w i (p ∷ ps) all = (behind-one w i p (and_left _ _ all), behind-a
 not-behind : (w i : ℕ) (r : Pair) → IsAhead w i r → comes_before r (pair w i) ≡ true → ⊥
 not-behind w i r ahead before = grind (arith, nat_tests)
 
-behind-if : (r p : Pair) (w i : ℕ) (b among : Bool) → is_pair w i p ≡ b → comes_before r p ≡ true → (b || among) ≡ true → (among ≡ true → comes_before r (pair w i) ≡ true) → comes_before r (pair w i) ≡ true
+behind-if : (r p : Pair) (w i : ℕ) (b among : Bool) → is_pair w i p ≡ b → comes_before r p ≡ true → (b || among) ≡ true
+    → (among ≡ true → comes_before r (pair w i) ≡ true) → comes_before r (pair w i) ≡ true
 behind-if r p w i b among is before has later = grind arith
 
 member-behind : (r : Pair) (ps : List Pair) (w i : ℕ) → list_all (comes_before r) ps ≡ true → has_pair ps w i ≡ true → comes_before r (pair w i) ≡ true
@@ -137,7 +138,8 @@ not-past : (ms : List (Option Meta)) (w : ℕ) (m : Meta) (p : Pair) → slice_g
 not-past ms w m p at names ahead e = grind (arith, slice_get_past)
 
 -- none is behind a writer's last component
-pub writer-over : (ms : List (Option Meta)) (w : ℕ) (m : Meta) (ps : List Pair) → slice_get ms w ≡ Some (Some m) → list_all (names_selectable ms) ps ≡ true → AllAhead w (length m.parts) ps → AllAhead (w + 1) 0 ps
+pub writer-over : (ms : List (Option Meta)) (w : ℕ) (m : Meta) (ps : List Pair) → slice_get ms w ≡ Some (Some m) → list_all (names_selectable ms) ps ≡ true
+    → AllAhead w (length m.parts) ps → AllAhead (w + 1) 0 ps
 writer-over ms w m [] at names all = tt
 writer-over ms w m (p ∷ ps) at names all =
     (ahead-writer w (length m.parts) p all.0 (not-past ms w m p at (and_left _ _ names) all.0), writer-over ms w m ps at (and_right (names_selectable ms p) _ names) all.1)

@@ -37,7 +37,8 @@ record ItemsRead (ds : Items) : Type 0 where
 
 -- ## components
 
-component-back : (class : ℕ) (explicit : Bool) (full : List ℕ) (writer : ℕ) → writer < 2 ^ 64 → of_json (outline (component_data class explicit full writer)) ≡ Some (component_data class explicit full writer)
+component-back : (class : ℕ) (explicit : Bool) (full : List ℕ) (writer : ℕ) → writer < 2 ^ 64
+    → of_json (outline (component_data class explicit full writer)) ≡ Some (component_data class explicit full writer)
 unfolding component_data
 component-back class explicit full writer small = rw (number_of-decimal writer small) refl
 

@@ -1,5 +1,6 @@
 -- What a component document names is the selection that it was written of.
-use Rattle.std.proofs.Common.{◌≡◌, ◌∙◌, ℕ, zero, suc, ◌+◌, List, [], ◌∷◌, ◌++◌, length, Bool, true, false, not, ◌&&◌, ◌||◌, if◌then◌else◌, Option, Some, None, option_and_then, slice_get, arith, refl, sym, ap, subst, append_assoc, append-nil}
+use Rattle.std.proofs.Common.{◌≡◌, ◌∙◌, ℕ, zero, suc, ◌+◌, List, [], ◌∷◌, ◌++◌, length, Bool, true, false, not, ◌&&◌, ◌||◌, if◌then◌else◌, Option, Some, None}
+use Rattle.std.proofs.Common.{option_and_then, slice_get, arith, refl, sym, ap, subst, append_assoc, append-nil}
 use Rattle.std.proofs.lemmas.List.Folds.{list_any-append}
 use Rattle.std.proofs.lemmas.Option.{none-some, same_Some}
 use Rattle.std.proofs.lemmas.Slice.Eq.{bytes_eq-Decides}
@@ -14,11 +15,13 @@ use Rattle.writer_meta.specs.Document.{double_after}
 use Rattle.writer_meta.proofs.Laws.{and_left, and_right}
 use Rattle.component_doc.specs.declared.choice.Choice.{Choice}
 use Rattle.component_doc.specs.declared.found.Found.{Found}
-use Rattle.component_doc.specs.Selection.{Pair, Selected, Named, has_pair, found_from, found_in, naming, is_taker, has_named_ancestor, has_selectable_ancestor, is_chosen, choice_if, choices_from, chosen_from, chosen}
+use Rattle.component_doc.specs.Selection.{Pair, Selected, Named, has_pair, found_from, found_in, naming, is_taker, has_named_ancestor, has_selectable_ancestor}
+use Rattle.component_doc.specs.Selection.{is_chosen, choice_if, choices_from, chosen_from, chosen}
 use Rattle.component_doc.specs.Over.{AreAllowed, names_selectable, is_ascending, IsSelectedOver, is_selectable_of, meta_at, is_selectable}
 use Rattle.component_doc.specs.Document.{component_data, choices_data, document_of, document}
 use Rattle.component_doc.specs.Reading.{context_in, explicit_in, writer_in, path_in, pairs_named, named_by, named_by_all, components_in, selected_in}
-use Rattle.component_doc.proofs.Places.{pair, AllPassed, has-none, put-last, passed-on, passed-with, passed-writer, AllAhead, all-ahead, ahead-next, IsFront, front, absent-over, unknown-over, writer-over, all-over}
+use Rattle.component_doc.proofs.Places.{pair, AllPassed, has-none, put-last, passed-on, passed-with, passed-writer, AllAhead, all-ahead, ahead-next, IsFront}
+use Rattle.component_doc.proofs.Places.{front, absent-over, unknown-over, writer-over, all-over}
 
 -- ## components by their full names
 
@@ -100,7 +103,8 @@ named-one ms ps m w i c done rest more known found apart at first =
     let names : list_all (names_selectable ms) (pair w i ∷ first.more) ≡ true = subst (λ qs. list_all (names_selectable ms) qs ≡ true) first.is at.names in
     let selectable : c.selectable ≡ true =
     sym (ap (λ o. is_selectable_of i (meta_at o)) known ∙ ap is_selectable found) ∙ and_left _ _ names in
-    let looked_up : found_in (full_name c) m.parts ≡ Some (record { component = i; selectable = c.selectable }) = found-from [] m.parts 0 i c apart found ∙ ap (λ n. Some (found-as n c.selectable)) (omega arith) in
+    let looked_up : found_in (full_name c) m.parts ≡ Some (record { component = i; selectable = c.selectable }) = found-from [] m.parts 0 i c apart found
+    ∙ ap (λ n. Some (found-as n c.selectable)) (omega arith) in
     let named : pairs_named (naming ms w (full_name c) done) ≡ Some (done ++ pair w i ∷ []) =
     rw known (rw looked_up (rw (selectable, has-none w i done at.passed) (ap (λ qs. Some qs) (put-last w i done at.passed)))) in
     let here = item-here ms m (record { writer = w; component = i; explicit = true }) c more known found in
@@ -131,7 +135,8 @@ one-if ms ps m w i c done rest more named below alone known found apart at has =
 
 -- ## the components of a writer
 
-through-parts : (ms : List (Option Meta)) (ps : List Pair) (m : Meta) (w i : ℕ) (cs : List Part) (done rest : List Pair) (more : List Choice) → slice_get ms w ≡ Some (Some m) → double_after [] m.parts ≡ None
+through-parts : (ms : List (Option Meta)) (ps : List Pair) (m : Meta) (w i : ℕ) (cs : List Part) (done rest : List Pair) (more : List Choice)
+    → slice_get ms w ≡ Some (Some m) → double_after [] m.parts ≡ None
     → ((k : ℕ) → slice_get cs k ≡ slice_get m.parts (i + k)) → i + length cs ≡ length m.parts → IsAt ms ps w i done rest
     → Names-up-to ms ps (w + 1) 0 done (choices_data ms (choices_from (Named ps) m.parts w i cs ++ more)) (choices_data ms more)
 through-parts ms ps m w i [] done rest more known apart tie end at =
@@ -151,12 +156,15 @@ through-parts ms ps m w i [] done rest more known apart tie end at =
 through-parts ms ps m w i (c ∷ cs) done rest more known apart tie end at =
     let after = choices_from (Named ps) m.parts w (i + 1) cs ++ more in
     let here : slice_get m.parts i ≡ Some c = ap (slice_get m.parts) (plus-none i) ∙ sym (tie 0) in
-    let first = one-if ms ps m w i c done rest after (has_pair ps w i) (has_named_ancestor ps w c 0 m.parts) (not c.selectable && not (has_selectable_ancestor c m.parts)) known here apart at (sym (has-rest ms ps w i done rest at)) in
+    let first = one-if ms ps m w i c done rest after (has_pair ps w i) (has_named_ancestor ps w c 0 m.parts)
+    (not c.selectable && not (has_selectable_ancestor c m.parts)) known here apart at (sym (has-rest ms ps w i done rest at)) in
     let others = through-parts ms ps m w (i + 1) cs first.now first.left more known apart (λ k. tie (suc k) ∙ ap (slice_get m.parts) (plus-one i k)) (omega (arith, end)) first.place in
     record {
       now = others.now;
       left = others.left;
-      step = ap (λ l. named_by_all ms done (choices_data ms l)) (append_assoc (choice_if (is_chosen ps m.parts w i c) w i (has_pair ps w i)) (choices_from (Named ps) m.parts w (i + 1) cs) more) ∙ first.step ∙ others.step;
+      step = ap (λ l. named_by_all ms done (choices_data ms l))
+          (append_assoc (choice_if (is_chosen ps m.parts w i c) w i (has_pair ps w i)) (choices_from (Named ps) m.parts w (i + 1) cs) more) ∙ first.step
+          ∙ others.step;
       place = others.place;
     }
   where
@@ -176,7 +184,8 @@ writer-if : (ms : List (Option Meta)) (ps : List Pair) (m : Meta) (w : ℕ) (don
     → Names-up-to ms ps (w + 1) 0 done (choices_data ms ((if takes then choices_from (Named ps) m.parts w 0 m.parts else []) ++ more)) (choices_data ms more)
 writer-if ms ps m w done rest more takes x8 known apart at = grind (arith, through-parts, passed-writer, absent-over, taker-rest)
 
-through-writers : (ms : List (Option Meta)) (ps : List Pair) (w : ℕ) (os : List (Option Meta)) (done rest : List Pair) → AreAllowed os → ((k : ℕ) → slice_get os k ≡ slice_get ms (w + k)) → w + length os ≡ length ms
+through-writers : (ms : List (Option Meta)) (ps : List Pair) (w : ℕ) (os : List (Option Meta)) (done rest : List Pair) → AreAllowed os
+    → ((k : ℕ) → slice_get os k ≡ slice_get ms (w + k)) → w + length os ≡ length ms
     → IsAt ms ps w 0 done rest → named_by_all ms done (choices_data ms (chosen_from (Named ps) w os)) ≡ Some ps
 unfolding named_by_all
 through-writers ms ps w [] done rest allowed tie end at =

@@ -1,5 +1,5 @@
 -- What is known of every task: want of memory is an answer before anything is touched, and the words of a task are no wrong words.
-use Rattle.std.proofs.Common.{◌≡◌, ℕ, ◌-◌, ◌<◌, ◌≤◌, List, [], length, refl, sym, arith, Bool, true, Option, Some, None, subst, inl, inr}
+use Rattle.std.proofs.Common.{◌≡◌, ℕ, ◌<◌, ◌≤◌, List, [], length, refl, sym, arith, Bool, true, Option, Some, None, subst, inl}
 use Rattle.std.specs.Prelude.{◌↔◌, ◌⊎◌, is_some, IfSome}
 use Rattle.io_edge.specs.Streams.{Gave, IfGave}
 use Rattle.volume_device.specs.declared.store.Store.{Store}
@@ -39,38 +39,26 @@ untouched ghosts tells folder Inspect a h = record {
 
 pub wants_memory : {D : Type 0} (ghosts : Ghosts D) (tells : Store → Bool) (asked : Option Asked) (a : Around D) → is_some asked ≡ true → IsUntouched a
     → IsAnswer ghosts tells asked a OutOfMemory
-wants_memory ghosts tells None a some h = absurd cc
-wants_memory ghosts tells (Some asked) a some h = untouched ghosts tells asked.folder asked.task a h
+wants_memory ghosts tells asked a some h = grind (arith, untouched)
 
 -- no status but Usage where the words are a command
 pub asked_not_usage : {status : Status} (asked : Option Asked) → is_some asked ≡ true → (status ≡ Usage → ⊥) → (status ≡ Usage) ↔ (asked ≡ None)
-asked_not_usage None some never = absurd cc
-asked_not_usage (Some asked) some never = (λ e. absurd (never e), λ e. absurd cc)
+asked_not_usage asked some never = grind arith
 
 pub memory_not_usage : OutOfMemory ≡ Usage → ⊥
 memory_not_usage e = cc
 
 task_wants : {D : Type 0} (task : Task) (a : Around D) → IsTaskWhereItCan task a OutOfMemory
-task_wants Run a = λ bytes s had few read none. tt
-task_wants (Generate n) a = λ none. tt
-task_wants Inspect a = tt
+task_wants task a = grind arith
 
 pub memory_where_it_can : {D : Type 0} (asked : Option Asked) (a : Around D) → IsAnsweredWhereItCan asked a OutOfMemory
-memory_where_it_can None a = tt
-memory_where_it_can (Some asked) a = task_wants asked.task a
+memory_where_it_can asked a = grind (arith, task_wants)
 
 not_usage : (e : Inspection) → Usage ≡ status_of e → ⊥
-not_usage ended.Listed h = cc
-not_usage (ended.Refused why) h = cc
-not_usage ended.ReadFault h = cc
-not_usage ended.WriteFault h = cc
-not_usage ended.TooLong h = cc
-not_usage ended.OutOfMemory h = cc
+not_usage e h = grind arith
 
 no_usage : {D : Type 0} (ghosts : Ghosts D) (tells : Store → Bool) (folder : Option (List ℕ)) (task : Task) (a : Around D) → IsTask ghosts tells folder task a Usage → ⊥
-no_usage ghosts tells folder Run a h = h
-no_usage ghosts tells folder (Generate n) a h = h.1
-no_usage ghosts tells folder Inspect a h = not_usage h.ended h.status_is
+no_usage ghosts tells folder task a h = grind (arith, not_usage)
 
 pub never_usage : {D : Type 0} (ghosts : Ghosts D) (tells : Store → Bool) (folder : Option (List ℕ)) (task : Task) (a : Around D) (status : Status)
     → IsTask ghosts tells folder task a status → status ≡ Usage → ⊥
@@ -78,11 +66,7 @@ never_usage ghosts tells folder task a status h e = no_usage ghosts tells folder
 
 -- nothing was read
 pub nothing_given : (left : Option (List ℕ)) (most : ℕ) (A : Type 0) → (A → ⊥) → IfGave left left (λ n. A ↔ (most < n))
-nothing_given None most A never = tt
-nothing_given (Some bytes) most A never = (λ a. absurd (never a), λ l. absurd (none (length bytes) l))
-  where
-    none : (n : ℕ) → most < n - n → ⊥
-    none n l = omega arith
+nothing_given left most x2 never = grind arith
 
 -- ## by the words
 
@@ -123,9 +107,8 @@ done_by ghosts tells asked folder a status h e f = subst (λ o. IsAnswer ghosts 
 -- the text that was read is this scenario
 pub input_of : {D : Type 0} (a : Around D) (text : List ℕ) (s : Plan) → Gave a.left_first text a.left_last → IfSome a.left_last (λ rest. rest ≡ []) → length text ≤ most_bytes
     → reading_of text ≡ IsScenario s → IsInputOf a s
-input_of a text s gave to_the_end within is = record { input = text; is_input = record { gave = gave; to_the_end = to_the_end; within = within }; is_scenario = is }
+input_of a text s gave to_the_end within is = grind arith
 
 pub counted_by : {D : Type 0} (told : D → Option (List (List ℕ))) (a : Around D) (s : Plan) → IsInputOf a s
     → IsCounted told a.named_first a.named_last a.kept_first a.kept_last a.count_first a.count_last s → (a.count_last ≡ a.count_first) ⊎ IsMadeOfInput told a
-counted_by told a s input (inl e) = inl e
-counted_by told a s input (inr made) = inr (record { scenario = s; is_input = input; made = made })
+counted_by told a s input x4 = grind arith

@@ -21,6 +21,7 @@ returns c =
     let path = c.args.component.now.path.bytes in
     let first = rw c.bytes.ensures at (strip_prefix_is {A = ℕ} {E = nat_eq} Decides-eqb c.args.path.now c.bytes.result.now (Some c.in_ok-below.below) c.in_ok-below.ensures.cases) in
     let second = strip_prefix_is {A = ℕ} {E = nat_eq} Decides-eqb c.in_ok-below.below.now (backslash ∷ []) (Some c.in_ok-strip_prefix.field-0) c.in_ok-strip_prefix.ensures.cases in
-    let last = rw c.bytes-name.ensures at (strip_prefix_is {A = ℕ} {E = nat_eq} Decides-eqb c.in_ok-strip_prefix.field-0.now c.bytes-name.result.now c.strip_prefix-4.result c.strip_prefix-4.ensures.cases) in
+    let last = rw c.bytes-name.ensures at (strip_prefix_is {A = ℕ}
+    {E = nat_eq} Decides-eqb c.in_ok-strip_prefix.field-0.now c.bytes-name.result.now c.strip_prefix-4.result c.strip_prefix-4.ensures.cases) in
     rw (joined_is path _ (λ e. true≢false (sym (c.is_empty.ensures.1 e) ∙ c.if-is_empty.false)))
     (behind_both path _ c.args.path.now _ c.strip_prefix-4.result first (behind_both (backslash ∷ []) _ _ _ c.strip_prefix-4.result second last))

@@ -12,10 +12,12 @@ loop-choice-preserved c =
     elim c.match-branch-3.branch [
       | in-Some+in_ok-push w ↦
           let items : c.match-branch-3.values.items ≡ l.values.items ++ w.in-Some.value ∷ [] = ap (λ (v : Vec Value Global). v.items) w.values-is ∙ w.in_ok-push.ensures.items in
-          rw items (value-more (metas_of c.args.metas.now) c.args.choices.now l.values.items l.choice-index _ w.in-Some.value (omega arith) (sym (ap (option_map view) w.in-Some.is) ∙ c.in_ok-value.ensures) l.invariant)
+          rw items (value-more (metas_of c.args.metas.now) c.args.choices.now l.values.items l.choice-index _ w.in-Some.value (omega arith)
+          (sym (ap (option_map view) w.in-Some.is) ∙ c.in_ok-value.ensures) l.invariant)
       | in_default w ↦
           let items : c.match-branch-3.values.items ≡ l.values.items = ap (λ (v : Vec Value Global). v.items) w.values-is in
-          rw items (value-none (metas_of c.args.metas.now) c.args.choices.now l.values.items l.choice-index _ (omega arith) (sym (ap (option_map view) w.in_default.is) ∙ c.in_ok-value.ensures) l.invariant)
+          rw items (value-none (metas_of c.args.metas.now) c.args.choices.now l.values.items l.choice-index _ (omega arith)
+          (sym (ap (option_map view) w.in_default.is) ∙ c.in_ok-value.ensures) l.invariant)
     ]
 
 pub returns : goal.returns

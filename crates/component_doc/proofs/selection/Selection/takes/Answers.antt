@@ -5,4 +5,6 @@ use Rattle.component_doc.proofs.selection.Selection.takes.Goals as goal
 
 pub returns : goal.returns
 returns c =
-    rw (← c.self.view_is) (c.are_both.ensures ∙ ap (λ b. nat_lt c.args.writer c.self.inside.writers && b) c.takes.ensures ∙ takes-is c.self.inside.writers (selected_of c.self.inside.taken) c.args.writer)
+    rw (← c.self.view_is)
+    (c.are_both.ensures ∙ ap (λ b. nat_lt c.args.writer c.self.inside.writers && b) c.takes.ensures
+    ∙ takes-is c.self.inside.writers (selected_of c.self.inside.taken) c.args.writer)

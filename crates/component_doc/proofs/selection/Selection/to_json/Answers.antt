@@ -30,5 +30,7 @@ returns-clause-reads_back c =
     let few : length ms < 2 ^ 32 = omega (arith, c.self.invariant, ap (λ (h : Held). h.writers) c.self.view_is, c.requires.over.writers) in
     let written = returns-clause-written c in
     let back : read c.of.result.bytes ≡ Some (document ms s c.args.context) = ap read written ∙ read-document_text ms s c.args.context few in
-    let value : value_of_text c.of.result.bytes ≡ Some (document ms s c.args.context) = rw c.of.ensures.bytes (has_value c.in_ok-text.text.items _ c.in_ok-text.ensures.utf8 (rw c.of.ensures.bytes at back)) in
+    let value : value_of_text c.of.result.bytes
+    ≡ Some (document ms s c.args.context) = rw c.of.ensures.bytes
+    (has_value c.in_ok-text.text.items _ c.in_ok-text.ensures.utf8 (rw c.of.ensures.bytes at back)) in
     document-alone ms c.of.result.bytes _ c.args.context c.args.self.now c.requires.allowed few value (record { over = c.requires.over; written = written })
