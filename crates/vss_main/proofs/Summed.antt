@@ -50,7 +50,10 @@ pub of_number : (n : ℕ) (text : List ℕ) (s : Plan) → text ≡ gen_text n �
 of_number n text s e read law = let is : reading_of (gen_text n) ≡ IsScenario s = ap reading_of (sym e) ∙ read in record { read = is; generated = law s is }
 
 not_bad : (n : ℕ) (text : List ℕ) (line : ℕ) (reason : Reason) → text ≡ gen_text n → IsRead n → reading_of text ≡ IsBad line reason → ⊥
-not_bad n text line reason e read bad = grind arith
+not_bad n text line reason e read bad = neither read.plan line reason (sym read.read ∙ ap reading_of (sym e) ∙ bad)
+  where
+    neither : (s : Plan) (line : ℕ) (reason : Reason) → IsScenario s ≡ IsBad line reason → ⊥
+    neither s line reason h = cc
 
 pub not_refused : (n : ℕ) (text : List ℕ) (refused : Refused) (line : ℕ) (reason : Reason) → text ≡ gen_text n → IsRead n → IsRefusal text refused → refused ≡ Line line reason → ⊥
 not_refused n text refused line reason e read h is = not_bad n text line reason e read (subst (λ (r : Refused). IsRefusal text r) is h)
@@ -77,12 +80,14 @@ not_untold (r ∷ rows) zero e = cc
 not_untold (r ∷ rows) (suc v) e = not_untold rows v e
 
 by_told : (o : Option Bool) (bytes digest : List ℕ) → (o ≡ Some false → ⊥) → IsDigestIf o bytes digest → digest ≡ sha256 bytes
-by_told o bytes digest told h = grind arith
+by_told None bytes digest told h = h
+by_told (Some true) bytes digest told h = h
+by_told (Some false) bytes digest told h = absurd (told refl)
 
 final_is : (n v k : ℕ) (writes : List Write) (digest : List ℕ) → digest ≡ sha256 (concat (contents k writes (length writes))) → k ≡ 256 → contents 256 writes (length writes) ≡ final_blocks n v
     → digest ≡ final_digest n v
 unfolding final_digest
-final_is n v k writes digest e blocks ends = grind arith
+final_is n v k writes digest e blocks ends = e ∙ ap (λ (m : ℕ). sha256 (concat (contents m writes (length writes)))) blocks ∙ ap (λ (bs : List (List ℕ)). sha256 (concat bs)) ends
 
 all_are : (f : ℕ → List ℕ) (a : ℕ) (digests : List (List ℕ)) → ((v : ℕ) (digest : List ℕ) → slice_get digests v ≡ Some digest → digest ≡ f (a + v))
     → digests ≡ map f (range_with_len a (length digests))
@@ -106,15 +111,21 @@ digests_final n s trail digests g legal complete clean are eight =
     ∙ ap (λ (k : ℕ). map (final_digest n) (range_with_len 0 k)) eight
 
 are_eight : (tells : List Bool) (s : Plan) (trail : List Move) (digests : List (List ℕ)) → length digests ≡ 8 → length s.volumes ≡ 8 → AreDigests tells s trail digests → AreEight digests
-are_eight tells s trail digests eight many are = grind (arith, slice_get_within, digest_if)
+are_eight tells s trail digests eight many are = record {
+  eight = eight;
+  long = λ v digest is. let within = slice_get_within digests v digest is in (digest_if (slice_get tells v) (bytes_after s trail v) digest (are v digest (omega arith) is)).long;
+  bytes = λ v digest is. let within = slice_get_within digests v digest is in (digest_if (slice_get tells v) (bytes_after s trail v) digest (are v digest (omega arith) is)).bytes;
+}
 
 -- ## fault marks
 
 unmarked_with : (b any : Bool) (n total : ℕ) → total ≡ cond b 1 0 + n → (b || any) ≡ false → (any ≡ false → n ≡ 0) → total ≡ 0
-unmarked_with b any n total e h rest = grind arith
+unmarked_with true any n total e h rest = absurd cc
+unmarked_with false any n total e h rest = let none = rest h in omega arith
 
 marked_with : (b any : Bool) (n total : ℕ) → total ≡ cond b 1 0 + n → (b || any) ≡ true → (any ≡ true → 1 ≤ n) → 1 ≤ total
-marked_with b any n total e h rest = grind arith
+marked_with true any n total e h rest = omega arith
+marked_with false any n total e h rest = let l = rest h in omega arith
 
 pub no_mark : (trail : List Move) → list_any (λ m. is_fault m.mark) trail ≡ false → faults trail ≡ 0
 no_mark [] e = refl
@@ -142,7 +153,6 @@ pub whole-digested : {D : Type 0} {ghosts : Ghosts D} {tells : Bool} {named_firs
     → IsFresh ghosts tells s p → AreNamed (device_names s) named_first named_last → made ≡ first → IsPlayedInThreads ghosts p q → length p.devices ≤ places → kept_made ≡ kept_first
     → (ended : IsDigested ghosts q places kept_made kept_last made last result)
     → IsWhole ghosts tells named_first named_last kept_first kept_made kept_last places first made last s p q ended.new
-<<<<<<< HEAD
 whole-digested fresh named unmoved threads enough kept_new ended = record {
   fresh = fresh;
   named = named;
@@ -156,9 +166,6 @@ whole-digested fresh named unmoved threads enough kept_new ended = record {
   kept = ended.kept;
   count_is = ended.count_is;
 }
-=======
-whole-digested fresh named unmoved played enough kept_new ended = grind arith
->>>>>>> f318b4d5c5a9a7d81fd00f0ffec48d155c361bfd
 
 module _ {D : Type 0} {ghosts : Ghosts D} {tells : Bool} {named_first named_last : Option (List (List ℕ))}
     {kept_first kept_made kept_last : Option (List D)} {places first made last : ℕ} {s : Plan} {p q r : Played D}
