@@ -41,7 +41,7 @@ fn take_in(
     ensures kept { OnOk result (IsDraft text.now draft.new) }
     ensures refused { IfErr result (λ unread. (rest : List Line) →
         IsUnreadAt number (read_from text.now number draft.old.said (line ∷ rest))
-            (takes_from text.now number draft.old.said (line ∷ rest)) unread) }
+        (takes_from text.now number draft.old.said (line ∷ rest)) unread) }
 {
     let entry = match entry_of(alloc, text, draft, number, line) {
         Ok(entry) => entry,

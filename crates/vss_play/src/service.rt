@@ -64,7 +64,10 @@ impl<D: Device> Model for Service<D> {
     ghost Value = { ServiceValue D };
 
     ghost view = { λ s. record {
-        plan = s.scenario; world = s.world; moves = s.moves; given = s.given.items;
+      plan = s.scenario;
+      world = s.world;
+      moves = s.moves;
+      given = s.given.items;
     } };
 
     ghost invariant = { λ s. IsServing D.told s.scenario s.world s.moves s.given.items };
