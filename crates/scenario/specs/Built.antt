@@ -1,7 +1,7 @@
 -- Scenarios that are built of values: what each call of a builder adds, or why it is refused. A call is a line: lines are numbered from
 -- 2, as where a text begins with `scenario 1`; names are appended to the source, each with a newline. A call is checked
 -- as the line of a text would be, with the same definitions and the same reasons. (This project's own.)
-use Rattle.std.specs.Prelude.{ℕ, ◌≡◌, ◌<◌, ◌≤◌, ◌+◌, ◌++◌, ◌&&◌, true, List, [], ◌∷◌, length, nat_le, nat_lt, if◌then◌else◌, Some, None, Result, Ok, Err}
+use Rattle.std.specs.Prelude.{ℕ, ◌≡◌, ◌<◌, ◌≤◌, ◌+◌, ◌++◌, ◌&&◌, true, List, [], ◌∷◌, length, nat_le, nat_lt, if◌then◌else◌, Some, None, Result, Ok, Err, is_ok}
 use Rattle.std.specs.List.{list_all}
 use Rattle.writer_meta.specs.Metadata.{Meta, meta_of}
 use Rattle.writer_meta.specs.Allowed.{IsAllowed}
@@ -78,11 +78,6 @@ abbrev pub added : BuiltValue → Result Saying Reason → Built
 added b (Ok s) = Ok (with_saying b s)
 added b (Err reason) = Err (b.number, reason)
 
--- why a call is refused
-abbrev pub IsRefusedBy : Built → Refused → Type 0
-IsRefusedBy built (Line line reason) = built ≡ Err (line, reason)
-IsRefusedBy built OutOfMemory = Unit {0}
-
 -- ## lines of values
 
 -- a line with this word, where it may stand
@@ -151,6 +146,11 @@ value_said text d number name (value.Component writer) = op_said text d number (
 abbrev pub with_value : BuiltValue → List ℕ → Value → Built
 with_value b bytes v =
     added (pushed b bytes) (place_after b.source bytes >>= (λ name. value_said (pushed b bytes).source b.draft.said b.number name v))
+
+-- why a call with these bytes and this value is refused: out of memory only where the bytes may be taken
+abbrev pub IsRefusedBy : BuiltValue → List ℕ → Value → Refused → Type 0
+IsRefusedBy b bytes v (Line line reason) = with_value b bytes v ≡ Err (line, reason)
+IsRefusedBy b bytes v OutOfMemory = is_ok (place_after b.source bytes) ≡ true
 
 -- a writer's metadata are allowed by their format
 abbrev pub IsValue : Value → Type 0

@@ -20,7 +20,7 @@ use Rattle.scenario.specs.declared.entry.Entry.{Entry}
 use Rattle.scenario.specs.declared.entry.Entry.TheVariants as entry
 use Rattle.scenario.specs.Plan.{GroupPlan, LaneLine, LanePlan, script_in}
 use Rattle.scenario.specs.Bounds.{IsShortPart, IsRow, IsGroupRow, IsNth, IsWriterRow, IsRanged, begins_agenda, IsInGroup, groups_from}
-use Rattle.scenario.specs.SoFar.{SoFar, Saying, nothing, after, group_for, area_group, line_count, agenda_count, answer_count}
+use Rattle.scenario.specs.SoFar.{SoFar, Saying, nothing, after, takes_itself, group_for, area_group, line_count, agenda_count, answer_count}
 use Rattle.scenario.specs.SoFar as saying
 use Rattle.scenario.specs.Fields.{bytes_of}
 use Rattle.scenario.specs.Names.{place_of, area_names, volume_names, writer_names, lane_names}
@@ -215,4 +215,4 @@ told (Err cause) = Err cause.reason
 -- why a line was not taken
 abbrev pub IsUnread : Result Saying Reason → Unread → Type 0
 IsUnread said (Bad cause) = said ≡ Err cause.reason
-IsUnread said OutOfMemory = Unit {0}
+IsUnread said OutOfMemory = takes_itself said ≡ true

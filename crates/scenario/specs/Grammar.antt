@@ -1,6 +1,6 @@
 -- Which text is which scenario: its lines are read one after another, and the first bad one is refused. (This project's
 -- own format.)
-use Rattle.std.specs.Prelude.{ℕ, ◌≡◌, ◌+◌, List, [], ◌∷◌, Option, Some, None, Result, Ok, Err, if◌then◌else◌}
+use Rattle.std.specs.Prelude.{ℕ, ◌≡◌, ◌+◌, Bool, true, List, [], ◌∷◌, Option, Some, None, Result, Ok, Err, if◌then◌else◌}
 use Rattle.scenario.specs.declared.reason.Reason.{Reason}
 use Rattle.scenario.specs.declared.reason.Reason.TheVariants.{Empty}
 use Rattle.scenario.specs.declared.refused.Refused.{Refused}
@@ -11,7 +11,7 @@ use Rattle.scenario.specs.declared.refusal.Refusal.{Refusal}
 use Rattle.scenario.specs.declared.text_line.TextLine.{TextLine}
 use Rattle.scenario.specs.Plan.{Plan}
 use Rattle.scenario.specs.Lines.{lines_in}
-use Rattle.scenario.specs.SoFar.{SoFar, Saying, nothing, after, plan_in}
+use Rattle.scenario.specs.SoFar.{SoFar, Saying, nothing, after, takes, plan_in}
 use Rattle.scenario.specs.Entries.{saying_of}
 
 -- what a text is: a scenario, or its first bad line with the first check that this does not pass
@@ -36,14 +36,22 @@ read_from text number d (line ∷ lines) = goes_on number (λ saying. read_from 
 unfoldable pub reading_of : List ℕ → Reading
 reading_of text = read_from text 1 nothing (lines_in text)
 
--- why a text of this reading was refused
-abbrev pub IsRefused : Reading → Refused → Type 0
-IsRefused reading (Line line reason) = reading ≡ IsBad line reason
-IsRefused reading OutOfMemory = Unit {0}
+-- whether memory is taken before a text of these lines is known to be bad; after its last line it is, for the scenario
+abbrev pub takes_from : List ℕ → ℕ → SoFar → List TextLine → Bool
+takes_from text number d [] = d.opened
+takes_from text number d (line ∷ lines) = takes (λ saying. takes_from text (number + 1) (after d saying) lines) (saying_of text d number line)
+
+unfoldable pub takes_memory : List ℕ → Bool
+takes_memory text = takes_from text 1 nothing (lines_in text)
+
+-- why a text of this reading was refused: out of memory only where some was taken
+abbrev pub IsRefused : Reading → Bool → Refused → Type 0
+IsRefused reading taken (Line line reason) = reading ≡ IsBad line reason
+IsRefused reading taken OutOfMemory = taken ≡ true
 
 -- why a text was refused
 abbrev pub IsRefusal : List ℕ → Refused → Type 0
-IsRefusal text refused = IsRefused (reading_of text) refused
+IsRefusal text refused = IsRefused (reading_of text) (takes_memory text) refused
 
 -- the first bad line, with its reason
 abbrev pub first_bad : Reading → Option (ℕ × Reason)
@@ -55,6 +63,6 @@ abbrev pub told_bad : Refusal → ℕ × Reason
 told_bad refusal = (refusal.line, refusal.cause.reason)
 
 -- why the reading stopped at this line
-abbrev pub IsUnreadAt : ℕ → Reading → Unread → Type 0
-IsUnreadAt line reading (unread.Bad cause) = reading ≡ IsBad line cause.reason
-IsUnreadAt line reading unread.OutOfMemory = Unit {0}
+abbrev pub IsUnreadAt : ℕ → Reading → Bool → Unread → Type 0
+IsUnreadAt line reading taken (unread.Bad cause) = reading ≡ IsBad line cause.reason
+IsUnreadAt line reading taken unread.OutOfMemory = taken ≡ true

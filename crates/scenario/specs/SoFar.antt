@@ -1,7 +1,9 @@
 -- What the lines of a text say that were read so far, and what one more line adds. (This project's own format.)
-use Rattle.std.specs.Prelude.{ℕ, zero, suc, ◌+◌, ◌++◌, Bool, true, false, List, [], ◌∷◌, length, map, sum, slice_set, unwrap_or, is_some, Option, Some, None, if◌then◌else◌}
+use Rattle.std.specs.Prelude.{ℕ, zero, suc, ◌+◌, ◌++◌, Bool, true, false, List, [], ◌∷◌, length, map, sum, slice_set, unwrap_or, is_some, Option, Some, None, if◌then◌else◌, Result, Ok, Err}
 use Rattle.writer_calls.specs.declared.scripted.Scripted.{Scripted}
 use Rattle.scenario.specs.declared.op.Op.TheVariants.{End}
+use Rattle.scenario.specs.declared.reason.Reason.{Reason}
+use Rattle.scenario.specs.declared.reason.Reason.TheVariants.{BadDocument, TooMany}
 use Rattle.scenario.specs.declared.span.Span.{Span}
 use Rattle.scenario.specs.declared.volume_row.VolumeRow.{VolumeRow}
 use Rattle.scenario.specs.declared.area_row.AreaRow.{AreaRow}
@@ -95,6 +97,21 @@ after d (Writer writer) = record d { writers = d.writers ++ writer ∷ [] }
 after d (Answer w row) = record d { writers = with_answer w row d.writers }
 after d (Lane name whom) = record d { lanes = d.lanes ++ record { name = name; acts_as = whom; lines = [] } ∷ [] }
 after d (Line line) = record d { lanes = with_line line d.lanes }
+
+-- ## memory
+
+-- whether memory is taken for a line, or else for those after it: what a line says is kept, and a document is read. A line is
+-- known to be bad before that; only the document, and the number of the writers, are checked after it
+abbrev pub takes : (Saying → Bool) → Result Saying Reason → Bool
+takes more (Ok Skipped) = more Skipped
+takes more (Ok Opening) = more Opening
+takes more (Ok _) = true
+takes more (Err BadDocument) = true
+takes more (Err TooMany) = true
+takes more (Err _) = false
+
+abbrev pub takes_itself : Result Saying Reason → Bool
+takes_itself = takes (λ said. false)
 
 -- ## counts
 

@@ -68,10 +68,11 @@ impl Model for Draft {
 
 impl Draft {
     ghost use Rattle.scenario.specs.declared.entry.Entry.TheVariants as entry;
-    ghost use Rattle.scenario.specs.SoFar.{after, closed_lane};
+    ghost use Rattle.std.specs.Prelude.{Ok, IfErr};
+    ghost use Rattle.scenario.specs.SoFar.{after, closed_lane, takes_itself};
     ghost use Rattle.scenario.specs.SoFar as saying;
     ghost use Rattle.scenario.specs.Names.{place_of};
-    ghost use Rattle.scenario.specs.Drafts.{names_of, new_draft, counts_after, with_entry, IsDraft, IsEntry, IsNewAnswer};
+    ghost use Rattle.scenario.specs.Drafts.{names_of, new_draft, counts_after, saying_in, with_entry, IsDraft, IsEntry, IsNewAnswer};
 
     /// Nothing, or the `scenario` line alone.
     pub(crate) fn new(alloc: Global, opened: bool) -> Draft
@@ -182,7 +183,8 @@ impl Draft {
     ) -> Result<(), OutOfMemory>
         requires draft { IsDraft text.now self.old }
         requires entry { IsEntry text.now self.old entry }
-        ensures { OnOk result (self.new ≡ with_entry text.now self.old entry) }
+        ensures added { OnOk result (self.new ≡ with_entry text.now self.old entry) }
+        ensures takes { IfErr result (λ error. takes_itself (Ok (saying_in entry)) ≡ true) }
     {
         match entry {
             Entry::Skipped => Ok(()),

@@ -77,8 +77,7 @@ impl Given {
         ensures grows { OnOk result (Grows self.new) }
         ensures built { OnOk result (with_value (value_of self.old) bytes.now value
             ≡ Ok (value_of self.new)) }
-        ensures refused { IfErr result (IsRefusedBy
-            (with_value (value_of self.old) bytes.now value)) }
+        ensures refused { IfErr result (IsRefusedBy (value_of self.old) bytes.now value) }
     {
         let line = self.number;
         let name = match place_after(&self.source, bytes) {

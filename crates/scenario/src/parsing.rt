@@ -1,10 +1,10 @@
-ghost use Rattle.std.specs.Prelude.{◌≡◌, ◌<◌, ◌+◌, ◌∷◌, List, length, option_map, IfOk, IfErr, OnOk};
+ghost use Rattle.std.specs.Prelude.{◌≡◌, ◌<◌, ◌+◌, Bool, true, ◌∷◌, List, length, option_map, IfOk, IfErr, OnOk};
 ghost use Rattle.scenario.specs.declared.text_line.TextLine.{TextLine as Line};
 ghost use Rattle.scenario.specs.Fields.{IsPart};
 ghost use Rattle.scenario.specs.SoFar.{plan_in};
 ghost use Rattle.scenario.specs.Drafts.{IsDraft, empty_draft};
 ghost use Rattle.scenario.specs.Named.{HasNames};
-ghost use Rattle.scenario.specs.Grammar.{Reading, reading_of, read_from, first_bad, told_bad, IsScenario, IsRefusal, IsUnreadAt};
+ghost use Rattle.scenario.specs.Grammar.{Reading, reading_of, read_from, takes_from, takes_memory, first_bad, told_bad, IsScenario, IsRefusal, IsUnreadAt};
 
 use crate::cause::Cause;
 use crate::draft::Draft;
@@ -35,9 +35,13 @@ fn take_in(
     ensures on { OnOk result ((rest : List Line) →
         read_from text.now number draft.old.said (line ∷ rest)
         ≡ read_from text.now (number + 1) draft.new.said rest) }
+    ensures takes { OnOk result ((rest : List Line) →
+        takes_from text.now (number + 1) draft.new.said rest ≡ true
+        → takes_from text.now number draft.old.said (line ∷ rest) ≡ true) }
     ensures kept { OnOk result (IsDraft text.now draft.new) }
     ensures refused { IfErr result (λ unread. (rest : List Line) →
-        IsUnreadAt number (read_from text.now number draft.old.said (line ∷ rest)) unread) }
+        IsUnreadAt number (read_from text.now number draft.old.said (line ∷ rest))
+        (takes_from text.now number draft.old.said (line ∷ rest)) unread) }
 {
     let entry = match entry_of(alloc, text, draft, number, line) {
         Ok(entry) => entry,
@@ -50,13 +54,15 @@ fn take_in(
 }
 
 /// Takes in what all lines say.
-#[tactic(auto, unfolding(crate::specs::Grammar::reading_of))]
+#[tactic(auto, unfolding(crate::specs::Grammar::reading_of, crate::specs::Grammar::takes_memory))]
 fn read(alloc: Global, text: &[u8], draft: &mut Draft) -> Result<(), Stopped>
     requires short { length text.now < 4294967295 }
     requires empty { draft.old ≡ empty_draft }
     ensures read { OnOk result (reading_of text.now ≡ IsScenario (plan_in text.now draft.new.said)) }
+    ensures takes { OnOk result (takes_memory text.now ≡ true) }
     ensures kept { OnOk result (IsDraft text.now draft.new) }
-    ensures refused { IfErr result (λ stopped. IsUnreadAt stopped.line (reading_of text.now) stopped.unread) }
+    ensures refused { IfErr result (λ stopped.
+        IsUnreadAt stopped.line (reading_of text.now) (takes_memory text.now) stopped.unread) }
 {
     let mut at = 0usize;
     let mut number = 1u32;
@@ -130,16 +136,35 @@ pub fn parse_text(alloc: Global, text: Text) -> Result<Scenario, Refused>
     answer
 }
 
-/// What `parse_text` answers of a copy of the text.
+/// What `parse` answers, by a draft that nothing was read into.
+fn parse_copy(alloc: Global, text: &[u8], draft: &mut Draft) -> Result<Scenario, Refused>
+    requires short { length text.now < 4294967295 }
+    requires empty { draft.old ≡ empty_draft }
+    ensures read { IfOk result (λ scenario. reading_of text.now ≡ IsScenario scenario) }
+    ensures refused { IfErr result (IsRefusal text.now) }
+{
+    if let Err(stopped) = read(alloc, text, draft) {
+        return Err(Refused::at(stopped.line, stopped.unread));
+    }
+    let Ok(source) = Text::copy(alloc, text) else {
+        return Err(Refused::OutOfMemory);
+    };
+    match finish(alloc, source, draft) {
+        Ok(scenario) => Ok(scenario),
+        Err(_) => Err(Refused::OutOfMemory),
+    }
+}
+
+/// What `parse_text` answers of a copy of the text, which is made once the text was read.
 pub fn parse(alloc: Global, text: &[u8]) -> Result<Scenario, Refused>
     requires { length text.now < 4294967295 }
     ensures read { IfOk result (λ scenario. reading_of text.now ≡ IsScenario scenario) }
     ensures refused { IfErr result (IsRefusal text.now) }
 {
-    match Text::copy(alloc, text) {
-        Ok(text) => parse_text(alloc, text),
-        Err(_) => Err(Refused::OutOfMemory),
-    }
+    let mut draft = Draft::new(alloc, false);
+    let answer = parse_copy(alloc, text, &mut draft);
+    drop(draft);
+    answer
 }
 
 /// Why the line is refused at which the reading stopped, in full. `draft` has what the lines before it say.
@@ -148,8 +173,8 @@ fn refusal_at(
     draft: &Draft,
     stopped: Stopped,
 ) -> Result<Option<Refusal>, OutOfMemory>
-    ensures { IfOk result (λ refusal. (reading : Reading) →
-        IsUnreadAt stopped.line reading stopped.unread → option_map told_bad refusal ≡ first_bad reading) }
+    ensures { IfOk result (λ refusal. (reading : Reading) → (taken : Bool) →
+        IsUnreadAt stopped.line reading taken stopped.unread → option_map told_bad refusal ≡ first_bad reading) }
 {
     let Unread::Bad(cause) = stopped.unread else {
         return Err(OutOfMemory);

@@ -1,4 +1,4 @@
-ghost use Rattle.std.specs.Prelude.{Some};
+ghost use Rattle.std.specs.Prelude.{Bool, Some};
 ghost use Rattle.scenario.specs.Messages.{message_of_refused};
 ghost use Rattle.scenario.specs.Grammar.{Reading, IsRefused, IsUnreadAt};
 
@@ -19,7 +19,8 @@ pub enum Refused {
 impl Refused {
     /// Why a text is refused whose line of this number was not taken.
     pub(crate) fn at(line: u32, unread: Unread) -> Refused
-        ensures { (reading : Reading) → IsUnreadAt line reading unread → IsRefused reading result }
+        ensures { (reading : Reading) → (taken : Bool) →
+            IsUnreadAt line reading taken unread → IsRefused reading taken result }
     {
         match unread {
             Unread::Bad(cause) => Refused::Line {

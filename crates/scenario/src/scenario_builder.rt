@@ -53,7 +53,7 @@ impl ScenarioBuilder {
     fn with(self, alloc: Global, bytes: &[u8], value: Value) -> Result<ScenarioBuilder, Refused>
         requires { IsValue value }
         ensures built { IfOk result (λ b. with_value self bytes.now value ≡ Ok b) }
-        ensures refused { IfErr result (IsRefusedBy (with_value self bytes.now value)) }
+        ensures refused { IfErr result (IsRefusedBy self bytes.now value) }
     {
         let mut given = self.given;
         match given.add(alloc, bytes, value) {
@@ -65,7 +65,7 @@ impl ScenarioBuilder {
     /// Declares an area of so many slots, 0 to 65,536, which volumes share.
     pub fn area(self, alloc: Global, name: &[u8], slots: u32) -> Result<ScenarioBuilder, Refused>
         ensures built { IfOk result (λ b. with_value self name.now (value.Area slots) ≡ Ok b) }
-        ensures refused { IfErr result (IsRefusedBy (with_value self name.now (value.Area slots))) }
+        ensures refused { IfErr result (IsRefusedBy self name.now (value.Area slots)) }
     {
         self.with(alloc, name, Value::Area { slots })
     }
@@ -80,8 +80,7 @@ impl ScenarioBuilder {
     ) -> Result<ScenarioBuilder, Refused>
         ensures built { IfOk result (λ b.
             with_value self name.now (value.OwnVolume blocks slots) ≡ Ok b) }
-        ensures refused { IfErr result (IsRefusedBy
-            (with_value self name.now (value.OwnVolume blocks slots))) }
+        ensures refused { IfErr result (IsRefusedBy self name.now (value.OwnVolume blocks slots)) }
     {
         self.with(alloc, name, Value::OwnVolume { blocks, slots })
     }
@@ -96,8 +95,8 @@ impl ScenarioBuilder {
     ) -> Result<ScenarioBuilder, Refused>
         ensures built { IfOk result (λ b.
             with_value self name.now (value.SharedVolume blocks area) ≡ Ok b) }
-        ensures refused { IfErr result (IsRefusedBy
-            (with_value self name.now (value.SharedVolume blocks area))) }
+        ensures refused { IfErr result (IsRefusedBy self name.now
+            (value.SharedVolume blocks area)) }
     {
         self.with(alloc, name, Value::SharedVolume { blocks, area })
     }
@@ -111,8 +110,7 @@ impl ScenarioBuilder {
     ) -> Result<ScenarioBuilder, Refused>
         requires { IsAllowed (meta_of metadata) }
         ensures built { IfOk result (λ b. with_value self name.now (value.Writer metadata) ≡ Ok b) }
-        ensures refused { IfErr result (IsRefusedBy
-            (with_value self name.now (value.Writer metadata))) }
+        ensures refused { IfErr result (IsRefusedBy self name.now (value.Writer metadata)) }
     {
         self.with(alloc, name, Value::Writer(metadata))
     }
@@ -125,8 +123,7 @@ impl ScenarioBuilder {
         row: Scripted,
     ) -> Result<ScenarioBuilder, Refused>
         ensures built { IfOk result (λ b. with_value self [] (value.Answer writer row) ≡ Ok b) }
-        ensures refused { IfErr result (IsRefusedBy
-            (with_value self [] (value.Answer writer row))) }
+        ensures refused { IfErr result (IsRefusedBy self [] (value.Answer writer row)) }
     {
         self.with(alloc, b"", Value::Answer { writer, row })
     }
@@ -139,8 +136,7 @@ impl ScenarioBuilder {
         acts_as: Option<u32>,
     ) -> Result<ScenarioBuilder, Refused>
         ensures built { IfOk result (λ b. with_value self name.now (value.Lane acts_as) ≡ Ok b) }
-        ensures refused { IfErr result (IsRefusedBy
-            (with_value self name.now (value.Lane acts_as))) }
+        ensures refused { IfErr result (IsRefusedBy self name.now (value.Lane acts_as)) }
     {
         self.with(alloc, name, Value::Lane { acts_as })
     }
@@ -148,7 +144,7 @@ impl ScenarioBuilder {
     /// A line of the lane at hand.
     pub fn line(self, alloc: Global, op: Op) -> Result<ScenarioBuilder, Refused>
         ensures built { IfOk result (λ b. with_value self [] (value.Line op) ≡ Ok b) }
-        ensures refused { IfErr result (IsRefusedBy (with_value self [] (value.Line op))) }
+        ensures refused { IfErr result (IsRefusedBy self [] (value.Line op)) }
     {
         self.with(alloc, b"", Value::Line(op))
     }
@@ -162,8 +158,7 @@ impl ScenarioBuilder {
     ) -> Result<ScenarioBuilder, Refused>
         ensures built { IfOk result (λ b.
             with_value self full.now (value.Component writer) ≡ Ok b) }
-        ensures refused { IfErr result (IsRefusedBy
-            (with_value self full.now (value.Component writer))) }
+        ensures refused { IfErr result (IsRefusedBy self full.now (value.Component writer)) }
     {
         self.with(alloc, full, Value::Component { writer })
     }

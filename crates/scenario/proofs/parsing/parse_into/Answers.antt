@@ -1,6 +1,6 @@
 use Rattle.std.proofs.Common.{◌≡◌, List, ℕ, subst}
 use Rattle.scenario.specs.SoFar.{plan_in}
-use Rattle.scenario.specs.Grammar.{reading_of, IsScenario, IsUnreadAt}
+use Rattle.scenario.specs.Grammar.{reading_of, takes_memory, IsScenario, IsUnreadAt}
 use Rattle.scenario.proofs.Named.{has_names}
 use Rattle.scenario.proofs.parsing.parse_into.Goals as goal
 
@@ -11,5 +11,5 @@ finish-requires-clause-names c =
 
 pub returns-in-Err-clause-refused : goal.returns-in-Err-clause-refused
 returns-in-Err-clause-refused c =
-    c.at.ensures (reading_of c.args.text.bytes)
-    (subst (λ (text : List ℕ). IsUnreadAt c.in-Err.stopped.line (reading_of text) c.in-Err.stopped.unread) c.bytes.ensures c.in-Err.ensures.refused)
+    c.at.ensures (reading_of c.args.text.bytes) (takes_memory c.args.text.bytes)
+    (subst (λ (text : List ℕ). IsUnreadAt c.in-Err.stopped.line (reading_of text) (takes_memory text) c.in-Err.stopped.unread) c.bytes.ensures c.in-Err.ensures.refused)
