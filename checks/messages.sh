@@ -111,7 +111,15 @@ tells "2: BadNumber" 'scenario 1\nvolume C +4 1\n' "BLOCKS (field 2) is \`+4\`: 
 tells "5: BadNumber" "${lane}begin nine\n" "CONTEXT (field 1) is \`nine\`" "the forms are \`begin CONTEXT\` or \`begin CONTEXT all\`"
 tells "2: BadNumber" 'scenario 1\nvolume C 0x10 4\n' "BLOCKS (field 2) is \`0x10\`: a number is decimal"
 tells "5: BadNumber" "${lane}tick 1s\n" "TICKS (field 1) is \`1s\`: a number is decimal digits alone"
-tells "5: BadNumber" "${lane}delete C 1\n" "SET (field 1) is \`C\`" "the forms are \`delete SET\` or \`delete SET VOLUME\`"
+tells "5: BadNumber" "${lane}delete C 1\n" "SET (field 1) is \`C\`" "did you mean \`delete 1 C\`?" "the forms are \`delete SET\` or \`delete SET VOLUME\`"
+tells "5: BadNumber" "${lane}revert C 1\n" "did you mean \`revert 1 C\`?"
+tells "5: BadNumber" "${lane}image C 1\n" "did you mean \`image 1 C\`?"
+tells "5: BadNumber" "${lane}image C 1 0\n" "did you mean \`image 1 C 0\`?"
+tells "5: BadNumber" "${lane}properties D 2\n" "did you mean \`properties 2 D\`?"
+tells "5: UnknownName" "${lane}read 1 C\n" "no volume \`1\` is declared above" "did you mean \`read C 1\`?"
+tells "5: UnknownName" "${lane}write 1 C fill 7\n" "did you mean \`write C 1 fill 7\`?"
+tells "2: BadNumber" 'scenario 1\nvolume C 4 in\n' "behind \`in\` AREA is missing" "\`volume NAME BLOCKS in AREA\`"
+tells "4: UnknownWord" "${writer}answer db freeze 1 veto\n" "behind \`veto\` CODE is missing" "codes are VSS_E_WRITERERROR_INCONSISTENTSNAPSHOT"
 
 # names
 tells "2: BadName" 'scenario 1\nvolume 1C 4 4\n' "       |        ^" "the name of the volume (field 1) is \`1C\`" "a name has 1 to 32 letters" "begins with a letter"

@@ -26,6 +26,52 @@ fn no_number(found: &[u8]) -> &'static str {
     }
 }
 
+/// Says that behind a word of a longer form a field is missing, if the field that does not pass is such a word; answers whether it is.
+pub fn say_missing(notes: &mut Notes, bad: &BadLine<'_>) -> Result<bool, OutOfMemory> {
+    let Some(word) = bad.word() else {
+        return Ok(false);
+    };
+    for form in word.forms() {
+        let here = form.get(bad.field().saturating_sub(1));
+        if let (Some(fixed), Some(next)) = (here, form.get(bad.fields())) {
+            if fixed.as_bytes() == bad.found() {
+                notes.say(
+                    "behind `{}` {} is missing",
+                    &[Shown(bad.found()), Words(next)],
+                )?;
+                return Ok(true);
+            }
+        }
+    }
+    Ok(false)
+}
+
+/// Whether these are digits alone.
+fn are_digits(bytes: &[u8]) -> bool {
+    !bytes.is_empty() && bytes.iter().all(|byte| byte.is_ascii_digit())
+}
+
+/// Asks whether the field that does not pass and the one behind it are swapped, where one of them is a number and the other is none.
+fn say_swapped(notes: &mut Notes, bad: &BadLine<'_>) -> Result<(), OutOfMemory> {
+    let at = bad.mark().unwrap_or(0);
+    let end = at.saturating_add(bad.found().len());
+    let rest = part(bad.bytes, end.saturating_add(1), bad.bytes.len());
+    let next = rest.split(|byte| *byte == b' ').next().unwrap_or(&[]);
+    if next.is_empty() || are_digits(next) == are_digits(bad.found()) {
+        return Ok(());
+    }
+    let behind = part(rest, next.len(), rest.len());
+    notes.say(
+        "did you mean `{}{} {}{}`?",
+        &[
+            Shown(part(bad.bytes, 0, at)),
+            Shown(next),
+            Shown(bad.found()),
+            Shown(behind),
+        ],
+    )
+}
+
 /// Says why a field is not the number that stands there.
 pub fn say_number(
     notes: &mut Notes,
@@ -36,8 +82,15 @@ pub fn say_number(
 ) -> Result<(), OutOfMemory> {
     let (name, found) = (Words(quantity.name()), Shown(bad.found()));
     if bad.refusal.cause.reason == Reason::BadNumber {
+        if say_missing(notes, bad)? {
+            return Ok(());
+        }
         let (field, why) = (Number(bad.field() as u64), Words(no_number(bad.found())));
-        return notes.say("{} (field {}) is `{}`: {}", &[name, field, found, why]);
+        notes.say("{} (field {}) is `{}`: {}", &[name, field, found, why])?;
+        return match quantity {
+            Quantity::Set => say_swapped(notes, bad),
+            _ => Ok(()),
+        };
     }
     let (least, most) = (Number(least), Number(most));
     match quantity {
@@ -113,7 +166,8 @@ pub fn say_undeclared(
     notes.say(
         "no {} `{}` is declared above; there are {}{}",
         &[what, found, Listed(&names), Meant(meant)],
-    )
+    )?;
+    say_swapped(notes, bad)
 }
 
 /// Says that a field is no order.
@@ -140,13 +194,25 @@ fn code_for(alloc: Global, found: &[u8]) -> Result<Option<WriterError>, OutOfMem
     Ok(None)
 }
 
-/// Says that a field is no code of a writer's error.
-pub fn say_code(notes: &mut Notes, bad: &BadLine<'_>) -> Result<(), OutOfMemory> {
-    let alloc = notes.alloc();
+/// The names of writers' errors.
+fn codes(alloc: Global) -> Result<Vec<&'static [u8]>, OutOfMemory> {
     let mut names = Vec::new(alloc);
     for error in &WriterError::ALL {
         names.push(error.name().as_bytes())?;
     }
+    Ok(names)
+}
+
+/// Says which codes there are.
+pub fn say_codes(notes: &mut Notes) -> Result<(), OutOfMemory> {
+    let names = codes(notes.alloc())?;
+    notes.say("codes are {}", &[Listed(&names)])
+}
+
+/// Says that a field is no code of a writer's error.
+pub fn say_code(notes: &mut Notes, bad: &BadLine<'_>) -> Result<(), OutOfMemory> {
+    let alloc = notes.alloc();
+    let names = codes(alloc)?;
     match code_for(alloc, bad.found())? {
         Some(error) => notes.say(
             "`{}` is no code; did you mean `{}`?",
@@ -161,7 +227,7 @@ pub fn say_code(notes: &mut Notes, bad: &BadLine<'_>) -> Result<(), OutOfMemory>
             )?;
         }
     }
-    notes.say("codes are {}", &[Listed(&names)])
+    say_codes(notes)
 }
 
 /// Says that there is such an answer already.

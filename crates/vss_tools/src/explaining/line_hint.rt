@@ -4,7 +4,8 @@ use super::bad_line::BadLine;
 use super::byte_hint::say_bad_byte;
 use super::document_hint::say_document;
 use super::field_hint::{
-    say_answered, say_code, say_new_name, say_number, say_order, say_undeclared,
+    say_answered, say_code, say_codes, say_missing, say_new_name, say_number, say_order,
+    say_undeclared,
 };
 use super::form_hint::{say_forms, words_at};
 use super::near::say_nearest;
@@ -103,6 +104,12 @@ fn say_fixed_word(notes: &mut Notes, bad: &BadLine<'_>) -> Result<(), OutOfMemor
     let Some(word) = bad.word() else {
         return Ok(());
     };
+    if say_missing(notes, bad)? {
+        return match word {
+            Word::Answer => say_codes(notes),
+            _ => Ok(()),
+        };
+    }
     let words = words_at(notes.alloc(), word, bad.fields(), bad.field())?;
     notes.say(
         "`{}` stands where {} has to",
