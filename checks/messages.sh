@@ -430,16 +430,57 @@ for words in "list store" "check store" "show store 1 a" "update store a=a"; do
   images_says 9 "store/images.state: digest: another; it is damaged, so nothing in the folder can be trusted: copy the folder before anything else" $words
 done
 
+# `./orders` and `./timeline`: how one ends, and what it says; the words follow
+tool_says() {
+  local wanted="$1" tool="$2" status
+  shift 2
+  "$top/$tool" "$@" > "$room/out" 2> "$room/err" < /dev/null
+  status=$?
+  [ "$status" = "$wanted" ] || wrong "\`./$tool $*\` ended with $status, and not $wanted: $(cat "$room/err")"
+  [ "$wanted" = 0 ] || [ ! -s "$room/out" ] || wrong "\`./$tool $*\` writes $(head -n 1 "$room/out")"
+}
+first=examples/first
+for name in "$room/nofile" "$room"; do
+  tool_says 4 timeline $first.scenario "$name"
+  said "timeline: $name: could not be read: " "(os error"
+done
+echo > "$room/closed" && chmod 0 "$room/closed"
+[ -n "${as_nobody[*]}" ] || { tool_says 4 timeline $first.scenario "$room/closed"; said "Permission denied"; }
+while IFS='|' read -r words wanted; do
+  # the words are parted
+  # shellcheck disable=SC2086
+  tool_says 2 timeline $words
+  said "timeline: " "     $wanted"
+done << END
+--txt $first.scenario $first.report|\`--txt\` is no option; did you mean \`--text\`?
+--from|behind the last option the number of a move is missing
+--from x $first.scenario $first.report|the number of a move is \`x\`, and no number: 1 to 4294967295
+--to 0 $first.scenario $first.report|the number of a move is \`0\`, and has to be 1 to 4294967295
+$first.scenario|REPORT is missing
+$first.scenario $first.report more|\`more\` is one word too many
+$first.scenario $first.report --text|\`--text\` is one word too many; options stand before the names of the files
+END
+tool_says 2 timeline --from 99 $first.scenario $first.report
+said "timeline: --from 99: the report has 16 moves"
+tool_says 2 timeline --from 9 --to 3 $first.scenario $first.report
+said "timeline: --from 9 --to 3: the first is above the last"
+tool_says 3 timeline "$room/bad.scenario" $first.report
+said "timeline: $room/bad.scenario: line 4: OutOfRange" "BLOCK is 0 to 3 on C here, and not 4"
+tool_says 3 timeline $first.report $first.scenario
+said "timeline: $first.report: line 1: UnknownWord" "are two files swapped?"
+tool_says 3 timeline --overview $first.scenario $first.scenario
+said "timeline: $first.scenario: line 1: no line of a report"
 # help and the version of the other commands
 for tool in orders timeline images tests prove; do
   for word in help --help -h; do
-    "./$tool" "$word" > "$room/out" 2> "$room/err" < /dev/null || wrong "./$tool $word ends with $?"
+    tool_says 0 "$tool" "$word"
     has "./$tool $word" "$(cat "$room/out")" "    ./$tool"
     [ ! -s "$room/err" ] || wrong "./$tool $word says on the standard error: $(cat "$room/err")"
   done
 done
 for tool in orders timeline images; do
-  has "./$tool --version" "$(./$tool --version)" "$tool $(cat VERSION), of the sources "
+  tool_says 0 "$tool" --version
+  has "./$tool --version" "$(cat "$room/out")" "$tool $(cat VERSION), of the sources "
 done
 ./tests frist > "$room/out" 2> "$room/err"
 said "named frist; there are" " messages" "vss_tools"
