@@ -1,4 +1,4 @@
-//! Files that are read whole, and the moves of a report.
+//! Files that are read whole, and lines of their texts.
 
 ghost use Rattle.std.specs.Prelude.{◌≤◌, IfOk, vec_len};
 
@@ -72,6 +72,18 @@ pub fn bytes_of(rt: &HostRuntime, name: &str, most: usize) -> Result<Vec<u8>, Un
         Ok(_) => Err(Unread::TooLong),
         Err(why) => Err(why),
     }
+}
+
+/// The line of a text with this number, from 1, without its newline; empty where the text has fewer.
+pub fn line_at(text: &[u8], number: u32) -> &[u8] {
+    let mut at = 1u32;
+    for line in text.split(|byte| *byte == b'\n') {
+        if at == number {
+            return line;
+        }
+        at = at.saturating_add(1);
+    }
+    &[]
 }
 
 /// Whether a line of a report is that of a move.
