@@ -430,16 +430,131 @@ for words in "list store" "check store" "show store 1 a" "update store a=a"; do
   images_says 9 "store/images.state: digest: another; it is damaged, so nothing in the folder can be trusted: copy the folder before anything else" $words
 done
 
+# `./orders` and `./timeline`: how one ends, and what it says; the words follow
+tool_says() {
+  local wanted="$1" tool="$2" status
+  shift 2
+  "$top/$tool" "$@" > "$room/out" 2> "$room/err" < /dev/null
+  status=$?
+  [ "$status" = "$wanted" ] || wrong "\`./$tool $*\` ended with $status, and not $wanted: $(cat "$room/err")"
+  [ "$wanted" = 0 ] || [ ! -s "$room/out" ] || wrong "\`./$tool $*\` writes $(head -n 1 "$room/out")"
+}
+first=examples/first hold=examples/orders/hold_limit held=examples/orders/held_write frozen=examples/orders/frozen_writer
+for task in "seed 1" "many 3" "order" "again"; do
+  # the words are parted
+  # shellcheck disable=SC2086
+  case "$task" in order | again) tool_says 3 orders $task "$room/bad.scenario" $first.report ;; *) tool_says 3 orders $task "$room/bad.scenario" ;; esac
+  said "orders: $room/bad.scenario: line 4: OutOfRange" "     4 | write C 4 fill 1" "BLOCK is 0 to 3 on C here, and not 4"
+done
+tool_says 3 orders order $hold.order $hold.scenario
+said "orders: $hold.order: line" "the second file is a scenario: are the two swapped?"
+tool_says 3 orders again $first.report $first.scenario
+said "orders: $first.report: line 1: UnknownWord" "are the two swapped?"
+printf '4 times lane backup\n3 times provider\nlane app\n' > "$room/order"
+tool_says 3 orders order $held.scenario "$room/order"
+said "line 3: this move may not come here: its actor has to wait" "lane app waits at line 14, \`" "volume C is held, until it is released" "these may come: provider"
+printf '4 times lane backup\nlane backup\n' > "$room/order"
+tool_says 3 orders order $held.scenario "$room/order"
+said "lane backup waits at line 10, \`await\`" "orders or steps that it began are under way" "these may come: lane app, provider"
+printf 'writer db\n' > "$room/order"
+tool_says 3 orders order $frozen.scenario "$room/order"
+said "writer db has no order to answer now" "these may come: lane"
+printf 'idle\n' > "$room/order"
+tool_says 3 orders order $first.scenario "$room/order"
+said "time passes only if no lane, no writer and not the provider can move" "these may come: lane a"
+printf 'provider\n' > "$room/order"
+tool_says 3 orders order $first.scenario "$room/order"
+said "the provider has no step to make now"
+printf '3 times lane app\n' > "$room/order"
+tool_says 3 orders order $held.scenario "$room/order"
+said "lane app has made all its lines" "these may come: lane backup"
+printf 'lane night\nlane weekly\n' > "$room/order"
+tool_says 3 orders order examples/second_lane.scenario "$room/order"
+said "\`begin 25\`" "another lane has the session, until its \`end\`"
+{ head -n "$(grep -n '^# the veto' $frozen.order | cut -d : -f 1)" $frozen.order; echo "lane x"; } > "$room/order"
+tool_says 3 orders order $frozen.scenario "$room/order"
+said "lane x waits at line" "it acts as writer web, which is frozen until its thaw" "these may come: "
+printf 'lane nobody\n' > "$room/order"
+tool_says 3 orders order $held.scenario "$room/order"
+said "line 1: expected the name of a lane or of a writer" "it has \`lane nobody\` there" "moves are those of lane backup, lane app, provider, idle"
+for name in "$room/nofile" "$room"; do
+  tool_says 4 orders order $first.scenario "$name"
+  said "orders: $name: could not be read: " "(os error"
+  tool_says 4 timeline $first.scenario "$name"
+  said "timeline: $name: could not be read: " "(os error"
+done
+echo > "$room/closed" && chmod 0 "$room/closed"
+[ -n "${as_nobody[*]}" ] || { tool_says 4 orders again $first.scenario "$room/closed"; said "Permission denied"; }
+head -n 5 $first.report > "$room/half"
+tool_says 3 orders again $first.scenario "$room/half"
+said "line 6: expected \`5 provider precommit\`" "the report ends there: was all of it written, and is it of this scenario?"
+tool_says 3 orders again $first.scenario examples/revert.report
+said "line 16: expected" "it has \`$(sed -n 16p examples/revert.report)\` there" "is it a report of this scenario"
+while IFS='|' read -r words wanted; do
+  # the words are parted
+  # shellcheck disable=SC2086
+  tool_says 2 orders $words
+  said "orders: usage: orders" "     $wanted"
+done << END
+|a task, order, again, seed or many, is missing
+ordr $first.scenario x|\`ordr\` is no task; did you mean \`order\`?
+play $first.scenario x|\`play\` is no task
+order|SCENARIO is missing
+order $first.scenario|ORDER is missing
+again $first.scenario|REPORT is missing
+order $first.scenario x y|\`y\` is one word too many
+seed x $first.scenario|N is \`x\`, and no number: 0 to 4294967295, in decimal digits without zeros before them
+seed 01 $first.scenario|N is \`01\`, and no number
+seed 4294967296 $first.scenario|N is \`4294967296\`, and has to be 0 to 4294967295
+seed 1|SCENARIO is missing
+many 0 $first.scenario|COUNT is \`0\`, and has to be 1 to 4294967295
+many 3|SCENARIO is missing
+many -j 0 3 $first.scenario|the number of jobs is \`0\`, and has to be 1 to 1024
+many -j 2 3|SCENARIO is missing
+order -x y|SCENARIO is \`-x\`: a file whose name begins with \`-\` is \`./-x\`
+with C.vol flush 5..3 seed 1 $first.scenario|\`5..3\` are no calls: the first number is above the last
+with C.vol flsh 1 seed 1 $first.scenario|\`flsh\` is no call of a device; did you mean \`flush\`?
+with C.vol flush 0 seed 1 $first.scenario|the number of a call is \`0\`, and has to be 1 to 1000000
+with C.vol flush|behind \`with\` stand DEVICE, CALL and NUMBERS, as \`with C.vol flush 1\`
+with C.vol flush 1|a task, order
+END
+tool_says 0 orders many -j 2 20 $hold.scenario
+cmp -s "$room/out" <(./orders many 20 $hold.scenario) || wrong "many in two jobs has other outcomes"
+while IFS='|' read -r words wanted; do
+  # the words are parted
+  # shellcheck disable=SC2086
+  tool_says 2 timeline $words
+  said "timeline: " "     $wanted"
+done << END
+--txt $first.scenario $first.report|\`--txt\` is no option; did you mean \`--text\`?
+--from|behind the last option the number of a move is missing
+--from x $first.scenario $first.report|the number of a move is \`x\`, and no number: 1 to 4294967295
+--to 0 $first.scenario $first.report|the number of a move is \`0\`, and has to be 1 to 4294967295
+$first.scenario|REPORT is missing
+$first.scenario $first.report more|\`more\` is one word too many
+$first.scenario $first.report --text|\`--text\` is one word too many; options stand before the names of the files
+END
+tool_says 2 timeline --from 99 $first.scenario $first.report
+said "timeline: --from 99: the report has 16 moves"
+tool_says 2 timeline --from 9 --to 3 $first.scenario $first.report
+said "timeline: --from 9 --to 3: the first is above the last"
+tool_says 3 timeline "$room/bad.scenario" $first.report
+said "timeline: $room/bad.scenario: line 4: OutOfRange" "BLOCK is 0 to 3 on C here, and not 4"
+tool_says 3 timeline $first.report $first.scenario
+said "timeline: $first.report: line 1: UnknownWord" "are two files swapped?"
+tool_says 3 timeline --overview $first.scenario $first.scenario
+said "timeline: $first.scenario: line 1: no line of a report"
 # help and the version of the other commands
 for tool in orders timeline images tests prove; do
   for word in help --help -h; do
-    "./$tool" "$word" > "$room/out" 2> "$room/err" < /dev/null || wrong "./$tool $word ends with $?"
+    tool_says 0 "$tool" "$word"
     has "./$tool $word" "$(cat "$room/out")" "    ./$tool"
     [ ! -s "$room/err" ] || wrong "./$tool $word says on the standard error: $(cat "$room/err")"
   done
 done
 for tool in orders timeline images; do
-  has "./$tool --version" "$(./$tool --version)" "$tool $(cat VERSION), of the sources "
+  tool_says 0 "$tool" --version
+  has "./$tool --version" "$(cat "$room/out")" "$tool $(cat VERSION), of the sources "
 done
 ./tests frist > "$room/out" 2> "$room/err"
 said "named frist; there are" " messages" "vss_tools"

@@ -10,6 +10,7 @@
 mod explaining;
 mod picturing;
 mod playing;
+mod reading;
 
 use std::env::Env;
 use std::process::ExitCode;

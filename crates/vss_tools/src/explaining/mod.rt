@@ -9,12 +9,12 @@ mod byte_hint;
 mod document_hint;
 mod field_hint;
 mod form_hint;
-mod line_hint;
-mod near;
-mod notes;
-mod piece;
+pub mod line_hint;
+pub mod near;
+pub mod notes;
+pub mod piece;
 mod showing;
-mod word_hint;
+pub mod word_hint;
 
 use crate::words_given;
 use form_hint::say_all_forms;

@@ -2,7 +2,7 @@
 
 use super::near::say_nearest;
 use super::notes::Notes;
-use super::piece::Piece::Shown;
+use super::piece::Piece::{Number, Shown, Words};
 use scenario::Reason;
 use scenario::numbers::number_in;
 use vss_names::OutOfMemory;
@@ -75,4 +75,56 @@ pub fn say_words(notes: &mut Notes, words: &[String]) -> Result<(), OutOfMemory>
             Ok(())
         }
     }
+}
+
+/// The word at a place, or none where it is missing, which is said.
+pub fn word_at<'a>(
+    notes: &mut Notes,
+    words: &'a [String],
+    at: usize,
+    name: &str,
+) -> Option<&'a str> {
+    let word = words.get(at);
+    if word.is_none() {
+        let _ = notes.say("{} is missing", &[Words(name)]);
+    }
+    Some(word?.as_str())
+}
+
+/// The name of a file at a place, or none where that is no name, which is said.
+pub fn file_at<'a>(
+    notes: &mut Notes,
+    words: &'a [String],
+    at: usize,
+    name: &'a str,
+) -> Option<&'a str> {
+    let word = word_at(notes, words, at, name)?;
+    if word.is_empty() || word.starts_with("-") {
+        let _ = notes.say(
+            "{} is `{}`: a file whose name begins with `-` is `./{}`, and no name is empty",
+            &[Words(name), Words(word), Words(word)],
+        );
+        return None;
+    }
+    Some(word)
+}
+
+/// The number that a word is, or none where it is none from one to another, which is said.
+pub fn number_of<'a>(
+    notes: &mut Notes,
+    name: &'a str,
+    word: &'a str,
+    least: u32,
+    most: u32,
+) -> Option<u32> {
+    let (least, most) = (u64::from(least), u64::from(most));
+    let form = match number_in(word.as_bytes(), least, most) {
+        Ok(number) => return u32::try_from(number).ok(),
+        Err(Reason::OutOfRange) => "{} is `{}`, and has to be {} to {}",
+        Err(_) =>
+            "{} is `{}`, and no number: {} to {}, in decimal digits without zeros before them",
+    };
+    let shown = Shown(word.as_bytes());
+    let _ = notes.say(form, &[Words(name), shown, Number(least), Number(most)]);
+    None
 }

@@ -2,15 +2,13 @@ use super::problem::Problem;
 use std::fmt;
 
 /// A text that was given, and what is wrong with it.
-#[derive(Clone, Copy, PartialEq, Eq)]
+#[derive(Clone, Copy)]
 pub struct Bad<'a> {
     /// Its file, or `standard input`.
     pub file: &'a str,
     /// The number of a line, from 1, or 0.
     pub line: u64,
     pub problem: Problem,
-    /// Whether the two files are swapped, as it seems.
-    pub are_swapped: bool,
 }
 
 impl fmt::Display for Bad<'_> {
@@ -19,10 +17,6 @@ impl fmt::Display for Bad<'_> {
         if self.line != 0 {
             write!(f, "line {}: ", self.line)?;
         }
-        write!(f, "{}", self.problem)?;
-        if self.are_swapped {
-            f.write_str("; are they swapped?")?;
-        }
-        Ok(())
+        write!(f, "{}", self.problem)
     }
 }

@@ -2,22 +2,26 @@
 //!
 //! `timeline SCENARIO REPORT` reads the two files and writes a drawing (SVG) to the standard output; without the two names it
 //! reads the report alone from the standard input. Before them, `--text` asks for lines for a terminal, `--clock` for a drawing whose
-//! columns are the clock, `--from N` and `--to N` for the moves from N on and up to N. `timeline::draw` has what the picture promises. For a status other than 0 one line goes
-//! to the standard error.
+//! columns are the clock, `--from N` and `--to N` for the moves from N on and up to N, `--overview` for a drawing of them that fits a
+//! screen. `timeline::draw` has what the picture promises. For a status other than 0 a line goes to the standard error, and below it what
+//! helps to go on.
 
 mod bad;
+mod overview;
 mod problem;
 mod request;
-mod scenario_text;
 mod status;
 mod texts;
 
+use crate::explaining::notes::Notes;
+use crate::reading::moves_in;
 use crate::words_given;
 use io_edge::OutSink;
+use overview::overview_of;
 use request::Request;
 use status::Status;
 use texts::Texts;
-use timeline::{Ended, Fault, Refusal, Run, draw};
+use timeline::{Ended, Fault, Refusal, Run, Span, draw};
 
 /// Of an empty report.
 const NO_LINE: Refusal = Refusal {
@@ -43,17 +47,37 @@ fn drawn<'a>(rt: &HostRuntime, request: &Request<'a>, texts: &Texts<'a>) -> Stat
     }
 }
 
-/// Does what the words ask for.
-fn run<'a>(rt: &HostRuntime, words: &'a [String]) -> Status<'a> {
-    let Some(request) = Request::of(words) else {
+/// Draws an overview of these moves of a report.
+fn overviewed(rt: &HostRuntime, report: &str, span: Span) -> Status<'static> {
+    let Ok(notes) = overview_of(rt.alloc(), report, span) else {
+        return Status::OutOfMemory;
+    };
+    match rt.print(notes.text()) {
+        Ok(()) => Status::Done,
+        Err(_) => Status::WriteFault,
+    }
+}
+
+/// Does what the words ask for, and says what helps to go on where they ask for nothing.
+fn run<'a>(rt: &HostRuntime, notes: &mut Notes, words: &'a [String]) -> Status<'a> {
+    let Some(request) = Request::of(notes, words) else {
         return Status::Usage;
     };
-    let texts = match Texts::of(rt, &request) {
+    let texts = match Texts::of(rt, notes, &request) {
         Ok(texts) => texts,
         Err(status) => return status,
     };
-    if texts.report.is_empty() {
+    let report = texts.report.as_str();
+    if !report.starts_with("report 1") {
         return Status::Bad(texts.refused(NO_LINE));
+    }
+    let (span, moves) = (request.span, moves_in(report) as u64);
+    if span.to < span.from || moves.max(1) < span.from {
+        return Status::NoMoves { span, moves };
+    }
+    if request.is_overview {
+        let to = span.to.min(moves);
+        return overviewed(rt, report, Span { to, ..span });
     }
     drawn(rt, &request, &texts)
 }
@@ -61,12 +85,13 @@ fn run<'a>(rt: &HostRuntime, words: &'a [String]) -> Status<'a> {
 /// Draws what the words of the program ask for, and returns the status.
 pub fn draw_picture(rt: &HostRuntime) -> u8 {
     let words = words_given(rt);
+    let mut notes = Notes::new(rt.alloc());
     let status = match &words {
-        Ok(words) => run(rt, words),
+        Ok(words) => run(rt, &mut notes, words),
         Err(_) => Status::OutOfMemory,
     };
     if !status.is_done() {
-        let _ = eprintln!(rt; "vss_timeline: {status}");
+        let _ = eprint!(rt; "timeline: {status}\n{}", notes.text());
     }
     status.code()
 }

@@ -1,19 +1,19 @@
+use crate::reading::Unread;
+use scenario::Reason;
 use std::fmt;
 use timeline::Fault;
 
 /// What is wrong with a text that was given.
-#[derive(Clone, Copy, PartialEq, Eq)]
+#[derive(Clone, Copy)]
 pub enum Problem {
-    /// It could not be read.
+    /// It was not read.
+    Unread(Unread),
+    /// The standard input could not be read.
     ReadFault,
-    /// It has more bytes than are read.
-    TooLong,
     /// It is no UTF-8.
     NoText,
     /// It is no scenario.
-    NoScenario,
-    /// It declares more than a scenario may.
-    TooMany,
+    NoScenario(Reason),
     /// A line of the report is refused.
     Refused(Fault),
 }
@@ -22,8 +22,8 @@ impl Problem {
     /// The status with which the program ends; the same as those of `vss`.
     pub fn code(self) -> u8 {
         match self {
+            Problem::Unread(why) => why.code(),
             Problem::ReadFault => 4,
-            Problem::TooLong => 8,
             _ => 3,
         }
     }
@@ -32,11 +32,10 @@ impl Problem {
 impl fmt::Display for Problem {
     fn fmt<W: fmt::Write>(&self, f: &mut fmt::Formatter<W>) -> fmt::Result {
         f.write_str(match self {
+            Problem::Unread(why) => return write!(f, "{why}"),
+            Problem::NoScenario(reason) => return write!(f, "{reason}"),
             Problem::ReadFault => "read fault",
-            Problem::TooLong => "too long",
             Problem::NoText => "no text",
-            Problem::NoScenario => "no scenario",
-            Problem::TooMany => "more than 256 lanes, writers and volumes",
             Problem::Refused(Fault::NoLine) => "no line of a report",
             Problem::Refused(Fault::UnknownName) => "a name that the scenario does not declare",
             Problem::Refused(Fault::OtherLine) =>

@@ -1,13 +1,16 @@
 use super::bad::Bad;
 use std::fmt;
+use timeline::Span;
 
 /// How the program ended.
-#[derive(Clone, Copy, PartialEq, Eq)]
+#[derive(Clone, Copy)]
 pub enum Status<'a> {
     /// The picture was written.
     Done,
     /// The words ask for nothing that it does.
     Usage,
+    /// The words ask for moves of which there are none: the report has so many.
+    NoMoves { span: Span, moves: u64 },
     WriteFault,
     OutOfMemory,
     /// A text that was given has no picture; nothing was written.
@@ -19,7 +22,7 @@ impl Status<'_> {
     pub fn code(self) -> u8 {
         match self {
             Status::Done => 0,
-            Status::Usage => 2,
+            Status::Usage | Status::NoMoves { .. } => 2,
             Status::WriteFault => 5,
             Status::OutOfMemory => 7,
             Status::Bad(bad) => bad.problem.code(),
@@ -38,7 +41,17 @@ impl fmt::Display for Status<'_> {
             Status::Done => f.write_str("done"),
             Status::Usage => {
                 f.write_str(
-                    "usage: vss_timeline [--text] [--clock] [--from N] [--to N] [SCENARIO REPORT]",
+                    "usage: timeline [--text] [--clock] [--overview] [--from N] [--to N] [SCENARIO REPORT]",
+                )
+            }
+            Status::NoMoves { span, moves } if *moves < span.from => {
+                write!(f, "--from {}: the report has {moves} moves", span.from)
+            }
+            Status::NoMoves { span, .. } => {
+                write!(
+                    f,
+                    "--from {} --to {}: the first is above the last",
+                    span.from, span.to
                 )
             }
             Status::WriteFault => f.write_str("write fault"),

@@ -1,11 +1,15 @@
+ghost use Rattle.std.specs.Prelude.{◌≤◌, IfOk, vec_len};
+
 use super::bad::Bad;
 use super::problem::Problem;
 use super::request::Request;
-use super::scenario_text::problem_of;
 use super::status::Status;
+use crate::explaining::line_hint::say_refusal;
+use crate::explaining::notes::Notes;
+use crate::reading;
+use crate::reading::Unread;
 use io_edge::{InSource, ReadError, read_all};
-use std::fs::File;
-use std::io::Read;
+use scenario::refusal_of;
 use timeline::Refusal;
 
 /// The most bytes of a report, and of a scenario.
@@ -31,35 +35,35 @@ fn bad(file: &str, line: u64, problem: Problem) -> Bad<'_> {
         file,
         line,
         problem,
-        are_swapped: false,
     }
 }
 
 /// The bytes of a file.
-fn bytes_of<'a>(rt: &HostRuntime, file: &'a str, most: usize) -> Result<Vec<u8>, Status<'a>> {
-    let failed = Status::Bad(bad(file, 0, Problem::ReadFault));
-    let mut open = match File::open(rt, file) {
-        Ok(open) => open,
-        Err(_) => return Err(failed),
-    };
-    let mut bytes = Vec::new(rt.alloc());
-    let mut piece = [0u8; 65_536];
-    for _ in 0..u64::MAX {
-        let n = match open.read(&mut piece) {
-            Ok(n) => n,
-            Err(_) => return Err(failed),
-        };
-        if n == 0 {
-            return Ok(bytes);
-        }
-        if most.saturating_sub(bytes.len()) < n {
-            return Err(Status::Bad(bad(file, 0, Problem::TooLong)));
-        }
-        if bytes.extend_from_slice(&piece[..n]).is_err() {
-            return Err(Status::OutOfMemory);
-        }
+fn bytes_of<'a>(rt: &HostRuntime, file: &'a str, most: usize) -> Result<Vec<u8>, Status<'a>>
+    ensures { IfOk result (λ bytes. vec_len bytes ≤ most) }
+{
+    match reading::bytes_of(rt, file, most) {
+        Ok(bytes) => Ok(bytes),
+        Err(Unread::OutOfMemory) => Err(Status::OutOfMemory),
+        Err(why) => Err(Status::Bad(bad(file, 0, Problem::Unread(why)))),
     }
-    Ok(bytes)
+}
+
+/// The text of a scenario, which has to be one; else it is said why it is none, as `vss` says it.
+fn scenario_of<'a>(
+    rt: &HostRuntime,
+    notes: &mut Notes,
+    file: &'a str,
+) -> Result<String, Status<'a>> {
+    let bytes = bytes_of(rt, file, MOST_SCENARIO)?;
+    let refusal = match refusal_of(rt.alloc(), &bytes) {
+        Ok(None) => return text_of(file, bytes),
+        Ok(Some(refusal)) => refusal,
+        Err(_) => return Err(Status::OutOfMemory),
+    };
+    let _ = say_refusal(notes, &bytes, &refusal);
+    let problem = Problem::NoScenario(refusal.cause.reason);
+    Err(Status::Bad(bad(file, u64::from(refusal.line), problem)))
 }
 
 /// The bytes that come by the standard input.
@@ -68,7 +72,9 @@ fn bytes_given(rt: &HostRuntime) -> Result<Vec<u8>, Status<'static>> {
     match read_all(rt.alloc(), &mut source, MOST_REPORT) {
         Ok(bytes) => Ok(bytes.into_vec()),
         Err(ReadError::Failed) => Err(Status::Bad(bad(INPUT, 0, Problem::ReadFault))),
-        Err(ReadError::TooLong) => Err(Status::Bad(bad(INPUT, 0, Problem::TooLong))),
+        Err(ReadError::TooLong) => {
+            Err(Status::Bad(bad(INPUT, 0, Problem::Unread(Unread::TooLong))))
+        }
         Err(ReadError::OutOfMemory) => Err(Status::OutOfMemory),
     }
 }
@@ -89,7 +95,11 @@ fn text_of(file: &str, bytes: Vec<u8>) -> Result<String, Status<'_>> {
 
 impl<'a> Texts<'a> {
     /// Those that are asked for.
-    pub fn of(rt: &HostRuntime, request: &Request<'a>) -> Result<Texts<'a>, Status<'a>> {
+    pub fn of(
+        rt: &HostRuntime,
+        notes: &mut Notes,
+        request: &Request<'a>,
+    ) -> Result<Texts<'a>, Status<'a>> {
         let Some((scenario, report)) = request.files else {
             return Ok(Texts {
                 scenario: String::new(rt.alloc()),
@@ -97,24 +107,11 @@ impl<'a> Texts<'a> {
                 file: INPUT,
             });
         };
-        let texts = Texts {
-            scenario: text_of(scenario, bytes_of(rt, scenario, MOST_SCENARIO)?)?,
+        Ok(Texts {
+            scenario: scenario_of(rt, notes, scenario)?,
             report: text_of(report, bytes_of(rt, report, MOST_REPORT)?)?,
             file: report,
-        };
-        match problem_of(texts.scenario.as_str()) {
-            None => Ok(texts),
-            Some((line, problem)) => Err(Status::Bad(Bad {
-                are_swapped: texts.are_swapped(),
-                ..bad(scenario, line, problem)
-            })),
-        }
-    }
-
-    /// Whether the scenario is a report, and the report is none.
-    fn are_swapped(&self) -> bool {
-        let (scenario, report) = (self.scenario.as_str(), self.report.as_str());
-        scenario.starts_with("report 1") && !report.starts_with("report 1")
+        })
     }
 
     /// Why the report has no picture.

@@ -1,3 +1,4 @@
+use crate::reading::Unread;
 use orders::{Replayed, Status, Why};
 use scenario::Reason;
 use std::fmt;
@@ -7,10 +8,11 @@ use std::fmt;
 pub enum Ended<'a> {
     /// The words ask for nothing that it does.
     Usage,
-    /// A file could not be read.
-    Unread(&'a str),
-    /// A file has more bytes than it may.
-    TooLong(&'a str),
+    /// A file was not read.
+    Unread {
+        name: &'a str,
+        why: Unread,
+    },
     /// The scenario of this file has no device of this name.
     NoDevice {
         scenario: &'a str,
@@ -52,8 +54,7 @@ impl Ended<'_> {
     pub fn code(&self) -> u8 {
         match self {
             Ended::Usage => 2,
-            Ended::Unread(_) => 4,
-            Ended::TooLong(_) => 8,
+            Ended::Unread { why, .. } => why.code(),
             Ended::OutOfMemory => 7,
             Ended::NoDevice { .. } => 3,
             Ended::Called { status, .. } => code_of(*status),
@@ -150,10 +151,9 @@ impl fmt::Display for Ended<'_> {
     fn fmt<W: fmt::Write>(&self, f: &mut fmt::Formatter<W>) -> fmt::Result {
         match self {
             Ended::Usage => f.write_str(
-                "usage: orders [with DEVICE read|write|flush N|N..M].. order SCENARIO ORDER | again SCENARIO REPORT | seed N SCENARIO | many COUNT SCENARIO",
+                "usage: orders [with DEVICE read|write|flush N|N..M].. order SCENARIO ORDER | again SCENARIO REPORT | seed N SCENARIO | many [-j JOBS] COUNT SCENARIO",
             ),
-            Ended::Unread(name) => write!(f, "{name}: cannot be read"),
-            Ended::TooLong(name) => write!(f, "{name}: too long"),
+            Ended::Unread { name, why } => write!(f, "{name}: {why}"),
             Ended::OutOfMemory => f.write_str("out of memory"),
             Ended::NoDevice { scenario, device } => write!(
                 f,

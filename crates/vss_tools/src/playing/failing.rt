@@ -1,10 +1,15 @@
-use scenario::numbers::number_in;
+use crate::explaining::near::say_nearest;
+use crate::explaining::notes::Notes;
+use crate::explaining::piece::Piece::Shown;
+use crate::explaining::word_hint::number_of;
 use std::alloc::Global;
 use volume_device::Planned;
 use vss_names::{Numbers, OutOfMemory, Text};
 
 /// The highest number of a call that fails.
-const HIGHEST: u64 = 1_000_000;
+const HIGHEST: u32 = 1_000_000;
+
+const CALLS: [&[u8]; 3] = [b"read", b"write", b"flush"];
 
 /// A kind of call of a device.
 #[derive(Clone, Copy, PartialEq, Eq)]
@@ -23,29 +28,37 @@ pub struct Failing<'a> {
     last: u32,
 }
 
-/// The number of a call.
-fn number_of(word: &str) -> Option<u32> {
-    match number_in(word.as_bytes(), 1, HIGHEST) {
-        Ok(number) => Some(number as u32),
-        Err(_) => None,
-    }
-}
-
 impl<'a> Failing<'a> {
-    /// What three words say: a device, a kind of its calls, and `N` or `N..M`.
-    pub fn of(device: &'a str, call: &str, numbers: &str) -> Option<Failing<'a>> {
+    /// What three words say: a device, a kind of its calls, and `N` or `N..M`; where they say nothing, it is said which is wrong.
+    pub fn of(
+        notes: &mut Notes,
+        device: &'a str,
+        call: &str,
+        numbers: &str,
+    ) -> Option<Failing<'a>> {
         let (first, last) = numbers.split_once("..").unwrap_or((numbers, numbers));
         let call = match call.as_bytes() {
             b"read" => Call::Read,
             b"write" => Call::Write,
             b"flush" => Call::Flush,
-            _ => return None,
+            _ => {
+                let form = "`{}` is no call of a device{}";
+                let _ = say_nearest(notes, form, call.as_bytes(), &CALLS);
+                return None;
+            }
         };
+        let first = number_of(notes, "the number of a call", first, 1, HIGHEST)?;
+        let last = number_of(notes, "the number of a call", last, 1, HIGHEST)?;
+        if last < first {
+            let form = "`{}` are no calls: the first number is above the last";
+            let _ = notes.say(form, &[Shown(numbers.as_bytes())]);
+            return None;
+        }
         Some(Failing {
             device,
             call,
-            first: number_of(first)?,
-            last: number_of(last)?,
+            first,
+            last,
         })
     }
 

@@ -9,6 +9,7 @@ use super::outcomes::Outcomes;
 use orders::{SureMaker, report_of_seed};
 use scenario::{Scenario, parse};
 use std::alloc::Global;
+use std::io::IsTerminal;
 use std::thread;
 use std::thread::Threads;
 use volume_device::MemMaker;
@@ -16,7 +17,7 @@ use vss_names::{OutOfMemory, Text};
 use vss_play::PlayFault;
 
 /// How many runs are made before their outcomes are counted.
-const ROUND: u32 = 256;
+const ROUND: u32 = 64;
 
 /// The scenario of a text.
 fn scenario_of(alloc: Global, text: &[u8]) -> Result<Scenario, PlayFault>
@@ -65,10 +66,13 @@ fn outcome_of_seed<R: Threads + Sync>(
     }
 }
 
-/// How many threads run at one time: as many as there are processors.
-fn processors<R: Threads>(rt: &R) -> usize
+/// How many threads run at one time: as many as jobs are asked for, or as there are processors.
+fn threads_of<R: Threads>(rt: &R, jobs: Option<u32>) -> usize
     ensures { 1 ≤ result }
 {
+    if let Some(count) = jobs {
+        return (count as usize).max(1);
+    }
     match thread::available_parallelism(rt) {
         Ok(count) => count.get(),
         Err(_) => 1,
@@ -81,6 +85,7 @@ fn make_round<R: Threads + Sync>(
     alloc: Global,
     text: &[u8],
     failing: &[Failing<'_>],
+    jobs: Option<u32>,
     runs: &mut [Drawn],
 )
     requires { length text.now < 4294967295 }
@@ -88,7 +93,7 @@ fn make_round<R: Threads + Sync>(
     thread::for_each_mut(
         rt,
         runs,
-        processors(rt),
+        threads_of(rt, jobs),
         &|_i, run: &mut Drawn|
             requires { length text.now < 4294967295 }
         {
@@ -109,16 +114,29 @@ fn runs_from(alloc: Global, first: u32, count: u32) -> Result<Vec<Drawn>, OutOfM
     Ok(runs)
 }
 
-/// The outcomes of the runs that the numbers below a count draw.
+/// Shows on a terminal how many runs are made, or clears that line.
+fn show(host: &HostRuntime, made: u32, count: u32) {
+    if host.stderr().is_terminal() {
+        let _ = if made < count {
+            eprint!(host; "\rorders: {made} of {count} runs ")
+        } else {
+            eprint!(host; "\r{:40}\r", "")
+        };
+    }
+}
+
+/// The outcomes of the runs that the numbers below a count draw, in so many jobs.
 pub fn outcomes_of<R: Threads + Sync>(
+    host: &HostRuntime,
     rt: &R,
-    alloc: Global,
     text: &[u8],
     failing: &[Failing<'_>],
     count: u32,
+    jobs: Option<u32>,
 ) -> Result<Outcomes, PlayFault>
     requires { length text.now < 4294967295 }
 {
+    let alloc = host.alloc();
     let mut outcomes = Outcomes::new(alloc);
     let mut first = 0u32;
     for _round in 0..count.div_ceil(ROUND) {
@@ -126,13 +144,14 @@ pub fn outcomes_of<R: Threads + Sync>(
         let Ok(mut runs) = runs_from(alloc, first, some) else {
             return Err(PlayFault::OutOfMemory);
         };
-        make_round(rt, alloc, text, failing, runs.as_mut_slice());
+        make_round(rt, alloc, text, failing, jobs, runs.as_mut_slice());
         for run in runs {
             if outcomes.add(run.number, run.outcome?).is_err() {
                 return Err(PlayFault::OutOfMemory);
             }
         }
         first = first.saturating_add(some);
+        show(host, first, count);
     }
     Ok(outcomes)
 }

@@ -9,7 +9,8 @@
 //! Before these words, `with DEVICE CALL NUMBERS` lets calls of a device fail, as `with C.vol flush 1` or `with C.area write 3..5`.
 //!
 //! It reads the files and calls the crate `orders`, whose contracts say what each status means. For a status other than 0 it prints
-//! one line to the standard error, with the file and the line that are wrong and what was expected, and it ends with the status.
+//! one line to the standard error, with the file and the line that are wrong and what was expected, below it what helps to go on, and ends
+//! with the status.
 
 ghost use Rattle.std.specs.Prelude.{◌<◌, ◌≤◌, IfOk, length, vec_len};
 
@@ -21,32 +22,38 @@ mod many;
 mod outcome;
 mod outcomes;
 mod request;
+mod telling;
 
-use crate::words_given;
+use crate::explaining::notes::Notes;
+use crate::{reading, words_given};
 use device_names::is_device;
 use ended::Ended;
 use failing::{Failing, plan_of};
 use io_edge::OutSink;
 use many::outcomes_of;
-use orders::{MOST_BYTES, Status, SureMaker, run_again, run_again_over, run_order, run_seed};
+use orders::{
+    MOST_BYTES, Replayed, Status, SureMaker, run_again, run_again_over, run_order, run_seed,
+};
 use request::{Request, failing_in};
 use scenario::{Refused, parse};
-use std::fs;
 use std::thread::Threads;
+use telling::{Asked, say_again, say_called};
 use volume_device::{Maker, MemMaker};
 use vss_play::PlayFault;
 
 /// The most bytes of a scenario, as `vss` takes them.
 const MOST_SCENARIO_BYTES: usize = 16_777_216;
 
-/// The bytes of a file, at most so many.
+/// The bytes of a file, at most so many; none without a name.
 fn bytes_of<'a>(rt: &HostRuntime, name: &'a str, most: usize) -> Result<Vec<u8>, Ended<'a>>
     ensures { IfOk result (λ bytes. vec_len bytes ≤ most) }
 {
-    match fs::read(rt, name) {
-        Ok(bytes) if bytes.len() <= most => Ok(bytes),
-        Ok(_) => Err(Ended::TooLong(name)),
-        Err(_) => Err(Ended::Unread(name)),
+    if name.is_empty() {
+        return Ok(Vec::new(rt.alloc()));
+    }
+    match reading::bytes_of(rt, name, most) {
+        Ok(bytes) => Ok(bytes),
+        Err(why) => Err(Ended::Unread { name, why }),
     }
 }
 
@@ -57,6 +64,7 @@ fn play_many<R: Threads + Sync>(
     text: &[u8],
     failing: &[Failing<'_>],
     count: u32,
+    jobs: Option<u32>,
 ) -> Status
     requires { length text.now < 4294967295 }
 {
@@ -65,7 +73,7 @@ fn play_many<R: Threads + Sync>(
         Err(Refused::Line { line, reason }) => return Status::ScenarioRefused { line, reason },
         Err(Refused::OutOfMemory) => return Status::OutOfMemory,
     }
-    match outcomes_of(threads, rt.alloc(), text, failing, count) {
+    match outcomes_of(rt, threads, text, failing, count, jobs) {
         Ok(outcomes) => match print!(rt; "{outcomes}") {
             Ok(()) => Status::Done,
             Err(_) => Status::WriteFault,
@@ -75,56 +83,81 @@ fn play_many<R: Threads + Sync>(
     }
 }
 
-/// How a call for a request ended.
-fn called(status: Status, request: Request<'_>, is_report: bool) -> Ended<'_> {
+/// Replays a report, and says what helps to go on.
+fn play_again<R: Threads + Sync, M: Maker>(
+    threads: &R,
+    notes: &mut Notes,
+    asked: Asked<'_>,
+    maker: &mut M,
+) -> Replayed
+    requires text { length asked.text.now < 4294967295 }
+    requires order { length asked.order.now ≤ 1073741824 }
+{
+    let alloc = notes.alloc();
+    let replayed = if asked.failing.is_empty() {
+        run_again(threads, alloc, asked.text, asked.order)
+    } else {
+        run_again_over(threads, alloc, asked.text, asked.order, maker)
+    };
+    let _ = say_again(notes, asked, &replayed);
+    replayed
+}
+
+/// Does what is asked for of these texts, over the devices of a maker; many runs have makers of their own.
+fn play_texts<'a, R: Threads + Sync, M: Maker>(
+    rt: &HostRuntime,
+    threads: &R,
+    notes: &mut Notes,
+    request: Request<'a>,
+    asked: Asked<'_>,
+    maker: &mut M,
+) -> Ended<'a>
+    requires text { length asked.text.now < 4294967295 }
+    requires order { length asked.order.now ≤ 1073741824 }
+{
+    let (alloc, text) = (rt.alloc(), asked.text);
+    let mut sink = OutSink::new(rt.stdout());
+    let status = match request {
+        Request::Again { scenario, report } => {
+            let replayed = play_again(threads, notes, asked, maker);
+            return Ended::Again {
+                replayed,
+                scenario,
+                report,
+            };
+        }
+        Request::Order { .. } => run_order(threads, alloc, text, asked.order, &mut sink, maker),
+        Request::Seed { number, .. } => run_seed(threads, alloc, text, number, &mut sink, maker),
+        Request::Many { count, jobs, .. } => {
+            play_many(rt, threads, text, asked.failing, count, jobs)
+        }
+    };
+    let _ = say_called(notes, asked, status);
     Ended::Called {
         status,
         scenario: request.scenario(),
         order: request.other(),
-        is_report,
+        is_report: asked.order.starts_with(b"report 1\n"),
     }
 }
 
-/// Does what is asked for, over the devices of a maker; many runs have makers of their own.
+/// Does what is asked for, over the devices of a maker.
 fn play_over<'a, R: Threads + Sync, M: Maker>(
     rt: &HostRuntime,
     threads: &R,
+    notes: &mut Notes,
     request: Request<'a>,
     failing: &[Failing<'a>],
     maker: &mut M,
 ) -> Result<Ended<'a>, Ended<'a>> {
-    let alloc = rt.alloc();
-    let (scenario, order) = (request.scenario(), request.other());
-    let text = bytes_of(rt, scenario, MOST_SCENARIO_BYTES)?;
-    let mut sink = OutSink::new(rt.stdout());
-    match request {
-        Request::Again { .. } => {
-            let report = bytes_of(rt, order, MOST_BYTES)?;
-            let replayed = if failing.is_empty() {
-                run_again(threads, alloc, &text, &report)
-            } else {
-                run_again_over(threads, alloc, &text, &report, maker)
-            };
-            Ok(Ended::Again {
-                replayed,
-                scenario,
-                report: order,
-            })
-        }
-        Request::Order { .. } => {
-            let moves = bytes_of(rt, order, MOST_BYTES)?;
-            let status = run_order(threads, alloc, &text, &moves, &mut sink, maker);
-            Ok(called(status, request, moves.starts_with(b"report 1\n")))
-        }
-        Request::Seed { number, .. } => {
-            let status = run_seed(threads, alloc, &text, number, &mut sink, maker);
-            Ok(called(status, request, false))
-        }
-        Request::Many { count, .. } => {
-            let status = play_many(rt, threads, &text, failing, count);
-            Ok(called(status, request, false))
-        }
-    }
+    let text = bytes_of(rt, request.scenario(), MOST_SCENARIO_BYTES)?;
+    let order = bytes_of(rt, request.other(), MOST_BYTES)?;
+    let asked = Asked {
+        text: &text,
+        order: &order,
+        failing,
+    };
+    Ok(play_texts(rt, threads, notes, request, asked, maker))
 }
 
 /// The first device that is named and that the scenario does not have.
@@ -149,6 +182,7 @@ fn unknown_device<'a>(
 fn play_failing<'a, R: Threads + Sync>(
     rt: &HostRuntime,
     threads: &R,
+    notes: &mut Notes,
     request: Request<'a>,
     failing: &[Failing<'a>],
 ) -> Result<Ended<'a>, Ended<'a>> {
@@ -160,21 +194,33 @@ fn play_failing<'a, R: Threads + Sync>(
         return Err(Ended::OutOfMemory);
     };
     let mut maker = MemMaker::new(rt.alloc(), plan);
-    play_over(rt, threads, request, failing, &mut maker)
+    play_over(rt, threads, notes, request, failing, &mut maker)
 }
 
 /// Does what the words ask for.
-fn run<'a, R: Threads + Sync>(rt: &HostRuntime, threads: &R, words: &'a [String]) -> Ended<'a> {
-    let Some((failing, rest)) = failing_in(words) else {
+fn run<'a, R: Threads + Sync>(
+    rt: &HostRuntime,
+    threads: &R,
+    notes: &mut Notes,
+    words: &'a [String],
+) -> Ended<'a> {
+    let Some((failing, rest)) = failing_in(notes, words) else {
         return Ended::Usage;
     };
-    let Some(request) = Request::of(rest) else {
+    let Some(request) = Request::of(notes, rest) else {
         return Ended::Usage;
     };
     let done = if failing.is_empty() {
-        play_over(rt, threads, request, &[], &mut SureMaker::new(rt.alloc()))
+        play_over(
+            rt,
+            threads,
+            notes,
+            request,
+            &[],
+            &mut SureMaker::new(rt.alloc()),
+        )
     } else {
-        play_failing(rt, threads, request, &failing)
+        play_failing(rt, threads, notes, request, &failing)
     };
     match done {
         Ok(ended) => ended,
@@ -188,9 +234,10 @@ pub fn play<R: Threads + Sync>(rt: &HostRuntime, threads: &R) -> u8 {
         Ok(words) => words,
         Err(_) => Vec::new(rt.alloc()),
     };
-    let ended = run(rt, threads, &words);
+    let mut notes = Notes::new(rt.alloc());
+    let ended = run(rt, threads, &mut notes, &words);
     if ended.code() != 0 {
-        let _ = eprintln!(rt; "orders: {ended}");
+        let _ = eprint!(rt; "orders: {ended}\n{}", notes.text());
     }
     ended.code()
 }
