@@ -13,7 +13,7 @@ FORMS = {
     "create": "create [--tries N] F SLOTS NAME[:BLOCKS]=FILE ..",
     "cut": "cut [--note TEXT] F NAME ..",
     "update": "update [--tries N] [--keep N] F NAME=FILE ..",
-    "list": "list F",
+    "list": "list [--json] F",
     "sets": "sets F",
     "show": "show F [SET] NAME",
     "restore": "restore [--over] F [SET] NAME FILE",

@@ -2,6 +2,7 @@
 another process."""
 import datetime
 import fcntl
+import json
 import os
 import re
 import resource
@@ -44,6 +45,14 @@ def main(program, room):
     moments = [datetime.datetime.fromisoformat(moment + "+00:00").timestamp() for moment in told.groups()] if told else []
     if not told or not time.time() - 60 < moments[0] <= moments[1] <= time.time():
         sys.exit(f"sets: {sets}")
+    listed = json.loads(ran([program, "list", "--json", "F"]).stdout)
+    if [of.pop("seconds") for of in listed["sets"]] != [int(moment) for moment in moments] or listed != {
+        "volumes": [{"name": "db", "blocks": 4, "length": 3 * B, "images": [
+            {"set": 1, "length": 3 * B, "used": 3}, {"set": 2, "length": 3 * B, "used": 0}]},
+            {"name": "log", "blocks": 1, "length": None, "images": [{"set": 1, "length": None, "used": 0}]}],
+        "sets": [{"set": 1, "note": "", "images": 2, "used": 3}, {"set": 2, "note": "nightly, before the upgrade", "images": 1, "used": 0}],
+        "used": 3, "slots": 6, "last": 2}:
+        sys.exit(f"list --json: {listed}")
     os.rename("F/images.dates", "dates")
     call(0, "set 1 - images 2 used 3\nset 2 - images 1 used 0\n", "sets", "F")
     os.rename("dates", "F/images.dates")
@@ -86,7 +95,7 @@ def main(program, room):
     call(0, "deleted set 2: 1\n", "prune", "--keep", "1", "F")
     if len(read("F/images.dates").splitlines()) != 3:
         sys.exit("a set that went lost its line before the next cut")
-    for words in (["prune", "F"], ["prune", "--keep", "0", "F"], ["list", "--over", "F"], ["cut", "--keep", "1", "F", "db"], ["restore", "F", "db"],
+    for words in (["prune", "F"], ["prune", "--keep", "0", "F"], ["list", "--over", "F"], ["sets", "--json", "F"], ["cut", "--keep", "1", "F", "db"], ["restore", "F", "db"],
                   ["create", "--wait", "1", "G", "1", "db=db"], ["list", "--wait", "1", "--wait", "1", "F"]):
         call(2, "usage: ", *words)
 

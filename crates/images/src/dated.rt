@@ -4,7 +4,7 @@ use image_folder::{Files, Opened, Status, dated_in, sets_of};
 use jiff::Timestamp;
 
 /// How many images a set has, and how many slots they use.
-fn sizes_of(store: &Files, set: u32) -> (u32, u32) {
+pub fn sizes_of(store: &Files, set: u32) -> (u32, u32) {
     let (mut images, mut used) = (0u32, 0u32);
     for volume in 0..store.volumes() {
         if let Some(slots) = store.used_by(volume, set) {

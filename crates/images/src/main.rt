@@ -15,6 +15,7 @@
 //! `--wait SECONDS` before F waits for a folder that another process has. For a status other than 0 it prints one line to the standard error: the file, the field and what was found.
 #![tactic(auto)]
 
+mod as_json;
 mod check;
 mod dated;
 mod list;
@@ -52,7 +53,8 @@ fn call_on(opened: &mut Opened, task: Task<'_>) -> Result<(), Status> {
             let pairs = pairs_of(opened.folder.program.alloc(), pairs)?;
             update(opened, &pairs, tries)
         }
-        Task::List => list::list(opened),
+        Task::List { is_json: false } => list::list(opened),
+        Task::List { is_json: true } => as_json::list_as_json(opened),
         Task::Sets => dated::list_sets(opened),
         Task::Show(of) => show::show(opened, of),
         Task::Digest(of) => show::digest(opened, of),

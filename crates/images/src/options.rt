@@ -13,6 +13,8 @@ pub struct Options<'a> {
     pub note: Option<&'a str>,
     /// Whether a file that is there may be replaced.
     pub is_over: bool,
+    /// Whether the answer is JSON.
+    pub is_json: bool,
 }
 
 impl<'a> Options<'a> {
@@ -21,6 +23,10 @@ impl<'a> Options<'a> {
         let (option, count, rest) = match words {
             [option, rest @ ..] if option.as_str() == "--over" && !self.is_over => {
                 self.is_over = true;
+                return Some(rest);
+            }
+            [option, rest @ ..] if option.as_str() == "--json" && !self.is_json => {
+                self.is_json = true;
                 return Some(rest);
             }
             [option, text, rest @ ..] if option.as_str() == "--note" && self.note.is_none() => {
@@ -47,6 +53,7 @@ impl<'a> Options<'a> {
             keep: None,
             note: None,
             is_over: false,
+            is_json: false,
         };
         let mut rest = words;
         for _word in words {
@@ -66,6 +73,7 @@ impl<'a> Options<'a> {
             && (keeps || self.keep.is_none())
             && (word == "restore" || !self.is_over)
             && (word == "cut" || self.note.is_none())
+            && (word == "list" || !self.is_json)
             && (word != "create" || self.wait == 0)
     }
 }

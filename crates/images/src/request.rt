@@ -11,7 +11,7 @@ pub struct Request<'a> {
 }
 
 const ALL: &str =
-    "create [--tries N] F SLOTS NAME[:BLOCKS]=FILE .. | cut [--note TEXT] F NAME .. | update [--tries N] [--keep N] F NAME=FILE .. | list F | sets F | show F [SET] NAME | restore [--over] F [SET] NAME FILE | digest F [SET] NAME | delete F SET [NAME] | prune --keep N F | revert F SET NAME | check F; --wait SECONDS may stand before F";
+    "create [--tries N] F SLOTS NAME[:BLOCKS]=FILE .. | cut [--note TEXT] F NAME .. | update [--tries N] [--keep N] F NAME=FILE .. | list [--json] F | sets F | show F [SET] NAME | restore [--over] F [SET] NAME FILE | digest F [SET] NAME | delete F SET [NAME] | prune --keep N F | revert F SET NAME | check F; --wait SECONDS may stand before F";
 
 /// The form that words should have, by the first of them.
 pub fn form_of(words: &[String]) -> &'static str {
@@ -23,7 +23,7 @@ pub fn form_of(words: &[String]) -> &'static str {
             "create [--tries N] F SLOTS NAME[:BLOCKS]=FILE ..; SLOTS says for how many old blocks of 16,384 bytes there is room: as many as change while a version is kept",
         "cut" => "cut [--note TEXT] F NAME ..",
         "update" => "update [--tries N] [--keep N] F NAME=FILE ..",
-        "list" => "list F",
+        "list" => "list [--json] F",
         "sets" => "sets F",
         "show" => "show F [SET] NAME",
         "restore" => "restore [--over] F [SET] NAME FILE",

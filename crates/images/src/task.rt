@@ -23,7 +23,9 @@ pub enum Task<'a> {
         keep: u32,
         pairs: &'a [String],
     },
-    List,
+    List {
+        is_json: bool,
+    },
     Sets,
     Show(Shown<'a>),
     Digest(Shown<'a>),
@@ -132,7 +134,9 @@ impl<'a> Task<'a> {
                 names: rest,
             }),
             "sets" => rest.is_empty().then_some(Task::Sets),
-            "list" => rest.is_empty().then_some(Task::List),
+            "list" => rest.is_empty().then_some(Task::List {
+                is_json: options.is_json,
+            }),
             "show" => Some(Task::Show(words_shown(rest)?)),
             "digest" => Some(Task::Digest(words_shown(rest)?)),
             "restore" => restore_of(options.is_over, rest),
@@ -151,7 +155,7 @@ impl<'a> Task<'a> {
         match self {
             Task::Check => Way::Checking,
             Task::Show(_) | Task::Digest(_) | Task::Restore { .. } => Way::Showing,
-            Task::List | Task::Sets => Way::Showing,
+            Task::List { .. } | Task::Sets => Way::Showing,
             _ => Way::Writing,
         }
     }

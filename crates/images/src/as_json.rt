@@ -1,0 +1,160 @@
+//! `list --json`: what `list` and `sets` print, as one JSON value in a line.
+
+ghost use Rattle.std.specs.Prelude.{◌≡◌, ◌<◌, length};
+
+use crate::dated::sizes_of;
+use crate::list::length_of;
+use image_folder::{Opened, Status, dated_in, name_in, sets_of, which_at};
+use image_store::Which;
+use serde_json::{Value, json};
+use std::alloc::{AllocError, Global};
+use std::str;
+
+/// A number that may be missing.
+fn number_or_null(number: Option<u64>) -> Value {
+    match number {
+        Some(number) => Value::from(number),
+        None => Value::Null,
+    }
+}
+
+/// An image: its set, the bytes of its file, and the slots that it uses.
+fn image_value(
+    alloc: Global,
+    set: u32,
+    length: Option<u64>,
+    used: u32,
+) -> Result<Value, AllocError> {
+    json!(in alloc; { "set": set, "length": number_or_null(length), "used": used })
+}
+
+/// A volume with its images.
+fn volume_value(
+    alloc: Global,
+    name: &str,
+    blocks: u32,
+    length: Option<u64>,
+    images: Vec<Value>,
+) -> Result<Value, AllocError> {
+    json!(in alloc; {
+        "name": name,
+        "blocks": blocks,
+        "length": number_or_null(length),
+        "images": Value::Array(images),
+    })
+}
+
+/// A set: the seconds from 1970 to its cut, its note, and what it takes.
+fn set_value(
+    alloc: Global,
+    set: u32,
+    seconds: Option<u64>,
+    note: &str,
+    sizes: (u32, u32),
+) -> Result<Value, AllocError> {
+    json!(in alloc; {
+        "set": set,
+        "seconds": number_or_null(seconds),
+        "note": note,
+        "images": sizes.0,
+        "used": sizes.1,
+    })
+}
+
+/// Adds an image of a volume.
+fn add_image(
+    opened: &mut Opened,
+    volume: u32,
+    which: Which,
+    images: &mut Vec<Value>,
+) -> Result<(), Status>
+    requires { volume < length opened.old.store.group.area.volumes }
+    ensures { opened.new.store.group.area.volumes ≡ opened.old.store.group.area.volumes }
+{
+    let length = length_of(opened, volume, which)?;
+    if let Which::Of(set) = which {
+        let used = opened.store.used_by(volume, set).unwrap_or(0);
+        let alloc = opened.folder.program.alloc();
+        images.push(image_value(alloc, set, length, used)?)?;
+    }
+    Ok(())
+}
+
+/// Adds the images of a volume.
+fn add_images(opened: &mut Opened, volume: u32, images: &mut Vec<Value>) -> Result<(), Status>
+    requires { volume < length opened.old.store.group.area.volumes }
+    ensures { opened.new.store.group.area.volumes ≡ opened.old.store.group.area.volumes }
+{
+    for place in 1..=opened.store.images(volume).len() {
+        let which = which_at(&opened.store, volume, place);
+        add_image(opened, volume, which, images)?;
+    }
+    Ok(())
+}
+
+/// Adds a volume.
+fn add_volume(opened: &mut Opened, volume: u32, volumes: &mut Vec<Value>) -> Result<(), Status>
+    requires { volume < length opened.old.store.group.area.volumes }
+    ensures { opened.new.store.group.area.volumes ≡ opened.old.store.group.area.volumes }
+{
+    let alloc = opened.folder.program.alloc();
+    let mut images = Vec::new(alloc);
+    let length = length_of(opened, volume, Which::Now)?;
+    add_images(opened, volume, &mut images)?;
+    let (name, blocks) = (name_in(&opened.store, volume), opened.store.blocks(volume));
+    volumes.push(volume_value(alloc, name, blocks, length, images)?)?;
+    Ok(())
+}
+
+/// The volumes.
+fn volumes_of(opened: &mut Opened) -> Result<Vec<Value>, Status> {
+    let mut volumes = Vec::new(opened.folder.program.alloc());
+    for volume in 0..opened.store.volumes() {
+        add_volume(opened, volume, &mut volumes)?;
+    }
+    Ok(volumes)
+}
+
+/// The sets, the oldest first.
+fn dated_sets(opened: &Opened) -> Result<Vec<Value>, Status> {
+    let alloc = opened.folder.program.alloc();
+    let lines = opened.folder.dates()?;
+    let mut sets = Vec::new(alloc);
+    for set in &sets_of(&opened.store, alloc)? {
+        let (seconds, note) = match dated_in(lines.as_str(), *set) {
+            Some(dated) => (Some(dated.seconds), dated.note),
+            None => (None, ""),
+        };
+        let sizes = sizes_of(&opened.store, *set);
+        sets.push(set_value(alloc, *set, seconds, note, sizes)?)?;
+    }
+    Ok(sets)
+}
+
+/// Adds the line of a value.
+fn add_value(text: &mut String, alloc: Global, value: &Value) -> Result<(), Status> {
+    let bytes = value.to_vec(alloc)?;
+    text.push_str(str::from_utf8(&bytes).unwrap_or(""))?;
+    Ok(text.push('\n')?)
+}
+
+/// `list --json F`: the volumes with their images, the sets, and the slots.
+pub fn list_as_json(opened: &mut Opened) -> Result<(), Status> {
+    opened.check_transit(&[])?;
+    let alloc = opened.folder.program.alloc();
+    let volumes = volumes_of(opened)?;
+    let sets = dated_sets(opened)?;
+    let (used, slots, last) = (
+        opened.store.used_all(),
+        opened.store.slots(),
+        opened.store.last(),
+    );
+    let value = json!(in alloc; {
+        "volumes": Value::Array(volumes),
+        "sets": Value::Array(sets),
+        "used": used,
+        "slots": slots,
+        "last": last,
+    })?;
+    add_value(&mut opened.text, alloc, &value)
+}
