@@ -1,8 +1,8 @@
 #!/usr/bin/env python3
 """Holds the program of trials against rows of calls with their replies: check.py PROGRAM
 
-The rows by hand are SUBJECT.rows and SUBJECT_NAME.rows here. Those of cow, mirror and recover have to be as volumes.py has it, a second reading of
-what the crates promise, and so are the lists that the modules here make. It says what is wrong, and ends with 1 then.
+The rows by hand are SUBJECT.rows here. Those of cow, mirror and recover have to be as volumes.py has it, a second reading of what the crates promise,
+and so are the lists that the modules here make. It says what is wrong, and ends with 1 then.
 """
 import concurrent.futures
 import sys
@@ -21,25 +21,17 @@ SUBJECTS = {
 }
 
 
-def rows_by_hand(subject, rules):
-    """The rows by hand of a subject, by their files."""
-    files = sorted(Path(__file__).parent.glob(f"{subject}.rows")) + sorted(Path(__file__).parent.glob(f"{subject}_*.rows"))
-    files = [it for it in files if it.stem not in SUBJECTS or it.stem == subject]
-    return {it.name: rows_of(it, None if rules else subject) for it in files}
-
-
 def main(program):
     wrongs, count, jobs = [], {}, []
     with concurrent.futures.ThreadPoolExecutor() as pool:
         for subject, (rules, module) in SUBJECTS.items():
             word = subject.partition("_")[0]
-            by_hand = rows_by_hand(subject, rules)
-            for name, rows in by_hand.items():
-                wrongs += wrong_by_rules(name, rules, rows) if rules else []
-            of_lists = {}
+            name = f"{subject}.rows"
+            of_lists = {name: rows_of(Path(__file__).parent / name, None if rules else subject)}
+            wrongs += wrong_by_rules(name, rules, of_lists[name]) if rules else []
             for name, made in module.lists().items() if module else ():
                 of_lists[f"{subject} {name}"] = [row for one in made for row in one.rows] if rules else made
-            for name, rows in {**by_hand, **of_lists}.items():
+            for name, rows in of_lists.items():
                 jobs.append(pool.submit(wrong_by_program, name, [program, word], rows))
                 count[word] = count.get(word, 0) + sum(len(lines) for _, lines in rows)
         in_threads, between = shards.wrong_in_threads(program)

@@ -1,4 +1,5 @@
-"""Rows `CALL => REPLY` of the checks of storage: a call that replies nothing has no arrow, and a further line of a reply has no call.
+"""Rows `CALL => REPLY` of the checks of storage, with ` / ` between those of a line: a call that replies nothing has no arrow, and a further line of a
+reply has no call.
 
 A subject of trials is a class that says what each of its calls replies, by the rules of volumes.py.
 """
@@ -75,16 +76,17 @@ def reverted(work, fault):
 
 
 def rows_of(path, subject):
-    """The rows of a file; an empty line begins anew, by a call for this subject if one is named."""
+    """The rows of a file, several on a line; an empty line begins anew, by a call for this subject if one is named."""
     rows = []
-    for text in path.read_text(encoding="ascii").splitlines():
-        call, arrow, reply = text.partition(" => ")
-        if arrow and not call:
-            rows[-1][1].append(reply)
-        elif text.startswith("#") or not text and not subject:
-            continue
-        else:
-            rows.append((call or f"subject {subject}", [reply] * bool(arrow)))
+    for line in path.read_text(encoding="ascii").splitlines():
+        if not line and subject:
+            rows.append((f"subject {subject}", []))
+        for text in line.split(" / ") if line and not line.startswith("#") else ():
+            call, arrow, reply = text.partition("=> ")
+            if arrow and not call:
+                rows[-1][1].append(reply)
+            else:
+                rows.append((call.rstrip(), [reply] * bool(arrow)))
     return rows
 
 
