@@ -64,7 +64,7 @@ def text_of(shown):
 def lines():
     """Each line of checks/lines.table; where one that is read declares a volume, the report has that name."""
     before = ""
-    for row in read("checks/lines.table").decode().split("\n"):
+    for row in re.split('\n|(?<=") / ', read("checks/lines.table").decode()):
         head, _, body = row.rstrip('"').partition('"')
         if head == "after ":
             before = body
