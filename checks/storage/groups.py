@@ -144,32 +144,8 @@ class Life(Catalog):
 
 # two volumes with images, of which the older goes by merging, an eviction on both volumes, a revert and a sync
 ALL_CALLS = """\
-cut 0 1
-cut 1 1
-write 0 0 11
-write 1 2 12
-cut 0 2
-write 0 0 13
-write 0 1 14
-image 0 1 0
-image 0 2 1
-revert 0 1
-write 0 3 15
-sync
-cut 1 2
-write 1 2 16
-write 1 0 17
-write 1 1 18
-used 0
-used 1
-used_all
-flush 0
-flush 1
-sync
-used 0
-used 1
-used_all
-""".splitlines()
+cut 0 1 / cut 1 1 / write 0 0 11 / write 1 2 12 / cut 0 2 / write 0 0 13 / write 0 1 14 / image 0 1 0 / image 0 2 1 / revert 0 1 / write 0 3 15 / sync
+cut 1 2 / write 1 2 16 / write 1 0 17 / write 1 1 18 / used 0 / used 1 / used_all / flush 0 / flush 1 / sync / used 0 / used 1 / used_all""".replace("\n", " / ").split(" / ")
 
 
 def failing():

@@ -110,64 +110,32 @@ def every_order():
 # ## the most images, cuts and entries
 
 def rows(*texts):
-    """Rows of lines `CALL => REPLY`."""
-    return [(call, [reply]) for call, reply in (line.split(" => ") for text in texts for line in text.strip().split("\n"))]
+    """Rows of texts `CALL => REPLY / CALL => REPLY`."""
+    return [(call, [reply]) for call, reply in (it.split(" => ") for text in texts for it in text.strip().replace("\n", " / ").split(" / "))]
 
 
-MOST = "volume 1 1 => Done\nshards => Done\n"
+MOST = "volume 1 1 => Done / shards => Done"
 IMAGES = rows(
-    MOST, *(f"draft => Done\ncollect 0 => Collect(Ok(()))\nrecord => Record(Ok({n}))\ngive_back 0 => GaveBack" for n in range(1, 513)), """
-draft => Done
-collect 0 => Collect(Err(Full))
-is_held 0 => IsHeld(false)
-has 0 => Has(false)
-fill 0 0 1 => Write(Ok(1))
-image 0 1 0 => Image(Ok(Fill(0)))
-image 0 512 0 => Image(Ok(Fill(0)))
-image 0 513 0 => Image(Err(NoSuchImage))
-cut 512 => Cut([Part { volume: 0, image: 512, count: 0 }])
-gather => Gather(Ok(()))
+    MOST, *(f"draft => Done / collect 0 => Collect(Ok(())) / record => Record(Ok({n})) / give_back 0 => GaveBack" for n in range(1, 513)), """
+draft => Done / collect 0 => Collect(Err(Full)) / is_held 0 => IsHeld(false) / has 0 => Has(false) / fill 0 0 1 => Write(Ok(1))
+image 0 1 0 => Image(Ok(Fill(0))) / image 0 512 0 => Image(Ok(Fill(0))) / image 0 513 0 => Image(Err(NoSuchImage))
+cut 512 => Cut([Part { volume: 0, image: 512, count: 0 }]) / gather => Gather(Ok(()))
 """)
 CUTS_OF_NONE = rows(
-    MOST, *(f"draft => Done\nrecord => Record(Ok({n}))" for n in range(1, 65537)), """
-cuts => Cuts(65536)
-cut 65536 => Cut([])
-draft => Done
-record => Record(Err(Full))
-cut 65537 => NotAllowed
-collect 0 => Collect(Ok(()))
-record => Record(Err(Full))
-recorded => Recorded(None)
-cuts => Cuts(65536)
+    MOST, *(f"draft => Done / record => Record(Ok({n}))" for n in range(1, 65537)), """
+cuts => Cuts(65536) / cut 65536 => Cut([]) / draft => Done / record => Record(Err(Full)) / cut 65537 => NotAllowed / collect 0 => Collect(Ok(()))
+record => Record(Err(Full)) / recorded => Recorded(None) / cuts => Cuts(65536)
 """)
 ENTRIES = rows("""
-volume 2 1 => Done
-shards => Done
-fill 0 0 1 1048575 => Write(Ok(1048575))
-fill 0 1 2 => Write(Ok(1048576))
-fill 0 0 3 => Write(Err(Full))
-fill 0 2 3 => Write(Err(NoSuchBlock))
-read 0 0 => Read(Ok(Fill(1)))
-draft => Done
-collect 0 => Collect(Ok(()))
-fill 0 0 3 => Write(Err(Held))
-record => Record(Ok(1))
-cut 1 => Cut([Part { volume: 0, image: 1, count: 1048576 }])
-give_back 0 => GaveBack
-image 0 1 1 => Image(Ok(Fill(2)))
+volume 2 1 => Done / shards => Done / fill 0 0 1 1048575 => Write(Ok(1048575)) / fill 0 1 2 => Write(Ok(1048576)) / fill 0 0 3 => Write(Err(Full))
+fill 0 2 3 => Write(Err(NoSuchBlock)) / read 0 0 => Read(Ok(Fill(1))) / draft => Done / collect 0 => Collect(Ok(())) / fill 0 0 3 => Write(Err(Held))
+record => Record(Ok(1)) / cut 1 => Cut([Part { volume: 0, image: 1, count: 1048576 }]) / give_back 0 => GaveBack / image 0 1 1 => Image(Ok(Fill(2)))
 gather => Gather(Ok(()))
 """)
 # the last place, which is kept for the shard that wrote before, goes to the other
 LAST_PLACE = rows("""
-volume 2 1 => Done
-volume 2 1 => Done
-shards => Done
-fill 0 0 1 1048575 => Write(Ok(1048575))
-fill 1 2 2 => Write(Err(NoSuchBlock))
-fill 1 1 2 => Write(Ok(1048576))
-fill 0 0 3 => Write(Err(Full))
-fill 1 0 3 => Write(Err(Full))
-read 1 1 => Read(Ok(Fill(2)))
+volume 2 1 => Done / volume 2 1 => Done / shards => Done / fill 0 0 1 1048575 => Write(Ok(1048575)) / fill 1 2 2 => Write(Err(NoSuchBlock))
+fill 1 1 2 => Write(Ok(1048576)) / fill 0 0 3 => Write(Err(Full)) / fill 1 0 3 => Write(Err(Full)) / read 1 1 => Read(Ok(Fill(2)))
 gather => Gather(Ok(()))
 """)
 
