@@ -1,5 +1,5 @@
 #!/usr/bin/env bash
-# `./orders` plays each example of examples/orders in its order, byte for byte, over devices of which calls fail if NAME.with says so, makes the
+# `./orders` plays each example of examples/orders in its order, byte for byte, over devices of which calls fail if its first line says so, makes the
 # report of each example again from that report as its order, also over devices that lend no block, and replays it, where its fault marks alone say
 # what failed. A number draws the same bytes at each run, and several numbers draw several orders; the outcomes of many are counted. What is no order
 # and no report, and words that ask for nothing, are reported by the file, the line and what was expected, with nothing on standard output. It runs
@@ -9,7 +9,7 @@ builds="$(tools orders)" || exit 1
 mapfile -t builds <<< "$builds"
 
 # the words before the task for an example
-with_of() { cat "${1%.*}.with" 2> /dev/null; }
+with_of() { sed -n '1s/^# \(with .*\)/\1/p' "${1%.*}.order" 2> /dev/null; }
 
 # plays a scenario in an order, and compares the report; the report of the scenario is then replayed
 plays() {
