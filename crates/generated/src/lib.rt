@@ -1,4 +1,5 @@
-//! The generated scenarios, and the law of how each of their runs ends, whatever the order of its moves.
+//! Scenarios whose runs are known: worked ones (`worked_rows`), and the generated ones with the law of how each of their runs ends,
+//! whatever the order of its moves.
 //!
 //! `specs/Scenario.antt` says which scenario is the generated one of a number, `specs/EndsWell.antt` how its runs end: four
 //! complete sets, nothing evicted, and each block as its one lane wrote it last. `laws::generated_runs_end_well` says that each
@@ -12,3 +13,4 @@
 #![tactic(auto)]
 
 pub mod laws;
+pub mod worked_rows;

@@ -1,0 +1,46 @@
+-- The clock goes on by just as many ticks as writes may be held: the set completes.
+use Rattle.std.specs.Prelude.{ℕ, false, List, [], ◌∷◌, ◌++◌, codes}
+use Rattle.write_history.specs.declared.move_item.Move.{Move}
+use Rattle.scenario.specs.declared.op.Op.TheVariants.{Begin, Start, Add, Snapshot, Await, Tick, End}
+use Rattle.scenario.specs.Plan.{Plan}
+use Rattle.generated.specs.Making.{span, volume, group, numbered, lane, by_lane, steps, with_effects, alone, volume_with, report_of, digest_of}
+
+abbrev pub scenario : Plan
+scenario = record {
+  source = codes "Crt";
+  volumes = volume (span 0 1) 1 1 0 ∷ [];
+  groups = group (span 0 1) 1 ∷ [];
+  writers = [];
+  lanes =
+      lane (span 1 2) (numbered 4 (Begin 25 false ∷ Start ∷ Add 0 ∷ Snapshot ∷ Await ∷ End ∷ []))
+      ∷ lane (span 2 3) (numbered 11 (Tick 10000 ∷ []))
+      ∷ [];
+}
+
+abbrev pub trail : List Move
+trail = by_lane 0 4 ++ steps 3 ++ by_lane 1 1 ++ steps 4 ++ by_lane 0 2
+
+abbrev pub report : List ℕ
+report = report_of (
+    alone (
+    codes "1 lane r 4 ok"
+    ∷ codes "2 lane r 5 set 1"
+    ∷ codes "3 lane r 6 ok"
+    ∷ codes "4 lane r 7 VSS_S_ASYNC_PENDING"
+    ∷ codes "5 provider precommit"
+    ∷ codes "6 provider flush C"
+    ∷ codes "7 provider hold C"
+    ∷ codes "8 lane t 11 ok"
+    ∷ codes "9 provider cut"
+    ∷ codes "10 provider commit C"
+    ∷ codes "11 provider release C"
+    ∷ [])
+    ++ with_effects (codes "12 provider postcommit") (codes "= set 1 complete" ∷ [])
+    ∷ alone (
+    codes "13 lane r 8 VSS_S_ASYNC_FINISHED"
+    ∷ codes "14 lane r 9 ok"
+    ∷ []))
+    (codes "end moves 14 clock 10000")
+    (volume_with (codes "volume C used 0 of 1 " ++ digest_of (0 ∷ []))
+    ((codes "image 1 C " ++ digest_of (0 ∷ [])) ∷ []) [])
+    []
