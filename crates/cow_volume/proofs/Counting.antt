@@ -1,13 +1,13 @@
 -- How many slots the images use: as many as the definitions of slots say, since the records that are not free and the
 -- copies of the definitions are the same, each once.
-use Rattle.std.proofs.Common.{◌≡◌, ◌≢◌, ◌<◌, ℕ, zero, suc, ◌+◌, List, [], ◌∷◌, length, map, refl, ap, sym, subst, ◌∙◌, arith, Bool, true, false, not, ◌&&◌, ◌||◌, Option, Some, None, inl, inr}
+use Rattle.std.proofs.Common.{◌≡◌, ◌≢◌, ◌<◌, ℕ, zero, suc, ◌+◌, List, [], ◌∷◌, length, map, refl, ap, sym, subst, ◌∙◌, arith, Bool, true, false, not, ◌||◌, Option, Some, None, inl, inr}
 use Rattle.std.proofs.Common.{IsPermutation}
 use Rattle.std.specs.Prelude.{filter, slice_get, slice_index, count_by, if◌then◌else◌, ◌==◌, nat_lt}
 use Rattle.std.proofs.lemmas.List.{map-append, length-map, length-append}
 use Rattle.std.proofs.lemmas.List.Sums.{length-filter}
 use Rattle.std.proofs.lemmas.List.Sorted.{length_permutation}
 use Rattle.std.proofs.lemmas.Option.{get_or_from_slice_get, slice_get_within}
-use Rattle.std.proofs.lemmas.Bool.{lt-ltb, ltb-true}
+use Rattle.std.proofs.lemmas.Bool.{lt-ltb, ltb-true, and_parts, and_from, not_from_false}
 use Rattle.write_history.specs.History.{Write, Image, History, sets_of, AreInTime}
 use Rattle.write_history.specs.Slots.{Copy, named, used, used_by, group_used, copy_of, copies_of, copies_from, copies}
 use Rattle.diff_area.specs.Records.{free, is_free, used_in, AreRecords}
@@ -25,12 +25,6 @@ use Rattle.cow_volume.proofs.Named.{Stands, key, numbers_are, named_of, used_by_
 
 pub not_free : (r : Record) → 0 < r.set → r ≢ free
 not_free r l e = let none : r.set ≡ 0 = ap (λ (x : Record). x.set) e in absurd (omega arith)
-
-both : (a b : Bool) → (a && b) ≡ true → (a ≡ true) × (b ≡ true)
-both a b e = grind arith
-
-joined : (a b : Bool) → a ≡ true → b ≡ true → (a && b) ≡ true
-joined a b e f = grind arith
 
 -- the block of a record is one of its volume's
 pub within : (volumes : List ℕ) (records : List Record) (slot n v : ℕ) (r : Record) → AreRecords volumes records → slice_get volumes v ≡ Some n → slice_get records slot ≡ Some r → r.volume ≡ v
@@ -106,13 +100,13 @@ pub used_of : (told slots : Option (List (List ℕ))) (volumes : List ℕ) (reco
     → AreRecords volumes records → slice_get volumes v ≡ Some n
     → count_by (is_on v) records ≡ used n h.writes h.images
 used_of told slots volumes records v n sets h is are at = counted told slots volumes records v n sets h (is_on v) is are at
-    (λ r e. let parts = both (r.volume == v) (nat_lt 0 r.set) e in (same_number r.volume v parts.0, ltb-true 0 r.set parts.1))
-    (λ r e l. joined (r.volume == v) (nat_lt 0 r.set) (numbers_are r.volume v e) (lt-ltb 0 r.set l))
+    (λ r e. let parts = and_parts (r.volume == v) (nat_lt 0 r.set) e in (same_number r.volume v parts.0, ltb-true 0 r.set parts.1))
+    (λ r e l. and_from (r.volume == v) (nat_lt 0 r.set) (numbers_are r.volume v e) (lt-ltb 0 r.set l))
 
 -- ## one image
 
 is_of_both : (v set : ℕ) (r : Record) → is_of v set r ≡ true → (r.volume ≡ v) × (r.set ≡ set)
-is_of_both v set r e = let parts = both (r.volume == v) (r.set == set) e in (same_number r.volume v parts.0, same_number r.set set parts.1)
+is_of_both v set r e = let parts = and_parts (r.volume == v) (r.set == set) e in (same_number r.volume v parts.0, same_number r.set set parts.1)
 
 by_image : (told slots : Option (List (List ℕ))) (volumes : List ℕ) (records : List Record) (v n : ℕ) (sets : List ℕ) (h : History) (i : Image) (newer : List Image)
     → IsVolume told slots records v n sets h → AreRecords volumes records → slice_get volumes v ≡ Some n → Stands i newer h.images
@@ -139,7 +133,7 @@ by_image told slots volumes records v n sets h i newer is are at stands =
     let known = from-named n h.writes i newer of.0 of.1 in
     let its = is.recorded i.set of.0 known.0 (names_it of.0 ∙ known.1) in
     let P : Record → Type 0 = λ x. Has x (filter (is_of v i.set) records) in
-    subst P of.2 (has-filter (is_of v i.set) (record_of v i.set of.0) records (joined (v == v) (i.set == i.set) (number_is v) (number_is i.set)) (has_at records its.0 (record_of v i.set of.0) its.1)))
+    subst P of.2 (has-filter (is_of v i.set) (record_of v i.set of.0) records (and_from (v == v) (i.set == i.set) (number_is v) (number_is i.set)) (has_at records its.0 (record_of v i.set of.0) its.1)))
 
 -- as many records are of an image as it uses slots
 pub used_by_of : (told slots : Option (List (List ℕ))) (volumes : List ℕ) (records : List Record) (v n : ℕ) (sets : List ℕ) (h : History) (set : ℕ) → IsVolume told slots records v n sets h
@@ -279,9 +273,6 @@ apart-group first (n ∷ volumes) (h ∷ hs) times =
 not_false : (b : Bool) → not b ≡ true → b ≡ false
 not_false b e = grind arith
 
-is_not : (b : Bool) → b ≡ false → not b ≡ true
-is_not b e = grind arith
-
 pub used_record : (r : Record) → is_free r ≡ false → r ≢ free
 used_record r e same = let test : is_free r ≡ true = ap is_free same in absurd cc
 
@@ -324,7 +315,7 @@ group_held told g hs stands are = permuted (filter (λ r. not (is_free r)) g.are
     let its = record_there (told_in (told g.area.device) (told one.device)) (told g.area.device) g.area.records of.at of.blocks one.sets of.history at.0 one.volume
     (subst (λ u. Has at.0 (copies_of u of.blocks of.history.writes of.history.images)) same of.has) in
     let P : Record → Type 0 = λ x. Has x (filter (λ r. not (is_free r)) g.area.records) in
-    subst P at.2 (has-filter (λ r. not (is_free r)) (key at.0) g.area.records (is_not (is_free (key at.0)) (record_is_used (key at.0) its.above)) (has_at g.area.records its.slot (key at.0) its.at)))
+    subst P at.2 (has-filter (λ r. not (is_free r)) (key at.0) g.area.records (not_from_false (is_free (key at.0)) (record_is_used (key at.0) its.above)) (has_at g.area.records its.slot (key at.0) its.at)))
 
 -- as many records are used as the images of the group use slots
 pub group_used_of : {D : Type 0} (told : D → Option (List (List ℕ))) (g : GroupValue D) (hs : List History) → StandsFor told g hs → AreRecords g.area.volumes g.area.records

@@ -4,6 +4,7 @@ use Rattle.std.specs.Prelude.{filter, slice_get, if◌then◌else◌, ◌==◌, 
 use Rattle.std.specs.List.{AllWithin}
 use Rattle.std.proofs.lemmas.List.{get_or_default, length-map}
 use Rattle.std.proofs.lemmas.List.Elements.{All-head, All-tail}
+use Rattle.std.proofs.lemmas.Bool.{or_right}
 use Rattle.write_history.specs.History.{History, dropped}
 use Rattle.diff_area.specs.Records.{AreRecords}
 use Rattle.diff_map.proofs.ImagePlaces.{place_is}
@@ -22,13 +23,10 @@ use Rattle.volume_device.specs.declared.device.Device.{Ghosts}
 
 -- ## the sets of the images of a volume
 
-or_later : (t b : Bool) → b ≡ true → (t || b) ≡ true
-or_later t b e = grind arith
-
 among_at : (set : ℕ) (xs : List ℕ) (k : ℕ) → k < length xs → get_or xs k set ≡ set → is_among set xs ≡ true
 among_at set [] k l e = absurd (omega arith)
 among_at set (x ∷ xs) zero l e = ap (λ (t : Bool). t || is_among set xs) (ap (λ (y : ℕ). x == y) (sym e) ∙ number_is x)
-among_at set (x ∷ xs) (suc k) l e = or_later (x == set) (is_among set xs) (among_at set xs k (omega arith) e)
+among_at set (x ∷ xs) (suc k) l e = or_right (x == set) (is_among set xs) (among_at set xs k (omega arith) e)
 
 pub among_of : (set : ℕ) (xs : List ℕ) → Contains xs set → is_among set xs ≡ true
 among_of set xs at = among_at set xs at.0 at.1 at.2
@@ -65,7 +63,7 @@ among_without set other (x ∷ xs) l e = by_tests (x == other) (x == set) refl r
       absurd (omega arith)
   by_tests true false f g h rest = rest h
   by_tests false true f g h rest = ap (λ (t : Bool). t || is_among set (filter (λ s. not (s == other)) xs)) g
-  by_tests false false f g h rest = or_later (x == set) (is_among set (filter (λ s. not (s == other)) xs)) (rest h)
+  by_tests false false f g h rest = or_right (x == set) (is_among set (filter (λ s. not (s == other)) xs)) (rest h)
 
 no_more : (p : ℕ → Bool) (xs : List ℕ) → length (filter p xs) ≤ length xs
 no_more p [] = omega arith

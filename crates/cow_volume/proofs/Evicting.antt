@@ -9,7 +9,7 @@ use Rattle.std.proofs.lemmas.List.Elements.{All-head, All-tail}
 use Rattle.std.proofs.lemmas.Option.{slice_get_within, same_Some}
 use Rattle.write_history.specs.History.{Write, Image, History, content, point_in, sets_of, after_set, names, AreLater, AreInTime}
 use Rattle.write_history.specs.Slots.{Placed, writes_since, needs_slot_in, group_used, lacks_slot, gone_up_to, evicted_up_to}
-use Rattle.diff_area.specs.Records.{free, is_free, used_in, AreRecords, IsNarrow}
+use Rattle.diff_area.specs.Records.{free, used_in, AreRecords, IsNarrow}
 use Rattle.diff_area.specs.Places.{place_of_slot}
 use Rattle.diff_area.specs.declared.table_record.Record.{Record}
 use Rattle.cow_volume.specs.GroupValue.{GroupValue, placed}
@@ -20,6 +20,7 @@ use Rattle.cow_volume.specs.Room.{gone_group}
 use Rattle.cow_volume.proofs.Group.{slice_get_inside, slice_get_map, set_above, same_number, other_number, number_is}
 use Rattle.cow_volume.proofs.Merging.{AreImages-filter, sets_of-filter, point_before, was_row, true_not_false}
 use Rattle.cow_volume.proofs.Writing.{no_image}
+use Rattle.diff_area.proofs.Valid.{and_left}
 
 -- ## one volume
 
@@ -208,13 +209,6 @@ was_there m l p images at = ap (λ (q : Option ℕ). is_some q) (point_before (�
 
 -- ## before any image goes
 
--- a record that is free, and one that is not
-pub free_if : (r : Record) → is_free r ≡ true → r ≡ free
-free_if r e = grind arith
-
-pub free_if_not : (r : Record) → is_free r ≡ false → r ≢ free
-free_if_not r e is = true_not_false (sym (ap is_free is) ∙ e)
-
 after_zero : (images : List Image) → All (λ (i : Image). 0 < i.set) images → after_set 0 images ≡ images
 after_zero [] above = refl
 after_zero (i ∷ images) above =
@@ -251,9 +245,6 @@ needs_none_after sets (n ∷ volumes) (h ∷ hs) zero b all needs long =
     true_not_false (sym needs ∙ no_image h.writes (after_set sets h.images) b (ap sets_of (after_all sets h.images (λ k some. all 0 k h refl some))))
 needs_none_after sets (n ∷ volumes) (h ∷ hs) (suc v) b all needs long = needs_none_after sets volumes hs v b (λ u k x at some. all (suc u) k x at some) needs (omega arith)
 
-needs_if_lacks : (a b : Bool) → (a && b) ≡ true → a ≡ true
-needs_if_lacks a b e = grind arith
-
 -- The number is the definition's where the write lacks its slot at each lesser one, and not at this one.
 pub room_made : {D : Type 0} → (told : D → Option (List (List ℕ))) (g : GroupValue D) (hs : List History) (v b m : ℕ) → StandsFor told g hs
     → ((k : ℕ) → k < m → lacks_slot (length g.area.records) (placed g.area.volumes) v b (gone_up_to k (placed g.area.volumes) hs) ≡ true)
@@ -263,7 +254,7 @@ room_made told g hs v b m stands lacked has =
       at_most : (sets : ℕ) → AreUpTo sets hs → (t : Bool) → nat_lt sets m ≡ t → m ≤ sets
       at_most sets all true before =
           absurd (needs_none_after sets g.area.volumes hs v b all
-          (needs_if_lacks _ (group_used (placed g.area.volumes) (gone_up_to sets (placed g.area.volumes) hs) == length g.area.records) (lacked sets (ltb-true sets m before))) stands.histories)
+          (and_left _ (group_used (placed g.area.volumes) (gone_up_to sets (placed g.area.volumes) hs) == length g.area.records) (lacked sets (ltb-true sets m before))) stands.histories)
       at_most sets all false after = ltb-false sets m after
 
 -- ## the group without the images up to a set

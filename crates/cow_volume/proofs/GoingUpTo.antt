@@ -9,8 +9,9 @@ use Rattle.cow_volume.specs.Calls.{sets_in}
 use Rattle.cow_volume.specs.Room.{after, all_after}
 use Rattle.cow_volume.specs.Tied.{CopiesValue}
 use Rattle.cow_volume.specs.CopiesAfter.{with_records, after_gone, after_gone_on}
-use Rattle.cow_volume.proofs.Evicting.{free_if, free_if_not}
 use Rattle.cow_volume.proofs.Gone.{same_parts}
+use Rattle.diff_area.proofs.Valid.{free_is}
+use Rattle.cow_volume.proofs.Counting.{used_record}
 
 -- ## the records
 
@@ -60,9 +61,9 @@ records_all volumes k records are = map_at (gone_below_row (length volumes) k) (
   by_row : (slot : ℕ) (r : Record) → slice_get records slot ≡ Some r → gone_below_row (length volumes) k r ≡ gone_row k r
   by_row slot r at = by_test (is_free r) refl where
     by_test : (t : Bool) → is_free r ≡ t → gone_below_row (length volumes) k r ≡ gone_row k r
-    by_test true e = let is = free_if r e in ap (gone_below_row (length volumes) k) is ∙ sym (either (nat_le 0 k)) ∙ ap (gone_row k) (sym is)
+    by_test true e = let is = free_is r e in ap (gone_below_row (length volumes) k) is ∙ sym (either (nat_le 0 k)) ∙ ap (gone_row k) (sym is)
     by_test false e =
-        let used = are.each slot r at (free_if_not r e) in
+        let used = are.each slot r at (used_record r e) in
         ap (λ (t : Bool). row_by t (nat_lt r.volume (length volumes)) (nat_le r.set k) r) (lt-ltb 0 r.set used.set)
         ∙ ap (λ (t : Bool). row_by true t (nat_le r.set k) r) (lt-ltb r.volume (length volumes) used.volume)
 

@@ -81,7 +81,7 @@ going_more told old now new v set s going newer drops = record {
   only x (inl e) = subst (λ y. set < y) e newer
   only x (inr e) = absurd e
 
-up_to_sets : (set : ℕ) (is : List Image) → ((s : ℕ) → Has s (sets_of is) → s ≤ set) → AreUpTo set is
+pub up_to_sets : (set : ℕ) (is : List Image) → ((s : ℕ) → Has s (sets_of is) → s ≤ set) → AreUpTo set is
 up_to_sets set [] h = tt
 up_to_sets set (i ∷ is) h = (h i.set (inl refl), up_to_sets set is (λ s m. h s (inr m)))
 

@@ -35,10 +35,7 @@ use Rattle.cow_volume.proofs.GroupSteps.{same_on, kept, told_set, volume_rose, p
 -- a slot is noted for the newest image, of records and images that a copy left
 pub noted_copies : {D : Type 0} (c new last : CopiesValue D) (v b slot : ℕ) → new.area.records ≡ c.area.records → new.images ≡ c.images → last ≡ after_note new v b slot
     → last.area.records ≡ noted slot (record_of v (newest (images_on c v)) b) c.area.records
-noted_copies c new last v b slot records images is =
-    let on_new : images_on new v ≡ images_on c v = ap (λ (i : List (List ℕ)). images_on (record { area = c.area; images = i }) v) images in
-    ap (λ x. x.area.records) is ∙ ap (λ (s : List ℕ). noted slot (record_of v (newest s) b) new.area.records) on_new
-    ∙ ap (λ (rs : List Record). noted slot (record_of v (newest (images_on c v)) b) rs) records
+noted_copies c new last v b slot records images is = grind arith
 
 module _ {D : Type 0} (ghosts : Ghosts D) (devices : List D) (c : CopiesValue D) (v : ℕ) (d : D) (w : Write)
     (low : w.block < blocks_at (group_of devices c) v) (at : slice_get devices v ≡ Some d) where

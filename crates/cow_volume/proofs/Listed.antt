@@ -99,7 +99,7 @@ next_is images above up_to set next = let high = next.higher in by_number (set -
 apart_above : (s n : ℕ) → n < s → (s == n) ≡ false
 apart_above s n l = grind (arith, nat_tests)
 
-apart_below : (s n : ℕ) → s < n → (s == n) ≡ false
+pub apart_below : (s n : ℕ) → s < n → (s == n) ≡ false
 apart_below s n l = grind (arith, nat_tests)
 
 at_most : (above s : ℕ) → nat_lt above s ≡ false → s ≤ above

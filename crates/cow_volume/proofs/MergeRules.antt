@@ -23,7 +23,7 @@ has_copy-record records v set block some = bools_by (has_copy (map (copied_for v
     (λ h. let at = row_from_has (map (copied_for v) records) set block h in has_from_slot records (record_of v set block) at.0 (record_of_row v records at.0 (copy_of set block) at.1).1)
     (λ h. let at = has_slot records (record_of v set block) h in has_from_row (map (copied_for v) records) at.0 set block (row_of_record v records at.0 set block some at.1))
 
-of_set : (v set : ℕ) (r : Record) → r.volume ≡ v → r.set ≡ set → is_of v set r ≡ true
+pub of_set : (v set : ℕ) (r : Record) → r.volume ≡ v → r.set ≡ set → is_of v set r ≡ true
 of_set v set r a b = grind (arith, nat_tests)
 
 not_of_set : (v set w s : ℕ) → (w ≢ v) ⊎ (s ≢ set) → ((w == v) && (s == set)) ≡ false

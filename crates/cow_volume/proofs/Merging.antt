@@ -272,7 +272,7 @@ record_is r q s b v = grind arith
 pub of_image : (v set : ℕ) (r : Record) → is_of v set r ≡ true → r ≡ record_of v set r.block
 of_image v set r e = grind arith
 
-is_of-it : (v set b : ℕ) → is_of v set (record_of v set b) ≡ true
+pub is_of-it : (v set b : ℕ) → is_of v set (record_of v set b) ≡ true
 is_of-it v set b = simp (number_is v, number_is set)
 
 pub is_of-other_set : (v s set b : ℕ) → s ≢ set → is_of v set (record_of v s b) ≡ false
@@ -284,7 +284,7 @@ is_of-other_volume u v s set b other = simp (number_is_other u v other)
 same_if : (q r : Record) → is_same_record q r ≡ true → r ≡ q
 same_if q r e = grind arith
 
-same_it : (q : Record) → is_same_record q q ≡ true
+pub same_it : (q : Record) → is_same_record q q ≡ true
 same_it q = simp (number_is q.set, number_is q.block, number_is q.volume)
 
 pub found_record : (records : List Record) (q : Record) → has_record records q ≡ true → (slot : ℕ) × (slice_get records slot ≡ Some q)

@@ -20,9 +20,6 @@ use Rattle.cow_volume.proofs.Writing.{content-before, since-more, range-more, im
 or_absorbed : (a b : Bool) → (b ≡ true → a ≡ true) → (a || b) ≡ a
 or_absorbed a b h = grind arith
 
-pub or_first : (a b : Bool) → a ≡ true → (a || b) ≡ true
-or_first a b e = grind arith
-
 range-cut : (ws : List Write) (p q r : ℕ) → p ≤ q → q ≤ r → slice_range (take r ws) p q ≡ slice_range ws p q
 range-cut ws p q r l m =
     let split : r ≡ p + (r - p) = omega arith in

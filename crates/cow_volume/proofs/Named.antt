@@ -14,14 +14,12 @@ use Rattle.cow_volume.specs.Calls.{is_among}
 use Rattle.cow_volume.proofs.Group.{same_number, number_is}
 use Rattle.cow_volume.proofs.Members.{Has, AreApart, has_left, has_right, has_either, has-map, from-map, apart-append, apart-map, has-filter, from-filter, has-range, from-range, apart-range}
 use Rattle.cow_volume.proofs.Members.{apart-filtered}
+use Rattle.cow_volume.proofs.Listed.{apart_below}
 
 -- ## tests on numbers
 
 pub numbers_are : (a b : ℕ) → a ≡ b → (a == b) ≡ true
 numbers_are a b e = grind (arith, nat_tests)
-
-pub number_is_less : (a b : ℕ) → a < b → (a == b) ≡ false
-number_is_less a b l = grind (arith, nat_tests)
 
 -- ## where an image stands
 
@@ -46,7 +44,7 @@ point_of w (j ∷ js) i newer t (inl e) =
     let P : Image → Type 0 = λ x. (if j.set == x.set then Some j.point else point_in x.set js) ≡ Some x.point in
     subst P e.0 (ap (λ (t : Bool). if t then Some j.point else point_in j.set js) (number_is j.set))
 point_of w (j ∷ js) i newer t (inr h) =
-    ap (λ (t : Bool). if t then Some j.point else point_in i.set js) (number_is_less j.set i.set (later_stands j i newer js t.1 h).0) ∙ point_of w js i newer t.2 h
+    ap (λ (t : Bool). if t then Some j.point else point_in i.set js) (apart_below j.set i.set (later_stands j i newer js t.1 h).0) ∙ point_of w js i newer t.2 h
 
 -- an image names what is written since
 pub named_of : (w : ℕ) (ws : List Write) (images : List Image) (i : Image) (newer : List Image) (b : ℕ) → AreInTime w images → Stands i newer images
@@ -57,7 +55,7 @@ named_of w ws (j ∷ js) i newer b t (inl e) =
     subst P e.0 (ap (λ (t : Bool). if t then names (writes_since ws j.point js) b else is_named ws js j.set b) (number_is j.set))
     ∙ ap (λ (x : List Image). names (writes_since ws i.point x) b) e.1
 named_of w ws (j ∷ js) i newer b t (inr h) =
-    ap (λ (t : Bool). if t then names (writes_since ws j.point js) b else is_named ws js i.set b) (number_is_less j.set i.set (later_stands j i newer js t.1 h).0) ∙ named_of w ws js i newer b t.2 h
+    ap (λ (t : Bool). if t then names (writes_since ws j.point js) b else is_named ws js i.set b) (apart_below j.set i.set (later_stands j i newer js t.1 h).0) ∙ named_of w ws js i newer b t.2 h
 
 -- and uses as many slots
 pub used_by_it : (w n : ℕ) (ws : List Write) (images : List Image) (i : Image) (newer : List Image) → AreInTime w images → Stands i newer images
@@ -68,7 +66,7 @@ used_by_it w n ws (j ∷ js) i newer t (inl e) =
     subst P e.0 (ap (λ (t : Bool). if t then Some (length (named n ws j js)) else used_by n ws js j.set) (number_is j.set))
     ∙ ap (λ (x : List Image). Some (length (named n ws i x))) e.1
 used_by_it w n ws (j ∷ js) i newer t (inr h) =
-    ap (λ (t : Bool). if t then Some (length (named n ws j js)) else used_by n ws js i.set) (number_is_less j.set i.set (later_stands j i newer js t.1 h).0) ∙ used_by_it w n ws js i newer t.2 h
+    ap (λ (t : Bool). if t then Some (length (named n ws j js)) else used_by n ws js i.set) (apart_below j.set i.set (later_stands j i newer js t.1 h).0) ∙ used_by_it w n ws js i newer t.2 h
 
 -- ## the image of a set
 

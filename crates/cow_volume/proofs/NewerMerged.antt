@@ -13,7 +13,7 @@ use Rattle.diff_map.specs.MapValue.{AreImages}
 use Rattle.diff_map.specs.Rules.{next_older}
 use Rattle.diff_map.proofs.Images.{AreImages-filter, Contains-filter, next_older_is, next_older_reaches}
 use Rattle.cow_volume.specs.StandsFor.{record_of, StandsFor}
-use Rattle.cow_volume.specs.Changes.{is_of, has_record, merged, merged_row, cleared, cleared_row, IsFirstCopy, HasNoCopy}
+use Rattle.cow_volume.specs.Changes.{has_record, merged, merged_row, cleared, cleared_row, IsFirstCopy, HasNoCopy}
 use Rattle.cow_volume.specs.Tied.{CopiesValue}
 use Rattle.cow_volume.specs.Calls.{changed_at, is_among}
 use Rattle.cow_volume.specs.CopiesAfter.{images_on, after_merge}
@@ -22,6 +22,7 @@ use Rattle.cow_volume.specs.Restoring.{IsMergedTo}
 use Rattle.cow_volume.proofs.Group.{number_is_other}
 use Rattle.cow_volume.proofs.Merging.{merged_from, merged_stays, merged_moves, was_row, found_record, free_set, AreWithin, of_image, is_of-other_set}
 use Rattle.cow_volume.proofs.DroppingNewer.{IsDropping, dropping_none, dropping_more, dropping_end, fewer_left, among_of, contains_of, images_after, last_most, merged_stands_within}
+use Rattle.cow_volume.proofs.MergeRules.{of_set}
 
 -- ## one image goes
 
@@ -35,12 +36,9 @@ pub record CameFrom (records : List Record) (v : ℕ) (older : Option ℕ) (newe
   was : slice_get records slot ≡ Some (record_of v image b)
   how : ((image ≡ set) × (image ≢ newest)) ⊎ ((image ≡ newest) × (older ≡ Some set))
 
-is_of_it : (v set : ℕ) (r : Record) → r.volume ≡ v → r.set ≡ set → is_of v set r ≡ true
-is_of_it v set r a b = grind (arith, nat_tests)
-
 came_from : (records : List Record) (v : ℕ) (older : Option ℕ) (newest slot set b : ℕ) → 0 < set → slice_get (merged v older newest records) slot ≡ Some (record_of v set b)
     → CameFrom records v older newest slot set b
-came_from records v older newest slot set b above at = grind (arith, was_row, merged_from, is_of_it, free_set, of_image)
+came_from records v older newest slot set b above at = grind (arith, was_row, merged_from, of_set, free_set, of_image)
 
 -- what is found for an older set stays where it was
 module _ (records : List Record) (images : List ℕ) (v set newest b : ℕ) (rise : AreImages images) (of : AreOf v records images) (above : 0 < set) (newer : set < newest) (o : ℕ)

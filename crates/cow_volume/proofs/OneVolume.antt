@@ -1,7 +1,7 @@
 -- What the calls on a group leave where it is of one volume.
-use Rattle.std.proofs.Common.{◌≡◌, ℕ, zero, suc, ◌≤◌, List, [], ◌∷◌, length, refl, ap, arith, Bool, true, Option, Some, None, subst}
+use Rattle.std.proofs.Common.{◌≡◌, ℕ, zero, suc, ◌≤◌, List, [], ◌∷◌, length, refl, ap, arith, true, Option, Some, None, subst}
 use Rattle.std.proofs.lemmas.List.{append-nil}
-use Rattle.std.specs.Prelude.{slice_get, is_some, Result, Ok, Err, ◌&&◌, OnOk, IfOk, IfSome}
+use Rattle.std.specs.Prelude.{slice_get, is_some, Result, Ok, Err, OnOk, IfOk, IfSome}
 use Rattle.std.specs.List.{list_all}
 use Rattle.write_history.specs.History.{History, Write, point_in, written}
 use Rattle.write_history.specs.Slots.{gone_up_to, copies, copies_of}
@@ -19,6 +19,7 @@ use Rattle.cow_volume.specs.declared.revert_fault.RevertFault.{RevertFault}
 use Rattle.cow_volume.specs.declared.revert_fault.RevertFault.TheVariants.{NoSuchImage, Fault}
 use Rattle.cow_volume.proofs.Group.{quiet_stands}
 use Rattle.volume_device.specs.declared.device.Device.{Ghosts}
+use Rattle.diff_area.proofs.Valid.{and_left, and_right}
 
 -- ## a list of one
 
@@ -37,22 +38,16 @@ one_evicted volume b h up_to is = λ sets most. is sets (one_within h sets most)
 
 -- ## devices that tell
 
-and_first : (s t : Bool) → (s && t) ≡ true → s ≡ true
-and_first s t e = grind arith
-
-and_second : (s t : Bool) → (s && t) ≡ true → t ≡ true
-and_second s t e = grind arith
-
 all_tell : {D : Type 0} → (told : D → Option (List (List ℕ))) (devices : List D) → list_all (λ d. is_some (told d)) devices ≡ true → AllTell told devices
 all_tell told [] all v d at = cc
-all_tell told (x ∷ devices) all zero d at = let same : x ≡ d = cc in subst (λ y. is_some (told y) ≡ true) same (and_first (is_some (told x)) (list_all (λ d. is_some (told d)) devices) all)
-all_tell told (x ∷ devices) all (suc v) d at = all_tell told devices (and_second (is_some (told x)) (list_all (λ d. is_some (told d)) devices) all) v d at
+all_tell told (x ∷ devices) all zero d at = let same : x ≡ d = cc in subst (λ y. is_some (told y) ≡ true) same (and_left (is_some (told x)) (list_all (λ d. is_some (told d)) devices) all)
+all_tell told (x ∷ devices) all (suc v) d at = all_tell told devices (and_right (is_some (told x)) (list_all (λ d. is_some (told d)) devices) all) v d at
 
 device_tells : {D : Type 0} → (told : D → Option (List (List ℕ))) (volume : GroupValue D) → tells told volume ≡ true → AllTell told volume.devices
-device_tells told volume all = grind (arith, all_tell, and_first)
+device_tells told volume all = grind (arith, all_tell, and_left)
 
 area_tells : {D : Type 0} → (told : D → Option (List (List ℕ))) (volume : GroupValue D) → tells told volume ≡ true → is_some (told volume.area.device) ≡ true
-area_tells told volume all = and_second (list_all (λ d. is_some (told d)) volume.devices) (is_some (told volume.area.device)) all
+area_tells told volume all = and_right (list_all (λ d. is_some (told d)) volume.devices) (is_some (told volume.area.device)) all
 
 first_of_one : {D : Type 0} → (devices : List D) → length devices ≡ 1 → (d : D) × (slice_get devices 0 ≡ Some d)
 first_of_one [] one = absurd (omega arith)

@@ -4,6 +4,7 @@ use Rattle.std.specs.Prelude.{slice_get, slice_range, ◌==◌, if◌then◌else
 use Rattle.std.specs.List.{range_with_len}
 use Rattle.std.proofs.lemmas.Option.{same_Some, slice_get_within}
 use Rattle.std.proofs.lemmas.List.{take_all, take-take, drop-take, take-append-drop}
+use Rattle.std.proofs.lemmas.Bool.{false_from_ne_true}
 use Rattle.block_data.specs.Runs.{zeros}
 use Rattle.write_history.specs.History.{Write, Image, History, last_bytes, content, contents, point_in, names, AreLater, AreInTime}
 use Rattle.write_history.specs.Slots.{writes_since}
@@ -156,9 +157,6 @@ pub now : (told slots : Option (List (List ℕ))) (records : List Record) (v n :
     → IfSome told (λ blocks. slice_get blocks b ≡ Some (content h.writes (length h.writes) b))
 now told slots records v n sets h b volume l = now_if told n b h.writes l volume.blocks
 
-not_true : (t : Bool) → (t ≡ true → ⊥) → t ≡ false
-not_true t h = grind arith
-
 -- the slot of the first image that has a copy holds what the asked image shows
 pub in_copy : (told slots : Option (List (List ℕ))) (records : List Record) (v n : ℕ) (sets : List ℕ) (h : History) (set b p slot : ℕ) → IsVolume told slots records v n sets h → b < n
     → point_in set h.images ≡ Some p → IsFirstCopy records v set b slot → is_some told ≡ true
@@ -168,7 +166,7 @@ in_copy told slots records v n sets h set b p slot volume l point found tells =
     let from_set = found.from_set in
     let image_above : 0 < found.image = omega arith in
     let at = named_point h.writes found.image b h.images (volume.named slot found.image b image_above found.is_noted) in
-    let none : (k : ℕ) → set ≤ k → k < found.image → is_named h.writes h.images k b ≡ false = λ k from below. not_true (is_named h.writes h.images k b) (λ is.
+    let none : (k : ℕ) → set ≤ k → k < found.image → is_named h.writes h.images k b ≡ false = λ k from below. false_from_ne_true (is_named h.writes h.images k b) (λ is.
     let other = volume.recorded k b l is in
     let first = found.first other.0 k other.1 from in
     absurd (omega arith)) in
@@ -179,7 +177,7 @@ in_copy told slots records v n sets h set b p slot volume l point found tells =
 -- where no image from the asked one on has a copy, the volume has what the image shows
 pub in_volume : (told slots : Option (List (List ℕ))) (records : List Record) (v n : ℕ) (sets : List ℕ) (h : History) (set b p : ℕ) → IsVolume told slots records v n sets h → b < n
     → point_in set h.images ≡ Some p → HasNoCopy records v set b → content h.writes p b ≡ content h.writes (length h.writes) b
-in_volume told slots records v n sets h set b p volume l point none = grind (arith, unnamed_to_end, not_true)
+in_volume told slots records v n sets h set b p volume l point none = grind (arith, unnamed_to_end, false_from_ne_true)
 
 -- ## reads of the group
 

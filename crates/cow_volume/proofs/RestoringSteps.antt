@@ -27,19 +27,14 @@ use Rattle.cow_volume.specs.Restoring.{with_up_to, AreNewerGone, AreRestored, Is
 use Rattle.cow_volume.proofs.Members.{Has}
 use Rattle.cow_volume.proofs.Group.{same_number, slice_get_inside, slice_set-same, place_at, history_at_is, changed_at-same}
 use Rattle.cow_volume.proofs.Clearing.{length-cleared}
-use Rattle.cow_volume.proofs.NewerGone.{without_newer, AreUpTo, all_kept, point_kept, reverted_from, reverted_in_part_from}
+use Rattle.cow_volume.proofs.NewerGone.{without_newer, all_kept, point_kept, reverted_from, reverted_in_part_from}
 use Rattle.cow_volume.proofs.Reverting.{restores, restored_none, restored_below, point_within, block_kept, block_restored, next_restored}
-use Rattle.cow_volume.proofs.GroupReverts.{changed_at-twice, changed_at-agree, changed_at-none, restoring_at, restoring_all}
+use Rattle.cow_volume.proofs.GroupReverts.{changed_at-twice, changed_at-agree, changed_at-none, restoring_at, restoring_all, up_to_sets}
 use Rattle.cow_volume.proofs.Kept.{kept_itself, kept_further, sizes_kept, kept_records, kept_area, kept_called, quiet_area, quiet_called, quiet_further, quiet_stands, volume_rose_if}
 use Rattle.cow_volume.proofs.Kept.{unfailed_called}
 use Rattle.cow_volume.proofs.DroppingNewer.{most_of, images_row}
 
 -- ## the volume before the first block
-
--- the images of the history are those of the sets, so none is newer than the set
-up_to_of : (set : ℕ) (is : List Image) → ((s : ℕ) → Has s (sets_of is) → s ≤ set) → AreUpTo set is
-up_to_of set [] h = tt
-up_to_of set (i ∷ is) h = (h i.set (inl refl), up_to_of set is (λ s m. h s (inr m)))
 
 -- what stands at the number of the volume, whose newest image is that of the set
 pub record IsAtStart {D : Type 0} (told : D → Option (List (List ℕ))) (g : GroupValue D) (hs : List History) (v set p : ℕ) : Type 0 where
@@ -61,7 +56,7 @@ at_start told g hs v set p stands inside newest point =
     let here : IsVolume (told_in (told g.area.device) (told place.device)) (told g.area.device) g.area.records v (blocks_at g v) (sets_at g v) (history_at hs v)
     = subst (λ (n : ℕ). IsVolume (told_in (told g.area.device) (told place.device)) (told g.area.device) g.area.records v n (sets_at g v) (history_at hs v)) blocks_are
     (subst (λ (sets : List ℕ). IsVolume (told_in (told g.area.device) (told place.device)) (told g.area.device) g.area.records v place.blocks sets (history_at hs v)) sets_are place.stands) in
-    let up = all_kept set (history_at hs v).images (up_to_of set (history_at hs v).images (λ s m. most_of set s (sets_at g v) newest (subst (λ (ss : List ℕ). Has s ss) (sym here.sets_are) m))) in
+    let up = all_kept set (history_at hs v).images (up_to_sets set (history_at hs v).images (λ s m. most_of set s (sets_at g v) newest (subst (λ (ss : List ℕ). Has s ss) (sym here.sets_are) m))) in
     let same : history_at hs v ≡ without_newer set (history_at hs v) = ap (λ (is : List Image). record { writes = (history_at hs v).writes; images = is }) (sym up) in
     let volume : IsVolume (told_in (told g.area.device) (told place.device)) (told g.area.device) g.area.records v (blocks_at g v) (sets_at g v) (without_newer set (history_at hs v))
     = subst (λ (h : History). IsVolume (told_in (told g.area.device) (told place.device)) (told g.area.device) g.area.records v (blocks_at g v) (sets_at g v) h) same here in

@@ -6,6 +6,7 @@ use Rattle.std.specs.Prelude.{filter, slice_get, slice_set, if◌then◌else◌,
 use Rattle.std.specs.List.{range_with_len}
 use Rattle.std.proofs.lemmas.List.{append_assoc, append-nil, map-append, length-append, length-take-le, take_all, take-take, take_at}
 use Rattle.std.proofs.lemmas.List.Elements.{filter-append}
+use Rattle.std.proofs.lemmas.Bool.{or_left}
 use Rattle.block_data.specs.Runs.{zeros}
 use Rattle.write_history.specs.History.{Write, Image, History, last_bytes, content, contents, point_in, up_to_set, written, names, to_restore, restoring, reverted, reverted_in_part, AreInTime}
 use Rattle.diff_area.specs.Places.{place_of_slot}
@@ -19,7 +20,7 @@ use Rattle.cow_volume.proofs.Named.{Stands, numbers_are, named_of, of_point, of_
 use Rattle.cow_volume.proofs.NewerGone.{AreUpTo, without_newer, are_up_to, point_kept, image_at, stands_last, last_of, in_time_cut}
 use Rattle.cow_volume.proofs.Reading.{last_bytes-append, content_all, unnamed_same, unnamed_since, point_within as point_in_time}
 use Rattle.cow_volume.proofs.Writing.{content-before, since-more, in_time-more}
-use Rattle.cow_volume.proofs.MoreWrites.{or_first, named-more, named-cut, none-named-cut, map-same, slots-before, restored_one}
+use Rattle.cow_volume.proofs.MoreWrites.{named-more, named-cut, none-named-cut, map-same, slots-before, restored_one}
 
 -- ## the blocks to restore
 
@@ -81,7 +82,7 @@ pub restored_more : (told slots : Option (List (List ℕ))) (records : List Reco
 restored_more told slots records v n sets h set p k b bytes l is e at known =
     let of = from-to_restore n h.writes p b (has_at (to_restore n h.writes p) k b at) in
     let more = map (restoring h.writes p) (take k (to_restore n h.writes p)) in
-    let named : names (drop p (h.writes ++ more)) b ≡ true = since-more h.writes more p b l ∙ or_first (names (drop p h.writes) b) (names more b) of.1 in
+    let named : names (drop p (h.writes ++ more)) b ≡ true = since-more h.writes more p b l ∙ or_left (names (drop p h.writes) b) (names more b) of.1 in
     let P : History → Type 0 = λ x. IsVolume (option_map (λ blocks. slice_set blocks b bytes) told) slots records v n sets x in
     subst P (one_more_write n set p k b h at)
     (restored_one told slots records v n sets (reverted_in_part n set p k h) (image_at set p) (restoring h.writes p b) bytes is

@@ -15,6 +15,7 @@ use Rattle.cow_volume.specs.StandsFor.{record_of}
 use Rattle.cow_volume.specs.Changes.{IsFirstCopy, HasNoCopy, has_record, is_same_record}
 use Rattle.cow_volume.specs.Room.{lacks_copy}
 use Rattle.cow_volume.specs.Tied.{copied_for}
+use Rattle.cow_volume.proofs.Merging.{same_it}
 
 -- ## one record
 
@@ -102,9 +103,6 @@ copy_absent v records set block none = λ slot image h le. none slot image (reco
 same_if : (r q : Record) → is_same_record r q ≡ true → r ≡ q
 same_if r q h = grind arith
 
-pub same_as_itself : (r : Record) → is_same_record r r ≡ true
-same_as_itself r = grind arith
-
 -- a record that is found stands at a slot
 pub has_slot : (records : List Record) (r : Record) → has_record records r ≡ true → (slot : ℕ) × (slice_get records slot ≡ Some r)
 has_slot [] r h = absurd (false≢true h)
@@ -119,7 +117,7 @@ pub has_from_slot : (records : List Record) (r : Record) (slot : ℕ) → slice_
 has_from_slot [] r slot h = absurd (none-some r h)
 has_from_slot (q ∷ rs) r zero h =
     let same : r ≡ q = sym (same_Some q r h) in
-    ap (λ (t : Bool). t || list_any (is_same_record r) rs) (ap (is_same_record r) (sym same) ∙ same_as_itself r)
+    ap (λ (t : Bool). t || list_any (is_same_record r) rs) (ap (is_same_record r) (sym same) ∙ same_it r)
 has_from_slot (q ∷ rs) r (suc slot) h = ap (λ (t : Bool). is_same_record r q || t) (has_from_slot rs r slot h) ∙ or_true (is_same_record r q) where
   or_true : (t : Bool) → (t || true) ≡ true
   or_true true = refl

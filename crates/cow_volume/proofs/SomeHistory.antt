@@ -6,7 +6,7 @@ use Rattle.std.specs.Prelude.{◌==◌, ◌&&◌, ◌||◌, if◌then◌else◌,
 use Rattle.std.specs.List.{slice_range}
 use Rattle.std.proofs.Math.Seq.{drop-append_seam}
 use Rattle.std.proofs.lemmas.List.{take-append-le, take_all}
-use Rattle.std.proofs.lemmas.Bool.{false≢true}
+use Rattle.std.proofs.lemmas.Bool.{false≢true, and_from, and_parts}
 use Rattle.std.proofs.lemmas.List.Elements.{All-nil, All-cons, All-head, All-tail, All-contains}
 use Rattle.std.proofs.lemmas.Option.{none-some, same_Some, slice_get_within, get_or_from_slice_get}
 use Rattle.write_history.specs.History.{Write, Image, History, AreInTime, AreLater, names, sets_of}
@@ -20,6 +20,7 @@ use Rattle.cow_volume.specs.Changes.{is_of}
 use Rattle.cow_volume.specs.Resuming.{AllHaveImages, NoneTell}
 use Rattle.cow_volume.proofs.Group.{same_number, number_is}
 use Rattle.cow_volume.proofs.Rows.{used_is}
+use Rattle.cow_volume.proofs.Merging.{is_of-it}
 
 -- ## the writes after one image
 
@@ -32,9 +33,6 @@ abbrev recorded : ℕ → ℕ → List Record → List Write
 recorded v set [] = []
 recorded v set (r ∷ rs) = if is_of v set r then unknown r.block ∷ recorded v set rs else recorded v set rs
 
-is_of-own : (v set b : ℕ) → is_of v set (record_of v set b) ≡ true
-is_of-own v set b = ap (λ (t : Bool). t && (set == set)) (number_is v) ∙ number_is set
-
 either_named : (t : Bool) (w : Write) (ws : List Write) (b : ℕ) → names ws b ≡ true → names (if t then w ∷ ws else ws) b ≡ true
 either_named t w ws b e = grind arith
 
@@ -43,12 +41,9 @@ named-recorded v set b slot [] at = absurd (none-some (record_of v set b) at)
 named-recorded v set b zero (r ∷ rs) at =
     let is : r ≡ record_of v set b = same_Some r (record_of v set b) at in
     ap (λ (x : Record). names (recorded v set (x ∷ rs)) b) is
-    ∙ ap (λ (t : Bool). names (if t then unknown b ∷ recorded v set rs else recorded v set rs) b) (is_of-own v set b)
+    ∙ ap (λ (t : Bool). names (if t then unknown b ∷ recorded v set rs else recorded v set rs) b) (is_of-it v set b)
     ∙ ap (λ (t : Bool). t || names (recorded v set rs) b) (number_is b)
 named-recorded v set b (suc slot) (r ∷ rs) at = either_named (is_of v set r) (unknown r.block) (recorded v set rs) b (named-recorded v set b slot rs at)
-
-both_from : (s t : Bool) → (s && t) ≡ true → (s ≡ true) × (t ≡ true)
-both_from s t e = grind arith
 
 -- a slot has the copy of block b
 abbrev HasRow : ℕ → ℕ → ℕ → List Record → Type 0
@@ -162,9 +157,6 @@ names-is v records before (s ∷ sets) set b = by_test (s == set) refl
           ∙ further
           ∙ sym (ap (λ (t : Bool). (t || is_among set sets) && names (recorded v set records) b) e)
 
-and_true : (s t : Bool) → s ≡ true → t ≡ true → (s && t) ≡ true
-and_true s t e f = grind arith
-
 is_volume : (slots : Option (List (List ℕ))) (records : List Record) (images : List (List ℕ)) (v n : ℕ) (sets : List ℕ) → ArePlaced sets → AllHaveImages records images → slice_get images v ≡ Some sets
     → IsVolume None slots records v n sets (some_history v records sets)
 is_volume slots records images v n sets placed have at = record {
@@ -172,9 +164,9 @@ is_volume slots records images v n sets placed have at = record {
   sets_are = sym (sets_are v records 0 sets);
   images = are_images v records sets placed;
   named = λ slot set b above row. names-is v records [] sets set b
-      ∙ and_true (is_among set sets) (names (recorded v set records) b)
+      ∙ and_from (is_among set sets) (names (recorded v set records) b)
       (sym (ap (λ (o : Option (List ℕ)). is_among set (sets_in o)) at) ∙ have slot (record_of v set b) row (used_is (record_of v set b) above)) (named-recorded v set b slot records row);
-  recorded = λ set b low named. recorded-named v set b records (both_from (is_among set sets) (names (recorded v set records) b) (sym (names-is v records [] sets set b) ∙ named)).1;
+  recorded = λ set b low named. recorded-named v set b records (and_parts (is_among set sets) (names (recorded v set records) b) (sym (names-is v records [] sets set b) ∙ named)).1;
   copied = λ slot set b p row point tells. absurd (false≢true tells);
 }
 

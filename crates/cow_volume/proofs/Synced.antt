@@ -1,6 +1,6 @@
 -- A group stands for what it stood for where only the header and the table of its area's device were written.
-use Rattle.std.proofs.Common.{◌≡◌, ◌≤◌, ◌+◌, ℕ, Bool, List, take, length, map, refl, ap, sym, subst, ◌∙◌, arith, Option, Some, None}
-use Rattle.std.specs.Prelude.{is_some, slice_get, option_map, IfSome, Result, Ok, Err}
+use Rattle.std.proofs.Common.{◌≡◌, ◌≤◌, ◌+◌, ℕ, Bool, List, take, length, map, refl, ap, sym, subst, ◌∙◌, arith, Option, Some}
+use Rattle.std.specs.Prelude.{is_some, slice_get, option_map, IfSome, Result}
 use Rattle.std.proofs.lemmas.List.{length-take-le, take_all}
 use Rattle.write_history.specs.History.{History, content}
 use Rattle.write_history.specs.Slots.{Copy, copies}
@@ -164,8 +164,7 @@ stored_all told devices old mid new are same written hs stands tells =
 -- each device still has as many blocks as its volume
 pub sizes_synced : {D : Type 0} (ghosts : Ghosts D) (old new : GroupValue D) (r : Result Unit Cause)
     → IsSync ghosts old new r → map ghosts.size old.devices ≡ old.area.volumes → map ghosts.size new.devices ≡ new.area.volumes
-sizes_synced ghosts old new (Ok done) is sizes = sizes_kept ghosts old new is.0.kept sizes
-sizes_synced ghosts old new (Err cause) is sizes = sizes_kept ghosts old new is.0.kept sizes
+sizes_synced ghosts old new r is sizes = grind (arith, sizes_kept)
 
 -- the table that was written is read back
 pub table_written : {D : Type 0} (told : D → Option (List (List ℕ))) (n : ℕ) (devices : List D) (old mid new : CopiesValue D)
@@ -180,8 +179,4 @@ table_written told n devices old mid new written flushed volumes records whole f
 
 -- all of the table was written, and its device failed after that
 pub written_whole : (old mid new : Option (List (List ℕ))) (table : List (List ℕ)) → mid ≡ option_map (with_first table) old → new ≡ mid → AreInPart table old new
-written_whole old mid new table written same = record {
-  count = length table;
-  within = omega arith;
-  blocks = same ∙ written ∙ ap (λ (t : List (List ℕ)). option_map (with_first t) old) (sym (take_all (length table) table (omega arith)));
-}
+written_whole old mid new table written same = grind (arith, take_all)

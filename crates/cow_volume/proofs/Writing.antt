@@ -7,6 +7,7 @@ use Rattle.std.specs.List.{range_with_len}
 use Rattle.std.proofs.lemmas.Option.{same_Some, slice_get_within}
 use Rattle.std.proofs.lemmas.List.{take-append-le, drop-append-le, length-drop, length_push, length-map}
 use Rattle.std.proofs.lemmas.List.Folds.{list_any-append}
+use Rattle.std.proofs.lemmas.Bool.{or_cases}
 use Rattle.block_data.specs.Runs.{zeros}
 use Rattle.write_history.specs.History.{Write, Image, History, last_bytes, content, contents, point_in, names, sets_of, written, AreLater, AreInTime}
 use Rattle.write_history.specs.Slots.{writes_since, needs_slot, needs_slot_in}
@@ -191,15 +192,12 @@ named-more ws w (i ∷ newer) set b time is =
     named-more_if (i.set == set) (names (writes_since ws i.point newer) b) (names (writes_since (ws ++ w ∷ []) i.point newer) b) (is_named ws newer set b) (is_named (ws ++ w ∷ []) newer set b)
     (named-since ws w i newer b time) (named-more ws w newer set b time.2) is
 
-either : (s t : Bool) → (s || t) ≡ true → (s ≡ true) ⊎ (t ≡ true)
-either s t e = grind arith
-
 -- what is named was, or is the written block for the newest image
 named_was_if : (t : Bool) (ws : List Write) (w : Write) (i : Image) (newer : List Image) (set b : ℕ) → (i.set == set) ≡ t → AreInTime (length ws) (i ∷ newer)
     → (is_named (ws ++ w ∷ []) newer set b ≡ true → (is_named ws newer set b ≡ true) ⊎ (IsNewest (sets_of newer) set × (w.block ≡ b)))
     → (if t then names (writes_since (ws ++ w ∷ []) i.point newer) b else is_named (ws ++ w ∷ []) newer set b) ≡ true
     → ((if t then names (writes_since ws i.point newer) b else is_named ws newer set b) ≡ true) ⊎ (IsNewest (sets_of (i ∷ newer)) set × (w.block ≡ b))
-named_was_if true ws w i [] set b e time rest is = here (either (names (drop i.point ws) b) (w.block == b) (sym (names-more ws w i.point b time.0) ∙ is)) where
+named_was_if true ws w i [] set b e time rest is = here (or_cases (names (drop i.point ws) b) (w.block == b) (sym (names-more ws w i.point b time.0) ∙ is)) where
   here : (names (drop i.point ws) b ≡ true) ⊎ ((w.block == b) ≡ true) → (names (drop i.point ws) b ≡ true) ⊎ ((i.set ≡ set) × (w.block ≡ b))
   here (inl was) = inl was
   here (inr now) = inr (same_number i.set set e, same_number w.block b now)

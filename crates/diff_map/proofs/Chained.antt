@@ -7,7 +7,7 @@ use Rattle.diff_map.specs.declared.copied.Copied.{Copied}
 use Rattle.diff_map.specs.Copies.{copied_at, copy_of}
 use Rattle.diff_map.specs.Counts.{used_for, IsAmong, AreOnce, LeadOn, IsFor, IsChain}
 use Rattle.diff_map.proofs.Counting.{used_at}
-use Rattle.diff_map.proofs.Renewal.{row_within}
+use Rattle.diff_map.proofs.Renewal.{get_within}
 
 -- another slot's link does not count
 pub lead_on_set : (next : List ℕ) (slot value first : ℕ) (slots : List ℕ) → (IsAmong slot slots → ⊥) → LeadOn next first slots → LeadOn (set next slot value) first slots
@@ -80,7 +80,7 @@ module _ (next : List ℕ) (copies : List (Option Copied)) (image first : ℕ) w
       → IsFor copies image first → IsChain next (set copies first None) image (get_or next first 0)
   rest_is [] lead once each all it = absurd (all first it)
   rest_is (x ∷ xs) lead once each all it =
-      let inside = row_within copies first (copy_of image it.0) it.1 in
+      let inside = get_within copies first (copy_of image it.0) it.1 in
       record {
         slots = xs;
         lead = subst (λ k. LeadOn next (get_or next k 0) xs) (sym lead.0) lead.1;

@@ -18,7 +18,7 @@ use Rattle.diff_map.specs.Counts.{is_for, used_for, IsFor, IsChain, IsCounted, K
 use Rattle.diff_map.specs.MapValue.{AreImages, KeepsImages}
 use Rattle.diff_map.proofs.Chained.{not_for, IsChain-other, IsChain-other_out, IsChain-noted, IsChain-popped, IsFor-first}
 use Rattle.diff_map.proofs.Counting.{used_noted, used_noted_other, used_none, used_some, used_at, used_out, used_out_other}
-use Rattle.diff_map.proofs.Renewal.{row_within}
+use Rattle.diff_map.proofs.Renewal.{get_within}
 
 abbrev none_of : ImageCount
 none_of = record { set = 0; used = 0; first = 0 }
@@ -101,14 +101,14 @@ one_more_fits copies slot image narrow unnoted =
 -- a row that changes keeps the images, if it is of one of them
 pub KeepsImages-set : (images : Vec ℕ Global) (copies : List (Option Copied)) (slot : ℕ) (row : Option Copied) → KeepsImages images copies → IfSome row (λ c. Contains images.items c.set)
     → KeepsImages images (set copies slot row)
-KeepsImages-set images copies slot row keeps ok = grind (arith, cases_eq, get_or-set_same, row_within, length-set, get_or-set_other, none-some, same_Some)
+KeepsImages-set images copies slot row keeps ok = grind (arith, cases_eq, get_or-set_same, get_within, length-set, get_or-set_other, none-some, same_Some)
 
 -- ## a slot loses its copy
 
 pub popped_other : (next : List ℕ) (copies : List (Option Copied)) (slot image block : ℕ) → copied_at copies slot ≡ Some (copy_of image block) → (c : ImageCount) → c.set ≢ image
     → IsCounted next copies c → IsCounted next (set copies slot None) c
 popped_other next copies slot image block was c apart is =
-    let inside = row_within copies slot (copy_of image block) was in
+    let inside = get_within copies slot (copy_of image block) was in
     record {
       used = is.used ∙ sym (used_out_other copies slot image block c.set was apart);
       chain = IsChain-other_out next copies c.set c.first slot None
@@ -176,7 +176,7 @@ module _ (images : Vec ℕ Global) (counts : Vec ImageCount Global) (next : List
   pub first_at_place : (count.used ≡ 0 → ⊥) → (block : ℕ) × (copied_at copies count.first ≡ Some (copy_of count.set block)) × (count.first < length copies)
   first_at_place some =
       let it = first_for next copies count.set count refl counted.1 (omega arith) in
-      (it.0, it.1, row_within copies count.first (copy_of count.set it.0) it.1)
+      (it.0, it.1, get_within copies count.first (copy_of count.set it.0) it.1)
 
 -- ## an image is cut
 

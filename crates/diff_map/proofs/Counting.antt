@@ -1,16 +1,17 @@
 -- How many slots hold copies for an image, and where a row changes.
-use Rattle.std.proofs.Common.{ℕ, zero, suc, ◌≡◌, ◌≢◌, ◌+◌, ◌<◌, inl, inr, Bool, true, false, cond, eqb, List, [], ◌∷◌, length, set, ◌^◌, Option, Some, None, refl, ap, sym, ◌∙◌, arith}
+use Rattle.std.proofs.Common.{ℕ, suc, ◌≡◌, ◌≢◌, ◌+◌, ◌<◌, inl, inr, Bool, true, false, cond, eqb, List, [], ◌∷◌, length, set, ◌^◌, Option, Some, None, refl, ap, sym, arith}
 use Rattle.std.specs.List.{slice_get, count_by}
 use Rattle.std.specs.Option.{is_some}
 use Rattle.std.proofs.lemmas.Bool.{cases_eq}
 use Rattle.std.proofs.lemmas.Bool.Decides.{nat_tests}
 use Rattle.std.proofs.lemmas.List.{length-set}
 use Rattle.std.proofs.lemmas.List.Sums.{sum_by-cons, sum_by-set, count_by-le-length}
-use Rattle.std.proofs.lemmas.Option.{none-some, get_or_from_slice_get, slice_get_within}
+use Rattle.std.proofs.lemmas.Option.{get_or_from_slice_get, slice_get_within}
+use Rattle.std.proofs.lemmas.Grind.{common_steps}
 use Rattle.diff_map.specs.declared.copied.Copied.{Copied}
 use Rattle.diff_map.specs.Copies.{copied_at, copy_of, noted_in}
 use Rattle.diff_map.specs.Counts.{is_for, used_for}
-use Rattle.diff_map.proofs.Renewal.{row_within}
+use Rattle.diff_map.proofs.Renewal.{get_within}
 
 abbrev of_test : Bool → ℕ
 of_test t = cond t 1 0
@@ -59,12 +60,7 @@ used_none (Some c ∷ xs) image none =
 
 -- or one is
 pub used_some : (copies : List (Option Copied)) (slot : ℕ) (c : Copied) → copied_at copies slot ≡ Some c → 0 < used_for copies c.set
-used_some [] slot c row = absurd (none-some c row)
-used_some (x ∷ xs) zero c row =
-    let first = count_cons (is_for c.set) x xs in
-    let here : of_test (is_for c.set x) ≡ 1 = ap (λ (o : Option Copied). of_test (is_for c.set o)) row ∙ is_itself c.set c.block in
-    omega arith
-used_some (x ∷ xs) (suc slot) c row = let first = count_cons (is_for c.set) x xs in let rest = used_some xs slot c row in omega arith
+used_some copies slot c row = grind (arith, common_steps)
 
 pub used_at : (copies : List (Option Copied)) (image : ℕ) → 0 < used_for copies image → (slot : ℕ) × (block : ℕ) × (copied_at copies slot ≡ Some (copy_of image block))
 used_at [] image some = absurd (omega arith)
@@ -84,17 +80,11 @@ used_at (Some c ∷ xs) image some = elim (cases_eq c.set image) [
 -- ## a slot loses its copy
 
 pub used_out : (copies : List (Option Copied)) (slot image block : ℕ) → copied_at copies slot ≡ Some (copy_of image block) → used_for (set copies slot None) image + 1 ≡ used_for copies image
-used_out copies slot image block was =
-    let moved = used_set copies slot image None (row_within copies slot (copy_of image block) was) in
-    let before : of_test (is_for image (copied_at copies slot)) ≡ 1 = ap (λ (o : Option Copied). of_test (is_for image o)) was ∙ is_itself image block in
-    omega arith
+used_out copies slot image block was = grind (arith, common_steps)
 
 pub used_out_other : (copies : List (Option Copied)) (slot image block other : ℕ) → copied_at copies slot ≡ Some (copy_of image block) → other ≢ image
     → used_for (set copies slot None) other ≡ used_for copies other
-used_out_other copies slot image block other was apart =
-    let moved = used_set copies slot other None (row_within copies slot (copy_of image block) was) in
-    let before : of_test (is_for other (copied_at copies slot)) ≡ 0 = ap (λ (o : Option Copied). of_test (is_for other o)) was ∙ ap of_test (is_no_other image other (λ e. apart (sym e))) in
-    omega arith
+used_out_other copies slot image block other was apart = grind (arith, common_steps)
 
 -- ## all noted slots
 
@@ -106,7 +96,7 @@ pub noted_more : (copies : List (Option Copied)) (slot : ℕ) (c : Copied) → s
 noted_more copies slot c unnoted = grind (arith, noted_set, slice_get_within, get_or_from_slice_get)
 
 pub noted_less : (copies : List (Option Copied)) (slot : ℕ) (c : Copied) → copied_at copies slot ≡ Some c → noted_in (set copies slot None) + 1 ≡ noted_in copies
-noted_less copies slot c was = grind (arith, noted_set, row_within)
+noted_less copies slot c was = grind (arith, noted_set, get_within)
 
 pub noted_fits : (copies : List (Option Copied)) (slot : ℕ) (c : Copied) → length copies < 2 ^ 32 → slice_get copies slot ≡ Some None → noted_in copies + 1 < 2 ^ 32
 noted_fits copies slot c narrow unnoted =

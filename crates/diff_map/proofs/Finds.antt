@@ -1,16 +1,16 @@
 -- Each image but the one that goes finds what it found before.
 use Rattle.std.proofs.Common.{ℕ, ◌≡◌, ◌≢◌, ◌≤◌, inl, inr, false, List, Option, Some, None, refl, ap, sym, ◌∙◌, arith, Contains}
-use Rattle.std.specs.Option.{option_and_then}
-use Rattle.std.proofs.lemmas.Bool.{cases_eq}
+use Rattle.std.proofs.lemmas.Bool.{cases_eq, cases_Bool}
 use Rattle.std.proofs.lemmas.Option.{none-some, same_Some}
+use Rattle.std.proofs.lemmas.Grind.{common_steps}
 use Rattle.diff_map.specs.declared.copied.Copied.{Copied}
 use Rattle.diff_map.specs.Copies.{copied_at, copy_of, has_copy}
 use Rattle.diff_map.specs.Chains.{IsFound, IsAbsent, KeepsFinds}
 use Rattle.diff_map.specs.MapValue.{AreImages}
 use Rattle.diff_map.specs.Rules.{renewed, merged, next_older}
 use Rattle.diff_map.proofs.Images.{next_older_is, next_older_reaches}
-use Rattle.diff_map.proofs.Kept.{copied_at-renewed, row_before}
-use Rattle.diff_map.proofs.Ruling.{true_or_false, row_from_has, merged_goes, merged_moves, merged_stays, merged_nowhere}
+use Rattle.diff_map.proofs.Kept.{row_before}
+use Rattle.diff_map.proofs.Ruling.{row_from_has, merged_goes, merged_moves, merged_stays, merged_nowhere}
 
 -- what a merge made of a row: it stays for another image, or it went to the next older one, which lacked it
 pub data Merged (copies : List (Option Copied)) (older : Option ℕ) (image : ℕ) (c d : Copied) : Type 0 where
@@ -19,7 +19,7 @@ pub data Merged (copies : List (Option Copied)) (older : Option ℕ) (image : �
 
 merged_down : (copies : List (Option Copied)) (older : Option ℕ) (image : ℕ) (c d : Copied) → c.set ≡ image → merged copies older image c ≡ Some d → Merged copies older image c d
 merged_down copies None image c d same gives = absurd (none-some d (sym (merged_nowhere copies image c same) ∙ gives))
-merged_down copies (Some next) image c d same gives = elim (true_or_false (has_copy copies next c.block)) [
+merged_down copies (Some next) image c d same gives = elim (cases_Bool (has_copy copies next c.block)) [
   | inl has ↦ absurd (none-some d (sym (merged_goes copies next image c same has) ∙ gives))
   | inr lacks ↦ moved next same refl (same_Some d (copy_of next c.block) (sym gives ∙ merged_moves copies next image c same lacks)) lacks
 ]
@@ -42,7 +42,7 @@ module _ (copies : List (Option Copied)) (images : List ℕ) (image : ℕ) (are 
   row_of slot block c row same = row ∙ ap (λ k. Some (copy_of c.set k)) same
 
   row_after : (slot : ℕ) (c : Copied) → copied_at copies slot ≡ Some c → copied_at rows slot ≡ merged copies (next_older images image) image c
-  row_after slot c row = copied_at-renewed (merged copies (next_older images image) image) copies slot ∙ ap (option_and_then (merged copies (next_older images image) image)) row
+  row_after slot c row = grind (arith, common_steps)
 
   -- a renewed row is no nearer than the first that was found
   no_nearer : (asked block slot newer : ℕ) (f : IsFound copies asked block slot) (other : ℕ) (c : Copied) → copied_at copies other ≡ Some c
@@ -81,7 +81,7 @@ module _ (copies : List (Option Copied)) (images : List ℕ) (image : ℕ) (are 
         let asked_reached = f.reached in
         let next = next_older_reaches images image asked are.ascend at (omega arith) in
         let below = (next_older_is images image next.0 next.1).0 in
-        let lacks : has_copy copies next.0 block ≡ false = elim (true_or_false (has_copy copies next.0 block)) [
+        let lacks : has_copy copies next.0 block ≡ false = elim (cases_Bool (has_copy copies next.0 block)) [
           | inl has ↦ let there = row_from_has copies next.0 block has in let most : asked ≤ next.0 = next.2 in let first = f.first there.0 next.0 there.1 most in absurd (omega arith)
           | inr none ↦ none
         ] in

@@ -1,11 +1,11 @@
 -- The maps of a group where none has an image yet.
-use Rattle.std.proofs.Common.{ℕ, zero, suc, ◌≡◌, ◌+◌, ◌<◌, ◌≤◌, ◌^◌, ◌++◌, inl, inr, List, [], ◌∷◌, length, get_or, map, replicate, take, Option, Some, None, refl, ap, sym, ◌∙◌, subst}
+use Rattle.std.proofs.Common.{ℕ, ◌≡◌, ◌+◌, ◌<◌, ◌≤◌, ◌^◌, ◌++◌, inl, inr, List, [], ◌∷◌, length, get_or, map, replicate, take, Option, Some, None, ap, sym, ◌∙◌, subst}
 use Rattle.std.proofs.Common.{arith, All}
 use Rattle.std.proofs.lemmas.Bool.{cases_lt}
 use Rattle.std.proofs.lemmas.List.{map-append, length-append, length-replicate, take_more}
 use Rattle.std.proofs.lemmas.List.Elements.{All-append, All-cons, All-nil}
 use Rattle.std.proofs.lemmas.List.Quantifiers.{all_pairs_push}
-use Rattle.std.proofs.lemmas.Option.{none-some}
+use Rattle.std.proofs.lemmas.Grind.{common_steps}
 use Rattle.diff_map.specs.declared.copied.Copied.{Copied}
 use Rattle.diff_map.specs.declared.image_count.ImageCount.{ImageCount}
 use Rattle.diff_map.specs.declared.of_volume.OfVolume.{OfVolume}
@@ -20,13 +20,10 @@ abbrev none_of : ℕ → List (Option Copied)
 none_of slots = replicate slots None
 
 none_at : (slots slot : ℕ) (c : Copied) → copied_at (none_of slots) slot ≡ Some c → ⊥
-none_at zero slot c is = none-some c is
-none_at (suc slots) zero c is = none-some c is
-none_at (suc slots) (suc slot) c is = none_at slots slot c is
+none_at slots slot c is = grind (arith, common_steps)
 
 none_noted : (slots : ℕ) → noted_in (none_of slots) ≡ 0
-none_noted zero = refl
-none_noted (suc slots) = none_noted slots
+none_noted slots = grind (arith, common_steps)
 
 no_images : AreImages []
 no_images = record { ascend = λ i j d lt inside. absurd (omega arith); above_zero = All-nil (λ image. (0 < image) × (image < 2 ^ 32)); few = omega arith }
@@ -50,13 +47,10 @@ KeepsVolume-empty slots base blocks volume empty =
     }
 
 last_of : (parts : List Part) (new p : Part) → get_or (parts ++ new ∷ []) (length parts) p ≡ new
-last_of [] new p = refl
-last_of (x ∷ xs) new p = last_of xs new p
+last_of parts new p = grind (arith, common_steps)
 
 front_of : (parts : List Part) (new p : Part) (k : ℕ) → k < length parts → get_or (parts ++ new ∷ []) k p ≡ get_or parts k p
-front_of [] new p k inside = absurd (omega arith)
-front_of (x ∷ xs) new p zero inside = refl
-front_of (x ∷ xs) new p (suc k) inside = front_of xs new p k (omega arith)
+front_of parts new p k inside = grind (arith, common_steps)
 
 AreParts-push : (base count : ℕ) (parts : List Part) → AreParts base parts → base + count < 2 ^ 32 → AreParts (base + count) (parts ++ (record { base = base; blocks = count }) ∷ [])
 AreParts-push base count parts are narrow =

@@ -17,8 +17,8 @@ use Rattle.diff_map.specs.Parts.{part_of, own, own_copies, map_of, KeepsVolume, 
 use Rattle.diff_map.proofs.Counted.{KeepsImages-set, KeepsCounts-noted, KeepsCounts-popped, place_of_count, first_at_place}
 use Rattle.diff_map.proofs.Counting.{noted_more, noted_less}
 use Rattle.diff_map.proofs.Grouped.{volume_within, map_here, keeps_here, part_fits, parts_apart, KeepsGroup-one, unnoted_from, KeepsVolume-other, KeepsVolume-left, maps_after, maps_one}
-use Rattle.diff_map.proofs.Renewal.{row_within}
 use Rattle.diff_map.proofs.Parts.{AreApart, IsOwn, own_at, own_here, own_apart, own_copy, copy_own, own_same, own_set, unnoted_own}
+use Rattle.diff_map.proofs.Renewal.{get_within}
 
 -- the volume is that at place v of a group
 pub record IsAt (blocks : ℕ) (volumes : List OfVolume) (next : List ℕ) (copies : List (Option Copied)) (maps : List MapValue) (v : ℕ) (volume : OfVolume) : Type 0 where
@@ -103,7 +103,7 @@ module _ {blocks : ℕ} {volumes : List OfVolume} {next : List ℕ} {copies : Li
   pub unnoted_popped : (slot image block : ℕ) → copied_at (map_at maps v).copies slot ≡ Some (copy_of image block) → IsUnnoted (set maps v (with_row slot None (map_at maps v))) slot
   unnoted_popped slot image block had u m got =
       let is = (own_copy (part_of volume) copies slot image block (subst (λ (x : MapValue). copied_at x.copies slot ≡ Some (copy_of image block)) here had)) in
-      let low = row_within (own_copies volume copies) slot (copy_of image block) (subst (λ (x : MapValue). copied_at x.copies slot ≡ Some (copy_of image block)) here had) in
+      let low = get_within (own_copies volume copies) slot (copy_of image block) (subst (λ (x : MapValue). copied_at x.copies slot ≡ Some (copy_of image block)) here had) in
       let long = length-map copies (own (part_of volume)) in
       let m_is = get_or_from_slice_get (set maps v (with_row slot None (map_at maps v))) u m m got in
       let inside_u = slice_get_within (set maps v (with_row slot None (map_at maps v))) u m got in

@@ -1,16 +1,15 @@
 -- The images of a volume in order of their sets: the next older one, and what is left where some go.
 use Rattle.std.proofs.Common.{ℕ, zero, suc, ◌≡◌, ◌≢◌, ◌<◌, ◌≤◌, ◌^◌, ◌⊎◌, inl, inr, Bool, true, false, cond, eqb, leb, ltb, not, List, [], ◌∷◌, length, get_or, take}
-use Rattle.std.proofs.Common.{drop, ◌-◌, zero-add, Option, Some, None, refl, ap, sym, ◌∙◌, subst, arith, All, Contains}
+use Rattle.std.proofs.Common.{drop, ◌-◌, Option, Some, None, refl, ap, sym, ◌∙◌, subst, arith, All, Contains}
 use Rattle.std.specs.List.{AllPairs, AllWithin, filter, fold, copy_within, remove}
 use Rattle.std.proofs.lemmas.Bool.{cases_eq, cases_lt, lt-ltb, le-ltb}
 use Rattle.std.proofs.lemmas.Bool.Decides.{nat_tests}
-use Rattle.std.proofs.lemmas.List.{get_or_default, length-drop, take_all}
-use Rattle.std.proofs.Math.Seq.{paste}
-use Rattle.std.proofs.lemmas.List.Edits.{take-paste}
+use Rattle.std.proofs.lemmas.List.{get_or_default}
 use Rattle.std.proofs.lemmas.List.Elements.{All-filter, All-head, All-tail}
 use Rattle.std.proofs.lemmas.List.Kept.{AllPairs-filter}
 use Rattle.std.proofs.lemmas.List.Sums.{length-filter, count_by-le-length}
 use Rattle.std.proofs.lemmas.Option.{none-some, same_Some}
+use Rattle.std.proofs.lemmas.Grind.{common_steps}
 use Rattle.diff_map.specs.MapValue.{AreImages}
 use Rattle.diff_map.specs.Rules.{next_older}
 
@@ -156,7 +155,4 @@ images_until set n images stay go = grind (arith, filter_until)
 
 -- the items that are left where the first ones were written over
 pub left_in_front : {X : Type 0} (xs : List X) (n m len : ℕ) → len ≡ length xs → n ≤ length xs → m ≡ len - n → take m (copy_within xs n len 0) ≡ drop n xs
-left_in_front xs n m len as_long within is =
-    let long = length-drop n xs in
-    subst (λ k. take m (paste xs 0 (drop n xs) k) ≡ drop n xs) is
-    (subst (λ k. take k (paste xs 0 (drop n xs) m) ≡ take m (drop n xs)) (zero-add m) (take-paste xs 0 (drop n xs) m (omega arith) (omega arith)) ∙ take_all m (drop n xs) (omega arith))
+left_in_front xs n m len as_long within is = grind (arith, common_steps)

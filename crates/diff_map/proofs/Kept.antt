@@ -1,9 +1,10 @@
 -- The ordered list after its rows were renewed and it was settled: it is their index again.
-use Rattle.std.proofs.Common.{ℕ, zero, suc, ◌≡◌, ◌<◌, ◌^◌, List, [], ◌∷◌, length, get_or, Option, Some, None, refl, ap, sym, ◌∙◌, arith, All, Contains}
+use Rattle.std.proofs.Common.{ℕ, suc, ◌≡◌, ◌<◌, ◌^◌, List, [], ◌∷◌, length, get_or, Option, Some, None, refl, ap, sym, ◌∙◌, arith, All, Contains}
 use Rattle.std.specs.List.{AllPairs, filter_map, cons_option}
 use Rattle.std.specs.Option.{option_and_then, option_map}
 use Rattle.std.proofs.lemmas.Bool.{cases_eq}
 use Rattle.std.proofs.lemmas.List.Elements.{All-nil, All-head, All-tail}
+use Rattle.std.proofs.lemmas.Grind.{common_steps}
 use Rattle.diff_map.specs.declared.copied.Copied.{Copied}
 use Rattle.diff_map.specs.declared.entry.Entry.{Entry}
 use Rattle.diff_map.specs.Copies.{copied_at, copy_of}
@@ -48,16 +49,11 @@ module _ {X Y : Type 0} (h : X → Option Y) where
   Contains-filter_map [] x y at gives = absurd (let l = at.1 in omega arith)
   Contains-filter_map (z ∷ xs) x y at gives = found_of z xs x y gives (λ found. Contains-filter_map xs x y found gives) at.0 at.1 at.2
 
-option_map_some : {A B : Type 0} (f : A → B) (o : Option A) (y : B) → option_map f o ≡ Some y → (x : A) × (o ≡ Some x) × (f x ≡ y)
-option_map_some f o y e = grind arith
-
 then_some : {A B : Type 0} (f : A → Option B) (o : Option A) (y : B) → option_and_then f o ≡ Some y → (x : A) × (o ≡ Some x) × (f x ≡ Some y)
 then_some f o y e = grind arith
 
 pub copied_at-renewed : (rule : Copied → Option Copied) (copies : List (Option Copied)) (k : ℕ) → copied_at (renewed rule copies) k ≡ option_and_then rule (copied_at copies k)
-copied_at-renewed rule [] k = refl
-copied_at-renewed rule (x ∷ xs) zero = refl
-copied_at-renewed rule (x ∷ xs) (suc k) = copied_at-renewed rule xs k
+copied_at-renewed rule copies k = grind (arith, common_steps)
 
 -- a renewed row comes from a row
 pub row_before : (rule : Copied → Option Copied) (copies : List (Option Copied)) (slot : ℕ) (d : Copied) → copied_at (renewed rule copies) slot ≡ Some d
@@ -74,9 +70,7 @@ module _ (rule : Copied → Option Copied) (entries : List Entry) (copies : List
   -- what the settled list makes of an entry
   from_entry : (e f : Entry) → IsNoted copies e → entry_now (renewed rule copies) e ≡ Some f
       → (d : Copied) × (copied_at (renewed rule copies) e.slot ≡ Some d) × (rule (copy_of e.set e.block) ≡ Some d) × (record { block = d.block; set = d.set; slot = e.slot } ≡ f)
-  from_entry e f noted now =
-      let made = option_map_some (λ copied. record { block = copied.block; set = copied.set; slot = e.slot }) (copied_at (renewed rule copies) e.slot) f now in
-      (made.0, made.1, sym (copied_at-renewed rule copies e.slot ∙ ap (option_and_then rule) noted.row) ∙ made.1, made.2)
+  from_entry e f noted now = grind (arith, common_steps)
 
   renewed_each : (e f : Entry) → IsNoted copies e → entry_now (renewed rule copies) e ≡ Some f → IsNoted (renewed rule copies) f
   renewed_each e f noted now = grind (arith, from_entry)
@@ -96,7 +90,3 @@ module _ (rule : Copied → Option Copied) (entries : List Entry) (copies : List
         Contains-filter_map (entry_now (renewed rule copies)) entries (record { block = was.0.block; set = was.0.set; slot = slot }) (record { block = d.block; set = d.set; slot = slot }) at
         (ap (option_map (λ copied. record { block = copied.block; set = copied.set; slot = slot })) row);
   }
-
--- a noted set is a 32-bit number
-pub row_narrow : (entries : List Entry) (copies : List (Option Copied)) → IsIndex entries copies → (slot : ℕ) (c : Copied) → copied_at copies slot ≡ Some c → c.set < 2 ^ 32
-row_narrow entries copies index slot c row = grind arith

@@ -1,10 +1,11 @@
 -- What the rows of copies stand for, as contracts see it.
-use Rattle.std.proofs.Common.{ℕ, zero, suc, ◌≡◌, ◌≢◌, ◌<◌, ◌≤◌, ◌^◌, ◌-◌, inl, inr, ◌∙◌, ◌∷◌, [], List, Option, Some, None, length, map, set, replicate, refl, ap, sym, subst, arith}
+use Rattle.std.proofs.Common.{ℕ, zero, suc, ◌≡◌, ◌≢◌, ◌<◌, ◌≤◌, ◌^◌, ◌-◌, inl, inr, ◌∙◌, ◌∷◌, List, Option, Some, None, length, map, set, replicate, refl, ap, sym, subst, arith}
 use Rattle.std.specs.Prelude.{◌↔◌, IfSome, IsNone, slice_get}
 use Rattle.std.proofs.lemmas.Bool.{cases_lt, false≢true}
 use Rattle.std.proofs.lemmas.Bool.Decides.{nat_tests}
 use Rattle.std.proofs.lemmas.List.{map-set, set-get_or, length-map, length-replicate, length-set}
 use Rattle.std.proofs.lemmas.Option.{none-some, get_or_from_slice_get, slice_get_within}
+use Rattle.std.proofs.lemmas.Grind.{common_steps}
 use Rattle.diff_map.specs.declared.copied.Copied.{Copied}
 use Rattle.diff_map.specs.declared.row.Row.{Row}
 use Rattle.diff_map.specs.Copies.{copied_at, copy_of, HasCopy}
@@ -13,9 +14,7 @@ use Rattle.diff_map.specs.Links.{LinksValue, AreLinked, row_at, copy_in, HasBloc
 
 -- the copy of a slot is that of its row
 pub copied_at_row : (rows : List Row) (slot : ℕ) → copied_at (map copy_in rows) slot ≡ copy_in (row_at rows slot)
-copied_at_row [] slot = refl
-copied_at_row (row ∷ rows) zero = refl
-copied_at_row (row ∷ rows) (suc slot) = copied_at_row rows slot
+copied_at_row rows slot = grind (arith, common_steps)
 
 pub copy_in_used : (row : Row) → 0 < row.set → copy_in row ≡ Some (copy_of row.set row.block)
 copy_in_used row used = grind (arith, nat_tests, used)

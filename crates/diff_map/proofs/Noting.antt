@@ -15,7 +15,7 @@ use Rattle.diff_map.specs.declared.copied.Copied.{Copied}
 use Rattle.diff_map.specs.declared.entry.Entry.{Entry}
 use Rattle.diff_map.specs.Copies.{copied_at, copy_of, HasCopy}
 use Rattle.diff_map.specs.Index.{place, place_of, IsInOrder, IsIndex, IsNoted}
-use Rattle.diff_map.proofs.Renewal.{slots_apart, row_within}
+use Rattle.diff_map.proofs.Renewal.{slots_apart, get_within}
 
 module _ (entries : List Entry) (copies : List (Option Copied)) (slot image block n : ℕ) (index : IsIndex entries copies) (unnoted : slice_get copies slot ≡ Some None)
     (lacks : HasCopy copies image block → ⊥) (narrow : image < 2 ^ 32) (within : n ≤ length entries) (before : AllWithin (λ e. place e < place_of block image) entries 0 n)
@@ -123,7 +123,7 @@ module _ (entries : List Entry) (copies : List (Option Copied)) (slot image bloc
       (λ k d i. let other = other_slot (get_or entries k d) (index.each k d i) in grind (arith, nat_tests)) in
       let distinct = IsDistinct-cons eqb slot slots (recursion_from_All (λ y. eqb slot y ≡ false) slots news) apart in
       let low : All (λ y. y < length copies) (slot ∷ slots) = All-cons (λ y. y < length copies) slot slots inside
-      (All-map (λ y. y < length copies) (λ (x : Entry). x.slot) entries (λ k d i. row_within copies (get_or entries k d).slot _ (index.each k d i).row)) in
+      (All-map (λ y. y < length copies) (λ (x : Entry). x.slot) entries (λ k d i. get_within copies (get_or entries k d).slot _ (index.each k d i).row)) in
       let most = length-le_from_distinct_below (slot ∷ slots) (length copies) distinct (λ q found.
       let any = Any-from_list_any (eqb q) (slot ∷ slots) found in
       let at : get_or (slot ∷ slots) any.0 any.1 ≡ any.1 = any.3 in

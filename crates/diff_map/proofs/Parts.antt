@@ -5,6 +5,7 @@ use Rattle.std.specs.Prelude.{IfSome, IsNone, IsTrue, ◌↔◌}
 use Rattle.std.specs.List.{slice_get}
 use Rattle.std.proofs.lemmas.List.{map-set, set-get_or}
 use Rattle.std.proofs.lemmas.Option.{same_Some}
+use Rattle.std.proofs.lemmas.Grind.{common_steps}
 use Rattle.diff_map.specs.declared.copied.Copied.{Copied}
 use Rattle.diff_map.specs.Chains.{IsFound, IsAbsent}
 use Rattle.diff_map.specs.Copies.{copied_at, copy_of, HasCopy}
@@ -36,9 +37,7 @@ own_apart p q image block apart low = grind arith
 -- ## the copies of a part
 
 pub own_at : (p : Part) (copies : List (Option Copied)) (slot : ℕ) → copied_at (map (own p) copies) slot ≡ own p (copied_at copies slot)
-own_at p [] slot = refl
-own_at p (o ∷ copies) zero = refl
-own_at p (o ∷ copies) (suc slot) = own_at p copies slot
+own_at p copies slot = grind (arith, common_steps)
 
 pub own_copy : (p : Part) (copies : List (Option Copied)) (slot image block : ℕ) → copied_at (map (own p) copies) slot ≡ Some (copy_of image block) → IsOwn p (copied_at copies slot) image block
 own_copy p copies slot image block is = own_is p (copied_at copies slot) image block (sym (own_at p copies slot) ∙ is)

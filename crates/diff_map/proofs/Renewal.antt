@@ -5,6 +5,7 @@ use Rattle.std.specs.Option.{IsSome, IsNone, is_some}
 use Rattle.std.proofs.lemmas.Bool.{cases_eq, false≢true}
 use Rattle.std.proofs.lemmas.List.{length-set, get_or-set_same, get_or-set_other, get_or_default}
 use Rattle.std.proofs.lemmas.Option.{same_Some, slice_get_within}
+use Rattle.std.proofs.lemmas.Grind.{common_steps}
 use Rattle.diff_map.specs.declared.copied.Copied.{Copied}
 use Rattle.diff_map.specs.declared.entry.Entry.{Entry}
 use Rattle.diff_map.specs.Copies.{copied_at, AllTaken}
@@ -32,14 +33,8 @@ slots_apart entries copies index i j d e low inside same =
     let order = index.in_order i j d low inside in
     omega arith
 
-get_within : (rows : List (Option Copied)) (k : ℕ) (c : Copied) → copied_at rows k ≡ Some c → k < length rows
-get_within [] k c row = cc
-get_within (x ∷ xs) zero c row = omega arith
-get_within (x ∷ xs) (suc k) c row = let inside = get_within xs k c row in omega arith
-
--- a noted slot is one of the rows
-pub row_within : (rows : List (Option Copied)) (k : ℕ) (c : Copied) → copied_at rows k ≡ Some c → k < length rows
-row_within rows k c row = get_within rows k c row
+pub get_within : (rows : List (Option Copied)) (k : ℕ) (c : Copied) → copied_at rows k ≡ Some c → k < length rows
+get_within rows k c row = grind (arith, common_steps)
 
 pub is_some_from : (o : Option Copied) (c : Copied) → o ≡ Some c → IsSome o
 is_some_from o c e = ap is_some e

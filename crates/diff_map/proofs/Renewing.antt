@@ -3,7 +3,7 @@ use Rattle.std.proofs.Common.{ℕ, zero, suc, ◌∷◌, [], ◌≡◌, ◌≢�
 use Rattle.std.proofs.Common.{arith, Contains}
 use Rattle.std.specs.List.{slice_get, AllWithin}
 use Rattle.std.specs.Option.{option_and_then}
-use Rattle.std.proofs.lemmas.Bool.{cases_eq, cases_lt}
+use Rattle.std.proofs.lemmas.Bool.{cases_eq, cases_lt, cases_Bool}
 use Rattle.std.proofs.lemmas.Bool.Decides.{nat_tests}
 use Rattle.std.proofs.lemmas.List.{ext_get_or, get_or-map, length-map, length-set, get_or-set_same, get_or-set_other, get_or_default, set-set}
 use Rattle.std.proofs.lemmas.Option.{same_Some, none-some}
@@ -19,8 +19,8 @@ use Rattle.diff_map.specs.Leaving.{takes, rule_of, IsRenewing}
 use Rattle.diff_map.proofs.Counting.{used_some, used_out, used_out_other, used_noted_other}
 use Rattle.diff_map.proofs.Images.{next_older_is}
 use Rattle.diff_map.proofs.Kept.{copied_at-renewed}
-use Rattle.diff_map.proofs.Renewal.{GivesBack-none, GivesBack-free, GivesBack-keep, row_within}
-use Rattle.diff_map.proofs.Ruling.{true_or_false, rule_takes, rule_leaves, rule_gives, row_from_has, has_from_row, merged_goes, merged_moves, merged_stays, merged_nowhere}
+use Rattle.diff_map.proofs.Renewal.{GivesBack-none, GivesBack-free, GivesBack-keep, get_within}
+use Rattle.diff_map.proofs.Ruling.{rule_takes, rule_leaves, rule_gives, row_from_has, has_from_row, merged_goes, merged_moves, merged_stays, merged_nowhere}
 
 pub IsRenewing-none : (rule : Copied → Option Copied) (rows : List (Option Copied)) (pool : List Bool) → IsRenewing rule rows rows pool pool
 IsRenewing-none rule rows pool = record { each = λ slot. inl refl; long = refl; gives = GivesBack-none rows pool }
@@ -34,12 +34,12 @@ step rule before after old new newer slot b row is inside was ruled gives = grin
 pub IsRenewing-freed : (rule : Copied → Option Copied) (before after : List (Option Copied)) (old new : List Bool) (slot : ℕ) (a b : Copied) → IsRenewing rule before after old new
     → AllTaken before old → copied_at after slot ≡ Some a → copied_at before slot ≡ Some b → rule b ≡ None → IsRenewing rule before (set after slot None) old (set new slot true)
 IsRenewing-freed rule before after old new slot a b is taken row was ruled =
-    step rule before after old new (set new slot true) slot b None is (row_within after slot a row) was ruled (GivesBack-free before after old new slot b a is.gives taken was row)
+    step rule before after old new (set new slot true) slot b None is (get_within after slot a row) was ruled (GivesBack-free before after old new slot b a is.gives taken was row)
 
 pub IsRenewing-moved : (rule : Copied → Option Copied) (before after : List (Option Copied)) (old new : List Bool) (slot : ℕ) (a b v : Copied) → IsRenewing rule before after old new
     → copied_at after slot ≡ Some a → copied_at before slot ≡ Some b → rule b ≡ Some v → IsRenewing rule before (set after slot (Some v)) old new
 IsRenewing-moved rule before after old new slot a b v is row was ruled =
-    step rule before after old new new slot b (Some v) is (row_within after slot a row) was ruled (GivesBack-keep before after old new slot a v is.gives row)
+    step rule before after old new new slot b (Some v) is (get_within after slot a row) was ruled (GivesBack-keep before after old new slot a v is.gives row)
 
 -- where no copy is left that the rule would change, all rows are renewed
 pub renewed_all : (rule : Copied → Option Copied) (before after : List (Option Copied)) (old new : List Bool) → IsRenewing rule before after old new
@@ -74,7 +74,7 @@ FreesUpTo-past going images n image before after old new up inside is stays = gr
 
 pub freed_all : (going : Going) (images : List ℕ) (n : ℕ) (before after : List (Option Copied)) (old new : List Bool)
     → ((slot : ℕ) (c : Copied) → copied_at before slot ≡ Some c → Contains images c.set) → FreesUpTo going images n before after old new → length images ≤ n → after ≡ renewed (rule_of going) before
-freed_all going images n before after old new of_images up end = renewed_all (rule_of going) before after old new up.renews (λ slot c now was. elim (true_or_false (takes going c.set)) [
+freed_all going images n before after old new of_images up end = renewed_all (rule_of going) before after old new up.renews (λ slot c now was. elim (cases_Bool (takes going c.set)) [
   | inr test ↦ rule_leaves going c test
   | inl test ↦
       let at = of_images slot c was in
@@ -105,7 +105,7 @@ module _ (before after : List (Option Copied)) (old new : List Bool) (older imag
 
   -- elsewhere it hands it down
   pub merging_moves : (HasCopy after older block → ⊥) → merged before (Some older) image (copy_of image block) ≡ Some (copy_of older block)
-  merging_moves lacks = elim (true_or_false (has_copy before older block)) [
+  merging_moves lacks = elim (cases_Bool (has_copy before older block)) [
     | inr none ↦ merged_moves before older image (copy_of image block) refl none
     | inl has ↦ let had = row_from_has before older block has in absurd (lacks (had.0, still had.0 had.1))
   ] where
@@ -158,11 +158,11 @@ module _ (first mid after : MapValue) (old new : List Bool) (older image : ℕ) 
   handing_range = grind arith
 
   pub handing_unnoted : slice_get after.copies e.slot ≡ Some None
-  handing_unnoted = grind (arith, slice_get-set_here, row_within)
+  handing_unnoted = grind (arith, slice_get-set_here, get_within)
 
   -- the other rows are as they were before the copy was popped
   has_then : HasCopy after.copies older e.block → HasCopy mid.copies older e.block
-  has_then has = grind (arith, row_within, none-some, get_or-set_same, get_or-set_other)
+  has_then has = grind (arith, get_within, none-some, get_or-set_same, get_or-set_other)
 
   pub has_now : HasCopy mid.copies older e.block → HasCopy after.copies older e.block
   has_now has = grind (arith, same_Some, get_or-set_other)

@@ -1,5 +1,5 @@
 -- What the rules make of a copy, against the ordered list.
-use Rattle.std.proofs.Common.{ℕ, ◌≡◌, ◌≢◌, ◌<◌, ◌⊎◌, Bool, true, false, cond, List, length, get_or, Option, Some, None, ap, ◌∙◌, arith}
+use Rattle.std.proofs.Common.{ℕ, ◌≡◌, ◌≢◌, ◌<◌, true, false, cond, List, length, get_or, Option, Some, None, ap, ◌∙◌, arith}
 use Rattle.std.proofs.lemmas.Bool.{false≢true}
 use Rattle.std.proofs.lemmas.Bool.Decides.{nat_tests}
 use Rattle.std.proofs.lemmas.List.{get_or_default}
@@ -9,10 +9,7 @@ use Rattle.diff_map.specs.declared.going.Going.{Going}
 use Rattle.diff_map.specs.Copies.{copied_at, copy_of, HasCopy, is_copy, has_copy}
 use Rattle.diff_map.specs.Rules.{merged}
 use Rattle.diff_map.specs.Leaving.{takes, rule_of}
-use Rattle.diff_map.proofs.Renewal.{row_within}
-
-pub true_or_false : (b : Bool) → (b ≡ true) ⊎ (b ≡ false)
-true_or_false b = grind arith
+use Rattle.diff_map.proofs.Renewal.{get_within}
 
 pub rule_takes : (going : Going) (c : Copied) → takes going c.set ≡ true → rule_of going c ≡ None
 rule_takes going c test = ap (λ b. cond {A = Option Copied} b None (Some c)) test
@@ -28,7 +25,7 @@ same_copy : (image block : ℕ) → is_copy image block (Some (copy_of image blo
 same_copy image block = grind (arith, nat_tests)
 
 pub has_from_row : (copies : List (Option Copied)) (slot image block : ℕ) → copied_at copies slot ≡ Some (copy_of image block) → has_copy copies image block ≡ true
-has_from_row copies slot image block row = grind (arith, list_any_at, row_within, same_copy)
+has_from_row copies slot image block row = grind (arith, list_any_at, get_within, same_copy)
 
 copy_is : (image block : ℕ) (c : Copied) → is_copy image block (Some c) ≡ true → c ≡ copy_of image block
 copy_is image block c test = grind arith

@@ -5,12 +5,14 @@ use Rattle.promises.proofs.Words.{with_group, left_from, groups_left, open_place
 use Rattle.promises.proofs.Words.{answer_runs, runs_if, hold_running, running_at, spent_of, groups_left-all_say}
 use Rattle.std.proofs.Common.{◌≡◌, ◌∙◌, ℕ, List, [], ◌∷◌, ◌++◌, None, refl, Bool, true, false, ap, sym, subst, inr, map, filter, arith}
 use Rattle.std.specs.Prelude.{◌&&◌, ◌||◌, ◌==◌, not, if◌then◌else◌}
+use Rattle.std.proofs.lemmas.Bool.{and_parts, or_right}
 use Rattle.set_agenda.specs.declared.limit.Limit.TheVariants.{Freeze as FreezeLimit, Answer as AnswerLimit}
-use Rattle.promises.proofs.Truth.{both_parts, not_both, not_true, right_part}
 use Rattle.promises.proofs.Speaks.{Speaks}
 use Rattle.promises.proofs.NotSpent.{at_once, none_both, unspent_if, unspent_hold, is_mild}
 use Rattle.promises.proofs.OpenGroup.{speaks_some, last_new}
 use Rattle.promises.proofs.OneMore.{Ordered, InTime, more, ordered_more, mild_stays}
+use Rattle.set_agenda.proofs.Closings.{unless}
+use Rattle.vss_model.proofs.Orderly.{true_not_false}
 
 -- ## places apart
 
@@ -35,8 +37,8 @@ apart_group p q ws later e h = grind arith
 apart_left : (a : Agenda) (p : Place) (qs : List Place) → none_same p qs ≡ true → Apart p (left_from a qs)
 apart_left a p [] e = tt
 apart_left a p (q ∷ qs) e =
-    let parts = both_parts (not (same_place p q)) (none_same p qs) e in
-    apart_group p q (waited_for a q) (left_from a qs) (not_true (same_place p q) parts.0) (apart_left a p qs parts.1)
+    let parts = and_parts (not (same_place p q)) (none_same p qs) e in
+    apart_group p q (waited_for a q) (left_from a qs) (unless (same_place p q) parts.0) (apart_left a p qs parts.1)
 
 first_apart : (p : Place) (ws : List ℕ) (later : List Open) (o : Open) (os : List Open) → Apart p later → (later ≡ o ∷ os → Apart o.place os) → with_group p ws later ≡ o ∷ os → Apart o.place os
 first_apart p ws later o os h ih e = grind arith
@@ -44,7 +46,7 @@ first_apart p ws later o os h ih e = grind arith
 rest_apart : (a : Agenda) (ps : List Place) (o : Open) (os : List Open) → all_apart ps ≡ true → left_from a ps ≡ o ∷ os → Apart o.place os
 rest_apart a [] o os e f = absurd cc
 rest_apart a (p ∷ ps) o os e f =
-    let parts = both_parts (none_same p ps) (all_apart ps) e in
+    let parts = and_parts (none_same p ps) (all_apart ps) e in
     first_apart p (waited_for a p) (left_from a ps) o os (apart_left a p ps parts.0) (λ g. rest_apart a ps o os parts.1 g) f
 
 apart_unasked : (p : Place) (ws : List ℕ) (os : List Open) → Apart p os → Apart p (unasked ws os)
@@ -58,7 +60,7 @@ apart_unasked_if b p ws os h = grind (arith, apart_unasked)
 
 keeps_none : (ws xs : List ℕ) → ((x : ℕ) → is_among x xs ≡ true → is_among x ws ≡ true) → others ws xs ≡ []
 keeps_none ws [] h = refl
-keeps_none ws (x ∷ xs) h = by_among (is_among x ws) (h x (first x (is_among x xs))) (keeps_none ws xs (λ y e. h y (right_part (x == y) (is_among y xs) e)))
+keeps_none ws (x ∷ xs) h = by_among (is_among x ws) (h x (first x (is_among x xs))) (keeps_none ws xs (λ y e. h y (or_right (x == y) (is_among y xs) e)))
   where
     first : (a : ℕ) (b : Bool) → ((a == a) || b) ≡ true
     first a b = grind arith
@@ -89,7 +91,8 @@ module _ (now : ℕ) (a : Agenda) (asks : is_orders (open_place (groups_left a))
 
   apart_next : (os : List Open) → groups_left a ≡ os → Apart (open_place os) (advance (waits_now os) true os)
   apart_next [] e = tt
-  apart_next (o ∷ os) e = subst (Apart o.place) (sym (left_after true o os)) (apart_unasked_if (is_orders o.place.group && true) o.place o.waits os (rest_apart a (places a.kind) o os (kind_apart a.kind) e))
+  apart_next (o ∷ os) e = subst (Apart o.place) (sym (left_after true o os))
+      (apart_unasked_if (is_orders o.place.group && true) o.place o.waits os (rest_apart a (places a.kind) o os (kind_apart a.kind) e))
 
   next_apart : Apart (open_place (groups_left a)) (groups_left next)
   next_apart = subst (Apart (open_place (groups_left a))) (sym (groups_left-all_say Lost now ws a)) (apart_next (groups_left a) refl)
@@ -98,10 +101,11 @@ module _ (now : ℕ) (a : Agenda) (asks : is_orders (open_place (groups_left a))
   unspent_next f [] g h = refl
   unspent_next f (x ∷ xs) g h =
       let off = mild_alone x.place.group (mild_stays now Lost ws a who order a.kind refl mild x xs g) in
-      none_both now (hold_running x.place.group (first_hold next.log) ++ runs_if (freeze_runs x.place.group) FreezeLimit (freeze_opened_at next) f) (runs_if (answer_runs x.place.group) AnswerLimit (opened_at next x) answer_limit)
+      none_both now (hold_running x.place.group (first_hold next.log) ++ runs_if (freeze_runs x.place.group) FreezeLimit (freeze_opened_at next) f)
+      (runs_if (answer_runs x.place.group) AnswerLimit (opened_at next x) answer_limit)
       (none_both now (hold_running x.place.group (first_hold next.log)) (runs_if (freeze_runs x.place.group) FreezeLimit (freeze_opened_at next) f)
-      (unspent_hold now x.place.group (first_hold next.log) (λ since e i. absurd (not_both (hold_runs x.place.group) i off.0)))
-      (unspent_if (freeze_runs x.place.group) FreezeLimit (freeze_opened_at next) f now (λ i. absurd (not_both (freeze_runs x.place.group) i off.1))))
+      (unspent_hold now x.place.group (first_hold next.log) (λ since e i. absurd (true_not_false (hold_runs x.place.group) i off.0)))
+      (unspent_if (freeze_runs x.place.group) FreezeLimit (freeze_opened_at next) f now (λ i. absurd (true_not_false (freeze_runs x.place.group) i off.1))))
       (unspent_if (answer_runs x.place.group) AnswerLimit (opened_at next x) answer_limit now (λ i. at_once now (opened_at next x) answer_limit opened))
     where
       opened : opened_at next x ≡ now

@@ -13,7 +13,8 @@ use Rattle.std.specs.Prelude.{is_some, ◌&&◌, not, if◌then◌else◌, lengt
 use Rattle.std.proofs.Common.{arith}
 use Rattle.vss_names.specs.declared.set_outcome.SetOutcome.TheVariants.{Running as RunningSet}
 use Rattle.writer_calls.specs.declared.answer.Answer.{Answer}
-use Rattle.set_agenda.specs.Course.{Course, posted, failed as course_failed, settled, begun, gathered, prepared, snapshot_begun, completing, change_at, stepped as course_stepped, limits_now, fails_set, released}
+use Rattle.set_agenda.specs.Course.{Course, posted, failed as course_failed, settled, begun, gathered, prepared, snapshot_begun, completing, change_at}
+use Rattle.set_agenda.specs.Course.{stepped as course_stepped, limits_now, fails_set, released}
 use Rattle.scenario.specs.declared.op.Op.TheVariants as op
 use Rattle.vss_model.specs.declared.event.Event.TheVariants.{Line, Answer as AnswerEvent, Provider, Idle}
 use Rattle.vss_model.specs.Ending.{ending, followed, runs, failed_in, failed}
@@ -69,11 +70,13 @@ module _ (G : Agenda → Type 0) (k : IsKeptAlong G) where
   grow : (so_far news : List Deed) (a : Option Agenda) (o : SetOutcome) (b : Option Agenda) (p : SetOutcome) → Grows a o b p news → Running (Tells so_far) a → Running (Tells (so_far ++ news)) b
   grow so_far news a o b p c h = grind (arith, settled_tells, tells_rests, tells_on)
 
-  settled_last : (done : Bool) (so_far : List Deed) (before a : Agenda) (running : Option Agenda) (o : SetOutcome) (b : Option Agenda) (p : SetOutcome) → running ≡ Some before → a.kind ≡ before.kind → a.members ≡ before.members → a.volumes ≡ before.volumes
+  settled_last : (done : Bool) (so_far : List Deed) (before a : Agenda) (running : Option Agenda) (o : SetOutcome) (b : Option Agenda) (p : SetOutcome)
+      → running ≡ Some before → a.kind ≡ before.kind → a.members ≡ before.members → a.volumes ≡ before.volumes
       → (done ≡ true → is_done (groups_left a) ≡ true) → o ≡ RunningSet → is_complete p ≡ true → Settles done a o b p → Tells so_far a → IsLast G so_far running
   settled_last done so_far before a running o b p r i m v d e f s h = grind arith
 
-  completes : (so_far news : List Deed) (a : Option Agenda) (o : SetOutcome) (b : Option Agenda) (p : SetOutcome) → o ≡ RunningSet → is_complete p ≡ true → Grows a o b p news → Running (Tells so_far) a → IsLast G (so_far ++ news) a
+  completes : (so_far news : List Deed) (a : Option Agenda) (o : SetOutcome) (b : Option Agenda) (p : SetOutcome) → o ≡ RunningSet → is_complete p ≡ true
+      → Grows a o b p news → Running (Tells so_far) a → IsLast G (so_far ++ news) a
   completes so_far news None o b p e f c h = absurd (true_not_false (is_complete p) f (ap is_complete (c.1 ∙ e)))
   completes so_far news (Some a) o b p e f (inl c) h = absurd (true_not_false (is_complete p) f (not_complete p c.failed))
   completes so_far news (Some a) o b p e f (inr (inl c)) h =
@@ -146,7 +149,8 @@ module _ (G : Agenda → Type 0) (k : IsKeptAlong G) where
   line_way : (so_far xs : List Deed) (b : Bool) → b ≡ false → xs ≡ [] → so_far ≡ (if b then [] else so_far ++ xs)
   line_way so_far xs b e f = grind (arith, append_nothing)
 
-  quiet : (st : State) (so_far : List Deed) (lane : ℕ) (o : Op) (x : Replied) → line_ticks o ≡ None → (is_snapshot_line (Line lane o) && is_pending x.0) ≡ false → Stands so_far x.1 → Stands (next_way st so_far (Line lane o) x) x.1
+  quiet : (st : State) (so_far : List Deed) (lane : ℕ) (o : Op) (x : Replied) → line_ticks o ≡ None → (is_snapshot_line (Line lane o) && is_pending x.0) ≡ false
+      → Stands so_far x.1 → Stands (next_way st so_far (Line lane o) x) x.1
   quiet st so_far lane o x e f h = grind (arith, line_way, no_lost)
 
   -- ## every act
@@ -168,14 +172,16 @@ module _ (G : Agenda → Type 0) (k : IsKeptAlong G) where
     tells_none lane o mark told x e f t inc = (quiet st so_far lane o (told, x) e f t, λ run i. inl (inc i))
 
     -- an agenda of another kind begins
-    begins_other : (lane : ℕ) (o : Op) (mark : Mark) (c : Course) → is_snapshot_line (Line lane o) ≡ false → line_ticks o ≡ None → Running (Tells so_far) c.agenda → (st.course.outcome ≡ RunningSet → is_complete c.outcome ≡ true → ⊥)
+    begins_other : (lane : ℕ) (o : Op) (mark : Mark) (c : Course) → is_snapshot_line (Line lane o) ≡ false → line_ticks o ≡ None
+        → Running (Tells so_far) c.agenda → (st.course.outcome ≡ RunningSet → is_complete c.outcome ≡ true → ⊥)
         → Next (Line lane o) mark (Coded AsyncPending, followed true c st)
     begins_other lane o mark c e f t d = (
       quiet st so_far lane o (Coded AsyncPending, followed true c st) f (first_off (is_snapshot_line (Line lane o)) (is_pending (Coded AsyncPending)) e) (on_followed so_far true c st t),
       λ run inc. done_followed n _ true c st inc (λ x. absurd (d run x)),
     )
 
-    begins_own : (lane : ℕ) (mark : Mark) (c : Course) → Running (Tells []) c.agenda → (st.course.outcome ≡ RunningSet → is_complete c.outcome ≡ true → ⊥) → Next (Line lane op.Snapshot) mark (Coded AsyncPending, followed true c st)
+    begins_own : (lane : ℕ) (mark : Mark) (c : Course) → Running (Tells []) c.agenda → (st.course.outcome ≡ RunningSet → is_complete c.outcome ≡ true → ⊥)
+        → Next (Line lane op.Snapshot) mark (Coded AsyncPending, followed true c st)
     begins_own lane mark c t d = (on_followed [] true c st t, λ run inc. done_followed n _ true c st inc (λ x. absurd (d run x)))
 
     line_stays : (lane : ℕ) (o : Op) (mark : Mark) (told : Reply) → line_ticks o ≡ None → (begins_agenda o ≡ true → is_pending told ≡ false) → Next (Line lane o) mark (told, st)
@@ -204,9 +210,11 @@ module _ (G : Agenda → Type 0) (k : IsKeptAlong G) where
 
     done_answers : (w : ℕ) (said : Said) (order : Order) → open_order (left st.course.agenda) w ≡ Some order → Completes (so_far ++ Spoke order w said st.clock ∷ []) (answered w said st)
     unfolding answered
-    done_answers w said order e run inc = done_followed n _ (runs st) _ st inc (λ d. completes so_far _ st.course.agenda st.course.outcome _ _ run d (grows_answered w order said st.clock st.course e) h)
+    done_answers w said order e run inc = done_followed n _ (runs st) _ st inc
+        (λ d. completes so_far _ st.course.agenda st.course.outcome _ _ run d (grows_answered w order said st.clock st.course e) h)
 
-    answers_at : (o : Option Order) (w : ℕ) (answer : Answer) (mark : Mark) → order_of_writer st w ≡ o → is_some o ≡ true → Next (AnswerEvent w answer) mark (answer_reply o answer, answered w (said_of answer) st)
+    answers_at : (o : Option Order) (w : ℕ) (answer : Answer) (mark : Mark) → order_of_writer st w ≡ o → is_some o ≡ true
+        → Next (AnswerEvent w answer) mark (answer_reply o answer, answered w (said_of answer) st)
     answers_at o w answer mark e f = grind (arith, clock-answered, on_answers, done_answers)
 
     -- steps
@@ -214,7 +222,8 @@ module _ (G : Agenda → Type 0) (k : IsKeptAlong G) where
     unfolding posted course_failed
     step_fails now c = (refl, refl)
 
-    step_as : (f : Bool) (g : Group) (mark : Mark) → open_group (left_now st) ≡ Some g → is_working (left_now st) ≡ true → Next Provider mark (Stepped g (next_volume (left_now st)) f, stepped_as f (Some g) st)
+    step_as : (f : Bool) (g : Group) (mark : Mark) → open_group (left_now st) ≡ Some g → is_working (left_now st) ≡ true
+        → Next Provider mark (Stepped g (next_volume (left_now st)) f, stepped_as f (Some g) st)
     step_as true g mark e w =
         let c = course_stepped false st.clock st.course in (
           on_followed _ (runs st) c st (subst (Running (Tells (so_far ++ []))) (sym (step_fails st.clock st.course).0) tt),
@@ -233,7 +242,8 @@ module _ (G : Agenda → Type 0) (k : IsKeptAlong G) where
     works_not : (os : List Open) → open_group os ≡ None → is_working os ≡ true → ⊥
     works_not os e f = grind arith
 
-    step_at : (o : Option Group) (mark : Mark) → open_group (left_now st) ≡ o → is_working (left_now st) ≡ true → Next Provider mark (step_reply o (next_volume (left_now st)) mark, stepped_as (is_failed_step (is_flush o) mark) o st)
+    step_at : (o : Option Group) (mark : Mark) → open_group (left_now st) ≡ o → is_working (left_now st) ≡ true
+        → Next Provider mark (step_reply o (next_volume (left_now st)) mark, stepped_as (is_failed_step (is_flush o) mark) o st)
     step_at None mark e w = absurd (works_not (left_now st) e w)
     step_at (Some g) mark e w = step_as (is_failed_step (is_flush (Some g)) mark) g mark e w
 
@@ -244,24 +254,36 @@ module _ (G : Agenda → Type 0) (k : IsKeptAlong G) where
     all_next : Covers Next s st
     all_next = record {
       stays = λ lane o mark told e f. line_stays lane o mark told e f.agenda;
-      writes = λ lane o v w mark e f. tells_none lane o mark (write s v w mark st).0 (write s v w mark st).1 (write_ticks o _ e) (first_off (is_snapshot_line (Line lane o)) (is_pending (write s v w mark st).0) (write_no_snapshot lane o _ e)) (on_write so_far s v w mark st h) (incomplete_write n s v w mark st);
-      reverts = λ lane m v x mark e f. tells_none lane (op.Revert m v) mark (reverted_as s v x mark st).0 (reverted_as s v x mark st).1 refl refl (on_reverts so_far s v x mark st h) (incomplete_revert n s v x mark st);
+      writes = λ lane o v w mark e f. tells_none lane o mark (write s v w mark st).0 (write s v w mark st).1 (write_ticks o _ e)
+          (first_off (is_snapshot_line (Line lane o)) (is_pending (write s v w mark st).0) (write_no_snapshot lane o _ e)) (on_write so_far s v w mark st h)
+          (incomplete_write n s v w mark st);
+      reverts = λ lane m v x mark e f. tells_none lane (op.Revert m v) mark (reverted_as s v x mark st).0 (reverted_as s v x mark st).1 refl refl
+          (on_reverts so_far s v x mark st h) (incomplete_revert n s v x mark st);
       deletes_set = λ lane m c mark e. tells_none lane (op.DeleteSet m) mark (Deleted c) (record st { volumes = map (dropped m) st.volumes }) refl refl h (λ i. i);
       deletes_image = λ lane m v x mark e. tells_none lane (op.DeleteImage m v) mark (Deleted 1) (record st { volumes = change_at v (dropped x.row.number) st.volumes }) refl refl h (λ i. i);
       ticks = λ lane k mark. ticks_line lane k mark;
       begins = λ lane m all c mark e ctx. tells_none lane (op.Begin m all) mark Fine (record st { session = Some (opened lane c all); explicit = [] }) refl refl h (λ i. i);
       disables = λ lane w q mark g. tells_none lane (op.Disable w) mark Fine (disable w st).1 refl refl h (λ i. i);
-      gathers = λ lane q mark g. begins_other lane op.Gather mark (gathered (is_disabled s st) st.clock st.course) refl refl (on_begun Gather _ [] st.clock so_far _ (λ x. absurd cc)) (λ run. begun_incomplete Gather _ [] st.clock _ run);
+      gathers = λ lane q mark g. begins_other lane op.Gather mark (gathered (is_disabled s st) st.clock st.course) refl refl
+          (on_begun Gather _ [] st.clock so_far _ (λ x. absurd cc)) (λ run. begun_incomplete Gather _ [] st.clock _ run);
       names = λ lane w full q explicit mark g named. tells_none lane (op.Component w full) mark Fine (record st { explicit = explicit }) refl refl h (λ i. i);
       starts = λ lane q mark g e. tells_none lane op.Start mark (start_set q st).0 (start_set q st).1 refl refl h (incomplete_append st.sets (new_set (new_number st) q.context) n refl);
-      adds = λ lane v r q mark g e f. tells_none lane (op.Add v) mark Fine (change_set r.number (with_volume v) st) refl refl h (incomplete_map (row_changed r.number (with_volume v)) (λ y. changed_number (y.number == r.number) (with_volume v) y refl) (λ y. changed_result (y.number == r.number) (with_volume v) y refl) n st.sets);
+      adds = λ lane v r q mark g e f. tells_none lane (op.Add v) mark Fine (change_set r.number (with_volume v) st) refl refl h
+          (incomplete_map (row_changed r.number (with_volume v)) (λ y. changed_number (y.number == r.number) (with_volume v) y refl)
+          (λ y. changed_result (y.number == r.number) (with_volume v) y refl) n st.sets);
       prepares = λ lane q mark g. either (Line lane op.Prepare) mark (has_no_volume (in_progress st)) (refused BadState st) _ (line_stays lane op.Prepare mark (Coded BadState) refl (λ b. refl))
-          (begins_other lane op.Prepare mark (prepared (takers (length s.writers) (selected s q st)) st.clock st.course) refl refl (on_begun Prepare _ [] st.clock so_far _ (λ x. absurd cc)) (λ run. begun_incomplete Prepare _ [] st.clock _ run));
+          (begins_other lane op.Prepare mark (prepared (takers (length s.writers) (selected s q st)) st.clock st.course) refl refl
+          (on_begun Prepare _ [] st.clock so_far _ (λ x. absurd cc)) (λ run. begun_incomplete Prepare _ [] st.clock _ run));
       snapshots = λ lane q mark g. either (Line lane op.Snapshot) mark (has_no_volume (in_progress st)) (refused BadState st) _ (line_stays lane op.Snapshot mark (Coded BadState) refl (λ b. refl))
-          (begins_own lane mark (snapshot_begun (volumes_of (in_progress st)) st.clock st.course) (on_begun Snapshot st.course.members _ st.clock [] st.course (λ x. refl)) (λ run. begun_incomplete Snapshot st.course.members _ st.clock st.course run));
-      completes = λ lane q mark g. begins_other lane op.Complete mark (completing st.clock st.course) refl refl (on_begun Complete _ [] st.clock so_far _ (λ x. absurd cc)) (λ run. begun_incomplete Complete _ [] st.clock _ run);
-      aborts = λ lane q mark e. tells_none lane op.Abort mark Fine (failed AsyncCancelled st) refl refl (on_failed_in so_far (in_progress st) AsyncCancelled st h) (incomplete_failed n (in_progress st) AsyncCancelled st);
-      ends = λ lane q mark e. tells_none lane op.End mark Fine (closed q (failed AsyncCancelled st)) refl refl (on_closes so_far q (failed AsyncCancelled st)) (λ i. incomplete_closed n q (failed AsyncCancelled st) (incomplete_failed n (in_progress st) AsyncCancelled st i));
+          (begins_own lane mark (snapshot_begun (volumes_of (in_progress st)) st.clock st.course)
+          (on_begun Snapshot st.course.members _ st.clock [] st.course (λ x. refl))
+          (λ run. begun_incomplete Snapshot st.course.members _ st.clock st.course run));
+      completes = λ lane q mark g. begins_other lane op.Complete mark (completing st.clock st.course) refl refl
+          (on_begun Complete _ [] st.clock so_far _ (λ x. absurd cc)) (λ run. begun_incomplete Complete _ [] st.clock _ run);
+      aborts = λ lane q mark e. tells_none lane op.Abort mark Fine (failed AsyncCancelled st) refl refl
+          (on_failed_in so_far (in_progress st) AsyncCancelled st h) (incomplete_failed n (in_progress st) AsyncCancelled st);
+      ends = λ lane q mark e. tells_none lane op.End mark Fine (closed q (failed AsyncCancelled st)) refl refl (on_closes so_far q (failed AsyncCancelled st))
+          (λ i. incomplete_closed n q (failed AsyncCancelled st) (incomplete_failed n (in_progress st) AsyncCancelled st i));
       answers = λ w answer mark e. answers_at (order_of_writer st w) w answer mark refl e;
       steps = λ mark e. steps mark e;
       idles = λ mark e. idles mark (Idled (idle_now st));
@@ -282,7 +304,9 @@ module _ (G : Agenda → Type 0) (k : IsKeptAlong G) where
     after_by : (b : Bool) (act : Act) → enabled s st act.event ≡ b → After (way_after s st so_far act) (after s st act)
     after_by true act e =
         let A : List Deed → State → Type 0 = λ ds x. After ds x in
-        subst (λ ds. A ds (after s st act)) (sym (next_is act e)) (subst (λ (x : State). A (next_way st so_far act.event (happens s act.event act.mark st)) x) (sym (after_enabled s st act e)) (covered Next s st all_next act.event act.mark e))
+        subst (λ ds. A ds (after s st act)) (sym (next_is act e))
+        (subst (λ (x : State). A (next_way st so_far act.event (happens s act.event act.mark st)) x) (sym (after_enabled s st act e))
+        (covered Next s st all_next act.event act.mark e))
     after_by false act e =
         let A : List Deed → State → Type 0 = λ ds x. After ds x in
         subst (λ ds. A ds (after s st act)) (sym (next_not act e)) (subst (λ (x : State). A so_far x) (sym (after_not_enabled s st act e)) (h, λ run inc. inl inc))
@@ -299,20 +323,24 @@ module _ (G : Agenda → Type 0) (k : IsKeptAlong G) where
   pub along : (s : Plan) (acts : List Act) → Running (Tells (way s acts)) (state s acts).course.agenda
   along s acts = along_from s (start s) [] acts tt
 
-  way_from-append : (s : Plan) (st : State) (so_far : List Deed) (acts : List Act) (act : Act) → way_from s st so_far (acts ++ act ∷ []) ≡ way_after s (fold (after s) st acts) (way_from s st so_far acts) act
+  way_from-append : (s : Plan) (st : State) (so_far : List Deed) (acts : List Act) (act : Act)
+      → way_from s st so_far (acts ++ act ∷ []) ≡ way_after s (fold (after s) st acts) (way_from s st so_far acts) act
   way_from-append s st so_far [] act = refl
   way_from-append s st so_far (x ∷ acts) act = way_from-append s (after s st x) (way_after s st so_far x) acts act
 
   pub way-append : (s : Plan) (acts : List Act) (act : Act) → way s (acts ++ act ∷ []) ≡ way_after s (state s acts) (way s acts) act
   way-append s acts act = way_from-append s (start s) [] acts act
 
-  pub last_stand : (s : Plan) (so_far : List Act) (act : Act) (r q : SetRow) → in_progress (state s so_far) ≡ Some r → row_of (after s (state s so_far) act) r.number ≡ Some q → is_complete q.result ≡ true
+  pub last_stand : (s : Plan) (so_far : List Act) (act : Act) (r q : SetRow) → in_progress (state s so_far) ≡ Some r
+      → row_of (after s (state s so_far) act) r.number ≡ Some q → is_complete q.result ≡ true
       → IsLast G (way s (so_far ++ act ∷ [])) (state s so_far).course.agenda
   last_stand s so_far act r q e f g =
       let st = state s so_far in
       subst (λ ds. IsLast G ds st.course.agenda) (sym (way-append s so_far act))
       (by_cases ((after_act s st (way s so_far) (along s so_far) r.number act).1 (outcome_is_running s so_far r e) (running_incomplete st.sets r (orderly s so_far).numbered e)))
     where
-      by_cases : (has_complete (after s (state s so_far) act).sets r.number ≡ false) ⊎ IsLast G (way_after s (state s so_far) (way s so_far) act) (state s so_far).course.agenda → IsLast G (way_after s (state s so_far) (way s so_far) act) (state s so_far).course.agenda
+      by_cases : (has_complete (after s (state s so_far) act).sets r.number ≡ false)
+          ⊎ IsLast G (way_after s (state s so_far) (way s so_far) act) (state s so_far).course.agenda
+          → IsLast G (way_after s (state s so_far) (way s so_far) act) (state s so_far).course.agenda
       by_cases (inl i) = absurd (true_not_false (has_complete (after s (state s so_far) act).sets r.number) (complete_found 1 r.number (after s (state s so_far) act).sets q f g) i)
       by_cases (inr i) = i

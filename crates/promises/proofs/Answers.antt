@@ -6,10 +6,10 @@ use Rattle.promises.proofs.Words.{is_flush_step, volumes_losing, row_number, kep
 use Rattle.std.proofs.Common.{◌≡◌, ◌∙◌, ℕ, ◌+◌, ◌<◌, zero, suc, List, [], ◌∷◌, length, Option, Some, None, refl, Bool, true, false, ap, sym, subst, map, arith}
 use Rattle.std.specs.Prelude.{◌&&◌, not, nat_lt, is_some, if◌then◌else◌}
 use Rattle.vss_model.specs.Images.{reply_of_mark, write, count_images, delete_set, delete_kept, delete_image}
-use Rattle.promises.proofs.Truth.{second_both}
 use Rattle.promises.proofs.Clock.{clock_after}
 use Rattle.promises.proofs.Done.{dropped_gone}
 use Rattle.promises.proofs.Accepted.{line_reply}
+use Rattle.writer_meta.proofs.Laws.{and_right}
 
 -- ## writes
 
@@ -125,7 +125,7 @@ module _ (st : State) where
           → AreGone k n st (if b then (Deleted (count_images n st.volumes), record st { volumes = map (dropped n) st.volumes }) else delete_kept 0 None st).1
       by_case true f e =
           let same = deleted_same (count_images n st.volumes) k e in
-          (subst (λ j. 0 < j) same (some (count_images n st.volumes) (second_both (is_kept_set st n) (nat_lt 0 (count_images n st.volumes)) f)), sym same ∙ sym (all_lost n 0 st.volumes))
+          (subst (λ j. 0 < j) same (some (count_images n st.volumes) (and_right (is_kept_set st n) (nat_lt 0 (count_images n st.volumes)) f)), sym same ∙ sym (all_lost n 0 st.volumes))
       by_case false f e = absurd cc
 
   image_says : (n v k : ℕ) → (delete_image n v st).0 ≡ Deleted k → AreGone k n st (delete_image n v st).1
@@ -165,5 +165,6 @@ answers_say s so_far act =
           ∙ ap (λ k. st.clock + k) (idled_same (idle_now st) n (sym (line_reply s st act Idle e) ∙ f));
       stepped = λ g v fault e f. step_says (open_group (left_now st)) (next_volume (left_now st)) act.mark g v fault (sym (line_reply s st act Provider e) ∙ f);
       deleted_set = λ lane n k e f. after_line s so_far act (Line lane (DeleteSet n)) (AreGone k n st) e refl (set_says st n k (sym (line_reply s st act (Line lane (DeleteSet n)) e) ∙ f));
-      deleted_image = λ lane n v k e f. after_line s so_far act (Line lane (DeleteImage n v)) (AreGone k n st) e refl (image_says st n v k (sym (line_reply s st act (Line lane (DeleteImage n v)) e) ∙ f));
+      deleted_image = λ lane n v k e f. after_line s so_far act (Line lane (DeleteImage n v)) (AreGone k n st) e refl
+          (image_says st n v k (sym (line_reply s st act (Line lane (DeleteImage n v)) e) ∙ f));
     }

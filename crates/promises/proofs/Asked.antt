@@ -6,17 +6,19 @@ use Rattle.promises.proofs.Words.{filter_member, member_passes}
 use Rattle.std.proofs.Common.{◌≡◌, ◌∙◌, ℕ, ◌+◌, ◌==◌, List, [], ◌∷◌, Option, Some, None, refl, Bool, true, false, ap, sym, subst, map, filter, fold, arith}
 use Rattle.std.specs.Prelude.{◌&&◌, ◌||◌, not, is_some, if◌then◌else◌}
 use Rattle.set_agenda.specs.declared.kind.Kind.TheVariants as kind
-use Rattle.set_agenda.specs.Agenda.{Agenda, Open, places, is_at, writers_at, members_of, waited_for, with_group, left_from, groups_left, left, is_among, is_orders, order_of, order_if, open_order, open_group}
+use Rattle.set_agenda.specs.Agenda.{Agenda, Open, places, is_at, writers_at, members_of, waited_for, with_group, left_from, groups_left, left, is_among}
+use Rattle.set_agenda.specs.Agenda.{is_orders, order_of, order_if, open_order, open_group}
 use Rattle.set_agenda.specs.Course.{Course, is_member, has_row_failed, posted, failed as course_failed, settled, begun, released}
 use Rattle.vss_model.specs.Images.{Replied, with_room_if, put, write, reverted_as}
 use Rattle.vss_model.specs.Sessions.{is_disabled, has_no_volume, closed}
 use Rattle.vss_model.specs.Steps.{answered, step_made, is_flush, is_failed_step, stepped_as, stepped, ticked, later}
 use Rattle.vss_model.proofs.HeldOfSet.{Follows, goes_answered, goes_stepped, goes_timed}
-use Rattle.promises.proofs.Truth.{not_true, second_both}
 use Rattle.promises.proofs.BusyAgendas.{course_followed}
 use Rattle.promises.proofs.OpenGroup.{every, in_kind}
 use Rattle.promises.proofs.Participants.{ChosenIn, StandsChosen, follows_all}
 use Rattle.promises.proofs.SameChoice.{SameCourse, mode_in, on_course_answered, on_course_stepped, on_course_timed}
+use Rattle.writer_meta.proofs.Laws.{and_right}
+use Rattle.set_agenda.proofs.Closings.{unless}
 
 -- ## lists of writers
 
@@ -24,12 +26,14 @@ among_filter : (test : ℕ → Bool) (xs : List ℕ) (w : ℕ) → is_among w (f
 among_filter test [] w e = absurd cc
 among_filter test (x ∷ xs) w e = by_parts (test x) (x == w) refl e (among_filter test xs w)
   where
-    by_test : (b c : Bool) → (if b then c || is_among w (filter test xs) else is_among w (filter test xs)) ≡ true → (is_among w (filter test xs) ≡ true → is_among w xs ≡ true) → (c || is_among w xs) ≡ true
+    by_test : (b c : Bool) → (if b then c || is_among w (filter test xs) else is_among w (filter test xs)) ≡ true
+        → (is_among w (filter test xs) ≡ true → is_among w xs ≡ true) → (c || is_among w xs) ≡ true
     by_test b true e ih = refl
     by_test true false e ih = ih e
     by_test false false e ih = ih e
 
-    by_parts : (b c : Bool) → (x == w) ≡ c → is_among w (if b then x ∷ filter test xs else filter test xs) ≡ true → (is_among w (filter test xs) ≡ true → is_among w xs ≡ true) → ((x == w) || is_among w xs) ≡ true
+    by_parts : (b c : Bool) → (x == w) ≡ c → is_among w (if b then x ∷ filter test xs else filter test xs) ≡ true
+        → (is_among w (filter test xs) ≡ true → is_among w xs ≡ true) → ((x == w) || is_among w xs) ≡ true
     by_parts true c f e ih = by_test true (x == w) e ih
     by_parts false c f e ih = by_test false (x == w) e ih
 
@@ -123,13 +127,18 @@ module _ (s : Plan) where
       ticks = λ lane n mark. on_tick n;
       begins = λ lane n all c mark e ctx. h;
       disables = λ lane w q mark g. asks_none s st.course.agenda _ g.quiet;
-      gathers = λ lane q mark g. asks_followed true _ st (asks_begun kind.Gather _ [] st.clock (record st.course { rows = map row_gathered st.course.rows }) (λ w e. not_true (is_disabled s st w) (member_passes (λ x. not (is_disabled s st x)) 0 _ w e)));
+      gathers = λ lane q mark g. asks_followed true _ st
+          (asks_begun kind.Gather _ [] st.clock (record st.course { rows = map row_gathered st.course.rows })
+          (λ w e. unless (is_disabled s st w) (member_passes (λ x. not (is_disabled s st x)) 0 _ w e)));
       names = λ lane w full q explicit mark g named. h;
       starts = λ lane q mark g e. h;
       adds = λ lane v r q mark g e f. h;
       prepares = λ lane q mark g. by_if (λ r. AsksIn s r.1) (has_no_volume (in_progress st)) _ _ h (asks_followed true _ st (asks_begun kind.Prepare _ [] st.clock _ (λ w e. e)));
-      snapshots = λ lane q mark g. by_if (λ r. AsksIn s r.1) (has_no_volume (in_progress st)) _ _ h (asks_followed true _ st (asks_begun kind.Snapshot st.course.members _ st.clock st.course (λ w e. e)));
-      completes = λ lane q mark g. asks_followed true _ st (asks_begun kind.Complete _ [] st.clock st.course (λ w e. filter_member (λ (m : Member). not (has_row_failed st.course.rows m.writer)) st.course.members w e));
+      snapshots = λ lane q mark g. by_if (λ r. AsksIn s r.1) (has_no_volume (in_progress st)) _ _ h
+          (asks_followed true _ st (asks_begun kind.Snapshot st.course.members _ st.clock st.course (λ w e. e)));
+      completes = λ lane q mark g. asks_followed true _ st
+          (asks_begun kind.Complete _ [] st.clock st.course
+          (λ w e. filter_member (λ (m : Member). not (has_row_failed st.course.rows m.writer)) st.course.members w e));
       aborts = λ lane q mark e. asks_failed (in_progress st) AsyncCancelled st h;
       ends = λ lane q mark e. asks_closed q (failed AsyncCancelled st);
       answers = λ w answer mark e. on_answer w (said_of answer);
@@ -194,7 +203,7 @@ module _ (s : Plan) (so_far : List Act) (w : ℕ) (order : Order) where
 
   module _ (a : Agenda) (o : Open) (os : List Open) (runs_is : st.course.agenda ≡ Some a) (open_is : groups_left a ≡ o ∷ os) (order_is : order_of o.place.group ≡ Some order) where
     others : (k : Kind) → a.kind ≡ k → every (λ q. not (is_identify q.group)) (places k) ≡ true → is_member st.course.members w ≡ true → IsFor s so_far w order
-    others k e f m = for_other order (λ i. no_identify o.place.group (not_true (is_identify o.place.group) (in_kind (λ q. not (is_identify q.group)) k a o os e f open_is)) (order_is ∙ ap Some i)) m
+    others k e f m = for_other order (λ i. no_identify o.place.group (unless (is_identify o.place.group) (in_kind (λ q. not (is_identify q.group)) k a o os e f open_is)) (order_is ∙ ap Some i)) m
 
     by_kind : (k : Kind) → a.kind ≡ k → IsOfKind s k st.course w → IsFor s so_far w order
     by_kind kind.Gather e m =
@@ -208,7 +217,7 @@ module _ (s : Plan) (so_far : List Act) (w : ℕ) (order : Order) where
   asked_now a [] e f h g = absurd cc
   asked_now a (o ∷ os) e f h g =
       let open_now = now_open (is_orders o.place.group && is_among w o.waits) (order_of o.place.group) g in
-      let waits = subst (λ ws. is_among w ws ≡ true) (waits_are a (places a.kind) o os f) (second_both (is_orders o.place.group) (is_among w o.waits) open_now.0) in
+      let waits = subst (λ ws. is_among w ws ≡ true) (waits_are a (places a.kind) o os f) (and_right (is_orders o.place.group) (is_among w o.waits) open_now.0) in
       by_kind a o os e f open_now.1 a.kind refl (h w (asked_in a o.place.group o.place.level waits open_now.1))
 
   asked_by : (x : Option Agenda) → st.course.agenda ≡ x → Asks s x st.course → open_order (left x) w ≡ Some order → IsFor s so_far w order

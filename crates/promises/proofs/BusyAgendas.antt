@@ -16,7 +16,8 @@ makes_a_set Snapshot = true
 makes_a_set _ = false
 
 -- a group that no agenda beside those of a set has
-pub of_kind : (test : Group → Bool) (k : Kind) (a : Agenda) (o : Open) (os : List Open) → a.kind ≡ k → every (λ q. not (test q.group)) (places Gather) ≡ true → every (λ q. not (test q.group)) (places Complete) ≡ true → groups_left a ≡ o ∷ os → test o.place.group ≡ true → makes_a_set k ≡ true
+pub of_kind : (test : Group → Bool) (k : Kind) (a : Agenda) (o : Open) (os : List Open) → a.kind ≡ k → every (λ q. not (test q.group)) (places Gather) ≡ true
+    → every (λ q. not (test q.group)) (places Complete) ≡ true → groups_left a ≡ o ∷ os → test o.place.group ≡ true → makes_a_set k ≡ true
 of_kind test k a o os e f g h i = grind arith
 
 abbrev pub IsBusy : Option Agenda → Type 0
@@ -31,7 +32,8 @@ pub busy_step : (x : Option Agenda) → is_working (left x) ≡ true → IsBusy 
 busy_step x e = grind arith
 
 -- a limit that is not that of an answer
-pub frozen_now : (now f : ℕ) (a : Agenda) (o : Open) (os : List Open) (l : RunningLimit) → spent_of now (running_at f a (o ∷ os)) ≡ Some l → (l.limit ≡ AnswerLimit → ⊥) → freeze_runs o.place.group ≡ true
+pub frozen_now : (now f : ℕ) (a : Agenda) (o : Open) (os : List Open) (l : RunningLimit) → spent_of now (running_at f a (o ∷ os)) ≡ Some l
+    → (l.limit ≡ AnswerLimit → ⊥) → freeze_runs o.place.group ≡ true
 frozen_now now f a o os l e not_answer = grind arith
 
 pub busy_limit : (now f : ℕ) (x : Option Agenda) (l : RunningLimit) → spent_of now (running_limits f x) ≡ Some l → (l.limit ≡ AnswerLimit → ⊥) → IsBusy x

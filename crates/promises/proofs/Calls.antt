@@ -7,7 +7,8 @@ use Rattle.std.proofs.Common.{◌≡◌, ◌∙◌, ℕ, List, Option, Some, Non
 use Rattle.std.specs.Prelude.{is_some}
 use Rattle.requestor.specs.declared.session_call.SessionCall.TheVariants as call
 use Rattle.vss_model.specs.Lines.{called, line}
-use Rattle.promises.proofs.Truth.{first_both, not_false}
+use Rattle.promises.proofs.Truth.{not_false}
+use Rattle.writer_meta.proofs.Laws.{and_left}
 
 -- ## a call of another lane
 
@@ -21,7 +22,8 @@ called_refused c s lane op st e = ap (λ v. judged v s lane op st) e
 line_refused : (s : Plan) (lane : ℕ) (op : Op) (act : Act) (st : State) → is_owners op ≡ true → owns st.session lane ≡ false → line s lane op act.mark st ≡ (Coded BadState, st)
 line_refused s lane op act st e f = grind (arith, called_refused, other_refused)
 
-happens_refused : (s : Plan) (st : State) (act : Act) (lane : ℕ) (op : Op) → act.event ≡ Line lane op → is_owners op ≡ true → owns st.session lane ≡ false → happens s act.event act.mark st ≡ (Coded BadState, st)
+happens_refused : (s : Plan) (st : State) (act : Act) (lane : ℕ) (op : Op) → act.event ≡ Line lane op → is_owners op ≡ true → owns st.session lane ≡ false
+    → happens s act.event act.mark st ≡ (Coded BadState, st)
 happens_refused s st act lane op e f g = ap (λ x. happens s x act.mark st) e ∙ line_refused s lane op act st f g
 
 after_refused : (b : Bool) (s : Plan) (st : State) (act : Act) → enabled s st act.event ≡ b → happens s act.event act.mark st ≡ (Coded BadState, st) → after s st act ≡ st
@@ -39,7 +41,7 @@ owner_waits : (b : Bool) (v : Verdict) → is_blocked (owner_only b v) ≡ true 
 owner_waits b v e = grind arith
 
 other_waits : (q : Option Session) (running : Bool) (lane : ℕ) (c : SessionCall) → is_blocked (check_other q running lane c) ≡ true → awaits c ≡ true
-other_waits q running lane c e = grind (arith, first_both, verdict_waits, owner_waits)
+other_waits q running lane c e = grind (arith, and_left, verdict_waits, owner_waits)
 
 waits_for : (s : Plan) (st : State) (lane : ℕ) (op : Op) → enabled s st (Line lane op) ≡ false → may_wait op ≡ true
 waits_for s st lane op e = grind (arith, other_waits, not_false)

@@ -1,8 +1,8 @@
 -- A call of the course fails it only while an agenda runs that makes a set.
 use Rattle.promises.proofs.Words.{Order, Said, Kind, Member, left, is_working, open_order, has_failed, none_settled as calm_settled, now_if}
 use Rattle.std.proofs.Common.{◌≡◌, ℕ, List, [], ◌⊎◌, Option, Some, refl, Bool, true, false, inl, inr, arith}
+use Rattle.std.proofs.lemmas.Bool.{and_parts}
 use Rattle.set_agenda.specs.Course.{Course, posted, begun, told, answered_to, answered as course_answered, stepped as course_stepped, timed as course_timed}
-use Rattle.promises.proofs.Truth.{both_parts}
 use Rattle.promises.proofs.CourseRows.{PassesOrFails, over_timed}
 use Rattle.promises.proofs.BusyAgendas.{IsBusy, busy_order, busy_step}
 
@@ -13,12 +13,12 @@ calm_posted : (prior c d : Course) → CalmOrBusy c d → CalmOrBusy c (posted p
 unfolding posted
 calm_posted prior c d h = h
 
-told_outcome : (o : Order) (said : Said) (now : ℕ) (ws : List ℕ) (c : Course) → (told o said now ws c).outcome ≡ c.outcome
+pub told_outcome : (o : Order) (said : Said) (now : ℕ) (ws : List ℕ) (c : Course) → (told o said now ws c).outcome ≡ c.outcome
 unfolding told
 told_outcome o said now ws c = refl
 
 calm_answered_to : (x : Option Order) (w : ℕ) (said : Said) (now : ℕ) (c : Course) → open_order (left c.agenda) w ≡ x → CalmOrBusy c (answered_to x w said now c)
-calm_answered_to x w said now c e = grind (arith, busy_order, now_if, both_parts, calm_settled, told_outcome)
+calm_answered_to x w said now c e = grind (arith, busy_order, now_if, and_parts, calm_settled, told_outcome)
 
 pub calm_answered : (w : ℕ) (said : Said) (now : ℕ) (c : Course) → CalmOrBusy c (course_answered w said now c)
 calm_answered w said now c = grind (arith, calm_posted, calm_answered_to)

@@ -11,10 +11,10 @@ use Rattle.requestor.specs.declared.stage.Stage.TheVariants.{Started, Failed}
 use Rattle.vss_model.specs.Ending.{ending, concluded, followed, failed_in, failed, runs}
 use Rattle.vss_model.specs.Sessions.{begin_in, closed, has_no_volume, start_set}
 use Rattle.vss_model.specs.Steps.{answered, step_made, is_flush, is_failed_step, stepped_as, stepped, ticked, later}
-use Rattle.promises.proofs.Truth.{not_both}
 use Rattle.promises.proofs.BusyAgendas.{IsBusy}
 use Rattle.promises.proofs.CalmCourses.{CalmOrBusy, calm_begun, calm_answered, calm_stepped, calm_timed}
-use Rattle.promises.proofs.SetFailures.{session_made}
+use Rattle.vss_model.proofs.Orderly.{true_not_false}
+use Rattle.promises.proofs.SameChoice.{session_made}
 
 abbrev pub IsCalm : State → Type 0
 IsCalm x = (q : Session) → x.session ≡ Some q → (q.stage ≡ Failed → ⊥) → has_failed x.course.outcome ≡ false
@@ -47,7 +47,7 @@ module _ (st : State) (h : IsCalmOrderly st) where
       goes o n e f failed = by_calm calm
         where
           by_calm : CalmOrBusy st.course c → (has_failed o ≡ false → ⊥) ⊎ (o ≡ RunningSet)
-          by_calm (inl k) = inl (λ g. not_both (has_failed n) failed (sym (ap has_failed f) ∙ k (ap has_failed e ∙ g)))
+          by_calm (inl k) = inl (λ g. true_not_false (has_failed n) failed (sym (ap has_failed f) ∙ k (ap has_failed e ∙ g)))
           by_calm (inr k) = inr (busy_runs k o e)
 
       -- a set that has failed before
@@ -129,7 +129,11 @@ calm_kept = record {
   fails = λ why st h. (orderly_kept.fails why st h.0, on_failed st h (in_progress st) why);
   gathers = λ s q st g h. (orderly_kept.gathers s q st g h.0, on_begun st h _ (calm_begun Gather _ [] st.clock (record st.course { rows = map row_gathered st.course.rows })));
   prepares = λ s q st g h. (orderly_kept.prepares s q st g h.0, by_if (λ r. IsCalm r.1) (has_no_volume (in_progress st)) _ _ h.1 (on_begun st h _ (calm_begun Prepare _ [] st.clock _)));
-  snapshots = λ q st g h. (orderly_kept.snapshots q st g h.0, by_if (λ r. IsCalm r.1) (has_no_volume (in_progress st)) _ _ h.1 (on_begun st h _ (calm_begun Snapshot st.course.members _ st.clock st.course)));
+  snapshots = λ q st g h. (
+    orderly_kept.snapshots q st g h.0,
+    by_if (λ r. IsCalm r.1) (has_no_volume (in_progress st)) _ _ h.1
+        (on_begun st h _ (calm_begun Snapshot st.course.members _ st.clock st.course)),
+  );
   completes = λ q st g h. (orderly_kept.completes q st g h.0, on_begun st h _ (calm_begun Complete _ [] st.clock st.course));
   clears = λ s v b st h. (orderly_kept.clears s v b st h.0, h.1);
   deletes_set = λ n st h. (orderly_kept.deletes_set n st h.0, h.1);

@@ -1,26 +1,29 @@
 -- A set that fails has the code of its cause.
-use Rattle.promises.proofs.Words.{both_ways, Order, SetOutcome, Failed as FailedSet, VssResult, Timeout, Said, is_ok, Mark, Clean, Write, said_of, Group, Limit, Agenda, Open, groups_left, open_group}
+use Rattle.promises.proofs.Words.{both_ways, Order, SetOutcome, Failed as FailedSet, VssResult, Timeout, Said, is_ok, Mark, Write, said_of, Group, Limit, Agenda, Open, groups_left, open_group}
 use Rattle.promises.proofs.Words.{open_order, order_now, is_working, left, Running as RunningLimit, first_hold, running_at, running_limits, spent_of, held_here, frozen_here, IsSpentHere, spent_here}
 use Rattle.promises.proofs.Words.{Session, Op, target_of, Plan, Event, Line, State, SetRow, in_progress, left_now, followed, runs, failed_in, failed, has_failed, Act, idle_now, state, holds_volumes}
 use Rattle.promises.proofs.Words.{held_too_long, frozen_too_long, outcome_is_running, hold_late, freeze_late, set_failure, Rising, late_code_at, late_code_in, late_code, IsAnswerCode, IsLineCode}
 use Rattle.promises.proofs.Words.{IsCode, FailsByCode, Covers, covered, after_enabled, some_same, by_if, none_settled as calm_settled}
-use Rattle.std.proofs.Common.{◌≡◌, ◌∙◌, ℕ, ◌+◌, List, [], ◌∷◌, Option, Some, None, refl, Bool, true, false, ap, sym, subst, inl, inr}
+use Rattle.std.proofs.Common.{◌≡◌, ◌∙◌, ℕ, ◌+◌, List, [], ◌∷◌, Option, Some, None, refl, Bool, true, false, ap, sym, subst, arith}
 use Rattle.std.specs.Prelude.{◌&&◌, not, if◌then◌else◌}
-use Rattle.vss_names.specs.declared.vss_result.VssResult.TheVariants.{Writer as WriterFault, AsyncCancelled, UnexpectedProviderError, InsufficientStorage, HoldWritesTimeout, WriterNotResponding, BadState}
+use Rattle.std.proofs.lemmas.Bool.{false_from_ne_true}
+use Rattle.vss_names.specs.declared.vss_result.VssResult.TheVariants.{Writer as WriterFault, AsyncCancelled, UnexpectedProviderError, InsufficientStorage}
+use Rattle.vss_names.specs.declared.vss_result.VssResult.TheVariants.{HoldWritesTimeout, WriterNotResponding, BadState}
 use Rattle.writer_state.specs.declared.said.Said.TheVariants as said
 use Rattle.writer_calls.specs.declared.answer.Answer.{Answer}
 use Rattle.writer_calls.specs.declared.answer.Answer.TheVariants.{Ok, Veto}
 use Rattle.set_agenda.specs.declared.kind.Kind.TheVariants as kind
 use Rattle.set_agenda.specs.declared.limit.Limit.TheVariants.{Hold as HoldLimit, Freeze as FreezeLimit, Answer as AnswerLimit}
-use Rattle.set_agenda.specs.Course.{Course, posted, failed as course_failed, settled, told, is_decisive, decided, answered_to, answered as course_answered, stepped as course_stepped, freeze_limit, limits_now, lost, lost_to, fails_set, lost_decided, treated_as, treated, timed as course_timed}
+use Rattle.set_agenda.specs.Course.{Course, posted, failed as course_failed, settled, told, is_decisive, decided, answered_to, answered as course_answered}
+use Rattle.set_agenda.specs.Course.{stepped as course_stepped, freeze_limit, limits_now, lost, lost_to, fails_set, lost_decided, treated_as, treated}
+use Rattle.set_agenda.specs.Course.{timed as course_timed}
 use Rattle.scenario.specs.declared.op.Op.TheVariants as op
 use Rattle.vss_model.specs.Images.{Replied, refused, cleared, set_loses_image, with_room_if, put, write, reverted_as}
 use Rattle.vss_model.specs.Sessions.{has_no_volume, start_set, closed}
 use Rattle.vss_model.specs.Steps.{answered, step_made, is_flush, is_failed_step, stepped_as, stepped, ticked, later}
 use Rattle.vss_model.proofs.LogRule.{Running}
-use Rattle.promises.proofs.Truth.{false_of}
 use Rattle.promises.proofs.BusyAgendas.{course_followed}
-use Rattle.promises.proofs.CalmCourses.{calm_begun}
+use Rattle.promises.proofs.CalmCourses.{calm_begun, told_outcome}
 use Rattle.promises.proofs.GoneImages.{none_stepped}
 use Rattle.promises.proofs.Limits.{held_since_first, none_found, held_finds, frozen_finds}
 use Rattle.promises.proofs.SetFailures.{failure_at}
@@ -42,10 +45,6 @@ failed_outcome : (why : VssResult) (c : Course) → (course_failed why c).outcom
 unfolding course_failed
 failed_outcome why c = refl
 
-told_outcome : (o : Order) (x : Said) (now : ℕ) (ws : List ℕ) (c : Course) → (told o x now ws c).outcome ≡ c.outcome
-unfolding told
-told_outcome o x now ws c = refl
-
 -- ## which limit is spent
 
 abbrev code_of_limit : Limit → VssResult
@@ -62,10 +61,10 @@ module _ (now : ℕ) (c : Course) (a : Agenda) (o : Open) (l : RunningLimit) whe
   FromFirst = held_too_long now o.place.group a ≡ true → (holds_volumes o.place.group ≡ true) × (held_since_first now a ≡ true)
 
   not_held : FromFirst → spent_of now (held_here a o) ≡ None → held_too_long now o.place.group a ≡ false
-  not_held first e = false_of (held_too_long now o.place.group a) (λ i. let parts = first i in none_found now (held_here a o) HoldLimit e (held_finds now o.place.group a parts.0 parts.1))
+  not_held first e = false_from_ne_true (held_too_long now o.place.group a) (λ i. let parts = first i in none_found now (held_here a o) HoldLimit e (held_finds now o.place.group a parts.0 parts.1))
 
   not_frozen : spent_of now (frozen_here (freeze_limit c) a o) ≡ None → frozen_too_long now o.place.group c a ≡ false
-  not_frozen e = false_of (frozen_too_long now o.place.group c a) (λ i. none_found now (frozen_here (freeze_limit c) a o) FreezeLimit e (frozen_finds now o.place.group c a i))
+  not_frozen e = false_from_ne_true (frozen_too_long now o.place.group c a) (λ i. none_found now (frozen_here (freeze_limit c) a o) FreezeLimit e (frozen_finds now o.place.group c a i))
 
   by_limit : (x : Limit) → FromFirst → IsSpentHere now (freeze_limit c) a o l x → code_of_limit x ≡ code (held_too_long now o.place.group a) (frozen_too_long now o.place.group c a)
   by_limit HoldLimit first e = ap (λ b. code b (frozen_too_long now o.place.group c a)) (sym (hold_late now o.place.group a (first_hold a.log) l refl e))
@@ -81,8 +80,7 @@ code_left now c a (o ∷ os) l same e rising = by_limit now c a o l l.limit (hel
 
 limit_code : (now : ℕ) (c : Course) (x : Option Agenda) (l : RunningLimit) → spent_of now (running_limits (freeze_limit c) x) ≡ Some l
     → Running (λ (a : Agenda). a.kind ≡ kind.Snapshot → Rising (times a.log)) x → code_of_limit l.limit ≡ late_code_in now c x
-limit_code now c None l e rising = absurd cc
-limit_code now c (Some a) l e rising = code_left now c a (groups_left a) l refl e rising
+limit_code now c x l e rising = grind (arith, code_left)
 
 -- ## what a call of the course fails with
 
@@ -101,8 +99,7 @@ module _ (why : VssResult) (c : Course) (run : has_failed c.outcome ≡ false) w
       by_answer (Veto error) false e = settled_reason (told o (said.Veto error) now (w ∷ []) c) (told_outcome o (said.Veto error) now (w ∷ []) c) e
 
   lost_outcome : (o : Option Order) (now : ℕ) → (lost_to o now c).outcome ≡ c.outcome
-  lost_outcome None now = refl
-  lost_outcome (Some o) now = told_outcome o said.Lost now _ c
+  lost_outcome o now = grind (arith, told_outcome)
 
   time_reason : (l : Option RunningLimit) (now : ℕ) → (treated l now c).outcome ≡ FailedSet why → (m : RunningLimit) → l ≡ Some m → why ≡ code_of_limit m.limit
   time_reason None now e m f = absurd cc
@@ -133,24 +130,15 @@ module _ (s : Plan) (so_far : List Act) (why : VssResult) where
   st = state s so_far
 
   not_none : {X : Type 0} (o : Option VssResult) → o ≡ None → o ≡ Some why → X
-  not_none o e f = absurd (both o e f)
-    where
-      both : (o : Option VssResult) → o ≡ None → o ≡ Some why → ⊥
-      both o e f = cc
+  not_none o e f = grind arith
 
   -- the course has the code, where the turn is a failure
   of_turn : (x : State) (ran : Bool) → Turn st x ran → set_failure (in_progress st) x ≡ Some why → x.course.outcome ≡ FailedSet why
-  of_turn x ran (inl t) e = t.outcome ∙ ap FailedSet (some_same t.why why (sym t.failure ∙ e))
-  of_turn x ran (inr (inl t)) e = not_none (set_failure (in_progress st) x) t.failure e
-  of_turn x ran (inr (inr t)) e = not_none (set_failure (in_progress st) x) t.failure e
+  of_turn x ran x2 e = grind (arith, some_same, not_none)
 
   -- a set was in progress
   was_running : (x : State) → set_failure (in_progress st) x ≡ Some why → has_failed st.course.outcome ≡ false
-  was_running x e = by_set (in_progress st) refl e
-    where
-      by_set : (o : Option SetRow) → in_progress st ≡ o → set_failure o x ≡ Some why → has_failed st.course.outcome ≡ false
-      by_set None f g = absurd cc
-      by_set (Some r) f g = ap has_failed (outcome_is_running s so_far r f)
+  was_running x e = grind (arith, outcome_is_running)
 
   abbrev Next : Event → Mark → Replied → Type 0
   Next event mark x = set_failure (in_progress st) x.1 ≡ Some why → IsCode st event why
@@ -166,8 +154,7 @@ module _ (s : Plan) (so_far : List Act) (why : VssResult) where
   abort_reason (Some r) code e f g = same_reason why code (sym g)
 
   course_put : (v : ℕ) (w : Write) (mark : Mark) (x : State) → (put v w mark x).course ≡ x.course
-  course_put v w Clean x = refl
-  course_put v w _ x = refl
+  course_put v w mark x = grind arith
 
   room_reason : (b : Bool) (v block : ℕ) → has_failed st.course.outcome ≡ false → (with_room_if b (cleared s v block st)).course.outcome ≡ FailedSet why → why ≡ InsufficientStorage
   unfolding course_failed
@@ -185,35 +172,38 @@ module _ (s : Plan) (so_far : List Act) (why : VssResult) where
       (ap (λ (c : Course). c.outcome) (sym (course_put v w mark _)) ∙ of_turn _ (runs st) (write_turn s so_far v w mark) e)
 
   write_code : (lane : ℕ) (o : Op) (t : _) → target_of o ≡ Some t → why ≡ InsufficientStorage → IsLineCode st o why
-  write_code lane (op.WriteFill v b x) t e f = f
-  write_code lane (op.WriteStamp v b n) t e f = f
-  write_code lane o t e f = absurd cc
+  write_code lane o t e f = grind arith
 
   begun_code : (event : Event) (c : Course) → (has_failed st.course.outcome ≡ false → has_failed c.outcome ≡ false) → set_failure (in_progress st) (followed true c st) ≡ Some why
       → IsCode st event why
   begun_code event c calm e =
-      calm_reason c.outcome why (calm (was_running (followed true c st) e)) (ap (λ (d : Course). d.outcome) (sym (course_followed true c st)) ∙ of_turn (followed true c st) true (begun_turn s so_far c calm) e)
+      calm_reason c.outcome why (calm (was_running (followed true c st) e))
+      (ap (λ (d : Course). d.outcome) (sym (course_followed true c st)) ∙ of_turn (followed true c st) true (begun_turn s so_far c calm) e)
 
   answer_code : (w : ℕ) (answer : Answer) → set_failure (in_progress st) (answered w (said_of answer) st) ≡ Some why → IsAnswerCode answer why
   unfolding answered
   answer_code w answer e =
       let c = course_answered w (said_of answer) st.clock st.course in
       answer_reason why st.course (was_running (followed (runs st) c st) e) (open_order (left st.course.agenda) w) w answer st.clock
-      (sym (posted_outcome st.course _) ∙ ap (λ (d : Course). d.outcome) (sym (course_followed (runs st) c st)) ∙ of_turn (followed (runs st) c st) (runs st) (answer_turn s so_far w (said_of answer)) e)
+      (sym (posted_outcome st.course _) ∙ ap (λ (d : Course). d.outcome) (sym (course_followed (runs st) c st))
+      ∙ of_turn (followed (runs st) c st) (runs st) (answer_turn s so_far w (said_of answer)) e)
 
   tick_code : (n : ℕ) → set_failure (in_progress st) (ticked n st) ≡ Some why → why ≡ late_code st n
   unfolding ticked
   tick_code n e =
       let c = course_timed (st.clock + n) st.course in
       late_reason why st.course (was_running (followed (runs st) c (later n st)) e) (st.clock + n) (logs_rise s so_far)
-      (sym (posted_outcome st.course _) ∙ ap (λ (d : Course). d.outcome) (sym (course_followed (runs st) c (later n st))) ∙ of_turn (followed (runs st) c (later n st)) (runs st) (tick_turn s so_far n) e)
+      (sym (posted_outcome st.course _) ∙ ap (λ (d : Course). d.outcome) (sym (course_followed (runs st) c (later n st)))
+      ∙ of_turn (followed (runs st) c (later n st)) (runs st) (tick_turn s so_far n) e)
 
   step_reason : (b : Bool) (g : Option Group) → has_failed st.course.outcome ≡ false → (stepped_as b g st).course.outcome ≡ FailedSet why → why ≡ UnexpectedProviderError
   step_reason true g f e =
       same_reason why UnexpectedProviderError
-      (sym (ap (λ (d : Course). d.outcome) (sym (course_followed (runs st) (course_stepped false st.clock st.course) st)) ∙ e) ∙ (posted_outcome st.course _ ∙ failed_outcome UnexpectedProviderError st.course))
+      (sym (ap (λ (d : Course). d.outcome) (sym (course_followed (runs st) (course_stepped false st.clock st.course) st)) ∙ e)
+      ∙ (posted_outcome st.course _ ∙ failed_outcome UnexpectedProviderError st.course))
   step_reason false g f e =
-      calm_reason (course_stepped true st.clock st.course).outcome why (none_stepped st.clock st.course f) (ap (λ (d : Course). d.outcome) (sym (course_followed (runs st) (course_stepped true st.clock st.course) (step_made g st))) ∙ e)
+      calm_reason (course_stepped true st.clock st.course).outcome why (none_stepped st.clock st.course f)
+      (ap (λ (d : Course). d.outcome) (sym (course_followed (runs st) (course_stepped true st.clock st.course) (step_made g st))) ∙ e)
 
   step_code : (mark : Mark) → is_working (left_now st) ≡ true → set_failure (in_progress st) (stepped mark st) ≡ Some why → why ≡ UnexpectedProviderError
   unfolding stepped
@@ -224,18 +214,13 @@ module _ (s : Plan) (so_far : List Act) (why : VssResult) where
 
   closed_failure : (q : Session) (x : State) → set_failure (in_progress st) (closed q x) ≡ set_failure (in_progress st) x
   unfolding closed
-  closed_failure q x = by_set (in_progress st)
-    where
-      by_set : (o : Option SetRow) → set_failure o (closed q x) ≡ set_failure o x
-      by_set None = refl
-      by_set (Some r) = refl
+  closed_failure q x = grind arith
 
   unchanged : (event : Event) → set_failure (in_progress st) st ≡ Some why → IsCode st event why
   unchanged event e = same_sets event st (λ n. refl) e
 
   revert_course : (v : ℕ) (k : _) (mark : Mark) → (reverted_as s v k mark st).1.course.outcome ≡ st.course.outcome
-  revert_course v k Clean = refl
-  revert_course v k _ = refl
+  revert_course v k mark = grind arith
 
   codes : Covers Next s st
   codes = record {
@@ -251,8 +236,10 @@ module _ (s : Plan) (so_far : List Act) (why : VssResult) where
     names = λ lane w full q explicit mark g named. same_sets (Line lane (op.Component w full)) _ (λ m. refl);
     starts = λ lane q mark g e f. not_none (set_failure (in_progress st) (start_set q st).1) (none_started s so_far q (start_set q st).1 g.stands e) f;
     adds = λ lane v r q mark g e f i. calm_reason st.course.outcome why (was_running _ i) (of_turn _ (runs st) (add_turn s so_far v r) i);
-    prepares = λ lane q mark g. by_if (Next (Line lane op.Prepare) mark) (has_no_volume (in_progress st)) (refused BadState st) _ (unchanged (Line lane op.Prepare)) (begun_code (Line lane op.Prepare) _ (calm_begun kind.Prepare _ [] st.clock _));
-    snapshots = λ lane q mark g. by_if (Next (Line lane op.Snapshot) mark) (has_no_volume (in_progress st)) (refused BadState st) _ (unchanged (Line lane op.Snapshot)) (begun_code (Line lane op.Snapshot) _ (calm_begun kind.Snapshot st.course.members _ st.clock st.course));
+    prepares = λ lane q mark g. by_if (Next (Line lane op.Prepare) mark) (has_no_volume (in_progress st)) (refused BadState st) _
+        (unchanged (Line lane op.Prepare)) (begun_code (Line lane op.Prepare) _ (calm_begun kind.Prepare _ [] st.clock _));
+    snapshots = λ lane q mark g. by_if (Next (Line lane op.Snapshot) mark) (has_no_volume (in_progress st)) (refused BadState st) _
+        (unchanged (Line lane op.Snapshot)) (begun_code (Line lane op.Snapshot) _ (calm_begun kind.Snapshot st.course.members _ st.clock st.course));
     completes = λ lane q mark g. begun_code (Line lane op.Complete) _ (calm_begun kind.Complete _ [] st.clock st.course);
     aborts = λ lane q mark e. abort_code;
     ends = λ lane q mark e f. abort_code (sym (closed_failure q (failed AsyncCancelled st)) ∙ f);

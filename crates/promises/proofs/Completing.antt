@@ -7,15 +7,17 @@ use Rattle.promises.proofs.Words.{start, in_progress, left_now, Act, enabled, id
 use Rattle.promises.proofs.Words.{by_if}
 use Rattle.std.proofs.Common.{◌≡◌, ◌∙◌, ℕ, ◌+◌, ◌==◌, zero, suc, List, [], ◌∷◌, Option, Some, None, refl, Bool, true, false, ap, sym, subst, filter, fold, arith}
 use Rattle.std.specs.Prelude.{◌||◌, not, option_map, if◌then◌else◌, slice_get}
-use Rattle.set_agenda.specs.Course.{Course, posted, failed as course_failed, rows_where, row_if, has_row_failed, row_failed, begun, told, answered as course_answered, worked, stepped as course_stepped, timed as course_timed, released}
+use Rattle.set_agenda.specs.Course.{Course, posted, failed as course_failed, rows_where, row_if, has_row_failed, row_failed, begun, told}
+use Rattle.set_agenda.specs.Course.{answered as course_answered, worked, stepped as course_stepped, timed as course_timed, released}
 use Rattle.vss_model.specs.Ending.{Ending, ending, concluded, followed, runs, failed_in, failed}
 use Rattle.vss_model.specs.Images.{Replied, cleared, set_loses_image, with_room_if, put, write, reverted_as}
 use Rattle.vss_model.specs.Sessions.{has_no_volume, closed}
 use Rattle.vss_model.specs.Steps.{answered, step_made, is_flush, is_failed_step, stepped_as, stepped, ticked, later}
-use Rattle.promises.proofs.Truth.{equal}
-use Rattle.promises.proofs.LastOrder.{is_last_order, among_all, last_place, not_in_kind, still_open}
+use Rattle.promises.proofs.LastOrder.{is_last_order, last_place, not_in_kind, still_open}
 use Rattle.promises.proofs.OpenGroup.{every}
 use Rattle.promises.proofs.Members.{one_on}
+use Rattle.scenario.proofs.Places.{number_is}
+use Rattle.vss_model.proofs.Spoken.{among_filter}
 
 -- ## the course
 
@@ -45,7 +47,8 @@ row_stays f test k (r ∷ rows) zero e = ap (λ b. Some (row_if b f r)) (ap test
     none_more n = omega arith
 row_stays f test k (r ∷ rows) (suc w) e = row_stays f test (k + 1) rows w (ap test (one_on k w) ∙ e)
 
-well_said : (o : Order) (said : Said) (now : ℕ) (ws : List ℕ) (rows : List WriterRow) (x : Option Agenda) → Unfailed rows x → Unfailed (rows_where (row_after o said) (λ w. is_among w ws) 0 rows) (option_map (all_say said now ws) x)
+well_said : (o : Order) (said : Said) (now : ℕ) (ws : List ℕ) (rows : List WriterRow) (x : Option Agenda) → Unfailed rows x
+    → Unfailed (rows_where (row_after o said) (λ w. is_among w ws) 0 rows) (option_map (all_say said now ws) x)
 well_said o said now ws rows None h w e = nobody (rows_where (row_after o said) (λ w. is_among w ws) 0 rows) w e
 well_said o said now ws rows (Some a) h w e =
     let was = still_open a.kind said now ws a w refl e in
@@ -77,16 +80,20 @@ well_begun_as k ms vs now c h = kept_begun Well well_kept k ms vs now c h
 well_begun : (k : Kind) (ms : List Member) (vs : List ℕ) (now : ℕ) (c : Course) → every (λ q. not (is_last_order q.group)) (places k) ≡ true → Well (begun k ms vs now c)
 well_begun k ms vs now c h = well_begun_as k ms vs now c (λ w e. absurd (not_in_kind k (unspoken k ms vs now) w refl h e))
 
-unfailed_member : (rows : List WriterRow) (w : ℕ) (ms : List Member) → is_among w (writers_at (filter (λ (m : Member). not (has_row_failed rows m.writer)) ms) None) ≡ true → has_row_failed rows w ≡ false
+unfailed_member : (rows : List WriterRow) (w : ℕ) (ms : List Member)
+    → is_among w (writers_at (filter (λ (m : Member). not (has_row_failed rows m.writer)) ms) None) ≡ true → has_row_failed rows w ≡ false
 unfailed_member rows w [] e = absurd cc
 unfailed_member rows w (m ∷ ms) e = by_test (has_row_failed rows m.writer) refl e (unfailed_member rows w ms)
   where
     by_head : (c : Bool) → (m.writer == w) ≡ c → has_row_failed rows m.writer ≡ false → (c || is_among w (writers_at (filter (λ (x : Member). not (has_row_failed rows x.writer)) ms) None)) ≡ true
         → (is_among w (writers_at (filter (λ (x : Member). not (has_row_failed rows x.writer)) ms) None) ≡ true → has_row_failed rows w ≡ false) → has_row_failed rows w ≡ false
-    by_head true f g e ih = subst (λ x. has_row_failed rows x ≡ false) (equal m.writer w f) g
+    by_head true f g e ih = subst (λ x. has_row_failed rows x ≡ false) (number_is m.writer w f) g
     by_head false f g e ih = ih e
 
-    by_test : (b : Bool) → has_row_failed rows m.writer ≡ b → is_among w (writers_at (if not b then m ∷ filter (λ (x : Member). not (has_row_failed rows x.writer)) ms else filter (λ (x : Member). not (has_row_failed rows x.writer)) ms) None) ≡ true
+    by_test : (b : Bool) → has_row_failed rows m.writer ≡ b
+        → is_among w (writers_at
+        (if not b then m ∷ filter (λ (x : Member). not (has_row_failed rows x.writer)) ms else filter (λ (x : Member). not (has_row_failed rows x.writer)) ms)
+        None) ≡ true
         → (is_among w (writers_at (filter (λ (x : Member). not (has_row_failed rows x.writer)) ms) None) ≡ true → has_row_failed rows w ≡ false) → has_row_failed rows w ≡ false
     by_test true f e ih = ih e
     by_test false f e ih = by_head (m.writer == w) refl f e ih
@@ -100,9 +107,10 @@ well_completing ms now c =
     well_begun_as Complete asked [] now c
     (λ w e.
     unfailed_member c.rows w ms
-    (among_all (λ who. not (has_said [] last_place who)) w (writers_at (filter (λ (m : Member). not (has_row_failed c.rows m.writer)) ms) None)
+    (among_filter (λ who. not (has_said [] last_place who)) w (writers_at (filter (λ (m : Member). not (has_row_failed c.rows m.writer)) ms) None)
     (waiting_there (waited_for (unspoken Complete (filter (λ (m : Member). not (has_row_failed c.rows m.writer)) ms) [] now) last_place) w
-    (asked_if (is_asked w (groups_left (unspoken Complete (filter (λ (m : Member). not (has_row_failed c.rows m.writer)) ms) [] now))) (order_now (groups_left (unspoken Complete (filter (λ (m : Member). not (has_row_failed c.rows m.writer)) ms) [] now))) BackupComplete e))))
+    (asked_if (is_asked w (groups_left (unspoken Complete (filter (λ (m : Member). not (has_row_failed c.rows m.writer)) ms) [] now)))
+    (order_now (groups_left (unspoken Complete (filter (λ (m : Member). not (has_row_failed c.rows m.writer)) ms) [] now))) BackupComplete e))))
 
 -- ## every act
 

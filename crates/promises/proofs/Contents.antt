@@ -2,7 +2,7 @@
 use Rattle.promises.proofs.Words.{payload_bytes, zeros, Context, VssResult, AsyncCancelled, Said, Mark, Clean, Fault, FaultAfter, Write, History}
 use Rattle.promises.proofs.Words.{after_set, last_bytes, content, dropped, written, to_restore, reverted, Placed, gone_up_to, said_of, Group}
 use Rattle.promises.proofs.Words.{is_among, open_group, Session, Op, Target, line_of, target_in, target_of, does, Plan, blocks_of, group_of, Event, Line, State}
-use Rattle.promises.proofs.Words.{SetRow, Kept, in_progress, left_now, history_of, kept_image, Act, enabled, happens, idle_now, after, state, as_many_volumes, at, change_other, as_many_map}
+use Rattle.promises.proofs.Words.{SetRow, Kept, in_progress, left_now, history_of, kept_image, Act, enabled, happens, idle_now, after, state, as_many_volumes, at, as_many_map}
 use Rattle.promises.proofs.Words.{as_many_gone, block_now, is_clean, may_change, ContentsChange, changes_by, Covers, covered, after_enabled, after_not_enabled, all_taken}
 use Rattle.std.proofs.Common.{◌≡◌, ◌∙◌, ℕ, ◌+◌, ◌==◌, zero, suc, List, [], ◌∷◌, ◌++◌, Option, Some, None, refl, Bool, true, false, ◌<◌, ap, sym, subst, map, length, take, arith}
 use Rattle.std.specs.Prelude.{◌&&◌, if◌then◌else◌}
@@ -15,6 +15,7 @@ use Rattle.vss_model.specs.Sessions.{has_no_volume, images_released, closed}
 use Rattle.vss_model.specs.Steps.{answered, cut_if, cut_each, cut_set, step_made, is_flush, is_failed_step, stepped_as, stepped, ticked, later}
 use Rattle.promises.proofs.Truth.{same_number}
 use Rattle.promises.proofs.Restored.{some_restored}
+use Rattle.vss_model.proofs.Volumes.{change_other as change_elsewhere}
 
 -- ## writes of a volume
 
@@ -58,10 +59,6 @@ same_dropped o hs v = grind (arith, same_map)
 
 same_released : (c : Context) (set : Option ℕ) (hs : List History) → SameWrites hs (images_released c set hs)
 same_released c set hs v = grind (arith, same_map)
-
--- another volume is left alone
-change_elsewhere : (f : History → History) (u : ℕ) (hs : List History) (v : ℕ) → (u == v) ≡ false → at (change_at u f hs) v ≡ at hs v
-change_elsewhere f u hs v e = change_other f u hs v e
 
 -- ## one block
 
@@ -107,7 +104,9 @@ module _ (s : Plan) (st : State) (v b : ℕ) where
   stay_put : (u : ℕ) (w : Write) (mark : Mark) (x : State) → (is_clean mark && (u == v) && (w.block == b)) ≡ false → Stays x.volumes → Stays (put u w mark x).volumes
   stay_put u w Clean x e h = by_volume (u == v) refl e ∙ h
     where
-      written_at : (u : ℕ) (hs : List History) (v : ℕ) → (w.block == b) ≡ false → content (at (change_at u (written w) hs) v).writes (length (at (change_at u (written w) hs) v).writes) b ≡ content (at hs v).writes (length (at hs v).writes) b
+      written_at : (u : ℕ) (hs : List History) (v : ℕ) → (w.block == b) ≡ false
+          → content (at (change_at u (written w) hs) v).writes (length (at (change_at u (written w) hs) v).writes) b
+          ≡ content (at hs v).writes (length (at hs v).writes) b
       written_at u [] v e = refl
       written_at zero (x ∷ hs) zero e = other_block x.writes w b e
       written_at zero (x ∷ hs) (suc v) e = refl
@@ -123,7 +122,9 @@ module _ (s : Plan) (st : State) (v b : ℕ) where
   stay_write : (u : ℕ) (w : Write) (mark : Mark) → (is_clean mark && (u == v) && (w.block == b)) ≡ false → Stays (write s u w mark st).1.volumes
   unfolding write
   stay_write u w mark e =
-      stay_put u w mark _ e (stay_room (set_loses_image (in_progress st) st.volumes (cleared s u w.block st).volumes) (cleared s u w.block st) (by_writes st.volumes _ (same_gone (going_up_to s u w.block st) (group_of s u) st.volumes)))
+      stay_put u w mark _ e
+      (stay_room (set_loses_image (in_progress st) st.volumes (cleared s u w.block st).volumes) (cleared s u w.block st)
+      (by_writes st.volumes _ (same_gone (going_up_to s u w.block st) (group_of s u) st.volumes)))
 
   stay_cut : (o : Option SetRow) → Stays (cut_set o st).volumes
   stay_cut o = grind (arith, by_writes, same_cut)
@@ -226,7 +227,9 @@ module _ (s : Plan) (st : State) where
   revert_brings v b k mark e l = grind (arith, changed_here, now_is)
 
   stop_brings : (v b j : ℕ) (k : Kept) (mark : Mark) → mark ≡ FaultAfter j → v < length st.volumes
-      → block_now (reverted_as s v k mark st).1 v b ≡ (if is_among b (take j (to_restore (blocks_of s v) (history_of st v).writes k.point)) then content (history_of st v).writes k.point b else block_now st v b)
+      → block_now (reverted_as s v k mark st).1 v b
+      ≡ (if is_among b (take j (to_restore (blocks_of s v) (history_of st v).writes k.point)) then content (history_of st v).writes k.point b
+      else block_now st v b)
   stop_brings v b j k mark e l = grind (arith, changed_here, some_restored)
 
   revert_is : (n v : ℕ) (k : Kept) (mark : Mark) → kept_image st n v ≡ Some k → revert_refusal v (Some k) st ≡ None → revert s n v mark st ≡ reverted_as s v k mark st
@@ -246,7 +249,11 @@ contents_change s so_far act =
           ap (λ (y : State). block_now y v b) (after_line s st act (Line lane o) e on ∙ ap (λ d. (does s lane o d act.mark st).1) is)
           ∙ write_brings s st v (record { block = b; bytes = payload_bytes payload }) act.mark m (many v l);
       reverted = λ lane n v b k e m h i l.
-          ap (λ (y : State). block_now y v b) (after_line s st act (Line lane (op.Revert n v)) e (ap (enabled s st) e) ∙ ap (λ (y : Replied). y.1) (revert_is s st n v k act.mark h i)) ∙ revert_brings s st v b k act.mark m (many v l);
+          ap (λ (y : State). block_now y v b)
+          (after_line s st act (Line lane (op.Revert n v)) e (ap (enabled s st) e) ∙ ap (λ (y : Replied). y.1) (revert_is s st n v k act.mark h i))
+          ∙ revert_brings s st v b k act.mark m (many v l);
       stopped = λ lane n v b j k e m h i l.
-          ap (λ (y : State). block_now y v b) (after_line s st act (Line lane (op.Revert n v)) e (ap (enabled s st) e) ∙ ap (λ (y : Replied). y.1) (revert_is s st n v k act.mark h i)) ∙ stop_brings s st v b j k act.mark m (many v l);
+          ap (λ (y : State). block_now y v b)
+          (after_line s st act (Line lane (op.Revert n v)) e (ap (enabled s st) e) ∙ ap (λ (y : Replied). y.1) (revert_is s st n v k act.mark h i))
+          ∙ stop_brings s st v b j k act.mark m (many v l);
     }

@@ -5,6 +5,7 @@ use Rattle.promises.proofs.Words.{followed, runs, failed, NumberedFrom, IsOfSess
 use Rattle.promises.proofs.Words.{after_cut, fewer_after, fewer_followed, true_not_false, orderly, at, stands, BackupsEnd, Covers, covered, after_enabled, after_not_enabled, some_same, by_if}
 use Rattle.std.proofs.Common.{◌≡◌, ◌∙◌, ℕ, ◌+◌, ◌==◌, List, [], ◌∷◌, ◌++◌, Option, Some, None, refl, Bool, true, false, ap, sym, subst, fold, arith}
 use Rattle.std.specs.Prelude.{◌&&◌, option_map, if◌then◌else◌}
+use Rattle.std.proofs.lemmas.Bool.{and_parts}
 use Rattle.set_agenda.specs.Course.{answered as course_answered, stepped as course_stepped, timed as course_timed}
 use Rattle.requestor.specs.declared.session_call.SessionCall.TheVariants as call
 use Rattle.requestor.specs.declared.stage.Stage.TheVariants.{Opened, Gathered}
@@ -12,9 +13,10 @@ use Rattle.scenario.specs.declared.op.Op.TheVariants as op
 use Rattle.vss_model.specs.Images.{Replied, is_backup, write, reverted_as}
 use Rattle.vss_model.specs.Sessions.{new_set, new_number, with_volume, start_set, has_no_volume, images_released, closed}
 use Rattle.vss_model.specs.Steps.{answered, cut_set, step_made, is_flush, is_failed_step, stepped_as, stepped, ticked, later}
-use Rattle.promises.proofs.Truth.{both_parts, equal}
 use Rattle.promises.proofs.Done.{kept_map, dropped_gone}
-use Rattle.promises.proofs.Contexts.{context_in, context_map, changed_number, changed_context, context_other, context_new, HasMade, Owned, NoMore, Relates, relates_same, relates_over, relates_followed, relates_failed, relates_room, relates_put, owned_by, cut_contexts, owned_cut}
+use Rattle.promises.proofs.Contexts.{context_in, context_map, changed_number, changed_context, context_other, context_new, HasMade, Owned, NoMore, Relates}
+use Rattle.promises.proofs.Contexts.{relates_same, relates_over, relates_followed, relates_failed, relates_room, relates_put, owned_by, cut_contexts, owned_cut}
+use Rattle.scenario.proofs.Places.{number_is}
 
 -- ## a new set
 
@@ -34,13 +36,18 @@ owned_start q st g num h = record {
     none_some o n e f = absurd cc
 
     of_new : (p : Session) (n : ℕ) → Some (started (new_number st) q) ≡ Some p → p.set ≡ Some n → (new_number st ≡ n) × (q.context ≡ p.context)
-    of_new p n e f = (some_same (new_number st) n (ap (λ (y : Session). y.set) (some_same (started (new_number st) q) p e) ∙ f), ap (λ (y : Session). y.context) (some_same (started (new_number st) q) p e))
+    of_new p n e f = (
+      some_same (new_number st) n (ap (λ (y : Session). y.set) (some_same (started (new_number st) q) p e) ∙ f),
+      ap (λ (y : Session). y.context)
+          (some_same (started (new_number st) q) p e),
+    )
 
     not_early : (p : Session) → Some (started (new_number st) q) ≡ Some p → is_early p.stage ≡ true → ⊥
     not_early p e f = true_not_false (is_early p.stage) f (ap (λ (y : Session). is_early y.stage) (sym (some_same (started (new_number st) q) p e)))
 
-    by_number : (n v : ℕ) (b : Bool) → (new_number st == n) ≡ b → context_in (st.sets ++ new_set (new_number st) q.context ∷ []) n ≡ Some Backup → stands st n v ≡ true → HasMade (Some (started (new_number st) q)) n
-    by_number n v true e c i = record { session = started (new_number st) q; is = refl; set = ap Some (equal (new_number st) n e) }
+    by_number : (n v : ℕ) (b : Bool) → (new_number st == n) ≡ b → context_in (st.sets ++ new_set (new_number st) q.context ∷ []) n ≡ Some Backup
+        → stands st n v ≡ true → HasMade (Some (started (new_number st) q)) n
+    by_number n v true e c i = record { session = started (new_number st) q; is = refl; set = ap Some (number_is (new_number st) n e) }
     by_number n v false e c i =
         let made = h.own n v (sym (context_other st.sets (new_set (new_number st) q.context) n e) ∙ c) i in
         let same = some_same made.session q (sym made.is ∙ g.stands) in
@@ -91,7 +98,9 @@ module _ (s : Plan) (st : State) (num : NumberedFrom 1 st.sets) (h : Owned st) w
   none_left : (q : Session) (x : State) (n v : ℕ) → q.context ≡ Backup → q.set ≡ Some n → stands (closed q x) n v ≡ true → ⊥
   unfolding closed
   none_left q x n v e f g =
-      dropped_gone n (at x.volumes v) (kept_map (dropped n) n x.volumes v (ap (λ hs. has_image n (at hs v)) (sym (ap (λ c. images_released c q.set x.volumes) e ∙ ap (λ k. images_released Backup k x.volumes) f)) ∙ g))
+      dropped_gone n (at x.volumes v)
+      (kept_map (dropped n) n x.volumes v
+      (ap (λ hs. has_image n (at hs v)) (sym (ap (λ c. images_released c q.set x.volumes) e ∙ ap (λ k. images_released Backup k x.volumes) f)) ∙ g))
 
   closed_sets : (q : Session) (x : State) → (closed q x).sets ≡ x.sets
   unfolding closed
@@ -137,7 +146,10 @@ module _ (s : Plan) (st : State) (num : NumberedFrom 1 st.sets) (h : Owned st) w
     gathers = λ lane q mark g. by _ (relates_followed true _ st);
     names = λ lane w full q explicit mark g named. by _ (relates_same st.sets _ (λ m. refl));
     starts = λ lane q mark g e img. owned_start q st g num h;
-    adds = λ lane v r q mark g e f. by _ (relates_same st.sets _ (context_map (row_changed r.number (with_volume v)) (λ x. changed_number r.number (with_volume v) x refl) (λ x. changed_context r.number (with_volume v) x refl) st.sets));
+    adds = λ lane v r q mark g e f. by _
+        (relates_same st.sets _
+        (context_map (row_changed r.number (with_volume v)) (λ x. changed_number r.number (with_volume v) x refl)
+        (λ x. changed_context r.number (with_volume v) x refl) st.sets));
     prepares = λ lane q mark g. by_if (Next (Line lane op.Prepare) mark) (has_no_volume (in_progress st)) _ _ (λ img. h) (by _ (relates_followed true _ st));
     snapshots = λ lane q mark g. by_if (Next (Line lane op.Snapshot) mark) (has_no_volume (in_progress st)) _ _ (λ img. h) (by _ (relates_followed true _ st));
     completes = λ lane q mark g. by _ (relates_followed true _ st);
@@ -154,10 +166,11 @@ module _ (s : Plan) (st : State) (num : NumberedFrom 1 st.sets) (h : Owned st) w
   owned_after : (b : Bool) (act : Act) → (is_provider act.event && is_cut_group (open_group (left_now st))) ≡ b → IsSessionOfSet st.session st.course.outcome (in_progress st) → Owned (after s st act)
   owned_after false act e k = owned_if (enabled s st act.event) act refl (λ n v g. ((fewer_after s st act e).each v).sets n g)
   owned_after true act e k =
-      let parts = both_parts (is_provider act.event) (is_cut_group (open_group (left_now st))) e in
+      let parts = and_parts (is_provider act.event) (is_cut_group (open_group (left_now st))) e in
       let x = cut_set (in_progress st) st in
       subst Owned (sym (after_cut s st act parts.0 parts.1))
-      (owned_by x _ (relates_followed (runs st) (course_stepped true st.clock st.course) x) (λ n v g. ((fewer_followed (runs st) (course_stepped true st.clock st.course) x).each v).sets n g) (owned_cut (in_progress st) st refl k h))
+      (owned_by x _ (relates_followed (runs st) (course_stepped true st.clock st.course) x)
+      (λ n v g. ((fewer_followed (runs st) (course_stepped true st.clock st.course) x).each v).sets n g) (owned_cut (in_progress st) st refl k h))
 
 owned_from : (s : Plan) (so_far acts : List Act) → Owned (state s so_far) → Owned (fold (after s) (state s so_far) acts)
 owned_from s so_far [] h = h

@@ -5,19 +5,22 @@ use Rattle.promises.proofs.Words.{NumberedFrom, IsOfSession as IsSessionOfSet, i
 use Rattle.std.proofs.Common.{◌≡◌, ◌∙◌, ℕ, ◌+◌, ◌==◌, zero, suc, List, [], ◌∷◌, ◌++◌, Option, Some, None, refl, Bool, true, false, ap, sym, subst, map, find, length, arith}
 use Rattle.std.specs.Prelude.{is_some, option_map, if◌then◌else◌}
 use Rattle.vss_model.specs.Ending.{Ending, ending, row_settled, concluded, followed, failed_in}
-use Rattle.promises.proofs.Truth.{equal, same_number}
+use Rattle.promises.proofs.Truth.{same_number}
+use Rattle.scenario.proofs.Places.{number_is}
 
 -- ## the context of a set
 
 abbrev pub context_in : List SetRow → ℕ → Option Context
 context_in rows n = option_map (λ (r : SetRow). r.context) (find (λ (r : SetRow). r.number == n) rows)
 
-pub context_map : (f : SetRow → SetRow) → ((r : SetRow) → (f r).number ≡ r.number) → ((r : SetRow) → (f r).context ≡ r.context) → (rows : List SetRow) (n : ℕ) → context_in (map f rows) n ≡ context_in rows n
+pub context_map : (f : SetRow → SetRow) → ((r : SetRow) → (f r).number ≡ r.number) → ((r : SetRow) → (f r).context ≡ r.context) → (rows : List SetRow) (n : ℕ)
+    → context_in (map f rows) n ≡ context_in rows n
 context_map f num con [] n = refl
 context_map f num con (r ∷ rows) n = by_head (r.number == n) ((f r).number == n) (ap (λ k. k == n) (num r)) (context_map f num con rows n)
   where
     by_head : (b c : Bool) → c ≡ b → context_in (map f rows) n ≡ context_in rows n
-        → option_map (λ (x : SetRow). x.context) (if c then Some (f r) else find (λ (x : SetRow). x.number == n) (map f rows)) ≡ option_map (λ (x : SetRow). x.context) (if b then Some r else find (λ (x : SetRow). x.number == n) rows)
+        → option_map (λ (x : SetRow). x.context) (if c then Some (f r) else find (λ (x : SetRow). x.number == n) (map f rows))
+        ≡ option_map (λ (x : SetRow). x.context) (if b then Some r else find (λ (x : SetRow). x.number == n) rows)
     by_head true true e ih = ap Some (con r)
     by_head true false e ih = absurd cc
     by_head false true e ih = absurd cc
@@ -40,7 +43,8 @@ context_other [] r n e = ap (λ b. option_map (λ (x : SetRow). x.context) (if b
 context_other (q ∷ rows) r n e = by_head (q.number == n) (context_other rows r n e)
   where
     by_head : (b : Bool) → context_in (rows ++ r ∷ []) n ≡ context_in rows n
-        → option_map (λ (x : SetRow). x.context) (if b then Some q else find (λ (x : SetRow). x.number == n) (rows ++ r ∷ [])) ≡ option_map (λ (x : SetRow). x.context) (if b then Some q else find (λ (x : SetRow). x.number == n) rows)
+        → option_map (λ (x : SetRow). x.context) (if b then Some q else find (λ (x : SetRow). x.number == n) (rows ++ r ∷ []))
+        ≡ option_map (λ (x : SetRow). x.context) (if b then Some q else find (λ (x : SetRow). x.number == n) rows)
     by_head true ih = refl
     by_head false ih = ih
 
@@ -54,7 +58,8 @@ context_new k (q ∷ rows) r h e = by_head (q.number == r.number) (less q.number
     next : (n len k : ℕ) → n ≡ suc len + k → n ≡ len + (k + 1)
     next n len k e = omega arith
 
-    by_head : (b : Bool) → b ≡ false → context_in (rows ++ r ∷ []) r.number ≡ Some r.context → option_map (λ (x : SetRow). x.context) (if b then Some q else find (λ (x : SetRow). x.number == r.number) (rows ++ r ∷ [])) ≡ Some r.context
+    by_head : (b : Bool) → b ≡ false → context_in (rows ++ r ∷ []) r.number ≡ Some r.context
+        → option_map (λ (x : SetRow). x.context) (if b then Some q else find (λ (x : SetRow). x.number == r.number) (rows ++ r ∷ [])) ≡ Some r.context
     by_head true f ih = absurd cc
     by_head false f ih = ih
 
@@ -82,7 +87,8 @@ pub record Keeps (f : Session → Session) : Type 0 where
 pub session_was : (f : Session → Session) (o : Option Session) (q : Session) (X : Type 0) → option_map f o ≡ Some q → ((p : Session) → o ≡ Some p → f p ≡ q → X) → X
 session_was f o q x3 e g = grind arith
 
-pub owned_still : (f : Session → Session) → Keeps f → (x next : State) → ((n : ℕ) → context_in next.sets n ≡ context_in x.sets n) → next.session ≡ option_map f x.session → NoMore x next → Owned x → Owned next
+pub owned_still : (f : Session → Session) → Keeps f → (x next : State) → ((n : ℕ) → context_in next.sets n ≡ context_in x.sets n)
+    → next.session ≡ option_map f x.session → NoMore x next → Owned x → Owned next
 owned_still f k x next con ses img h = record {
   own = λ n v e g. let made = h.own n v (sym (con n) ∙ e) (img n v g) in
       record { session = f made.session; is = ses ∙ ap (option_map f) made.is; set = k.set made.session ∙ made.set };
@@ -152,7 +158,8 @@ cut_images m n vs u (x ∷ hs) zero e h = by_set (is_among u vs) h
     other [] p h = ap (λ b. is_some (if b then Some p else None)) (sym e) ∙ h
     other (i ∷ images) p h = by_head (i.set == n) h (other images p)
       where
-        by_head : (b : Bool) → is_some (if b then Some i.point else point_in n (images ++ record { set = m; point = p } ∷ [])) ≡ true → (is_some (point_in n (images ++ record { set = m; point = p } ∷ [])) ≡ true → is_some (point_in n images) ≡ true)
+        by_head : (b : Bool) → is_some (if b then Some i.point else point_in n (images ++ record { set = m; point = p } ∷ [])) ≡ true
+            → (is_some (point_in n (images ++ record { set = m; point = p } ∷ [])) ≡ true → is_some (point_in n images) ≡ true)
             → is_some (if b then Some i.point else point_in n images) ≡ true
         by_head true h ih = refl
         by_head false h ih = ih h
@@ -177,5 +184,5 @@ owned_cut (Some r) st e k h = record {
 }
   where
     by_number : (n v : ℕ) (b : Bool) → (r.number == n) ≡ b → context_in st.sets n ≡ Some Backup → stands (cut_set (Some r) st) n v ≡ true → HasMade st.session n
-    by_number n v true i c g = subst (HasMade st.session) (equal r.number n i) (made_by st.session st.course.outcome r (subst (IsSessionOfSet st.session st.course.outcome) e k))
+    by_number n v true i c g = subst (HasMade st.session) (number_is r.number n i) (made_by st.session st.course.outcome r (subst (IsSessionOfSet st.session st.course.outcome) e k))
     by_number n v false i c g = h.own n v c (cut_images r.number n r.volumes 0 st.volumes v i g)

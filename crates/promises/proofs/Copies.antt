@@ -47,7 +47,13 @@ copies_in u n most ws [] t = All-nil (IsOfImage u ws [])
 copies_in u n most ws (i ∷ newer) t =
     All-append (IsOfImage u ws (i ∷ newer)) (map (copy_of u ws i) (named n ws i newer)) (copies_of u n ws newer) (own_copies u ws i newer (named n ws i newer))
     (all_along (IsOfImage u ws newer) (IsOfImage u ws (i ∷ newer)) (copies_of u n ws newer)
-    (λ c h. record { volume = h.volume; point = h.point; is = later_point (i.set == c.set) i.point (point_in c.set newer) (later_set i c.set h.point newer t.1 h.is) ∙ h.is; holds = h.holds }) (copies_in u n most ws newer t.2))
+    (λ c h. record {
+      volume = h.volume;
+      point = h.point;
+      is = later_point (i.set == c.set) i.point (point_in c.set newer)
+          (later_set i c.set h.point newer t.1 h.is) ∙ h.is;
+      holds = h.holds;
+    }) (copies_in u n most ws newer t.2))
 
 -- ## the copies of a group
 
@@ -73,9 +79,12 @@ in_group u (p ∷ ps) (h ∷ hs) t = by_group p.within refl (λ k. in_group k ps
         → All (IsInGroup u (p ∷ ps) (h ∷ hs)) (if b then copies_of u p.blocks h.writes h.images ++ copies_from (u + 1) ps hs else copies_from u ps hs)
     by_group true e rest =
         All-append (IsInGroup u (p ∷ ps) (h ∷ hs)) (copies_of u p.blocks h.writes h.images) (copies_from (u + 1) ps hs)
-        (all_along (IsOfImage u h.writes h.images) (IsInGroup u (p ∷ ps) (h ∷ hs)) (copies_of u p.blocks h.writes h.images) (λ c i. record { volume = 0; place = i.volume; of_group = e; own = u; image = i }) (copies_in u p.blocks (length h.writes) h.writes h.images (t 0)))
-        (all_along (IsInGroup (u + 1) ps hs) (IsInGroup u (p ∷ ps) (h ∷ hs)) (copies_from (u + 1) ps hs) (λ c i. one_later u p ps h hs c (subst (λ b. IsInGroup (if b then u + 1 else u) ps hs c) (sym e) i)) (rest (u + 1)))
-    by_group false e rest = all_along (IsInGroup u ps hs) (IsInGroup u (p ∷ ps) (h ∷ hs)) (copies_from u ps hs) (λ c i. one_later u p ps h hs c (subst (λ b. IsInGroup (if b then u + 1 else u) ps hs c) (sym e) i)) (rest u)
+        (all_along (IsOfImage u h.writes h.images) (IsInGroup u (p ∷ ps) (h ∷ hs)) (copies_of u p.blocks h.writes h.images)
+        (λ c i. record { volume = 0; place = i.volume; of_group = e; own = u; image = i }) (copies_in u p.blocks (length h.writes) h.writes h.images (t 0)))
+        (all_along (IsInGroup (u + 1) ps hs) (IsInGroup u (p ∷ ps) (h ∷ hs)) (copies_from (u + 1) ps hs)
+        (λ c i. one_later u p ps h hs c (subst (λ b. IsInGroup (if b then u + 1 else u) ps hs c) (sym e) i)) (rest (u + 1)))
+    by_group false e rest = all_along (IsInGroup u ps hs) (IsInGroup u (p ∷ ps) (h ∷ hs)) (copies_from u ps hs)
+        (λ c i. one_later u p ps h hs c (subst (λ b. IsInGroup (if b then u + 1 else u) ps hs c) (sym e) i)) (rest u)
 
 -- ## the cut
 

@@ -5,12 +5,15 @@ use Rattle.promises.proofs.Words.{has_failed, none_settled as calm_settled, some
 use Rattle.std.proofs.Common.{◌≡◌, ◌∙◌, ℕ, ◌+◌, zero, suc, List, [], ◌∷◌, ◌⊎◌, Option, Some, None, refl, Bool, true, false, ap, sym, subst, inl, inr, map, arith}
 use Rattle.std.specs.Prelude.{◌&&◌, not, slice_get}
 use Rattle.set_agenda.specs.declared.limit.Limit.TheVariants.{Hold as HoldLimit, Freeze as FreezeLimit, Answer as AnswerLimit}
-use Rattle.set_agenda.specs.Course.{Course, posted, failed as course_failed, rows_where, row_if, is_member, settled_in, settled, begun, told, is_decisive, decided, answered_to, answered as course_answered, worked, stepped as course_stepped, freeze_limit, limits_now, lost_to, lost, fails_set, lost_decided, treated_as, treated, timed as course_timed}
+use Rattle.set_agenda.specs.Course.{Course, posted, failed as course_failed, rows_where, row_if, is_member, settled_in, settled, begun, told, is_decisive}
+use Rattle.set_agenda.specs.Course.{decided, answered_to, answered as course_answered, worked, stepped as course_stepped, freeze_limit, limits_now, lost_to}
+use Rattle.set_agenda.specs.Course.{lost, fails_set, lost_decided, treated_as, treated, timed as course_timed}
 use Rattle.promises.proofs.BusyAgendas.{IsBusy, busy_order, busy_limit}
 use Rattle.promises.proofs.Limits.{spent_holds}
 use Rattle.promises.proofs.Members.{one_on}
 
-row_where : (f : WriterRow → WriterRow) (test : ℕ → Bool) (k : ℕ) (rows : List WriterRow) (w : ℕ) (r : WriterRow) → slice_get rows w ≡ Some r → slice_get (rows_where f test k rows) w ≡ Some (row_if (test (k + w)) f r)
+row_where : (f : WriterRow → WriterRow) (test : ℕ → Bool) (k : ℕ) (rows : List WriterRow) (w : ℕ) (r : WriterRow) → slice_get rows w ≡ Some r
+    → slice_get (rows_where f test k rows) w ≡ Some (row_if (test (k + w)) f r)
 row_where f test k [] w r e = absurd cc
 row_where f test k (x ∷ rows) zero r e = ap (λ n. Some (row_if (test n) f x)) (none_more k) ∙ ap (λ y. Some (row_if (test (k + 0)) f y)) (some_same x r e)
   where
@@ -34,7 +37,8 @@ and_told ms f w r = row_if (is_member ms w) row_aborted (f w r)
 pub same_rows : (rows : List WriterRow) → Becomes as_it_is rows rows
 same_rows rows w r e = e
 
-pub rows_where_are : (f : WriterRow → WriterRow) (test : ℕ → Bool) (say : ℕ → WriterRow → WriterRow) (rows more : List WriterRow) → Becomes say rows more → Becomes (λ w r. row_if (test w) f (say w r)) rows (rows_where f test 0 more)
+pub rows_where_are : (f : WriterRow → WriterRow) (test : ℕ → Bool) (say : ℕ → WriterRow → WriterRow) (rows more : List WriterRow) → Becomes say rows more
+    → Becomes (λ w r. row_if (test w) f (say w r)) rows (rows_where f test 0 more)
 rows_where_are f test say rows more h w r e = row_where f test 0 more w (say w r) (h w r e) ∙ ap (λ n. Some (row_if (test n) f (say w r))) (none_less w)
   where
     none_less : (a : ℕ) → 0 + a ≡ a
@@ -58,7 +62,8 @@ Comes say false c d = Becomes say c.rows d.rows
 module _ (say : ℕ → WriterRow → WriterRow) where
   pub rise_failed : (why : VssResult) (c d : Course) → Becomes say c.rows d.rows → d.members ≡ c.members → Becomes (and_told c.members say) c.rows (course_failed why d).rows
   unfolding course_failed
-  rise_failed why c d h e = subst (λ ms. Becomes (and_told c.members say) c.rows (rows_where row_aborted (is_member ms) 0 d.rows)) (sym e) (rows_where_are row_aborted (is_member c.members) say c.rows d.rows h)
+  rise_failed why c d h e = subst (λ ms. Becomes (and_told c.members say) c.rows (rows_where row_aborted (is_member ms) 0 d.rows)) (sym e)
+      (rows_where_are row_aborted (is_member c.members) say c.rows d.rows h)
 
   stay_posted : (prior c d : Course) → Becomes say c.rows d.rows → Becomes say c.rows (posted prior d).rows
   unfolding posted
@@ -101,9 +106,11 @@ refuses (Some o) said = is_decisive o && not (is_ok said)
 
 comes_answered_to : (x : Option Order) (w : ℕ) (said : Said) (now : ℕ) (c : Course) → Comes (say_to x said (w ∷ [])) (refuses x said) c (answered_to x w said now c)
 comes_answered_to None w said now c = same_rows c.rows
-comes_answered_to (Some o) w said now c = comes_decided (say_to (Some o) said (w ∷ [])) (is_decisive o && not (is_ok said)) said c (told o said now (w ∷ []) c) (stay_told o said now (w ∷ []) c) (members_told o said now (w ∷ []) c)
+comes_answered_to (Some o) w said now c = comes_decided (say_to (Some o) said (w ∷ [])) (is_decisive o && not (is_ok said)) said c (told o said now (w ∷ []) c)
+    (stay_told o said now (w ∷ []) c) (members_told o said now (w ∷ []) c)
 
-pub comes_answered : (w : ℕ) (said : Said) (now : ℕ) (c : Course) → Comes (say_to (open_order (left c.agenda) w) said (w ∷ [])) (refuses (open_order (left c.agenda) w) said) c (course_answered w said now c)
+pub comes_answered : (w : ℕ) (said : Said) (now : ℕ) (c : Course)
+    → Comes (say_to (open_order (left c.agenda) w) said (w ∷ [])) (refuses (open_order (left c.agenda) w) said) c (course_answered w said now c)
 comes_answered w said now c = grind (arith, comes_posted, comes_answered_to)
 
 stay_worked : (now : ℕ) (c : Course) → Becomes as_it_is c.rows (worked now c).rows
@@ -182,7 +189,9 @@ lost_by None c w r = r
 lost_by (Some l) c w r = all_lost c w r
 
 over_lost : (b : Bool) (now : ℕ) (c : Course) → fails_set (order_now (left c.agenda)) ≡ b → PassesOrFails (all_lost c) c (lost_decided b (lost now c))
-over_lost true now c e = inr (fails_by (all_lost c) _ c (now_lost now c) (stay_lost_to (order_now (left c.agenda)) now c) (members_lost_to (order_now (left c.agenda)) now c) (busy_by (order_now (left c.agenda)) refl e))
+over_lost true now c e = inr
+    (fails_by (all_lost c) _ c (now_lost now c) (stay_lost_to (order_now (left c.agenda)) now c) (members_lost_to (order_now (left c.agenda)) now c)
+    (busy_by (order_now (left c.agenda)) refl e))
   where
     busy_by : (x : Option Order) → order_now (left c.agenda) ≡ x → fails_set x ≡ true → IsBusy c.agenda
     busy_by None f g = absurd cc
@@ -193,7 +202,9 @@ over_lost false now c e = inl (record {
 })
 
 over_treated_as : (x : Limit) (now : ℕ) (c : Course) (l : RunningLimit) → spent_of now (limits_now c) ≡ Some l → l.limit ≡ x → PassesOrFails (all_lost c) c (treated_as x now c)
-over_treated_as HoldLimit now c l e k = inr (fails_by (all_lost c) _ c c (nobody_asked (order_now (left c.agenda)) refl) refl (busy_limit now (freeze_limit c) c.agenda l e (λ f. not_hold (sym k ∙ f))))
+over_treated_as HoldLimit now c l e k = inr
+    (fails_by (all_lost c) _ c c (nobody_asked (order_now (left c.agenda)) refl) refl
+    (busy_limit now (freeze_limit c) c.agenda l e (λ f. not_hold (sym k ∙ f))))
   where
     not_hold : HoldLimit ≡ AnswerLimit → ⊥
     not_hold e = cc
@@ -203,7 +214,8 @@ over_treated_as HoldLimit now c l e k = inr (fails_by (all_lost c) _ c c (nobody
     nobody_asked None f = same_rows c.rows
     nobody_asked (Some o) f = absurd (no_hold_asks now (freeze_limit c) c.agenda l o e k f)
 over_treated_as FreezeLimit now c l e k =
-    inr (fails_by (all_lost c) _ c (now_lost now c) (stay_lost_to (order_now (left c.agenda)) now c) (members_lost_to (order_now (left c.agenda)) now c) (busy_limit now (freeze_limit c) c.agenda l e (λ f. not_freeze (sym k ∙ f))))
+    inr (fails_by (all_lost c) _ c (now_lost now c) (stay_lost_to (order_now (left c.agenda)) now c) (members_lost_to (order_now (left c.agenda)) now c)
+    (busy_limit now (freeze_limit c) c.agenda l e (λ f. not_freeze (sym k ∙ f))))
   where
     not_freeze : FreezeLimit ≡ AnswerLimit → ⊥
     not_freeze e = cc

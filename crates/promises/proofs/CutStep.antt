@@ -1,42 +1,26 @@
 -- A set is cut in the act of its Cut step.
-use Rattle.promises.proofs.Words.{Group, Orders, PreCommit, Flush, Hold, Cut, Commit, Release, PostCommit, open_group, next_volume, Plan, Line, Provider, Idle, State, SetRow, in_progress, left_now}
+use Rattle.promises.proofs.Words.{Group, open_group, next_volume, Plan, Provider, State, SetRow, in_progress, left_now}
 use Rattle.promises.proofs.Words.{Act, Mark, step_reply, reply, happens, state}
-use Rattle.std.proofs.Common.{◌≡◌, ◌∙◌, ℕ, List, [], ◌∷◌, ◌++◌, Option, Some, None, refl, Bool, true, false, ap, sym}
+use Rattle.std.proofs.Common.{◌≡◌, ◌∙◌, ℕ, List, [], ◌∷◌, ◌++◌, Option, Some, None, refl, Bool, true, false, ap, sym, arith}
 use Rattle.std.specs.Prelude.{◌&&◌, if◌then◌else◌}
 use Rattle.vss_model.specs.declared.event.Event.{Event}
-use Rattle.vss_model.specs.declared.event.Event.TheVariants.{Answer}
-use Rattle.vss_model.specs.Cut.{cut, cut_if, is_cut_group, is_cut_of, is_provider, is_set}
+use Rattle.vss_model.specs.Cut.{cut, cut_if, is_cut_group, is_provider, is_set}
 use Rattle.vss_model.proofs.CutAppend.{cut-append, or_cut}
 use Rattle.promises.specs.CutStep.{CutsAtTheStep, is_cut_reply, is_number}
 use Rattle.promises.proofs.CutTimes.{cut_before}
 
 same_group : (g : Option Group) (v : Option ℕ) (mark : Mark) → is_cut_reply (step_reply g v mark) ≡ is_cut_group g
-same_group None v mark = refl
-same_group (Some (Orders o)) v mark = refl
-same_group (Some PreCommit) v mark = refl
-same_group (Some Flush) v mark = refl
-same_group (Some Hold) v mark = refl
-same_group (Some Cut) v mark = refl
-same_group (Some Commit) v mark = refl
-same_group (Some Release) v mark = refl
-same_group (Some PostCommit) v mark = refl
+same_group g v mark = grind arith
 
 same_set : (n : ℕ) (o : Option SetRow) → is_number n o ≡ is_set n o
-same_set n None = refl
-same_set n (Some r) = refl
+same_set n o = grind arith
 
 module _ (s : Plan) (so_far : List Act) (act : Act) (n : ℕ) where
   abbrev st : State
   st = state s so_far
 
   not_cut : is_provider act.event ≡ false → cut s n (so_far ++ act ∷ []) ≡ cut s n so_far
-  not_cut e = cut-append s n so_far act
-      ∙ ap (λ b. or_cut (cut s n so_far) (cut_if (b && is_cut_group (open_group (left_now st)) && is_set n (in_progress st)) so_far None)) e
-      ∙ or_none (cut s n so_far)
-    where
-      or_none : (o : Option (List Act)) → or_cut o None ≡ o
-      or_none None = refl
-      or_none (Some before) = refl
+  not_cut e = grind (arith, cut-append)
 
   stepped : act.event ≡ Provider → cut s n (so_far ++ act ∷ []) ≡ (if is_cut_reply (reply s st act) && is_number n (in_progress st) then Some so_far else cut s n so_far)
   stepped e =
@@ -57,9 +41,4 @@ module _ (s : Plan) (so_far : List Act) (act : Act) (n : ℕ) where
       by_step false b None e f g = refl
 
 pub cuts_at_the_step : (s : Plan) (so_far : List Act) (act : Act) → CutsAtTheStep s so_far act
-cuts_at_the_step s so_far act = record {
-  step = λ n e. stepped s so_far act n e;
-  line = λ n lane op e. not_cut s so_far act n (ap is_provider e);
-  answer = λ n w a e. not_cut s so_far act n (ap is_provider e);
-  idle = λ n e. not_cut s so_far act n (ap is_provider e);
-}
+cuts_at_the_step s so_far act = grind (arith, stepped, not_cut)

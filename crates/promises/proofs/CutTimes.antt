@@ -11,20 +11,23 @@ use Rattle.vss_model.specs.Images.{Replied, with_room_if, put, write, reverted_a
 use Rattle.vss_model.specs.Sessions.{has_no_volume, new_set, new_number, with_volume, closed}
 use Rattle.vss_model.specs.Steps.{answered, with_cut, row_cut, cut_set, step_made, is_flush, is_failed_step, stepped_as, stepped, ticked, later}
 use Rattle.vss_model.specs.Cut.{is_provider, is_cut_group, is_set, is_cut_of, cut_if, cut}
-use Rattle.promises.proofs.Truth.{equal, not_both}
 use Rattle.promises.proofs.Contexts.{settled_number, changed_number}
+use Rattle.scenario.proofs.Places.{number_is}
+use Rattle.vss_model.proofs.Orderly.{true_not_false}
 
 -- ## the time of a set
 
 abbrev pub time_in : List SetRow → ℕ → Option (Option ℕ)
 time_in rows n = option_map (λ (r : SetRow). r.cut_at) (find (λ (r : SetRow). r.number == n) rows)
 
-time_map : (f : SetRow → SetRow) → ((r : SetRow) → (f r).number ≡ r.number) → (n : ℕ) → ((r : SetRow) → (r.number == n) ≡ true → (f r).cut_at ≡ r.cut_at) → (rows : List SetRow) → time_in (map f rows) n ≡ time_in rows n
+time_map : (f : SetRow → SetRow) → ((r : SetRow) → (f r).number ≡ r.number) → (n : ℕ) → ((r : SetRow) → (r.number == n) ≡ true → (f r).cut_at ≡ r.cut_at)
+    → (rows : List SetRow) → time_in (map f rows) n ≡ time_in rows n
 time_map f num n times [] = refl
 time_map f num n times (r ∷ rows) = by_head (r.number == n) ((f r).number == n) refl (ap (λ k. k == n) (num r)) (time_map f num n times rows)
   where
     by_head : (b c : Bool) → (r.number == n) ≡ b → c ≡ (r.number == n) → time_in (map f rows) n ≡ time_in rows n
-        → option_map (λ (x : SetRow). x.cut_at) (if c then Some (f r) else find (λ (x : SetRow). x.number == n) (map f rows)) ≡ option_map (λ (x : SetRow). x.cut_at) (if b then Some r else find (λ (x : SetRow). x.number == n) rows)
+        → option_map (λ (x : SetRow). x.cut_at) (if c then Some (f r) else find (λ (x : SetRow). x.number == n) (map f rows))
+        ≡ option_map (λ (x : SetRow). x.cut_at) (if b then Some r else find (λ (x : SetRow). x.number == n) rows)
     by_head true true e g ih = ap Some (times r e)
     by_head true false e g ih = absurd (differ (r.number == n) e g)
       where
@@ -49,22 +52,26 @@ time_more : (rows : List SetRow) (r : SetRow) (n : ℕ) (t : Option ℕ) → tim
 time_more [] r n t e = absurd cc
 time_more (q ∷ rows) r n t e = by_head (q.number == n) e (time_more rows r n t)
   where
-    by_head : (b : Bool) → option_map (λ (x : SetRow). x.cut_at) (if b then Some q else find (λ (x : SetRow). x.number == n) rows) ≡ Some t → (time_in rows n ≡ Some t → time_in (rows ++ r ∷ []) n ≡ Some t)
+    by_head : (b : Bool) → option_map (λ (x : SetRow). x.cut_at) (if b then Some q else find (λ (x : SetRow). x.number == n) rows) ≡ Some t
+        → (time_in rows n ≡ Some t → time_in (rows ++ r ∷ []) n ≡ Some t)
         → option_map (λ (x : SetRow). x.cut_at) (if b then Some q else find (λ (x : SetRow). x.number == n) (rows ++ r ∷ [])) ≡ Some t
     by_head true e ih = e
     by_head false e ih = ih e
 
 -- the cut of another set
 time_cut_other : (m now n : ℕ) (rows : List SetRow) → (m == n) ≡ false → time_in (map (row_cut m now) rows) n ≡ time_in rows n
-time_cut_other m now n rows e = grind (arith, time_map, changed_number, equal, not_both)
+time_cut_other m now n rows e = grind (arith, time_map, changed_number, number_is, true_not_false)
 
 -- its own
 time_cut_own : (n now : ℕ) (rows : List SetRow) (q : SetRow) → find (λ (r : SetRow). r.number == n) rows ≡ Some q → time_in (map (row_cut n now) rows) n ≡ Some (Some now)
 time_cut_own n now [] q e = absurd cc
 time_cut_own n now (r ∷ rows) q e = by_head (r.number == n) refl e (time_cut_own n now rows q)
   where
-    by_head : (b : Bool) → (r.number == n) ≡ b → (if b then Some r else find (λ (x : SetRow). x.number == n) rows) ≡ Some q → (find (λ (x : SetRow). x.number == n) rows ≡ Some q → time_in (map (row_cut n now) rows) n ≡ Some (Some now))
-        → option_map (λ (x : SetRow). x.cut_at) (if (if b then with_cut now r else r).number == n then Some (if b then with_cut now r else r) else find (λ (x : SetRow). x.number == n) (map (row_cut n now) rows)) ≡ Some (Some now)
+    by_head : (b : Bool) → (r.number == n) ≡ b → (if b then Some r else find (λ (x : SetRow). x.number == n) rows) ≡ Some q
+        → (find (λ (x : SetRow). x.number == n) rows ≡ Some q → time_in (map (row_cut n now) rows) n ≡ Some (Some now))
+        → option_map (λ (x : SetRow). x.cut_at)
+        (if (if b then with_cut now r else r).number == n then Some (if b then with_cut now r else r)
+        else find (λ (x : SetRow). x.number == n) (map (row_cut n now) rows)) ≡ Some (Some now)
     by_head true f e ih = ap (λ c. option_map (λ (x : SetRow). x.cut_at) (if c then Some (with_cut now r) else find (λ (x : SetRow). x.number == n) (map (row_cut n now) rows))) f
     by_head false f e ih = ap (λ c. option_map (λ (x : SetRow). x.cut_at) (if c then Some r else find (λ (x : SetRow). x.number == n) (map (row_cut n now) rows))) f ∙ ih e
 
@@ -173,18 +180,19 @@ module _ (s : Plan) (so_far : List Act) (act : Act) (n : ℕ) where
   parts c = grind (arith, both)
 
   -- the Cut step of set n
-  cut_now : (o : Option SetRow) → in_progress st ≡ o → is_set n o ≡ true → is_cut_group (open_group (left_now st)) ≡ true → is_provider act.event ≡ true → time_in (after s st act).sets n ≡ Some (Some st.clock)
+  cut_now : (o : Option SetRow) → in_progress st ≡ o → is_set n o ≡ true → is_cut_group (open_group (left_now st)) ≡ true → is_provider act.event ≡ true
+      → time_in (after s st act).sets n ≡ Some (Some st.clock)
   cut_now None e f g h = absurd cc
   cut_now (Some r) e f g h =
       ap (λ (x : State). time_in x.sets n) (after_cut s st act h g)
       ∙ times_followed (runs st) (course_stepped true st.clock st.course) (cut_set (in_progress st) st) n
       ∙ ap (λ o. time_in (cut_set o st).sets n) e
-      ∙ subst (λ m. time_in (map (row_cut m st.clock) st.sets) n ≡ Some (Some st.clock)) (sym (equal r.number n f))
-      (time_cut_own n st.clock st.sets r (subst (λ m. find (λ (x : SetRow). x.number == m) st.sets ≡ Some r) (equal r.number n f) (row_running 1 st.sets r (orderly s so_far).numbered e)))
+      ∙ subst (λ m. time_in (map (row_cut m st.clock) st.sets) n ≡ Some (Some st.clock)) (sym (number_is r.number n f))
+      (time_cut_own n st.clock st.sets r (subst (λ m. find (λ (x : SetRow). x.number == m) st.sets ≡ Some r) (number_is r.number n f) (row_running 1 st.sets r (orderly s so_far).numbered e)))
 
   -- it comes once
   pub cut_before : (o : Option SetRow) (before : List Act) → in_progress st ≡ o → is_set n o ≡ true → is_cut_group (open_group (left_now st)) ≡ true → cut s n so_far ≡ Some before → ⊥
-  cut_before o before e f g h = grind (arith, equal, not_cut_yet, cuts)
+  cut_before o before e f g h = grind (arith, number_is, not_cut_yet, cuts)
 
   time_next : (o : Option (List Act)) (b : Bool) (before : List Act) → cut s n so_far ≡ o → is_cut_of n st act ≡ b → or_cut o (cut_if b so_far None) ≡ Some before
       → ((past : List Act) → cut s n so_far ≡ Some past → time_in st.sets n ≡ Some (Some (state s past).clock)) → time_in (after s st act).sets n ≡ Some (Some (state s before).clock)

@@ -8,18 +8,19 @@ use Rattle.promises.proofs.Words.{parts_listed, writer_listed, writers_listed, T
 use Rattle.promises.proofs.Words.{after_not_enabled}
 use Rattle.std.proofs.Common.{◌≡◌, ◌∙◌, ℕ, ◌+◌, ◌==◌, zero, suc, List, [], ◌∷◌, ◌++◌, Option, Some, None, refl, Bool, true, false, ap, sym, subst, map, length, fold, arith}
 use Rattle.std.specs.Prelude.{◌&&◌, ◌||◌, not, nat_lt, if◌then◌else◌, slice_get}
+use Rattle.std.proofs.lemmas.Bool.{false_from_ne_true}
 use Rattle.set_agenda.specs.declared.kind.Kind.TheVariants as kind
 use Rattle.component_doc.specs.Document.{choices_data, document_of, document_text}
 use Rattle.requestor.specs.declared.session_call.SessionCall.TheVariants as call
 use Rattle.scenario.specs.declared.op.Op.TheVariants as op
 use Rattle.vss_model.specs.Sessions.{is_known, meta_if, known_from, known_metas, selected, start_set, has_no_volume, volumes_of, closed}
-use Rattle.promises.proofs.Truth.{false_of, not_both}
 use Rattle.promises.proofs.Accepted.{tells, line_reply}
 use Rattle.promises.proofs.Members.{is_selected, taker_is}
 use Rattle.promises.proofs.Participants.{chosen_by, follows_all, standing, pair_added}
 use Rattle.promises.proofs.Prepares.{named_is_known}
 use Rattle.promises.proofs.Progress.{stands_all}
 use Rattle.promises.proofs.SameChoice.{SameChoice, mode_in, same_choice, same_course, on_begun, on_followed, on_write, on_revert, on_ticked, on_agenda_begun, on_failed_in, on_answered, on_stepped}
+use Rattle.vss_model.proofs.Orderly.{true_not_false}
 
 -- ## what a line names
 
@@ -59,7 +60,8 @@ module _ (w i : ℕ) where
   pair_found u name parts ps new e =
       (elim (found_in name parts) as (λ x. found_in name parts ≡ x → naming_found u x ps ≡ Names new → has_pair new w i ≡ (has_pair ps w i || ((u == w) && is_first name i 0 parts))) [
         | None ↦ λ f g. absurd cc
-        | Some x ↦ λ f g. pair_if (record { writer = u; component = x.component }) ps new x.selectable (has_pair ps u x.component) g ∙ ap (λ b. has_pair ps w i || ((u == w) && b)) (sym (first_is name i 0 parts x f))
+        | Some x ↦ λ f g. pair_if (record { writer = u; component = x.component }) ps new x.selectable (has_pair ps u x.component) g
+            ∙ ap (λ b. has_pair ps w i || ((u == w) && b)) (sym (first_is name i 0 parts x f))
       ]) refl e
 
   pair_of : (u : ℕ) (name : List ℕ) (o : Option (Option Meta)) (plan : Option WriterPlan) (ps new : List Pair) → ((m : Meta) → o ≡ Some (Some m) → IsOfPlan plan m)
@@ -120,14 +122,17 @@ module _ (s : Plan) (w i : ℕ) (st : State) (c : Bool) (h : NamesSo w i st c) w
     ticks = λ lane n mark. same _ (on_ticked n st);
     begins = λ lane n all x mark e ctx q f. refl;
     disables = λ lane u q mark g. h;
-    gathers = λ lane q mark g. same _ (on_agenda_begun kind.Gather _ [] st st (record st.course { rows = map row_gathered st.course.rows }) (same_choice st) (record { disabled = refl; members = refl; rows = length-map st.course.rows row_gathered }));
+    gathers = λ lane q mark g. same _
+        (on_agenda_begun kind.Gather _ [] st st (record st.course { rows = map row_gathered st.course.rows }) (same_choice st)
+        (record { disabled = refl; members = refl; rows = length-map st.course.rows row_gathered }));
     names = λ lane u full q explicit mark g named own e.
         pair_of w i u (token s full) (slice_get (known_metas s st) u) (slice_get s.writers u) st.explicit explicit (of_plan s st 0 s.writers u) named
         ∙ ap (λ b. b || ((u == w) && is_part (slice_get s.writers u) (token s full) i)) (h q g.stands);
     starts = λ lane q mark g e. beside (start_set q st).1 refl (sym (ap mode_in g.stands));
     adds = λ lane v r q mark g e f. h;
     prepares = λ lane q mark g. begun_if (has_no_volume (in_progress st)) lane op.Prepare mark _ refl refl (on_prepare q);
-    snapshots = λ lane q mark g. begun_if (has_no_volume (in_progress st)) lane op.Snapshot mark _ refl refl (same _ (on_agenda_begun kind.Snapshot st.course.members (volumes_of (in_progress st)) st st st.course (same_choice st) (same_course st.course)));
+    snapshots = λ lane q mark g. begun_if (has_no_volume (in_progress st)) lane op.Snapshot mark _ refl refl
+        (same _ (on_agenda_begun kind.Snapshot st.course.members (volumes_of (in_progress st)) st st st.course (same_choice st) (same_course st.course)));
     completes = λ lane q mark g. same _ (on_agenda_begun kind.Complete _ [] st st st.course (same_choice st) (same_course st.course));
     aborts = λ lane q mark e. same _ (on_failed_in (in_progress st) AsyncCancelled st st (same_choice st));
     ends = λ lane q mark e. on_close q (failed AsyncCancelled st);
@@ -197,7 +202,7 @@ module _ (s : Plan) (so_far : List Act) (q : Session) (e : (state s so_far).sess
     where
       by_mode : (m : Mode) → is_selected s st m w ≡ false
       by_mode All = f
-      by_mode Components = false_of (list_any (λ (p : Pair). p.writer == w) st.explicit) (λ g. not_both (is_known s st w) (named_is_known s st w (named_known_components s so_far) g) f)
+      by_mode Components = false_from_ne_true (list_any (λ (p : Pair). p.writer == w) st.explicit) (λ g. true_not_false (is_known s st w) (named_is_known s st w (named_known_components s so_far) g) f)
 
   writer_are : (w : ℕ) (p : WriterPlan) → is_writer s w ≡ true → choices_of (selected s q st) w (meta_if (is_known s st w) p.meta) ≡ writer_listed s so_far w p
   writer_are w p f = grind (arith, taker_picked, parts_are, not_picked)

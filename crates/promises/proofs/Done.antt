@@ -4,8 +4,9 @@ use Rattle.promises.proofs.Words.{Revert, Plan, blocks_of, Event, Line, State, K
 use Rattle.promises.proofs.Words.{kept_point, at, reverts, IsDone, stands, after_enabled, some_same}
 use Rattle.std.proofs.Common.{◌≡◌, ◌∙◌, ℕ, ◌+◌, ◌==◌, ◌<◌, zero, suc, List, [], ◌∷◌, Option, Some, None, refl, Bool, true, false, ap, sym, subst, map, arith}
 use Rattle.std.specs.Prelude.{◌&&◌, not, nat_lt, is_some, if◌then◌else◌}
+use Rattle.std.proofs.lemmas.Bool.{false_from_ne_true}
 use Rattle.vss_model.specs.Images.{Replied, count_images, delete_set, delete_kept, delete_image, revert_refusal, reverted_as, revert}
-use Rattle.promises.proofs.Truth.{false_of, not_itself, same_number}
+use Rattle.promises.proofs.Truth.{not_itself, same_number}
 use Rattle.promises.proofs.GoneImages.{kept_by}
 
 -- ## on which volume
@@ -92,9 +93,9 @@ pub is_done : (s : Plan) (so_far : List Act) (act : Act) → IsDone s so_far act
 is_done s so_far act =
     let st = state s so_far in
     record {
-      set = λ lane n v e k. false_of _ (λ f. set_gone s st n v k (ap (λ (x : State). stands x n v) (sym (after_line s st act (Line lane (DeleteSet n)) e refl)) ∙ f));
-      image = λ lane n v k e h. false_of _ (λ f. image_gone s st n v k h (ap (λ (x : State). stands x n v) (sym (after_line s st act (Line lane (DeleteImage n v)) e refl)) ∙ f));
-      newer = λ lane n v m k e h i r l. false_of _
+      set = λ lane n v e k. false_from_ne_true _ (λ f. set_gone s st n v k (ap (λ (x : State). stands x n v) (sym (after_line s st act (Line lane (DeleteSet n)) e refl)) ∙ f));
+      image = λ lane n v k e h. false_from_ne_true _ (λ f. image_gone s st n v k h (ap (λ (x : State). stands x n v) (sym (after_line s st act (Line lane (DeleteImage n v)) e refl)) ∙ f));
+      newer = λ lane n v m k e h i r l. false_from_ne_true _
           (λ f. reverted_gone s st n v m k act.mark (row_is s st n v k h) r l
           (ap (λ (x : State). stands x m v) (sym (after_line s st act (Line lane (Revert n v)) e refl ∙ ap (λ (x : Replied). x.1) (revert_is s st n v k act.mark h i))) ∙ f));
     }

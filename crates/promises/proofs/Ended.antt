@@ -1,11 +1,11 @@
 -- The set that ends is told, and no other.
-use Rattle.promises.proofs.Words.{Plan, State, SetRow, in_progress, is_running, row_of, NumberedFrom, Act, after, state, orderly, some_same}
-use Rattle.std.proofs.Common.{◌≡◌, ◌∙◌, ℕ, ◌+◌, ◌≤◌, ◌==◌, List, [], ◌∷◌, ◌++◌, Option, Some, None, refl, Bool, true, false, ap, sym, subst, arith}
+use Rattle.promises.proofs.Words.{Plan, State, SetRow, is_running, NumberedFrom, Act, after, state, orderly, some_same}
+use Rattle.std.proofs.Common.{◌≡◌, ◌∙◌, ℕ, ◌+◌, ◌≤◌, ◌==◌, List, [], ◌∷◌, ◌++◌, Some, None, refl, Bool, true, false, ap, subst, arith}
 use Rattle.std.specs.Prelude.{◌&&◌, not, find, if◌then◌else◌}
-use Rattle.vss_model.specs.Effects.{ended, ended_of}
+use Rattle.vss_model.specs.Effects.{ended_of}
 use Rattle.vss_model.proofs.Appending.{state-append}
 use Rattle.promises.specs.Ended.{TellsTheEnd}
-use Rattle.promises.proofs.Truth.{equal}
+use Rattle.scenario.proofs.Places.{number_is}
 
 abbrev is_over : ℕ → SetRow → Bool
 is_over n q = (q.number == n) && not (is_running q.result)
@@ -41,7 +41,7 @@ row_runs n k q (r ∷ rows) h e f = by_head (r.number == n) refl e (λ g. row_ru
         → (if b && not (is_running r.result) then Some r else find (is_over n) rows) ≡ None
     by_head true g e ih =
         let same = some_same r q e in
-        let is : r.number ≡ n = equal r.number n g in
+        let is : r.number ≡ n = number_is r.number n g in
         let first = h.0 in
         ap (λ c. if not c then Some r else find (is_over n) rows) (ap (λ (x : SetRow). is_running x.result) same ∙ f) ∙ none_above n (k + 1) rows h.1 (omega arith)
     by_head false g e ih = ih e

@@ -1,12 +1,12 @@
 -- Each set ends, and one that nothing disturbs completes.
-use Rattle.promises.proofs.Words.{append_assoc, both_ways, SetOutcome, Move, open_group, Op, IsPlan, Plan, Event, State, SetRow, is_running, is_complete, in_progress, row_of, left_now, OverButNewest}
-use Rattle.promises.proofs.Words.{has_failed, Act, after, state, idle_now, ticks_of, is_fault, is_flush_step, line_gives_cause, gives_cause, state-append, complete_ends, orderly, row_running}
+use Rattle.promises.proofs.Words.{append_assoc, both_ways, SetOutcome, Move, Op, IsPlan, Plan, Event, State, SetRow, is_running, is_complete, in_progress, row_of, OverButNewest}
+use Rattle.promises.proofs.Words.{has_failed, Act, after, state, ticks_of, line_gives_cause, gives_cause, state-append, complete_ends, orderly, row_running}
 use Rattle.promises.proofs.Words.{append_nothing, some_same}
-use Rattle.std.proofs.Common.{◌≡◌, ◌∙◌, ℕ, ◌==◌, List, [], ◌∷◌, ◌++◌, Some, None, refl, Bool, true, false, ap, sym, subst, find}
+use Rattle.std.proofs.Common.{◌≡◌, ◌∙◌, ℕ, ◌==◌, List, [], ◌∷◌, ◌++◌, Some, None, refl, Bool, true, false, ap, sym, subst, find, arith}
 use Rattle.std.specs.Prelude.{◌&&◌, if◌then◌else◌}
 use Rattle.vss_names.specs.declared.set_outcome.SetOutcome.TheVariants.{Running as RunningSet, Complete as CompleteSet, Failed as FailedSet}
 use Rattle.scenario.specs.declared.op.Op.TheVariants as op
-use Rattle.vss_model.specs.declared.event.Event.TheVariants.{Line, Answer as AnswerEvent, Provider, Idle}
+use Rattle.vss_model.specs.declared.event.Event.TheVariants.{Line}
 use Rattle.vss_model.specs.Trail.{acts, is_legal, is_complete as is_complete_trail}
 use Rattle.promises.specs.Ends.{IsLaterRow, HasLaterRow, HasEnded, EndsEachSet, IsCalm, CalmWhile, HasCompleted, CompletesWhereCalm}
 use Rattle.promises.proofs.Failing.{fails_for_cause}
@@ -19,7 +19,8 @@ none_runs : (rows : List SetRow) (n : ℕ) (r : SetRow) → find (λ (q : SetRow
 none_runs [] n r e f = absurd cc
 none_runs (q ∷ rows) n r e f = by_heads (is_running q.result) (q.number == n) refl e f (none_runs rows n r)
   where
-    by_heads : (b c : Bool) → is_running q.result ≡ b → (if b then Some q else find (λ (x : SetRow). is_running x.result) rows) ≡ None → (if c then Some q else find (λ (x : SetRow). x.number == n) rows) ≡ Some r
+    by_heads : (b c : Bool) → is_running q.result ≡ b → (if b then Some q else find (λ (x : SetRow). is_running x.result) rows) ≡ None
+        → (if c then Some q else find (λ (x : SetRow). x.number == n) rows) ≡ Some r
         → (find (λ (x : SetRow). is_running x.result) rows ≡ None → find (λ (x : SetRow). x.number == n) rows ≡ Some r → is_running r.result ≡ false) → is_running r.result ≡ false
     by_heads true c g e f ih = absurd cc
     by_heads false true g e f ih = subst (λ (x : SetRow). is_running x.result ≡ false) (some_same q r f) g
@@ -37,8 +38,7 @@ ends_each_set s trail plan legal whole so_far rest n r e f =
 -- ## a calm act gives no cause
 
 both_false : (a b : Bool) → (a ≡ true → b ≡ false) → (a && b) ≡ false
-both_false true b f = f refl
-both_false false b f = refl
+both_false a b f = grind arith
 
 module _ (s : Plan) (st : State) (act : Act) (calm : IsCalm s st act) where
   calm_line : (lane : ℕ) (o : Op) → act.event ≡ Line lane o → line_gives_cause s st lane o ≡ false
@@ -50,14 +50,12 @@ module _ (s : Plan) (st : State) (act : Act) (calm : IsCalm s st act) where
   calm_line lane o e = refl
 
   no_cause : (event : Event) → act.event ≡ event → gives_cause s st event act.mark ≡ false
-  no_cause (Line lane o) e = calm_line lane o e
-  no_cause (AnswerEvent w answer) e = calm.agrees w answer e
-  no_cause Provider e = both_false (is_flush_step (open_group (left_now st))) (is_fault act.mark) (calm.flushes e)
-  no_cause Idle e = calm.in_time (idle_now st) (ap (λ event. ticks_of st event) e)
+  no_cause event e = grind (arith, calm_line, both_false)
 
 -- ## the row that runs is that of the set in progress
 
-runs_found : (k n : ℕ) (rows : List SetRow) (r : SetRow) → OverButNewest rows → find (λ (q : SetRow). q.number == n) rows ≡ Some r → is_running r.result ≡ true → find (λ (q : SetRow). is_running q.result) rows ≡ Some r
+runs_found : (k n : ℕ) (rows : List SetRow) (r : SetRow) → OverButNewest rows → find (λ (q : SetRow). q.number == n) rows ≡ Some r → is_running r.result ≡ true
+    → find (λ (q : SetRow). is_running q.result) rows ≡ Some r
 runs_found k n [] r h e f = absurd cc
 runs_found k n (q ∷ []) r h e f = alone (q.number == n) e
   where
@@ -86,8 +84,7 @@ runs_found k n (q ∷ p ∷ rows) r h e f = by_head (q.number == n) e (runs_foun
 -- ## a calm set completes
 
 complete_over : (o : SetOutcome) → is_complete o ≡ true → is_running o ≡ false
-complete_over CompleteSet e = refl
-complete_over _ e = absurd cc
+complete_over o e = grind arith
 
 stays_complete : (st : State) (r q : SetRow) → is_complete q.result ≡ true → q.number ≡ r.number → IsLaterRow r q → HasLaterRow st q → HasCompleted st r
 stays_complete st r q e num h k = record {
@@ -142,7 +139,8 @@ module _ (s : Plan) (so_far rest : List Act) (act : Act) (r : SetRow) (over : in
       (go_on here.row (subst (λ acts. in_progress (state s acts) ≡ None) (sym next_acts) over) (goes_on here (ap is_running f)) (calm_next here.row here.later.number)))
   by_result CompleteSet here f go_on = stays_complete (state s (so_far ++ act ∷ rest)) r here.row (ap is_complete f) here.later.number here.later (later_on here)
   by_result (FailedSet why) here f go_on =
-      absurd (both_ways (gives_cause s (state s so_far) act.event act.mark) (no_cause s (state s so_far) act calm_act act.event refl) ((fails_for_cause s so_far act).only r here.row e here.is_row (ap has_failed f)))
+      absurd (both_ways (gives_cause s (state s so_far) act.event act.mark) (no_cause s (state s so_far) act calm_act act.event refl)
+      ((fails_for_cause s so_far act).only r here.row e here.is_row (ap has_failed f)))
 
   now : HasLaterRow (after s (state s so_far) act) r
   now = keeps_rows s so_far act r.number r (row_running 1 (state s so_far).sets r (orderly s so_far).numbered e)
@@ -154,5 +152,4 @@ calm_completes s so_far (act ∷ rest) r over e calm =
     by_result s so_far rest act r over e calm here.row.result here refl (calm_completes s (so_far ++ act ∷ []) rest)
 
 pub complete_where_calm : (s : Plan) (trail : List Move) → IsPlan s → is_legal s trail ≡ true → is_complete_trail s trail ≡ true → CompletesWhereCalm s trail
-complete_where_calm s trail plan legal whole so_far rest r e f calm =
-    subst (λ all. HasCompleted (state s all) r) (sym e) (calm_completes s so_far rest r (subst (λ all. in_progress (state s all) ≡ None) e (complete_ends s trail plan legal whole)) f calm)
+complete_where_calm s trail plan legal whole so_far rest r e f calm = grind (arith, calm_completes, complete_ends)

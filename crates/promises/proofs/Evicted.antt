@@ -5,12 +5,14 @@ use Rattle.promises.proofs.Words.{evicted_at, evicted, true_not_false, orderly, 
 use Rattle.promises.proofs.Words.{are_in_order, TellsEvicted, after_enabled, and-false}
 use Rattle.std.proofs.Common.{◌≡◌, ◌∙◌, ℕ, ◌+◌, ◌==◌, ◌<◌, zero, suc, List, [], ◌∷◌, ◌++◌, ◌⊎◌, Option, Some, None, refl, Bool, true, false, ap, sym, inl, inr, filter, length, arith}
 use Rattle.std.specs.Prelude.{◌&&◌, ◌||◌, not, nat_lt, if◌then◌else◌}
+use Rattle.std.proofs.lemmas.Bool.{and_from, true_from_ne_false, or_left, or_from}
 use Rattle.scenario.specs.declared.op.Op.TheVariants as op
 use Rattle.vss_model.specs.Images.{cleared, set_loses_image, with_room, put, write}
-use Rattle.promises.proofs.Truth.{both_are, both_ways, equal, left_part, neither}
+use Rattle.promises.proofs.Truth.{both_ways}
 use Rattle.promises.proofs.Images.{volumes_put, volumes_room, roomy, wants_or_fails}
 use Rattle.promises.proofs.Participants.{off}
 use Rattle.promises.proofs.Members.{beyond, still_less}
+use Rattle.scenario.proofs.Places.{number_is}
 
 -- ## the volumes that lose an image
 
@@ -20,7 +22,7 @@ none_before n u v (h ∷ hs) [] l = refl
 none_before n u v (h ∷ hs) (k ∷ ks) l = by_loss (has_image n h && not (has_image n k)) (none_before n (u + 1) v hs ks (still_less u v l))
   where
     by_loss : (b : Bool) → is_among v (volumes_losing n (u + 1) hs ks) ≡ false → is_among v (if b then u ∷ volumes_losing n (u + 1) hs ks else volumes_losing n (u + 1) hs ks) ≡ false
-    by_loss true ih = neither (u == v) (is_among v (volumes_losing n (u + 1) hs ks)) (beyond u v l) ih
+    by_loss true ih = or_from (u == v) (is_among v (volumes_losing n (u + 1) hs ks)) (beyond u v l) ih
     by_loss false ih = ih
 
 among_losing : (n u k v : ℕ) (hs ks : List History) → length ks ≡ length hs → v ≡ u + k → is_among v (volumes_losing n u hs ks) ≡ (has_image n (at hs k) && not (has_image n (at ks k)))
@@ -36,7 +38,7 @@ among_losing n u zero v (h ∷ hs) (k ∷ ks) e f = by_loss (has_image n h && no
     same a b e = grind arith
 
     by_loss : (b : Bool) → is_among v (volumes_losing n (u + 1) hs ks) ≡ false → is_among v (if b then u ∷ volumes_losing n (u + 1) hs ks else volumes_losing n (u + 1) hs ks) ≡ b
-    by_loss true ih = left_part (u == v) (is_among v (volumes_losing n (u + 1) hs ks)) (same u v f)
+    by_loss true ih = or_left (u == v) (is_among v (volumes_losing n (u + 1) hs ks)) (same u v f)
     by_loss false ih = ih
 among_losing n u (suc j) v (h ∷ hs) (k ∷ ks) e f = by_loss (has_image n h && not (has_image n k)) (among_losing n (u + 1) j v hs ks (one_less (length ks) (length hs) e) (shift u j v f))
   where
@@ -72,7 +74,9 @@ module _ (n v : ℕ) (hs ks : List History) where
   abbrev told_row : SetRow → List Evicted
   told_row r = evicted_of r.number (volumes_losing r.number 0 hs ks)
 
-  told_rows : (rows : List SetRow) → is_told n v (flat_map told_row (filter (λ r. is_complete r.result) rows)) ≡ (list_any (λ (r : SetRow). (r.number == n) && is_complete r.result) rows && is_among v (volumes_losing n 0 hs ks))
+  told_rows : (rows : List SetRow)
+      → is_told n v (flat_map told_row (filter (λ r. is_complete r.result) rows))
+      ≡ (list_any (λ (r : SetRow). (r.number == n) && is_complete r.result) rows && is_among v (volumes_losing n 0 hs ks))
   told_rows [] = refl
   told_rows (r ∷ rows) = by_result (is_complete r.result) (told_rows rows)
     where
@@ -85,14 +89,17 @@ module _ (n v : ℕ) (hs ks : List History) where
       either_is true b false d e f g = ap (λ x. x || d) (g refl) ∙ f ∙ and-false b
       either_is false b c d e f g = f
 
-      by_result : (b : Bool) → is_told n v (flat_map told_row (filter (λ q. is_complete q.result) rows)) ≡ (list_any (λ (q : SetRow). (q.number == n) && is_complete q.result) rows && is_among v (volumes_losing n 0 hs ks))
+      by_result : (b : Bool)
+          → is_told n v (flat_map told_row (filter (λ q. is_complete q.result) rows))
+          ≡ (list_any (λ (q : SetRow). (q.number == n) && is_complete q.result) rows && is_among v (volumes_losing n 0 hs ks))
           → is_told n v (flat_map told_row (if b then r ∷ filter (λ q. is_complete q.result) rows else filter (λ q. is_complete q.result) rows))
           ≡ ((((r.number == n) && b) || list_any (λ (q : SetRow). (q.number == n) && is_complete q.result) rows) && is_among v (volumes_losing n 0 hs ks))
       by_result true ih =
           list_any-append (λ (e : Evicted). (e.set == n) && (e.volume == v)) (told_row r) (flat_map told_row (filter (λ q. is_complete q.result) rows))
           ∙ ap (λ b. b || is_told n v (flat_map told_row (filter (λ q. is_complete q.result) rows))) (told_of r.number n v (volumes_losing r.number 0 hs ks))
-          ∙ either_is (r.number == n) (list_any (λ (q : SetRow). (q.number == n) && is_complete q.result) rows) (is_among v (volumes_losing n 0 hs ks)) (is_told n v (flat_map told_row (filter (λ q. is_complete q.result) rows)))
-          (is_among v (volumes_losing r.number 0 hs ks)) ih (λ e. ap (λ m. is_among v (volumes_losing m 0 hs ks)) (equal r.number n e))
+          ∙ either_is (r.number == n) (list_any (λ (q : SetRow). (q.number == n) && is_complete q.result) rows) (is_among v (volumes_losing n 0 hs ks))
+          (is_told n v (flat_map told_row (filter (λ q. is_complete q.result) rows)))
+          (is_among v (volumes_losing r.number 0 hs ks)) ih (λ e. ap (λ m. is_among v (volumes_losing m 0 hs ks)) (number_is r.number n e))
       by_result false ih = ih ∙ ap (λ b. b && is_among v (volumes_losing n 0 hs ks)) (not_it (r.number == n) (list_any (λ (q : SetRow). (q.number == n) && is_complete q.result) rows))
 
 -- ## in order
@@ -119,7 +126,8 @@ after_volume m u w (h ∷ hs) (k ∷ ks) l = by_loss (has_image m h && not (has_
 
     by_loss : (b : Bool) → list_all (goes_before (record { set = m; volume = w })) (of_set m (u + 1) hs ks) ≡ true
         → list_all (goes_before (record { set = m; volume = w })) (evicted_of m (if b then u ∷ volumes_losing m (u + 1) hs ks else volumes_losing m (u + 1) hs ks)) ≡ true
-    by_loss true ih = both_are (goes_before (record { set = m; volume = w }) (record { set = m; volume = u })) (list_all (goes_before (record { set = m; volume = w })) (of_set m (u + 1) hs ks)) (before m u w l) ih
+    by_loss true ih = and_from (goes_before (record { set = m; volume = w }) (record { set = m; volume = u }))
+        (list_all (goes_before (record { set = m; volume = w })) (of_set m (u + 1) hs ks)) (before m u w l) ih
     by_loss false ih = ih
 
 -- a list in order behind images of one set
@@ -135,23 +143,26 @@ in_order_on m u (h ∷ hs) (k ∷ ks) es e f = by_loss (has_image m h && not (ha
     later_sets [] g = refl
     later_sets (x ∷ fs) g = by_less (nat_lt m x.set) g (later_sets fs)
       where
-        by_less : (b : Bool) → (b && list_all (λ (y : Evicted). nat_lt m y.set) fs) ≡ true → (list_all (λ (y : Evicted). nat_lt m y.set) fs ≡ true → list_all (goes_before (record { set = m; volume = u })) fs ≡ true)
+        by_less : (b : Bool) → (b && list_all (λ (y : Evicted). nat_lt m y.set) fs) ≡ true
+            → (list_all (λ (y : Evicted). nat_lt m y.set) fs ≡ true → list_all (goes_before (record { set = m; volume = u })) fs ≡ true)
             → ((b || ((m == x.set) && nat_lt u x.volume)) && list_all (goes_before (record { set = m; volume = u })) fs) ≡ true
         by_less true g ih = ih g
         by_less false g ih = absurd cc
 
-    by_loss : (b : Bool) → are_in_order (of_set m (u + 1) hs ks ++ es) ≡ true → are_in_order (evicted_of m (if b then u ∷ volumes_losing m (u + 1) hs ks else volumes_losing m (u + 1) hs ks) ++ es) ≡ true
+    by_loss : (b : Bool) → are_in_order (of_set m (u + 1) hs ks ++ es) ≡ true
+        → are_in_order (evicted_of m (if b then u ∷ volumes_losing m (u + 1) hs ks else volumes_losing m (u + 1) hs ks) ++ es) ≡ true
     by_loss true ih =
-        both_are (list_all (goes_before (record { set = m; volume = u })) (of_set m (u + 1) hs ks ++ es)) (are_in_order (of_set m (u + 1) hs ks ++ es))
+        and_from (list_all (goes_before (record { set = m; volume = u })) (of_set m (u + 1) hs ks ++ es)) (are_in_order (of_set m (u + 1) hs ks ++ es))
         (all_of_both (goes_before (record { set = m; volume = u })) (of_set m (u + 1) hs ks) es (after_volume m (u + 1) u hs ks (next u)) (later_sets es f)) ih
     by_loss false ih = ih
 
 of_later_set : (m k : ℕ) (vs : List ℕ) → m < k → list_all (λ (f : Evicted). nat_lt m f.set) (evicted_of k vs) ≡ true
 of_later_set m k [] l = refl
-of_later_set m k (v ∷ vs) l = both_are (nat_lt m k) (list_all (λ (f : Evicted). nat_lt m f.set) (evicted_of k vs)) (lt-ltb m k l) (of_later_set m k vs l)
+of_later_set m k (v ∷ vs) l = and_from (nat_lt m k) (list_all (λ (f : Evicted). nat_lt m f.set) (evicted_of k vs)) (lt-ltb m k l) (of_later_set m k vs l)
 
 module _ (hs ks : List History) where
-  later_rows : (m k : ℕ) (rows : List SetRow) → NumberedFrom k rows → m < k → list_all (λ (f : Evicted). nat_lt m f.set) (flat_map (told_row 0 0 hs ks) (filter (λ r. is_complete r.result) rows)) ≡ true
+  later_rows : (m k : ℕ) (rows : List SetRow) → NumberedFrom k rows → m < k
+      → list_all (λ (f : Evicted). nat_lt m f.set) (flat_map (told_row 0 0 hs ks) (filter (λ r. is_complete r.result) rows)) ≡ true
   later_rows m k [] num l = refl
   later_rows m k (r ∷ rows) num l = by_result (is_complete r.result) (later_rows m (k + 1) rows num.1 (still m k l))
     where
@@ -183,9 +194,6 @@ module _ (hs ks : List History) where
 
 -- ## a write
 
-true_if : (b : Bool) → (b ≡ false → ⊥) → b ≡ true
-true_if b f = grind arith
-
 module _ (s : Plan) (st : State) (num : NumberedFrom 1 st.sets) (n v u : ℕ) (w : Write) (mark : Mark) where
   abbrev written_to : State
   written_to = put u w mark (with_room s u w.block st)
@@ -203,7 +211,7 @@ module _ (s : Plan) (st : State) (num : NumberedFrom 1 st.sets) (n v u : ℕ) (w
 
   -- of a kept image nothing else is taken
   stands_on : is_kept_set st n ≡ true → stands st n v ≡ true → stands written_to n v ≡ stands fits n v
-  stands_on e h = both_ways (stands written_to n v) (stands fits n v) ((fewer.each v).sets n) (λ g. true_if (stands written_to n v) (gone g))
+  stands_on e h = both_ways (stands written_to n v) (stands fits n v) ((fewer.each v).sets n) (λ g. true_from_ne_false (stands written_to n v) (gone g))
     where
       gone : stands fits n v ≡ true → stands written_to n v ≡ false → ⊥
       gone g f = by_cases (wants_or_fails s st num n v u w mark (set_loses_image (in_progress st) st.volumes fits.volumes) (stands fits n v) refl h f)
@@ -226,7 +234,8 @@ module _ (s : Plan) (st : State) (num : NumberedFrom 1 st.sets) (n v u : ℕ) (w
       by_kept true false e f = refl
       by_kept false c e f = refl
 
-told_if : (s : Plan) (st : State) (act : Act) (n v u : ℕ) (w : Write) (event : Event) → NumberedFrom 1 st.sets → act.event ≡ event → evicted s st event ≡ evicted_for s st u w.block → after s st act ≡ (write s u w act.mark st).1
+told_if : (s : Plan) (st : State) (act : Act) (n v u : ℕ) (w : Write) (event : Event) → NumberedFrom 1 st.sets → act.event ≡ event
+    → evicted s st event ≡ evicted_for s st u w.block → after s st act ≡ (write s u w act.mark st).1
     → is_told n v (evicted s st act.event) ≡ (is_kept_set st n && (stands st n v && not (stands (after s st act) n v)))
 unfolding write
 told_if s st act n v u w event num e f g = grind (arith, told_for)
@@ -236,8 +245,10 @@ happened s st act event e on = after_enabled s st act on ∙ ap (λ x. (happens 
 
 told_by : (s : Plan) (st : State) (act : Act) (lane n v : ℕ) (o : Op) (t : Target) → NumberedFrom 1 st.sets → act.event ≡ Line lane o → target_of o ≡ Some t → enabled s st act.event ≡ true
     → is_told n v (evicted s st act.event) ≡ (is_kept_set st n && (stands st n v && not (stands (after s st act) n v)))
-told_by s st act lane n v (op.WriteFill u b x) t num e f on = told_if s st act n v u (record { block = b; bytes = payload_bytes (Fill x) }) (Line lane (op.WriteFill u b x)) num e refl (happened s st act (Line lane (op.WriteFill u b x)) e on)
-told_by s st act lane n v (op.WriteStamp u b x) t num e f on = told_if s st act n v u (record { block = b; bytes = payload_bytes (Stamp x) }) (Line lane (op.WriteStamp u b x)) num e refl (happened s st act (Line lane (op.WriteStamp u b x)) e on)
+told_by s st act lane n v (op.WriteFill u b x) t num e f on = told_if s st act n v u (record { block = b; bytes = payload_bytes (Fill x) })
+    (Line lane (op.WriteFill u b x)) num e refl (happened s st act (Line lane (op.WriteFill u b x)) e on)
+told_by s st act lane n v (op.WriteStamp u b x) t num e f on = told_if s st act n v u (record { block = b; bytes = payload_bytes (Stamp x) })
+    (Line lane (op.WriteStamp u b x)) num e refl (happened s st act (Line lane (op.WriteStamp u b x)) e on)
 told_by s st act lane n v o t num e f on = absurd cc
 
 ordered_at : (s : Plan) (st : State) (t : Option Target) → NumberedFrom 1 st.sets → are_in_order (evicted_at s st t) ≡ true

@@ -1,14 +1,14 @@
 -- Each cause fails the set in progress in the act that gives it.
-use Rattle.promises.proofs.Words.{Fill, Stamp, payload_bytes, Order, Identify, SetOutcome, VssResult, InsufficientStorage, AsyncCancelled, Said, is_ok, Mark, Clean, Fault, Write, said_of, Group}
-use Rattle.promises.proofs.Words.{Orders, PreCommit, Flush, Hold, Cut, Commit, Release, PostCommit, Agenda, left, open_order, open_group, Go, Session, makes_set, check_other, owner_only, verdict_of}
-use Rattle.promises.proofs.Words.{Op, Plan, Event, State, SetRow, is_running, in_progress, left_now, Act, enabled, happens, order_of_writer, idle_now, after, state, NumberedFrom, IsOfSession}
+use Rattle.promises.proofs.Words.{Fill, Stamp, payload_bytes, Order, SetOutcome, VssResult, InsufficientStorage, AsyncCancelled, Said, is_ok, Mark, Fault, Write, said_of, Group}
+use Rattle.promises.proofs.Words.{Flush, Agenda, left, open_order, open_group, Go, Session, makes_set, check_other, owner_only, verdict_of}
+use Rattle.promises.proofs.Words.{Op, Plan, Event, State, SetRow, in_progress, left_now, Act, enabled, happens, order_of_writer, idle_now, after, state, NumberedFrom, IsOfSession}
 use Rattle.promises.proofs.Words.{IsOrderly, has_failed, needs_consent, is_veto, is_refused, is_late_in, is_late, is_fault, is_flush_step, loses_own_image, owns, line_gives_cause, gives_cause}
 use Rattle.promises.proofs.Words.{IsFailed, fails_with_cause, outcome_is_running, flush_fails, orderly, FailsForCause, after_enabled}
-use Rattle.std.proofs.Common.{◌≡◌, ◌∙◌, ℕ, ◌+◌, ◌==◌, List, Option, Some, None, refl, Bool, true, false, ap, sym, subst, map, find}
+use Rattle.std.proofs.Common.{◌≡◌, ◌∙◌, ℕ, ◌+◌, ◌==◌, List, Option, Some, refl, Bool, true, false, ap, sym, subst, map, arith}
 use Rattle.std.specs.Prelude.{◌&&◌, not}
-use Rattle.vss_names.specs.declared.set_outcome.SetOutcome.TheVariants.{Running as RunningSet, Complete as CompleteSet, Failed as FailedSet}
+use Rattle.std.proofs.lemmas.Bool.{and_parts}
+use Rattle.vss_names.specs.declared.set_outcome.SetOutcome.TheVariants.{Running as RunningSet, Failed as FailedSet}
 use Rattle.writer_calls.specs.declared.answer.Answer.{Answer}
-use Rattle.writer_calls.specs.declared.answer.Answer.TheVariants.{Ok as AnswerOk, Veto as AnswerVeto}
 use Rattle.set_agenda.specs.Course.{Course, failed as course_failed, is_decisive, decided, answered_to, answered as course_answered, timed as course_timed}
 use Rattle.requestor.specs.declared.session_call.SessionCall.TheVariants as call
 use Rattle.scenario.specs.declared.op.Op.TheVariants as op
@@ -18,7 +18,6 @@ use Rattle.vss_model.specs.Images.{cleared, set_loses_image, with_room_if, with_
 use Rattle.vss_model.specs.Sessions.{closed, line_in, judged}
 use Rattle.vss_model.specs.Steps.{answered, ticked, later}
 use Rattle.vss_model.specs.Lines.{called, line}
-use Rattle.promises.proofs.Truth.{both_parts}
 use Rattle.promises.proofs.GoneImages.{fails_as}
 use Rattle.promises.proofs.Limits.{is_due_in, posted_fails, timed_fails}
 use Rattle.promises.proofs.Times.{late_is_due}
@@ -27,22 +26,16 @@ use Rattle.promises.proofs.Times.{late_is_due}
 
 decided_fails : (b : Bool) (said : Said) (c : Course) → b ≡ true → has_failed (decided b said c).outcome ≡ true
 unfolding course_failed
-decided_fails true said c e = refl
-decided_fails false said c e = absurd cc
+decided_fails b said c e = grind arith
 
 pub same_consent : (o : Order) → needs_consent o ≡ is_decisive o
-same_consent Identify = refl
-same_consent _ = refl
+same_consent o = grind arith
 
 pub same_veto : (answer : Answer) → is_veto answer ≡ not (is_ok (said_of answer))
-same_veto AnswerOk = refl
-same_veto (AnswerVeto error) = refl
+same_veto answer = grind arith
 
 refused_to : (o : Option Order) (w : ℕ) (answer : Answer) (now : ℕ) (c : Course) → is_refused o answer ≡ true → has_failed (answered_to o w (said_of answer) now c).outcome ≡ true
-refused_to None w answer now c e = absurd cc
-refused_to (Some o) w answer now c e =
-    decided_fails (is_decisive o && not (is_ok (said_of answer))) (said_of answer) _
-    (ap (λ b. b && not (is_ok (said_of answer))) (sym (same_consent o)) ∙ ap (λ b. needs_consent o && b) (sym (same_veto answer)) ∙ e)
+refused_to o w answer now c e = grind (arith, decided_fails, same_consent, same_veto)
 
 pub refused_fails : (w : ℕ) (answer : Answer) (now : ℕ) (c : Course) → is_refused (open_order (left c.agenda) w) answer ≡ true → has_failed (course_answered w (said_of answer) now c).outcome ≡ true
 refused_fails w answer now c e = posted_fails c _ (refused_to (open_order (left c.agenda) w) w answer now c e)
@@ -50,12 +43,9 @@ refused_fails w answer now c e = posted_fails c _ (refused_to (open_order (left 
 -- ## the state
 
 module _ (s : Plan) (st : State) (r : SetRow) (e : in_progress st ≡ Some r) (num : NumberedFrom 1 st.sets) (run : st.course.outcome ≡ RunningSet) where
-  ended_sets : (o p : SetOutcome) (ran : Bool) (a : Option Agenda) (x : State) → o ≡ RunningSet → has_failed p ≡ true → (concluded (ending o p ran a) x).sets ≡ map (row_settled x.course.outcome) x.sets
-  ended_sets RunningSet (FailedSet why) ran a x f g = refl
-  ended_sets RunningSet RunningSet ran a x f g = absurd cc
-  ended_sets RunningSet CompleteSet ran a x f g = absurd cc
-  ended_sets CompleteSet p ran a x f g = absurd cc
-  ended_sets (FailedSet why) p ran a x f g = absurd cc
+  ended_sets : (o p : SetOutcome) (ran : Bool) (a : Option Agenda) (x : State) → o ≡ RunningSet → has_failed p ≡ true
+      → (concluded (ending o p ran a) x).sets ≡ map (row_settled x.course.outcome) x.sets
+  ended_sets o p ran a x f g = grind arith
 
   pub followed_sets : (ran : Bool) (c : Course) (x : State) → x.course.outcome ≡ RunningSet → has_failed c.outcome ≡ true → (followed ran c x).sets ≡ map (row_settled c.outcome) x.sets
   unfolding followed
@@ -80,8 +70,7 @@ module _ (s : Plan) (st : State) (r : SetRow) (e : in_progress st ≡ Some r) (n
 
   failed_sets : (o : Option SetRow) (why : VssResult) (x : State) → o ≡ Some r → (failed_in o why x).sets ≡ map (row_settled (FailedSet why)) x.sets
   unfolding course_failed
-  failed_sets None why x f = absurd cc
-  failed_sets (Some q) why x f = refl
+  failed_sets o why x f = grind arith
 
   pub failed_fails : (why : VssResult) → IsFailed (failed why st) r.number
   failed_fails why = falls (failed why st) (FailedSet why) (failed_sets (in_progress st) why st e) refl
@@ -91,33 +80,27 @@ module _ (s : Plan) (st : State) (r : SetRow) (e : in_progress st ≡ Some r) (n
   closed_fails q why = falls (closed q (failed why st)) (FailedSet why) (failed_sets (in_progress st) why st e) refl
 
   put_sets : (v : ℕ) (w : Write) (mark : Mark) (x : State) → (put v w mark x).sets ≡ x.sets
-  put_sets v w Clean x = refl
-  put_sets v w _ x = refl
+  put_sets v w mark x = grind arith
 
   room_sets : (b : Bool) (x : State) → x.sets ≡ st.sets → b ≡ true → (with_room_if b x).sets ≡ map (row_settled (FailedSet InsufficientStorage)) st.sets
-  room_sets false x f g = absurd cc
-  room_sets true x f g = failed_sets (in_progress x) InsufficientStorage x (ap (find (λ (q : SetRow). is_running q.result)) f ∙ e) ∙ ap (map (row_settled (FailedSet InsufficientStorage))) f
+  room_sets b x f g = grind (arith, failed_sets)
 
   pub write_fails : (v : ℕ) (w : Write) (mark : Mark) → loses_own_image s st v w.block ≡ true → IsFailed (write s v w mark st).1 r.number
   unfolding write
   write_fails v w mark f =
-      falls (put v w mark (with_room s v w.block st)) (FailedSet InsufficientStorage) (put_sets v w mark (with_room s v w.block st) ∙ room_sets (set_loses_image (in_progress st) st.volumes (cleared s v w.block st).volumes) (cleared s v w.block st) refl f) refl
+      falls (put v w mark (with_room s v w.block st)) (FailedSet InsufficientStorage)
+      (put_sets v w mark (with_room s v w.block st)
+      ∙ room_sets (set_loses_image (in_progress st) st.volumes (cleared s v w.block st).volumes) (cleared s v w.block st) refl f) refl
 
   -- `abort` and `end` of the owner
   own_session : (q : Option Session) (lane : ℕ) (X : Type 0) → st.session ≡ q → owns q lane ≡ true → ((p : Session) → st.session ≡ Some p → (p.owner == lane) ≡ true → X) → X
-  own_session None lane X f g h = absurd cc
-  own_session (Some p) lane X f g h = h p f g
+  own_session q lane x2 f g h = grind arith
 
   stage_makes : (q : Session) → st.session ≡ Some q → IsOfSession st.session st.course.outcome (in_progress st) → makes_set q.stage ≡ true
-  stage_makes q f h =
-      let own : IsOfSession (Some q) st.course.outcome (Some r) = subst (λ o. IsOfSession (Some q) st.course.outcome o) e (subst (λ p. IsOfSession p st.course.outcome (in_progress st)) f h) in
-      own.0
+  stage_makes q f h = grind arith
 
   goes_on : (b m run : Bool) → b ≡ true → m ≡ true → owner_only b (verdict_of false (run && false) m (false && run)) ≡ Go
-  goes_on true true true f g = refl
-  goes_on true true false f g = refl
-  goes_on true false run f g = absurd cc
-  goes_on false m run f g = absurd cc
+  goes_on b m run f g = grind arith
 
   abort_goes : (q : Session) (lane : ℕ) → (q.owner == lane) ≡ true → makes_set q.stage ≡ true → check_other (Some q) (runs st) lane call.Abort ≡ Go
   abort_goes q lane f g = goes_on (q.owner == lane) (makes_set q.stage) (runs st) f g
@@ -134,19 +117,15 @@ module _ (s : Plan) (st : State) (r : SetRow) (e : in_progress st ≡ Some r) (n
   end_does q lane f g = ap (λ v. (judged v s lane op.End st).1) g ∙ ap (λ p. (line_in s lane op.End p st).1) f
 
   abort_fails : (lane : ℕ) → IsOrderly st → owns st.session lane ≡ true → IsFailed (called call.Abort s lane op.Abort st).1 r.number
-  abort_fails lane o f =
-      own_session st.session lane (IsFailed (called call.Abort s lane op.Abort st).1 r.number) refl f
-      (λ q g h.
-      subst (λ x. IsFailed x r.number)
-      (sym (abort_does q lane g (ap (λ p. check_other p (runs st) lane call.Abort) g ∙ abort_goes q lane h (stage_makes q g o.session))))
-      (failed_fails AsyncCancelled))
+  abort_fails lane o f = grind (arith, own_session, abort_does, abort_goes, stage_makes, failed_fails)
 
   end_fails : (lane : ℕ) → owns st.session lane ≡ true → IsFailed (called call.End s lane op.End st).1 r.number
   end_fails lane f =
       own_session st.session lane (IsFailed (called call.End s lane op.End st).1 r.number) refl f
       (λ q g h. subst (λ x. IsFailed x r.number) (sym (end_does q lane g (ap (λ p. check_other p (runs st) lane call.End) g ∙ end_goes q lane h))) (closed_fails q AsyncCancelled))
 
-  line_fails_set : (due : (now : ℕ) → is_late_in now st.course st.course.agenda ≡ true → is_due_in now st.course st.course.agenda ≡ true) (lane : ℕ) (o : Op) (mark : Mark) → IsOrderly st → line_gives_cause s st lane o ≡ true → IsFailed (line s lane o mark st).1 r.number
+  line_fails_set : (due : (now : ℕ) → is_late_in now st.course st.course.agenda ≡ true → is_due_in now st.course st.course.agenda ≡ true) (lane : ℕ) (o : Op)
+      (mark : Mark) → IsOrderly st → line_gives_cause s st lane o ≡ true → IsFailed (line s lane o mark st).1 r.number
   line_fails_set due lane (op.WriteFill v b x) mark i f = write_fails v (record { block = b; bytes = payload_bytes (Fill x) }) mark f
   line_fails_set due lane (op.WriteStamp v b x) mark i f = write_fails v (record { block = b; bytes = payload_bytes (Stamp x) }) mark f
   line_fails_set due lane (op.Tick n) mark i f = ticks_fail due n f
@@ -156,37 +135,29 @@ module _ (s : Plan) (st : State) (r : SetRow) (e : in_progress st ≡ Some r) (n
 
 -- a failed flush
 flush_group : (g : Option Group) → is_flush_step g ≡ true → g ≡ Some Flush
-flush_group None e = absurd cc
-flush_group (Some (Orders o)) e = absurd cc
-flush_group (Some PreCommit) e = absurd cc
-flush_group (Some Flush) e = refl
-flush_group (Some Hold) e = absurd cc
-flush_group (Some Cut) e = absurd cc
-flush_group (Some Commit) e = absurd cc
-flush_group (Some Release) e = absurd cc
-flush_group (Some PostCommit) e = absurd cc
+flush_group g e = grind arith
 
 fault_mark : (m : Mark) → is_fault m ≡ true → m ≡ Fault
-fault_mark Fault e = refl
-fault_mark _ e = absurd cc
+fault_mark m e = grind arith
 
-happens_fails : (event : Event) (s : Plan) (so_far : List Act) (act : Act) (r : SetRow) → act.event ≡ event → in_progress (state s so_far) ≡ Some r → enabled s (state s so_far) act.event ≡ true → gives_cause s (state s so_far) event act.mark ≡ true
+happens_fails : (event : Event) (s : Plan) (so_far : List Act) (act : Act) (r : SetRow) → act.event ≡ event → in_progress (state s so_far) ≡ Some r
+    → enabled s (state s so_far) act.event ≡ true → gives_cause s (state s so_far) event act.mark ≡ true
     → IsFailed (after s (state s so_far) act) r.number
 happens_fails (Line lane o) s so_far act r f e on g =
     let st = state s so_far in
-    subst (λ x. IsFailed x r.number) (sym (after_enabled s st act on ∙ ap (λ x. (happens s x act.mark st).1) f)) (line_fails_set s st r e (orderly s so_far).numbered (outcome_is_running s so_far r e) (late_is_due s so_far) lane o act.mark (orderly s so_far) g)
+    subst (λ x. IsFailed x r.number) (sym (after_enabled s st act on ∙ ap (λ x. (happens s x act.mark st).1) f))
+    (line_fails_set s st r e (orderly s so_far).numbered (outcome_is_running s so_far r e) (late_is_due s so_far) lane o act.mark (orderly s so_far) g)
 happens_fails (AnswerEvent w answer) s so_far act r f e on g =
     let st = state s so_far in
-    subst (λ x. IsFailed x r.number) (sym (after_enabled s st act on ∙ ap (λ x. (happens s x act.mark st).1) f)) (answer_fails s st r e (orderly s so_far).numbered (outcome_is_running s so_far r e) w answer g)
+    subst (λ x. IsFailed x r.number) (sym (after_enabled s st act on ∙ ap (λ x. (happens s x act.mark st).1) f))
+    (answer_fails s st r e (orderly s so_far).numbered (outcome_is_running s so_far r e) w answer g)
 happens_fails Provider s so_far act r f e on g =
-    let parts = both_parts (is_flush_step (open_group (left_now (state s so_far)))) (is_fault act.mark) g in
+    let parts = and_parts (is_flush_step (open_group (left_now (state s so_far)))) (is_fault act.mark) g in
     flush_fails s so_far act r e f (flush_group (open_group (left_now (state s so_far))) parts.0) (fault_mark act.mark parts.1)
 happens_fails Idle s so_far act r f e on g =
     let st = state s so_far in
-    subst (λ x. IsFailed x r.number) (sym (after_enabled s st act on ∙ ap (λ x. (happens s x act.mark st).1) f)) (ticks_fail s st r e (orderly s so_far).numbered (outcome_is_running s so_far r e) (late_is_due s so_far) (idle_now st) g)
+    subst (λ x. IsFailed x r.number) (sym (after_enabled s st act on ∙ ap (λ x. (happens s x act.mark st).1) f))
+    (ticks_fail s st r e (orderly s so_far).numbered (outcome_is_running s so_far r e) (late_is_due s so_far) (idle_now st) g)
 
 pub fails_for_cause : (s : Plan) (so_far : List Act) (act : Act) → FailsForCause s so_far act
-fails_for_cause s so_far act = record {
-  fails = λ r e on g. happens_fails act.event s so_far act r refl e on g;
-  only = λ r q e f g. fails_with_cause s so_far act r q e f g;
-}
+fails_for_cause s so_far act = grind (arith, happens_fails, fails_with_cause)

@@ -1,15 +1,16 @@
 -- Which images are gone after a change of the volumes, of the sets or of the course.
 use Rattle.promises.proofs.Words.{range_with_len, ltb-false, ltb-true, SetOutcome, VssResult, Image, History, point_in, dropped, after_set, up_to_set, Placed, lacks_slot, gone_up_to, evicted_up_to}
 use Rattle.promises.proofs.Words.{Group, Agenda, is_among, State, SetRow, is_running, in_progress}
-use Rattle.promises.proofs.Words.{has_image, cut_if, cut_each, step_made, NumberedFrom, has_failed, IsFailed, course-step_made, true_not_false, running_found, row_running, row_settles}
+use Rattle.promises.proofs.Words.{has_image, cut_if, cut_each, step_made, NumberedFrom, has_failed, IsFailed, true_not_false, running_found, row_running, row_settles}
 use Rattle.promises.proofs.Words.{result-settled, at, stands, Fails, within}
 use Rattle.std.proofs.Common.{◌≡◌, ◌∙◌, ℕ, ◌+◌, ◌==◌, ◌≤◌, ◌<◌, zero, suc, List, [], ◌∷◌, ◌++◌, Option, Some, None, refl, Bool, true, false, ap, sym, subst, map, filter, find, length, arith}
 use Rattle.std.specs.Prelude.{not, nat_lt, is_some, unwrap_or, option_map, if◌then◌else◌, slice_get}
 use Rattle.vss_names.specs.declared.set_outcome.SetOutcome.TheVariants.{Running as RunningSet, Failed as FailedSet}
 use Rattle.set_agenda.specs.Course.{Course, posted, failed as course_failed, settled_in, settled, worked, stepped as course_stepped, change_at}
 use Rattle.vss_model.specs.Ending.{Ending, SetFails, ending, row_settled, images_dropped, concluded, followed, failed_in}
-use Rattle.promises.proofs.Truth.{equal, not_false}
+use Rattle.promises.proofs.Truth.{not_false}
 use Rattle.promises.proofs.Members.{next_up}
+use Rattle.scenario.proofs.Places.{number_is}
 
 -- ## lists of images
 
@@ -25,10 +26,11 @@ gone_by test n (i ∷ images) e f = by_head (i.set == n) (test i.set) refl refl 
     skipped true o e f = absurd cc
     skipped false o e f = f
 
-    by_head : (b c : Bool) → (i.set == n) ≡ b → test i.set ≡ c → is_some (if b then Some i.point else point_in n images) ≡ true → is_some (point_in n (if c then i ∷ filter (λ i. test i.set) images else filter (λ i. test i.set) images)) ≡ false
+    by_head : (b c : Bool) → (i.set == n) ≡ b → test i.set ≡ c → is_some (if b then Some i.point else point_in n images) ≡ true
+        → is_some (point_in n (if c then i ∷ filter (λ i. test i.set) images else filter (λ i. test i.set) images)) ≡ false
         → (is_some (point_in n images) ≡ true → is_some (point_in n (filter (λ i. test i.set) images)) ≡ false → test n ≡ false) → test n ≡ false
     by_head true true g h e f ih = absurd (true_not_false _ (found (i.set == n) (point_in n (filter (λ i. test i.set) images)) g) f)
-    by_head true false g h e f ih = subst (λ m. test m ≡ false) (equal i.set n g) h
+    by_head true false g h e f ih = subst (λ m. test m ≡ false) (number_is i.set n g) h
     by_head false true g h e f ih = ih e (skipped (i.set == n) (point_in n (filter (λ i. test i.set) images)) g f)
     by_head false false g h e f ih = ih e f
 
@@ -43,20 +45,21 @@ kept_by test n (i ∷ images) e = by_head (test i.set) (i.set == n) refl refl e 
     by_head : (b c : Bool) → test i.set ≡ b → (i.set == n) ≡ c → is_some (point_in n (if b then i ∷ filter (λ i. test i.set) images else filter (λ i. test i.set) images)) ≡ true
         → (is_some (point_in n (filter (λ i. test i.set) images)) ≡ true → test n ≡ true) → test n ≡ true
     by_head false c g h e ih = ih e
-    by_head true true g h e ih = subst (λ m. test m ≡ true) (equal i.set n h) g
+    by_head true true g h e ih = subst (λ m. test m ≡ true) (number_is i.set n h) g
     by_head true false g h e ih = ih (skipped (i.set == n) _ h e)
 
 still_after : (n : ℕ) (images : List Image) (m p : ℕ) → is_some (point_in n images) ≡ true → is_some (point_in n (images ++ record { set = m; point = p } ∷ [])) ≡ true
 still_after n [] m p e = absurd cc
 still_after n (i ∷ images) m p e = by_head (i.set == n) e (still_after n images m p)
   where
-    by_head : (b : Bool) → is_some (if b then Some i.point else point_in n images) ≡ true → (is_some (point_in n images) ≡ true → is_some (point_in n (images ++ record { set = m; point = p } ∷ [])) ≡ true)
+    by_head : (b : Bool) → is_some (if b then Some i.point else point_in n images) ≡ true
+        → (is_some (point_in n images) ≡ true → is_some (point_in n (images ++ record { set = m; point = p } ∷ [])) ≡ true)
         → is_some (if b then Some i.point else point_in n (images ++ record { set = m; point = p } ∷ [])) ≡ true
     by_head true e ih = refl
     by_head false e ih = ih e
 
 pub gone_dropped : (m n : ℕ) (h : History) → has_image n h ≡ true → has_image n (dropped m h) ≡ false → m ≡ n
-gone_dropped m n h e f = sym (equal n m (not_false (n == m) (gone_by (λ k. not (k == m)) n h.images e f)))
+gone_dropped m n h e f = sym (number_is n m (not_false (n == m) (gone_by (λ k. not (k == m)) n h.images e f)))
 
 pub gone_reverted : (m n : ℕ) (images : List Image) → is_some (point_in n images) ≡ true → is_some (point_in n (up_to_set m images)) ≡ false → m < n
 gone_reverted m n images e f = ltb-true m n (not_false (nat_lt m n) (gone_by (λ k. not (nat_lt m k)) n images e f))
@@ -69,7 +72,8 @@ gone_map f n [] (suc v) e g = absurd cc
 gone_map f n (h ∷ hs) zero e g = g
 gone_map f n (h ∷ hs) (suc v) e g = gone_map f n hs v e g
 
-pub gone_change : (f : History → History) (n u : ℕ) (hs : List History) (v : ℕ) → has_image n (at hs v) ≡ true → has_image n (at (change_at u f hs) v) ≡ false → (u ≡ v) × (has_image n (f (at hs v)) ≡ false)
+pub gone_change : (f : History → History) (n u : ℕ) (hs : List History) (v : ℕ) → has_image n (at hs v) ≡ true → has_image n (at (change_at u f hs) v) ≡ false
+    → (u ≡ v) × (has_image n (f (at hs v)) ≡ false)
 gone_change f n u [] v e g = absurd (true_not_false (has_image n (at [] v)) e g)
 gone_change f n zero (h ∷ hs) zero e g = (refl, g)
 gone_change f n zero (h ∷ hs) (suc v) e g = absurd (true_not_false (has_image n (at hs v)) e g)
@@ -128,11 +132,13 @@ found_least test a (suc len) m l h = by_head (test a) (a == m) refl refl h (foun
     by_head : (b c : Bool) → test a ≡ b → (a == m) ≡ c → m < unwrap_or (if b then Some a else find test (range_with_len (a + 1) len)) (a + suc len)
         → (a + 1 ≤ m → m < unwrap_or (find test (range_with_len (a + 1) len)) (a + 1 + len) → test m ≡ false) → test m ≡ false
     by_head true c g i h ih = absurd (itself a m l h)
-    by_head false true g i h ih = subst (λ k. test k ≡ false) (equal a m i) g
+    by_head false true g i h ih = subst (λ k. test k ≡ false) (number_is a m i) g
     by_head false false g i h ih = ih (next_up a m l i) (subst (λ k. m < unwrap_or (find test (range_with_len (a + 1) len)) k) (one_more a len) h)
 
 pub least_sets : (sets slots : ℕ) (ps : List Placed) (v b : ℕ) (hs : List History) (m : ℕ) → m < evicted_up_to sets slots ps v b hs → lacks_slot slots ps v b (gone_up_to m ps hs) ≡ true
-least_sets sets slots ps v b hs m h = not_false _ (found_least (λ k. not (lacks_slot slots ps v b (gone_up_to k ps hs))) 0 sets m (omega arith) (subst (λ k. m < unwrap_or (find (λ k. not (lacks_slot slots ps v b (gone_up_to k ps hs))) (range_with_len 0 sets)) k) (from_none sets) h))
+least_sets sets slots ps v b hs m h = not_false _
+    (found_least (λ k. not (lacks_slot slots ps v b (gone_up_to k ps hs))) 0 sets m (omega arith)
+    (subst (λ k. m < unwrap_or (find (λ k. not (lacks_slot slots ps v b (gone_up_to k ps hs))) (range_with_len 0 sets)) k) (from_none sets) h))
   where
     from_none : (n : ℕ) → n ≡ 0 + n
     from_none n = omega arith
@@ -148,11 +154,13 @@ failed_row st x r p e num sets f =
       failed = ap has_failed (result-settled (is_running r.result) p r (running_found st.sets r e)) ∙ f;
     }
 
-pub fails_as : (st x : State) (r : SetRow) (p : SetOutcome) (n : ℕ) → in_progress st ≡ Some r → NumberedFrom 1 st.sets → x.sets ≡ map (row_settled p) st.sets → has_failed p ≡ true → r.number ≡ n → Fails st x n
+pub fails_as : (st x : State) (r : SetRow) (p : SetOutcome) (n : ℕ) → in_progress st ≡ Some r → NumberedFrom 1 st.sets → x.sets ≡ map (row_settled p) st.sets
+    → has_failed p ≡ true → r.number ≡ n → Fails st x n
 fails_as st x r p n e num sets f same = record { set = r; is = e; number = same; failed = subst (IsFailed x) same (failed_row st x r p e num sets f) }
 
 -- where the images of the set in progress go
-gone_of_set : (o : Option SetRow) (n : ℕ) (hs : List History) (v : ℕ) (X : Type 0) → has_image n (at hs v) ≡ true → has_image n (at (images_dropped o hs) v) ≡ false → ((r : SetRow) → o ≡ Some r → r.number ≡ n → X) → X
+gone_of_set : (o : Option SetRow) (n : ℕ) (hs : List History) (v : ℕ) (X : Type 0) → has_image n (at hs v) ≡ true
+    → has_image n (at (images_dropped o hs) v) ≡ false → ((r : SetRow) → o ≡ Some r → r.number ≡ n → X) → X
 gone_of_set None n hs v X e g f = absurd (true_not_false (has_image n (at hs v)) e g)
 gone_of_set (Some r) n hs v X e g f = f r refl (gone_dropped r.number n (at hs v) e (gone_map (dropped r.number) n hs v e g))
 
@@ -187,9 +195,6 @@ none_settled_in o c h = grind arith
 pub none_stepped : (now : ℕ) (c : Course) → has_failed c.outcome ≡ false → has_failed (course_stepped true now c).outcome ≡ false
 unfolding posted settled worked
 none_stepped now c h = none_settled_in (worked now c).agenda (worked now c) h
-
-pub course-made : (g : Option Group) (st : State) → (step_made g st).course ≡ st.course
-course-made g st = course-step_made g st
 
 pub made_keeps : (n v : ℕ) (g : Option Group) (st : State) → stands st n v ≡ true → stands (step_made g st) n v ≡ true
 made_keeps n v g st h = grind (arith, cut_keeps)

@@ -3,8 +3,9 @@ use Rattle.promises.proofs.Words.{and_left, Image, History, after_set, Placed, g
 use Rattle.promises.proofs.Words.{UpTo, at, within, some_same}
 use Rattle.std.proofs.Common.{◌≡◌, ℕ, ◌+◌, ◌≤◌, ◌<◌, zero, suc, List, [], ◌∷◌, Some, refl, Bool, true, false, ap, subst, find, length, arith}
 use Rattle.std.specs.Prelude.{nat_lt, if◌then◌else◌, slice_get}
-use Rattle.promises.proofs.Truth.{no_less, not_true}
+use Rattle.promises.proofs.Truth.{no_less}
 use Rattle.promises.proofs.Shrinks.{used_in}
+use Rattle.set_agenda.proofs.Closings.{unless}
 
 -- ## what each volume uses
 
@@ -20,7 +21,8 @@ group_less (p ∷ ps) (h ∷ hs) (k ∷ ks) f e = by_group p.within (f 0 p.block
     both : (a b x y : ℕ) → a ≤ b → x ≤ y → a + x ≤ b + y
     both a b x y l m = omega arith
 
-    by_group : (b : Bool) → used_in p.blocks k ≤ used_in p.blocks h → group_used ps ks ≤ group_used ps hs → (if b then used p.blocks k.writes k.images else 0) + group_used ps ks ≤ (if b then used p.blocks h.writes h.images else 0) + group_used ps hs
+    by_group : (b : Bool) → used_in p.blocks k ≤ used_in p.blocks h → group_used ps ks ≤ group_used ps hs
+        → (if b then used p.blocks k.writes k.images else 0) + group_used ps ks ≤ (if b then used p.blocks h.writes h.images else 0) + group_used ps hs
     by_group true l m = both (used_in p.blocks k) (used_in p.blocks h) (group_used ps ks) (group_used ps hs) l m
     by_group false l m = both 0 0 (group_used ps ks) (group_used ps hs) (no_less 0) m
 
@@ -36,7 +38,8 @@ group_other f zero (p ∷ ps) (h ∷ hs) e = by_group p.within e
 group_other f (suc u) (p ∷ ps) (h ∷ hs) e = ap (λ k. (if p.within then used p.blocks h.writes h.images else 0) + k) (group_other f u ps hs e)
 
 -- a volume that uses at most so many more
-pub group_more : (f : History → History) (u extra : ℕ) (ps : List Placed) (hs : List History) → ((n : ℕ) → used_in n (f (at hs u)) ≤ used_in n (at hs u) + extra) → group_used ps (change_at u f hs) ≤ group_used ps hs + extra
+pub group_more : (f : History → History) (u extra : ℕ) (ps : List Placed) (hs : List History)
+    → ((n : ℕ) → used_in n (f (at hs u)) ≤ used_in n (at hs u) + extra) → group_used ps (change_at u f hs) ≤ group_used ps hs + extra
 group_more f u extra [] hs g = omega arith
 group_more f u extra (p ∷ ps) [] g = omega arith
 group_more f zero extra (p ∷ ps) (h ∷ hs) g = by_group p.within (g p.blocks)
@@ -44,16 +47,19 @@ group_more f zero extra (p ∷ ps) (h ∷ hs) g = by_group p.within (g p.blocks)
     more : (a b x e : ℕ) → a ≤ b + e → a + x ≤ (b + x) + e
     more a b x e l = omega arith
 
-    by_group : (b : Bool) → used_in p.blocks (f h) ≤ used_in p.blocks h + extra → (if b then used_in p.blocks (f h) else 0) + group_used ps hs ≤ ((if b then used_in p.blocks h else 0) + group_used ps hs) + extra
+    by_group : (b : Bool) → used_in p.blocks (f h) ≤ used_in p.blocks h + extra
+        → (if b then used_in p.blocks (f h) else 0) + group_used ps hs ≤ ((if b then used_in p.blocks h else 0) + group_used ps hs) + extra
     by_group true l = more (used_in p.blocks (f h)) (used_in p.blocks h) (group_used ps hs) extra l
     by_group false l = more 0 0 (group_used ps hs) extra (omega arith)
-group_more f (suc u) extra (p ∷ ps) (h ∷ hs) g = more (if p.within then used p.blocks h.writes h.images else 0) (group_used ps (change_at u f hs)) (group_used ps hs) extra (group_more f u extra ps hs g)
+group_more f (suc u) extra (p ∷ ps) (h ∷ hs) g = more (if p.within then used p.blocks h.writes h.images else 0) (group_used ps (change_at u f hs))
+    (group_used ps hs) extra (group_more f u extra ps hs g)
   where
     more : (a x y e : ℕ) → x ≤ y + e → a + x ≤ (a + y) + e
     more a x y e l = omega arith
 
 -- a change that makes its own volume use no more
-pub changed_uses : (f : History → History) (u : ℕ) (hs : List History) → ((n : ℕ) → used_in n (f (at hs u)) ≤ used_in n (at hs u)) → (v n : ℕ) → used_in n (at (change_at u f hs) v) ≤ used_in n (at hs v)
+pub changed_uses : (f : History → History) (u : ℕ) (hs : List History) → ((n : ℕ) → used_in n (f (at hs u)) ≤ used_in n (at hs u)) → (v n : ℕ)
+    → used_in n (at (change_at u f hs) v) ≤ used_in n (at hs v)
 changed_uses f u [] g v n = no_less (used_in n (at [] v))
 changed_uses f zero (h ∷ hs) g zero n = g n
 changed_uses f zero (h ∷ hs) g (suc v) n = no_less (used_in n (at hs v))
@@ -93,9 +99,11 @@ needs_none m zero b (p ∷ ps) (h ∷ hs) e up = by_group p.within e
 needs_none m (suc v) b (p ∷ ps) (h ∷ hs) e up = needs_none m v b ps hs e up
 
 -- with the images of so many sets gone a write does not lack its slot
-pub enough_goes : (sets slots : ℕ) (ps : List Placed) (v b : ℕ) (hs : List History) → within (slice_get ps v) ≡ true → UpTo sets (at hs v).images → lacks_slot slots ps v b (gone_up_to (evicted_up_to sets slots ps v b hs) ps hs) ≡ false
-enough_goes sets slots ps v b hs e up = grind (arith, not_true, find_passes, and_left, needs_none)
+pub enough_goes : (sets slots : ℕ) (ps : List Placed) (v b : ℕ) (hs : List History) → within (slice_get ps v) ≡ true → UpTo sets (at hs v).images
+    → lacks_slot slots ps v b (gone_up_to (evicted_up_to sets slots ps v b hs) ps hs) ≡ false
+enough_goes sets slots ps v b hs e up = grind (arith, unless, find_passes, and_left, needs_none)
 
 -- where a write needs a slot and does not lack it, one is left
-pub one_left : (slots : ℕ) (ps : List Placed) (v b : ℕ) (hs : List History) → lacks_slot slots ps v b hs ≡ false → group_used ps hs ≤ slots → needs_slot (at hs v).writes (at hs v).images b ≡ true → group_used ps hs < slots
+pub one_left : (slots : ℕ) (ps : List Placed) (v b : ℕ) (hs : List History) → lacks_slot slots ps v b hs ≡ false → group_used ps hs ≤ slots
+    → needs_slot (at hs v).writes (at hs v).images b ≡ true → group_used ps hs < slots
 one_left slots ps v b hs e l n = grind arith

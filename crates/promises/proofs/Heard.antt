@@ -4,23 +4,15 @@ use Rattle.promises.proofs.Words.{Commit, Release, PostCommit, Snapshot, Member,
 use Rattle.promises.proofs.Words.{Rising, same_volume, is_heard, is_made, AreOnce, heard, agreed, made}
 use Rattle.std.proofs.Common.{◌≡◌, ◌∙◌, ℕ, ◌==◌, List, [], ◌∷◌, Option, Some, None, refl, Bool, true, false, ap, sym, subst, map, filter}
 use Rattle.std.specs.Prelude.{◌&&◌, ◌||◌, not, if◌then◌else◌}
+use Rattle.std.proofs.lemmas.Bool.{and_parts, or_left, or_right}
 use Rattle.set_agenda.specs.Agenda.{Agenda, Entry, Open, plain, places, same_order, group_code, level_code, is_orders, has_failed, has_said, is_at, writers_at, members_of, waited_for, with_group, left_from, groups_left, open_place, is_among, waits_now, at_level}
-use Rattle.promises.proofs.Truth.{both_parts, equal, left_part, not_true, right_part}
 use Rattle.promises.proofs.Levels.{Ascends, MembersOf}
 use Rattle.promises.proofs.Speaks.{deed_at, deed_in}
 use Rattle.promises.proofs.Stages.{deeds_in, open_stage, Below}
+use Rattle.scenario.proofs.Places.{number_is}
+use Rattle.set_agenda.proofs.Closings.{unless}
 
 -- ## who was waited for has spoken
-
-pub said_all : (log : List Entry) (p : Place) (xs : List ℕ) (x : ℕ) → filter (λ who. not (has_said log p who)) xs ≡ [] → is_among x xs ≡ true → has_said log p x ≡ true
-said_all log p [] x e f = absurd cc
-said_all log p (y ∷ xs) x e f = by_head (has_said log p y) (y == x) refl refl e f (said_all log p xs x)
-  where
-    by_head : (b c : Bool) → has_said log p y ≡ b → (y == x) ≡ c → (if not b then y ∷ filter (λ who. not (has_said log p who)) xs else filter (λ who. not (has_said log p who)) xs) ≡ [] → (c || is_among x xs) ≡ true
-        → (filter (λ who. not (has_said log p who)) xs ≡ [] → is_among x xs ≡ true → has_said log p x ≡ true) → has_said log p x ≡ true
-    by_head false c g h e f ih = absurd cc
-    by_head true true g h e f ih = subst (λ z. has_said log p z ≡ true) (equal y x h) g
-    by_head true false g h e f ih = ih e f
 
 pub decode : ℕ → Group
 decode n =
@@ -46,7 +38,7 @@ decoded (Orders _) = refl
 decoded _ = refl
 
 pub same_group : (g h : Group) → (group_code g == group_code h) ≡ true → g ≡ h
-same_group g h e = sym (decoded g) ∙ ap decode (equal (group_code g) (group_code h) e) ∙ decoded h
+same_group g h e = sym (decoded g) ∙ ap decode (number_is (group_code g) (group_code h) e) ∙ decoded h
 
 -- what was said at a place is a deed of it
 pub said_deed : (log : List Entry) (p : Place) (who : ℕ) (test : Deed → Bool) → ((said : Said) (now u : ℕ) → (u == who) ≡ true → test (deed_at p.group u said now) ≡ true) → has_said log p who ≡ true → list_any test (map deed_in log) ≡ true
@@ -56,10 +48,10 @@ said_deed (x ∷ log) p who test f e = by_head (group_code x.place.group == grou
     by_head : (b l c : Bool) → (group_code x.place.group == group_code p.group) ≡ b → (x.who == who) ≡ c → (((b && l) && c) || has_said log p who) ≡ true → (has_said log p who ≡ true → list_any test (map deed_in log) ≡ true)
         → (test (deed_in x) || list_any test (map deed_in log)) ≡ true
     by_head true true true g h e ih =
-        left_part (test (deed_in x)) _ (subst (λ z. test (deed_at z x.who x.said x.time) ≡ true) (sym (same_group x.place.group p.group g)) (f x.said x.time x.who h))
-    by_head true true false g h e ih = right_part (test (deed_in x)) _ (ih e)
-    by_head true false c g h e ih = right_part (test (deed_in x)) _ (ih e)
-    by_head false l c g h e ih = right_part (test (deed_in x)) _ (ih e)
+        or_left (test (deed_in x)) _ (subst (λ z. test (deed_at z x.who x.said x.time) ≡ true) (sym (same_group x.place.group p.group g)) (f x.said x.time x.who h))
+    by_head true true false g h e ih = or_right (test (deed_in x)) _ (ih e)
+    by_head true false c g h e ih = or_right (test (deed_in x)) _ (ih e)
+    by_head false l c g h e ih = or_right (test (deed_in x)) _ (ih e)
 
 -- the place where a writer says something to an order
 abbrev pub order_place : Order → Level → Place
@@ -130,7 +122,7 @@ passes test x (y ∷ xs) e = by_head (test y) (y == x) refl refl e (passes test 
   where
     by_head : (b c : Bool) → test y ≡ b → (y == x) ≡ c → is_among x (if b then y ∷ filter test xs else filter test xs) ≡ true → (is_among x (filter test xs) ≡ true → test x ≡ true) → test x ≡ true
     by_head false c g h e ih = ih e
-    by_head true true g h e ih = subst (λ z. test z ≡ true) (equal y x h) g
+    by_head true true g h e ih = subst (λ z. test z ≡ true) (number_is y x h) g
     by_head true false g h e ih = ih (other (y == x) h e)
       where
         other : (c : Bool) → c ≡ false → (c || is_among x (filter test xs)) ≡ true → is_among x (filter test xs) ≡ true
@@ -139,7 +131,7 @@ passes test x (y ∷ xs) e = by_head (test y) (y == x) refl refl e (passes test 
 
 -- who is waited for has not spoken
 pub unsaid_filter : (log : List Entry) (p : Place) (x : ℕ) (xs : List ℕ) → is_among x (filter (λ who. not (has_said log p who)) xs) ≡ true → has_said log p x ≡ false
-unsaid_filter log p x xs e = not_true (has_said log p x) (passes (λ who. not (has_said log p who)) x xs e)
+unsaid_filter log p x xs e = unless (has_said log p x) (passes (λ who. not (has_said log p who)) x xs e)
 
 pub unsaid : (a : Agenda) (ps : List Place) (x : ℕ) → is_among x (waits_now (left_from a ps)) ≡ true → has_said a.log (open_place (left_from a ps)) x ≡ false
 unsaid a [] x e = absurd cc
@@ -158,25 +150,25 @@ order_member _ a l w h = among_members (λ m. is_at l m.level) w a.members h
 
 -- the writer of a deed that was heard, and its group
 pub heard_writer : (order : Order) (w : ℕ) (g : Group) (a : Agenda) (l : Option Level) (u : ℕ) (said : Said) (now : ℕ) → is_among u (members_of a g l) ≡ true → is_heard order w (deed_at g u said now) ≡ true → is_member a.members w ≡ true
-heard_writer order w (Orders o) a l u said now h e = subst (λ x. is_member a.members x ≡ true) (equal u w (both_parts (same_order o order) (u == w) e).1) (order_member o a l u h)
+heard_writer order w (Orders o) a l u said now h e = subst (λ x. is_member a.members x ≡ true) (number_is u w (and_parts (same_order o order) (u == w) e).1) (order_member o a l u h)
 heard_writer order w _ a l u said now h e = absurd cc
 
 pub made_volume : (g : Group) (v : ℕ) (h : Group) (a : Agenda) (l : Option Level) (u : ℕ) (said : Said) (now : ℕ) → is_among u (members_of a h l) ≡ true → is_made g (Some v) (deed_at h u said now) ≡ true → is_among v a.volumes ≡ true
 made_volume g v (Orders o) a l u said now i e = absurd cc
-made_volume g v PreCommit a l u said now i e = absurd (true_not_false false (both_parts (group_code PreCommit == group_code g) false e).1 refl)
-made_volume g v Flush a l u said now i e = subst (λ x. is_among x a.volumes ≡ true) (equal u v (both_parts (group_code Flush == group_code g) (u == v) e).1) i
-made_volume g v Hold a l u said now i e = subst (λ x. is_among x a.volumes ≡ true) (equal u v (both_parts (group_code Hold == group_code g) (u == v) e).1) i
-made_volume g v Cut a l u said now i e = absurd (true_not_false false (both_parts (group_code Cut == group_code g) false e).1 refl)
-made_volume g v Commit a l u said now i e = subst (λ x. is_among x a.volumes ≡ true) (equal u v (both_parts (group_code Commit == group_code g) (u == v) e).1) i
-made_volume g v Release a l u said now i e = subst (λ x. is_among x a.volumes ≡ true) (equal u v (both_parts (group_code Release == group_code g) (u == v) e).1) i
-made_volume g v PostCommit a l u said now i e = absurd (true_not_false false (both_parts (group_code PostCommit == group_code g) false e).1 refl)
+made_volume g v PreCommit a l u said now i e = absurd (true_not_false false (and_parts (group_code PreCommit == group_code g) false e).1 refl)
+made_volume g v Flush a l u said now i e = subst (λ x. is_among x a.volumes ≡ true) (number_is u v (and_parts (group_code Flush == group_code g) (u == v) e).1) i
+made_volume g v Hold a l u said now i e = subst (λ x. is_among x a.volumes ≡ true) (number_is u v (and_parts (group_code Hold == group_code g) (u == v) e).1) i
+made_volume g v Cut a l u said now i e = absurd (true_not_false false (and_parts (group_code Cut == group_code g) false e).1 refl)
+made_volume g v Commit a l u said now i e = subst (λ x. is_among x a.volumes ≡ true) (number_is u v (and_parts (group_code Commit == group_code g) (u == v) e).1) i
+made_volume g v Release a l u said now i e = subst (λ x. is_among x a.volumes ≡ true) (number_is u v (and_parts (group_code Release == group_code g) (u == v) e).1) i
+made_volume g v PostCommit a l u said now i e = absurd (true_not_false false (and_parts (group_code PostCommit == group_code g) false e).1 refl)
 
 -- a step is logged under its volume, or under 0
 pub alone : (u : ℕ) → is_among u (0 ∷ []) ≡ true → u ≡ 0
 alone u e = by_head (0 == u) refl e
   where
     by_head : (b : Bool) → (0 == u) ≡ b → (b || false) ≡ true → u ≡ 0
-    by_head true f e = sym (equal 0 u f)
+    by_head true f e = sym (number_is 0 u f)
     by_head false f e = absurd cc
 
 pub record IsStep (g : Group) (v : Option ℕ) (h : Group) (u : ℕ) : Type 0 where
@@ -185,14 +177,14 @@ pub record IsStep (g : Group) (v : Option ℕ) (h : Group) (u : ℕ) : Type 0 wh
   pub step : is_orders h ≡ false
 
 pub step_none : (g : Group) (v : Option ℕ) (h : Group) (u : ℕ) → is_orders h ≡ false → u ≡ 0 → ((group_code h == group_code g) && same_volume None v) ≡ true → IsStep g v h u
-step_none g None h u s e f = record { group = same_group h g (both_parts (group_code h == group_code g) true f).0; number = e; step = s }
-step_none g (Some v) h u s e f = absurd (true_not_false false (both_parts (group_code h == group_code g) false f).1 refl)
+step_none g None h u s e f = record { group = same_group h g (and_parts (group_code h == group_code g) true f).0; number = e; step = s }
+step_none g (Some v) h u s e f = absurd (true_not_false false (and_parts (group_code h == group_code g) false f).1 refl)
 
 pub step_some : (g : Group) (v : Option ℕ) (h : Group) (u : ℕ) → is_orders h ≡ false → ((group_code h == group_code g) && same_volume (Some u) v) ≡ true → IsStep g v h u
-step_some g None h u s f = absurd (true_not_false false (both_parts (group_code h == group_code g) false f).1 refl)
+step_some g None h u s f = absurd (true_not_false false (and_parts (group_code h == group_code g) false f).1 refl)
 step_some g (Some v) h u s f =
-    let parts = both_parts (group_code h == group_code g) (u == v) f in
-    record { group = same_group h g parts.0; number = equal u v parts.1; step = s }
+    let parts = and_parts (group_code h == group_code g) (u == v) f in
+    record { group = same_group h g parts.0; number = number_is u v parts.1; step = s }
 
 pub is_step : (g : Group) (v : Option ℕ) (h : Group) (a : Agenda) (l : Option Level) (u : ℕ) (said : Said) (now : ℕ) → is_among u (members_of a h l) ≡ true → is_made g v (deed_at h u said now) ≡ true → IsStep g v h u
 is_step g v (Orders o) a l u said now i e = absurd cc

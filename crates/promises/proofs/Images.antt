@@ -5,6 +5,7 @@ use Rattle.promises.proofs.Words.{slots_of, group_of, Event, State, SetRow, Kept
 use Rattle.promises.proofs.Words.{failed, NumberedFrom, has_failed, Act, enabled, idle_now, after, state, row_number, kept_point, true_not_false, orderly, at, FewerIn, fewer_written, fewer_in_same}
 use Rattle.promises.proofs.Words.{fewer_in_change, fewer_in_over, fewer_images_dropped, Covers, covered, after_enabled, after_not_enabled, by_if}
 use Rattle.std.proofs.Common.{◌≡◌, ◌∙◌, ℕ, ◌+◌, ◌≤◌, ◌<◌, List, ◌⊎◌, Option, Some, None, refl, Bool, true, false, ap, sym, subst, inl, inr, map, find, length, arith}
+use Rattle.std.proofs.lemmas.Bool.{false_from_ne_true}
 use Rattle.set_agenda.specs.Course.{Course, answered as course_answered, stepped as course_stepped, timed as course_timed, change_at}
 use Rattle.scenario.specs.declared.op.Op.TheVariants as op
 use Rattle.scenario.specs.declared.line.Line.{Line as Does}
@@ -13,8 +14,8 @@ use Rattle.vss_model.specs.Images.{Replied, cleared, going_up_to, set_loses_imag
 use Rattle.vss_model.specs.Sessions.{has_no_volume, images_released, closed}
 use Rattle.vss_model.specs.Steps.{answered, step_made, is_flush, is_failed_step, stepped_as, stepped, ticked, later}
 use Rattle.promises.specs.Gone.{stands, Fails, IsWanted, IsOfSession, Takes, TakesBy, ImagesGoForCause}
-use Rattle.promises.proofs.Truth.{false_of}
-use Rattle.promises.proofs.GoneImages.{gone_dropped, gone_reverted, gone_map, gone_change, gone_group, left_in_group, least_sets, fails_as, gone_followed, gone_failed_in, none_stepped, course-made, made_keeps}
+use Rattle.promises.proofs.GoneImages.{gone_dropped, gone_reverted, gone_map, gone_change, gone_group, left_in_group, least_sets, fails_as, gone_followed, gone_failed_in, none_stepped, made_keeps}
+use Rattle.vss_model.proofs.LogRule.{course-step_made}
 
 -- ## every act
 
@@ -25,7 +26,8 @@ module _ (s : Plan) (st : State) (num : NumberedFrom 1 st.sets) (n v : ℕ) wher
   abbrev Goes : Event → Mark → Replied → Type 0
   Goes event mark x = stands st n v ≡ true → stands x.1 n v ≡ false → Cause event x.1
 
-  by_course : (event : Event) (ran : Bool) (c : Course) (x : State) → x.volumes ≡ st.volumes → x.sets ≡ st.sets → stands st n v ≡ true → stands (followed ran c x) n v ≡ false → Cause event (followed ran c x)
+  by_course : (event : Event) (ran : Bool) (c : Course) (x : State) → x.volumes ≡ st.volumes → x.sets ≡ st.sets → stands st n v ≡ true
+      → stands (followed ran c x) n v ≡ false → Cause event (followed ran c x)
   by_course event ran c x e f h g =
       gone_followed n v ran c x (Cause event (followed ran c x)) (ap (λ hs. has_image n (at hs v)) e ∙ h) g
       (λ r run fails i s sets. inl (fails_as st (followed ran c x) r c.outcome n (ap (find (λ (q : SetRow). is_running q.result)) (sym f) ∙ i) num (sets ∙ ap (map (row_settled c.outcome)) f) fails s))
@@ -66,11 +68,12 @@ module _ (s : Plan) (st : State) (num : NumberedFrom 1 st.sets) (n v : ℕ) wher
     wanted h g =
         let most = going_up_to s u w.block st in
         let went = gone_group most n (group_of s u) st.volumes v h g in
-        let fewer = fewer_in_over roomy.volumes (with_room s u w.block st).volumes written_to.volumes (volumes_room (set_loses_image (in_progress st) st.volumes roomy.volumes) roomy) (volumes_put u w mark (with_room s u w.block st)) in
+        let fewer = fewer_in_over roomy.volumes (with_room s u w.block st).volumes written_to.volumes
+        (volumes_room (set_loses_image (in_progress st) st.volumes roomy.volumes) roomy) (volumes_put u w mark (with_room s u w.block st)) in
         record {
           shared = went.0;
           needed = λ m l. least_sets (length st.sets) (slots_of s u) (group_of s u) u w.block st.volumes m (less m n most l went.1);
-          together = λ m x l i. false_of (stands written_to m x) (λ f. over most m n (left_in_group most m (group_of s u) st.volumes x i ((fewer.each x).sets m f)) l went.1);
+          together = λ m x l i. false_from_ne_true (stands written_to m x) (λ f. over most m n (left_in_group most m (group_of s u) st.volumes x i ((fewer.each x).sets m f)) l went.1);
         }
       where
         less : (a b c : ℕ) → a < b → b ≤ c → a < c
@@ -79,7 +82,8 @@ module _ (s : Plan) (st : State) (num : NumberedFrom 1 st.sets) (n v : ℕ) wher
         over : (g m n : ℕ) → g < m → m ≤ n → n ≤ g → ⊥
         over g m n l h i = omega arith
 
-    pub wants_or_fails : (b : Bool) (c : Bool) → stands roomy n v ≡ c → stands st n v ≡ true → stands (put u w mark (with_room_if b roomy)) n v ≡ false → Fails st (put u w mark (with_room_if b roomy)) n ⊎ (stands roomy n v ≡ false)
+    pub wants_or_fails : (b : Bool) (c : Bool) → stands roomy n v ≡ c → stands st n v ≡ true → stands (put u w mark (with_room_if b roomy)) n v ≡ false
+        → Fails st (put u w mark (with_room_if b roomy)) n ⊎ (stands roomy n v ≡ false)
     wants_or_fails b false e h g = inr e
     wants_or_fails false true e h g = absurd (put_keeps u w mark roomy e g)
     wants_or_fails true true e h g = inl (by_stand (stands (failed InsufficientStorage roomy) n v) refl)
@@ -114,25 +118,29 @@ module _ (s : Plan) (st : State) (num : NumberedFrom 1 st.sets) (n v : ℕ) wher
   on_delete_set : (lane m : ℕ) (x : State) → x.volumes ≡ map (dropped m) st.volumes → stands st n v ≡ true → stands x n v ≡ false → Cause (Line lane (op.DeleteSet m)) x
   on_delete_set lane m x e h g = inr (gone_dropped m n (at st.volumes v) h (gone_map (dropped m) n st.volumes v h (ap (λ hs. has_image n (at hs v)) (sym e) ∙ g)))
 
-  on_delete_image : (lane m u : ℕ) (k : Kept) (x : State) → kept_image st m u ≡ Some k → x.volumes ≡ change_at u (dropped k.row.number) st.volumes → stands st n v ≡ true → stands x n v ≡ false → Cause (Line lane (op.DeleteImage m u)) x
+  on_delete_image : (lane m u : ℕ) (k : Kept) (x : State) → kept_image st m u ≡ Some k → x.volumes ≡ change_at u (dropped k.row.number) st.volumes
+      → stands st n v ≡ true → stands x n v ≡ false → Cause (Line lane (op.DeleteImage m u)) x
   on_delete_image lane m u k x e f h g = grind (arith, gone_change, row_is, gone_dropped)
 
   -- ## the session ends
 
-  released_goes : (q : Session) (c : Context) (set : Option ℕ) (hs : List History) → st.session ≡ Some q → q.context ≡ c → q.set ≡ set → has_image n (at hs v) ≡ true → has_image n (at (images_released c set hs) v) ≡ false → IsOfSession st n
+  released_goes : (q : Session) (c : Context) (set : Option ℕ) (hs : List History) → st.session ≡ Some q → q.context ≡ c → q.set ≡ set
+      → has_image n (at hs v) ≡ true → has_image n (at (images_released c set hs) v) ≡ false → IsOfSession st n
   released_goes q Backup None hs e f i h g = absurd (true_not_false (has_image n (at hs v)) h g)
   released_goes q Backup (Some m) hs e f i h g =
       record { session = q; is = e; context = ap is_backup f; set = i ∙ ap Some (gone_dropped m n (at hs v) h (gone_map (dropped m) n hs v h g)) }
   released_goes q AppRollback set hs e f i h g = absurd (true_not_false (has_image n (at hs v)) h g)
   released_goes q NasRollback set hs e f i h g = absurd (true_not_false (has_image n (at hs v)) h g)
 
-  on_close : (lane : ℕ) (q : Session) (why : VssResult) → st.session ≡ Some q → stands st n v ≡ true → stands (closed q (failed why st)) n v ≡ false → Cause (Line lane op.End) (closed q (failed why st))
+  on_close : (lane : ℕ) (q : Session) (why : VssResult) → st.session ≡ Some q → stands st n v ≡ true → stands (closed q (failed why st)) n v ≡ false
+      → Cause (Line lane op.End) (closed q (failed why st))
   unfolding closed
   on_close lane q why e h g = by_stand (stands (failed why st) n v) refl
     where
       by_stand : (c : Bool) → stands (failed why st) n v ≡ c → Cause (Line lane op.End) (closed q (failed why st))
       by_stand true f = inr (released_goes q q.context q.set (failed why st).volumes e refl refl f g)
-      by_stand false f = gone_failed_in n v (in_progress st) why st (Cause (Line lane op.End) (closed q (failed why st))) h f (λ r i s sets. inl (fails_as st (closed q (failed why st)) r (FailedSet why) n i num sets refl s))
+      by_stand false f = gone_failed_in n v (in_progress st) why st (Cause (Line lane op.End) (closed q (failed why st))) h f
+          (λ r i s sets. inl (fails_as st (closed q (failed why st)) r (FailedSet why) n i num sets refl s))
 
   -- ## answers, steps, time
 
@@ -149,7 +157,7 @@ module _ (s : Plan) (st : State) (num : NumberedFrom 1 st.sets) (n v : ℕ) wher
   on_step_as false g h e =
       gone_followed n v (runs st) (course_stepped true st.clock st.course) (step_made g st) (Cause Provider (stepped_as false g st)) (made_keeps n v g st h) e
       (λ r run fails i s sets. absurd (true_not_false (has_failed (course_stepped true st.clock st.course).outcome) fails
-      (none_stepped st.clock st.course (ap has_failed (ap (λ (c : Course). c.outcome) (sym (course-made g st)) ∙ run)))))
+      (none_stepped st.clock st.course (ap has_failed (ap (λ (c : Course). c.outcome) (sym (course-step_made g st)) ∙ run)))))
 
   on_steps : (mark : Mark) → stands st n v ≡ true → stands (stepped mark st) n v ≡ false → Cause Provider (stepped mark st)
   unfolding stepped
@@ -169,8 +177,10 @@ module _ (s : Plan) (st : State) (num : NumberedFrom 1 st.sets) (n v : ℕ) wher
     names = λ lane w full q explicit mark i named h g. absurd (true_not_false (stands st n v) h g);
     starts = λ lane q mark i e h g. absurd (true_not_false (stands st n v) h g);
     adds = λ lane u r q mark i e f h g. absurd (true_not_false (stands st n v) h g);
-    prepares = λ lane q mark i. by_if (Goes (Line lane op.Prepare) mark) (has_no_volume (in_progress st)) _ _ (λ h g. absurd (true_not_false (stands st n v) h g)) (λ h g. by_course (Line lane op.Prepare) true _ st refl refl h g);
-    snapshots = λ lane q mark i. by_if (Goes (Line lane op.Snapshot) mark) (has_no_volume (in_progress st)) _ _ (λ h g. absurd (true_not_false (stands st n v) h g)) (λ h g. by_course (Line lane op.Snapshot) true _ st refl refl h g);
+    prepares = λ lane q mark i. by_if (Goes (Line lane op.Prepare) mark) (has_no_volume (in_progress st)) _ _
+        (λ h g. absurd (true_not_false (stands st n v) h g)) (λ h g. by_course (Line lane op.Prepare) true _ st refl refl h g);
+    snapshots = λ lane q mark i. by_if (Goes (Line lane op.Snapshot) mark) (has_no_volume (in_progress st)) _ _
+        (λ h g. absurd (true_not_false (stands st n v) h g)) (λ h g. by_course (Line lane op.Snapshot) true _ st refl refl h g);
     completes = λ lane q mark i h g. by_course (Line lane op.Complete) true _ st refl refl h g;
     aborts = λ lane q mark e. by_failure (Line lane op.Abort) AsyncCancelled;
     ends = λ lane q mark e. on_close lane q AsyncCancelled e;

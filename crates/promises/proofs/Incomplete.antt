@@ -15,7 +15,8 @@ module _ (n : ℕ) where
   incomplete_ended : (e : Ending) (st : State) → is_complete st.course.outcome ≡ false → has_complete st.sets n ≡ false → has_complete (concluded e st).sets n ≡ false
   incomplete_ended e st x2 h = grind (arith, incomplete_settled)
 
-  done_if : (b : Bool) (L : Type 0) (ran : Bool) (c : Course) (st : State) → is_complete c.outcome ≡ b → has_complete st.sets n ≡ false → (is_complete c.outcome ≡ true → L) → (has_complete (followed ran c st).sets n ≡ false) ⊎ L
+  done_if : (b : Bool) (L : Type 0) (ran : Bool) (c : Course) (st : State) → is_complete c.outcome ≡ b → has_complete st.sets n ≡ false
+      → (is_complete c.outcome ≡ true → L) → (has_complete (followed ran c st).sets n ≡ false) ⊎ L
   unfolding followed
   done_if b x1 ran c st e h last = grind (arith, incomplete_ended)
 

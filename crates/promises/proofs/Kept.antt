@@ -4,22 +4,12 @@ use Rattle.promises.proofs.Words.{SetRow, Kept, is_complete, in_progress, row_of
 use Rattle.promises.proofs.Words.{is_kept, is_of_backup, has_in_it, revert_answer, is_deleted, FindsTheKept}
 use Rattle.std.proofs.Common.{◌≡◌, ◌∙◌, ℕ, ◌+◌, ◌==◌, ◌<◌, zero, suc, List, [], ◌∷◌, Option, Some, None, refl, Bool, true, false, ap, sym, find, arith}
 use Rattle.std.specs.Prelude.{◌&&◌, ◌||◌, nat_lt, is_some, if◌then◌else◌}
+use Rattle.std.proofs.lemmas.Bool.{and_parts}
 use Rattle.vss_model.specs.Images.{is_backup, is_in_set, revert_refusal, revert_to, revert, count_images, delete_set, delete_kept, delete_image}
-use Rattle.promises.proofs.Truth.{both_parts}
 use Rattle.promises.proofs.Accepted.{line_reply}
+use Rattle.vss_model.proofs.Rows.{none_below}
 
 -- ## the row of a set
-
--- no set of a lesser number is there
-none_less : (k n : ℕ) (rows : List SetRow) → NumberedFrom k rows → n < k → has_complete rows n ≡ false
-none_less k n [] num l = refl
-none_less k n (r ∷ rows) num l = ap (λ b. (b && is_complete r.result) || has_complete rows n) (differs r.number k n num.0 l) ∙ none_less (k + 1) n rows num.1 (next n k l)
-  where
-    differs : (a b c : ℕ) → a ≡ b → c < b → (a == c) ≡ false
-    differs a b c e l = grind arith
-
-    next : (a b : ℕ) → a < b → a < b + 1
-    next a b l = omega arith
 
 abbrev row_complete : Option SetRow → Bool
 row_complete None = false
@@ -36,8 +26,9 @@ complete_is k n (r ∷ rows) num = by_head (r.number == n) refl (complete_is (k 
     below : (a b c : ℕ) → (a == b) ≡ true → a ≡ c → b < c + 1
     below a b c e f = grind arith
 
-    by_head : (b : Bool) → (r.number == n) ≡ b → has_complete rows n ≡ row_complete (find (λ (x : SetRow). x.number == n) rows) → ((b && is_complete r.result) || has_complete rows n) ≡ row_complete (if b then Some r else find (λ (x : SetRow). x.number == n) rows)
-    by_head true e ih = or_off (is_complete r.result) (has_complete rows n) (none_less (k + 1) n rows num.1 (below r.number n k e num.0))
+    by_head : (b : Bool) → (r.number == n) ≡ b → has_complete rows n ≡ row_complete (find (λ (x : SetRow). x.number == n) rows)
+        → ((b && is_complete r.result) || has_complete rows n) ≡ row_complete (if b then Some r else find (λ (x : SetRow). x.number == n) rows)
+    by_head true e ih = or_off (is_complete r.result) (has_complete rows n) (none_below (k + 1) n rows num.1 (below r.number n k e num.0))
     by_head false e ih = ih
 
 module _ (s : Plan) (so_far : List Act) where
@@ -55,7 +46,8 @@ module _ (s : Plan) (so_far : List Act) where
   busy_is : (v : ℕ) (o : Option SetRow) → is_in_set v o ≡ has_in_it v o
   busy_is v o = grind arith
 
-  by_refusal : (v : ℕ) (k : Kept) (mark : Mark) (a b : Bool) → (revert_to s v (if a then Some UnsupportedContext else if b then Some SnapshotSetInProgress else None) (Some k) mark st).0 ≡ revert_answer true a b mark
+  by_refusal : (v : ℕ) (k : Kept) (mark : Mark) (a b : Bool)
+      → (revert_to s v (if a then Some UnsupportedContext else if b then Some SnapshotSetInProgress else None) (Some k) mark st).0 ≡ revert_answer true a b mark
   by_refusal v k mark a b = grind arith
 
   -- the row of a kept image is its set's
@@ -66,7 +58,9 @@ module _ (s : Plan) (so_far : List Act) where
   unfolding revert
   revert_says n v mark = by_kept (kept_image st n v) refl
     where
-      by_kept : (o : Option Kept) → kept_image st n v ≡ o → (revert_to s v (revert_refusal v (kept_image st n v) st) (kept_image st n v) mark st).0 ≡ revert_answer (is_kept st n v) (is_of_backup (row_of st n)) (has_in_it v (in_progress st)) mark
+      by_kept : (o : Option Kept) → kept_image st n v ≡ o
+          → (revert_to s v (revert_refusal v (kept_image st n v) st) (kept_image st n v) mark st).0
+          ≡ revert_answer (is_kept st n v) (is_of_backup (row_of st n)) (has_in_it v (in_progress st)) mark
       by_kept None e =
           ap (λ o. (revert_to s v (revert_refusal v o st) o mark st).0) e
           ∙ ap (λ b. revert_answer b (is_of_backup (row_of st n)) (has_in_it v (in_progress st)) mark) (sym (sym (found n v) ∙ ap is_some e))
@@ -100,7 +94,7 @@ module _ (s : Plan) (so_far : List Act) where
 
   set_goes : (n v : ℕ) → is_kept st n v ≡ true → is_deleted (delete_set n st).0 ≡ true
   unfolding delete_set
-  set_goes n v e = grind (arith, both_parts, some_counted)
+  set_goes n v e = grind (arith, and_parts, some_counted)
 
   no_set : (n : ℕ) → ((v : ℕ) → is_kept st n v ≡ false) → (delete_set n st).0 ≡ Coded ObjectNotFound
   unfolding delete_set

@@ -4,9 +4,12 @@ use Rattle.promises.proofs.Words.{copies_of, copies_from, VolumeRow, Plan, block
 use Rattle.promises.proofs.Words.{is_overwritten, is_copy, are_once, KeepsCopies, within, and-false, some_same}
 use Rattle.std.proofs.Common.{◌≡◌, ◌∙◌, ℕ, ◌+◌, ◌-◌, ◌==◌, ◌<◌, ◌≤◌, zero, suc, List, [], ◌∷◌, ◌++◌, Option, Some, None, refl, Bool, true, false, ap, sym, map, filter, take, drop, length, arith}
 use Rattle.std.specs.Prelude.{◌&&◌, ◌||◌, not, nat_lt, nat_le, if◌then◌else◌, slice_get}
-use Rattle.promises.proofs.Truth.{both_are, both_parts, not_both, or_false, same_number}
+use Rattle.std.proofs.lemmas.Bool.{and_from, and_parts}
+use Rattle.promises.proofs.Truth.{same_number}
 use Rattle.promises.proofs.Copies.{later_set, InTimeAll}
 use Rattle.promises.proofs.Members.{none_passes, range_passes, beyond, still_less}
+use Rattle.set_agenda.proofs.WriterSets.{or-false}
+use Rattle.vss_model.proofs.Orderly.{true_not_false}
 
 -- ## the copies of one image
 
@@ -32,7 +35,8 @@ any_own k u n b ws i (x ∷ bs) e f =
 overwritten_by : (n b : ℕ) (images : List Image) (i : ℕ) (ws : List Write) → ((j : ℕ) → is_cut_by n j images ≡ false) → names ws b ≡ is_overwritten n b images i ws
 overwritten_by n b images i [] f = refl
 overwritten_by n b images i (w ∷ ws) f =
-    ap (λ c. c || names ws b) (plain (w.block == b) ∙ ap (λ c. (w.block == b) && not c) (sym (f i))) ∙ ap (λ c. ((w.block == b) && not (is_cut_by n i images)) || c) (overwritten_by n b images (i + 1) ws f)
+    ap (λ c. c || names ws b) (plain (w.block == b) ∙ ap (λ c. (w.block == b) && not c) (sym (f i)))
+    ∙ ap (λ c. ((w.block == b) && not (is_cut_by n i images)) || c) (overwritten_by n b images (i + 1) ws f)
   where
     plain : (c : Bool) → c ≡ (c && true)
     plain true = refl
@@ -122,7 +126,7 @@ other_volume k u n b m ws (i ∷ newer) e =
 
 -- no later image is of the same set
 none_of_set : (i : Image) (images : List Image) (n : ℕ) → AreLater i images → (i.set == n) ≡ true → point_in n images ≡ None
-none_of_set i images n h e = grind (arith, not_both, later_set)
+none_of_set i images n h e = grind (arith, true_not_false, later_set)
 
 not_later : (n : ℕ) (i : Image) → (i.set == n) ≡ true → nat_lt n i.set ≡ false
 not_later n i e = grind arith
@@ -158,7 +162,7 @@ exactly_of k n b m p ws (i ∷ newer) t e l = by_set (i.set == n) refl e (λ f. 
     by_set true f e ih =
         list_any-append (is_copy k n b) (map (copy_of k ws i) (named m ws i newer)) (copies_of k m ws newer)
         ∙ ap (λ c. list_any (is_copy k n b) (map (copy_of k ws i) (named m ws i newer)) || c) (no_image k k n b m ws newer (none_of_set i newer n t.1 f))
-        ∙ or_false (list_any (is_copy k n b) (map (copy_of k ws i) (named m ws i newer)))
+        ∙ or-false (list_any (is_copy k n b) (map (copy_of k ws i) (named m ws i newer)))
         ∙ any_own k k n b ws i (named m ws i newer) (same_number k) f
         ∙ among_named m b (writes_since ws i.point newer) l
         ∙ since_cut n b ws i newer t.1 t.2 f
@@ -215,7 +219,7 @@ exactly_in k (x ∷ ps) (h ∷ hs) zero n b p t e l f = by_group x.within e
     by_group true g =
         list_any-append (is_copy k n b) (copies_of k x.blocks h.writes h.images) (copies_from (k + 1) ps hs)
         ∙ ap (λ c. list_any (is_copy k n b) (copies_of k x.blocks h.writes h.images) || c) (none_below (k + 1) k n b ps hs (next k))
-        ∙ or_false (list_any (is_copy k n b) (copies_of k x.blocks h.writes h.images))
+        ∙ or-false (list_any (is_copy k n b) (copies_of k x.blocks h.writes h.images))
         ∙ exactly_of k n b x.blocks p h.writes h.images (t 0) f l
     by_group false g = absurd cc
 exactly_in k (x ∷ ps) (h ∷ hs) (suc u) n b p t e l f = by_group x.within (λ j. exactly_in j ps hs u n b p (λ v. t (suc v)) e l f)
@@ -224,10 +228,13 @@ exactly_in k (x ∷ ps) (h ∷ hs) (suc u) n b p t e l f = by_group x.within (λ
     before k n l = grind arith
 
     by_group : (c : Bool) → ((j : ℕ) → list_any (is_copy (place_from j ps u) n b) (copies_from j ps hs) ≡ is_overwritten n b (at hs u).images p (drop p (at hs u).writes))
-        → list_any (is_copy (place_from (if c then k + 1 else k) ps u) n b) (if c then copies_of k x.blocks h.writes h.images ++ copies_from (k + 1) ps hs else copies_from k ps hs) ≡ is_overwritten n b (at hs u).images p (drop p (at hs u).writes)
+        → list_any (is_copy (place_from (if c then k + 1 else k) ps u) n b)
+        (if c then copies_of k x.blocks h.writes h.images ++ copies_from (k + 1) ps hs else copies_from k ps hs)
+        ≡ is_overwritten n b (at hs u).images p (drop p (at hs u).writes)
     by_group true ih =
         list_any-append (is_copy (place_from (k + 1) ps u) n b) (copies_of k x.blocks h.writes h.images) (copies_from (k + 1) ps hs)
-        ∙ ap (λ c. c || list_any (is_copy (place_from (k + 1) ps u) n b) (copies_from (k + 1) ps hs)) (other_volume k (place_from (k + 1) ps u) n b x.blocks h.writes h.images (before k (place_from (k + 1) ps u) (place_least (k + 1) ps u)))
+        ∙ ap (λ c. c || list_any (is_copy (place_from (k + 1) ps u) n b) (copies_from (k + 1) ps hs))
+        (other_volume k (place_from (k + 1) ps u) n b x.blocks h.writes h.images (before k (place_from (k + 1) ps u) (place_least (k + 1) ps u)))
         ∙ ih (k + 1)
     by_group false ih = ih k
 
@@ -240,9 +247,10 @@ NotAmong ys (c ∷ cs) = (list_any (is_copy c.volume c.set c.block) ys ≡ false
 once_both : (xs ys : List Copy) → are_once xs ≡ true → are_once ys ≡ true → NotAmong ys xs → are_once (xs ++ ys) ≡ true
 once_both [] ys e f h = f
 once_both (c ∷ xs) ys e f h =
-    let parts = both_parts (not (list_any (is_copy c.volume c.set c.block) xs)) (are_once xs) e in
-    both_are (not (list_any (is_copy c.volume c.set c.block) (xs ++ ys))) (are_once (xs ++ ys))
-    (ap not (list_any-append (is_copy c.volume c.set c.block) xs ys) ∙ ap (λ b. not (list_any (is_copy c.volume c.set c.block) xs || b)) h.0 ∙ or_none (list_any (is_copy c.volume c.set c.block) xs) parts.0)
+    let parts = and_parts (not (list_any (is_copy c.volume c.set c.block) xs)) (are_once xs) e in
+    and_from (not (list_any (is_copy c.volume c.set c.block) (xs ++ ys))) (are_once (xs ++ ys))
+    (ap not (list_any-append (is_copy c.volume c.set c.block) xs ys) ∙ ap (λ b. not (list_any (is_copy c.volume c.set c.block) xs || b)) h.0
+    ∙ or_none (list_any (is_copy c.volume c.set c.block) xs) parts.0)
     (once_both xs ys parts.1 f h.1)
   where
     or_none : (b : Bool) → not b ≡ true → not (b || false) ≡ true
@@ -259,7 +267,7 @@ once_range k ws i test a (suc n) = by_test (test a) (once_range k ws i test (a +
     by_test : (c : Bool) → are_once (map (copy_of k ws i) (filter test (range_with_len (a + 1) n))) ≡ true
         → are_once (map (copy_of k ws i) (if c then a ∷ filter test (range_with_len (a + 1) n) else filter test (range_with_len (a + 1) n))) ≡ true
     by_test true ih =
-        both_are (not (list_any (is_copy k i.set a) (map (copy_of k ws i) (filter test (range_with_len (a + 1) n))))) (are_once (map (copy_of k ws i) (filter test (range_with_len (a + 1) n))))
+        and_from (not (list_any (is_copy k i.set a) (map (copy_of k ws i) (filter test (range_with_len (a + 1) n))))) (are_once (map (copy_of k ws i) (filter test (range_with_len (a + 1) n))))
         (ap not (any_own k k i.set a ws i (filter test (range_with_len (a + 1) n)) (same_number k) (same_number i.set) ∙ none_passes test (a + 1) n a (next a)))
         ih
     by_test false ih = ih
@@ -271,7 +279,8 @@ not_newer k m ws i newer (b ∷ bs) h = (no_image k k i.set b m ws newer (none_o
 once_of : (k m most : ℕ) (ws : List Write) (images : List Image) → AreInTime most images → are_once (copies_of k m ws images) ≡ true
 once_of k m most ws [] t = refl
 once_of k m most ws (i ∷ newer) t =
-    once_both (map (copy_of k ws i) (named m ws i newer)) (copies_of k m ws newer) (once_range k ws i (names (writes_since ws i.point newer)) 0 m) (once_of k m most ws newer t.2) (not_newer k m ws i newer (named m ws i newer) t.1)
+    once_both (map (copy_of k ws i) (named m ws i newer)) (copies_of k m ws newer) (once_range k ws i (names (writes_since ws i.point newer)) 0 m)
+    (once_of k m most ws newer t.2) (not_newer k m ws i newer (named m ws i newer) t.1)
 
 not_below : (k m : ℕ) (ws : List Write) (images : List Image) (ps : List Placed) (hs : List History) → NotAmong (copies_from (k + 1) ps hs) (copies_of k m ws images)
 not_below k m ws [] ps hs = tt
@@ -291,7 +300,8 @@ once_in k (p ∷ ps) (h ∷ hs) t = by_group p.within (λ j. once_in j ps hs (λ
   where
     by_group : (c : Bool) → ((j : ℕ) → are_once (copies_from j ps hs) ≡ true)
         → are_once (if c then copies_of k p.blocks h.writes h.images ++ copies_from (k + 1) ps hs else copies_from k ps hs) ≡ true
-    by_group true ih = once_both (copies_of k p.blocks h.writes h.images) (copies_from (k + 1) ps hs) (once_of k p.blocks (length h.writes) h.writes h.images (t 0)) (ih (k + 1)) (not_below k p.blocks h.writes h.images ps hs)
+    by_group true ih = once_both (copies_of k p.blocks h.writes h.images) (copies_from (k + 1) ps hs)
+        (once_of k p.blocks (length h.writes) h.writes h.images (t 0)) (ih (k + 1)) (not_below k p.blocks h.writes h.images ps hs)
     by_group false ih = ih k
 
 -- ## the volumes of a plan

@@ -1,27 +1,21 @@
 -- Who has the order BackupComplete open: in its agenda there is no other group, and in no other agenda is that order.
 use Rattle.promises.proofs.Words.{Order, BackupComplete, Said, is_ok, Group, Orders, Kind, Gather, Prepare, Snapshot, Complete, Place, others, advance, Agenda, Open, places, plain, is_orders}
 use Rattle.promises.proofs.Words.{waited_for, with_group, left_from, groups_left, is_asked, is_among, order_now, order_if, open_order, all_say, unasked_if-nil, groups_left-all_say, asked_if}
-use Rattle.std.proofs.Common.{◌≡◌, ◌∙◌, ℕ, ◌==◌, List, [], ◌∷◌, Option, Some, refl, Bool, true, false, ap, sym, subst, filter, arith}
-use Rattle.std.specs.Prelude.{◌&&◌, ◌||◌, not, if◌then◌else◌}
-use Rattle.promises.proofs.Truth.{both_are, both_parts, left_part, not_both, not_true, right_part}
+use Rattle.std.proofs.Common.{◌≡◌, ◌∙◌, ℕ, List, [], ◌∷◌, Option, Some, refl, Bool, true, false, ap, sym, subst, arith}
+use Rattle.std.specs.Prelude.{◌&&◌, not}
+use Rattle.std.proofs.lemmas.Bool.{and_from, and_parts}
 use Rattle.promises.proofs.Heard.{passes}
 use Rattle.promises.proofs.OpenGroup.{every, in_kind}
 use Rattle.promises.proofs.Speaks.{now_group}
-use Rattle.promises.proofs.Stages.{either_true}
+use Rattle.set_agenda.proofs.Closings.{unless}
+use Rattle.vss_model.proofs.Orderly.{true_not_false}
+use Rattle.vss_model.proofs.Spoken.{among_filter}
 
 -- ## one group alone
 
 abbrev pub is_last_order : Group → Bool
 is_last_order (Orders BackupComplete) = true
 is_last_order _ = false
-
-pub among_all : (test : ℕ → Bool) (w : ℕ) (xs : List ℕ) → is_among w (filter test xs) ≡ true → is_among w xs ≡ true
-among_all test w [] e = e
-among_all test w (x ∷ xs) e = by_test (test x) e (among_all test w xs)
-  where
-    by_test : (b : Bool) → is_among w (if b then x ∷ filter test xs else filter test xs) ≡ true → (is_among w (filter test xs) ≡ true → is_among w xs ≡ true) → ((x == w) || is_among w xs) ≡ true
-    by_test true e ih = either_true (x == w) (is_among w (filter test xs)) ((x == w) || is_among w xs) e (λ g. left_part (x == w) (is_among w xs) g) (λ g. right_part (x == w) (is_among w xs) (ih g))
-    by_test false e ih = right_part (x == w) (is_among w xs) (ih e)
 
 -- who has it open still, when these have said something, is none of them and had it open
 pub one_group : (p : Place) (waits ws : List ℕ) (f : Bool) (w : ℕ) → is_asked w (advance ws f (with_group p waits [])) ≡ true → (is_asked w (with_group p waits []) ≡ true) × (is_among w ws ≡ false)
@@ -31,10 +25,10 @@ one_group p (x ∷ xs) ws f w e = by_others (others ws (x ∷ xs)) refl (subst (
     by_others : (ys : List ℕ) → others ws (x ∷ xs) ≡ ys → is_asked w (with_group p ys []) ≡ true → ((is_orders p.group && is_among w (x ∷ xs)) ≡ true) × (is_among w ws ≡ false)
     by_others [] g h = absurd cc
     by_others (y ∷ ys) g h =
-        let parts = both_parts (is_orders p.group) (is_among w (y ∷ ys)) h in
+        let parts = and_parts (is_orders p.group) (is_among w (y ∷ ys)) h in
         let among = ap (is_among w) g ∙ parts.1 in (
-          both_are (is_orders p.group) (is_among w (x ∷ xs)) parts.0 (among_all (λ z. not (is_among z ws)) w (x ∷ xs) among),
-          not_true (is_among w ws) (passes (λ z. not (is_among z ws)) w (x ∷ xs) among),
+          and_from (is_orders p.group) (is_among w (x ∷ xs)) parts.0 (among_filter (λ z. not (is_among z ws)) w (x ∷ xs) among),
+          unless (is_among w ws) (passes (λ z. not (is_among z ws)) w (x ∷ xs) among),
         )
 
 abbrev pub last_place : Place
@@ -52,7 +46,7 @@ not_in_kind k a w e h o = at_list (groups_left a) refl (order_is (is_asked w (gr
     order_is false x e = absurd cc
 
     not_it : (g : Group) → g ≡ Orders BackupComplete → not (is_last_order g) ≡ true → ⊥
-    not_it g f i = not_both (not (is_last_order g)) i (ap (λ x. not (is_last_order x)) f)
+    not_it g f i = true_not_false (not (is_last_order g)) i (ap (λ x. not (is_last_order x)) f)
 
     at_list : (os : List Open) → groups_left a ≡ os → order_now os ≡ Some BackupComplete → ⊥
     at_list [] g f = absurd cc
@@ -61,7 +55,8 @@ not_in_kind k a w e h o = at_list (groups_left a) refl (order_is (is_asked w (gr
 pub complete_left : (a : Agenda) → a.kind ≡ Complete → groups_left a ≡ with_group last_place (waited_for a last_place) []
 complete_left a e = ap (λ k. left_from a (places k)) e
 
-pub still_open : (k : Kind) (said : Said) (now : ℕ) (ws : List ℕ) (a : Agenda) (w : ℕ) → a.kind ≡ k → open_order (groups_left (all_say said now ws a)) w ≡ Some BackupComplete → (open_order (groups_left a) w ≡ Some BackupComplete) × (is_among w ws ≡ false)
+pub still_open : (k : Kind) (said : Said) (now : ℕ) (ws : List ℕ) (a : Agenda) (w : ℕ) → a.kind ≡ k
+    → open_order (groups_left (all_say said now ws a)) w ≡ Some BackupComplete → (open_order (groups_left a) w ≡ Some BackupComplete) × (is_among w ws ≡ false)
 still_open Gather said now ws a w e o = absurd (not_in_kind Gather (all_say said now ws a) w e refl o)
 still_open Prepare said now ws a w e o = absurd (not_in_kind Prepare (all_say said now ws a) w e refl o)
 still_open Snapshot said now ws a w e o = absurd (not_in_kind Snapshot (all_say said now ws a) w e refl o)

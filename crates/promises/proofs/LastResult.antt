@@ -45,7 +45,8 @@ module _ (s : Plan) (so_far : List Act) (last : Option VssResult) where
   ended_last o q e = grind arith
 
   -- what an act comes to, by its parts
-  comes_to : (event : Event) (told : Reply) (x : State) (ran : Bool) (why : Option VssResult) (ended : Bool) → begins_session event told ≡ false → (runs st || begins event told) ≡ ran → set_failure (in_progress st) x ≡ why → (ran && not (runs x)) ≡ ended
+  comes_to : (event : Event) (told : Reply) (x : State) (ran : Bool) (why : Option VssResult) (ended : Bool) → begins_session event told ≡ false
+      → (runs st || begins event told) ≡ ran → set_failure (in_progress st) x ≡ why → (ran && not (runs x)) ≡ ended
       → result_after st event told x last ≡ result_by why ended last
   comes_to event told x ran why ended e f g i = grind arith
 
@@ -53,7 +54,8 @@ module _ (s : Plan) (so_far : List Act) (last : Option VssResult) where
     abbrev Next : Event → Mark → Replied → Type 0
     Next event mark x = IsLast x.1 (result_after st event x.0 x.1 last)
 
-    by_turn : (event : Event) (told : Reply) (x : State) (ran : Bool) → begins_session event told ≡ false → (runs st || begins event told) ≡ ran → Turn st x ran → IsLast x (result_after st event told x last)
+    by_turn : (event : Event) (told : Reply) (x : State) (ran : Bool) → begins_session event told ≡ false → (runs st || begins event told) ≡ ran → Turn st x ran
+        → IsLast x (result_after st event told x last)
     by_turn event told x ran e f (inl t) q i =
         failed_last t.why st.session q (sym t.session ∙ i) ∙ sym (comes_to event told x ran (Some t.why) _ e f t.failure refl)
     by_turn event told x ran e f (inr (inl t)) q i =
@@ -72,7 +74,8 @@ module _ (s : Plan) (so_far : List Act) (last : Option VssResult) where
     goes event told x e f t = by_turn event told x (runs st) e (or_false (runs st) (begins event told) f) t
 
     -- nothing that is read here changes
-    quiet : (event : Event) (told : Reply) (x : State) → begins_session event told ≡ false → begins event told ≡ false → x.session ≡ st.session → ((n : ℕ) → failure_at x.sets n ≡ failure_at st.sets n) → runs x ≡ runs st → IsLast x (result_after st event told x last)
+    quiet : (event : Event) (told : Reply) (x : State) → begins_session event told ≡ false → begins event told ≡ false → x.session ≡ st.session
+        → ((n : ℕ) → failure_at x.sets n ≡ failure_at st.sets n) → runs x ≡ runs st → IsLast x (result_after st event told x last)
     quiet event told x e f g i l = goes event told x e f (quiet_turn s so_far x g i l)
 
     on_write : (lane : ℕ) (o : Op) (t : Target) (v : ℕ) (w : Write) (mark : Mark) → target_of o ≡ Some t → Next (Line lane o) mark (write s v w mark st)
@@ -82,9 +85,11 @@ module _ (s : Plan) (so_far : List Act) (last : Option VssResult) where
     unfolding closed
     on_close event told q x p e = absurd cc
 
-    begun_if : (b : Bool) (lane : ℕ) (o : Op) (mark : Mark) (c : Course) → is_begin o ≡ false → begins_agenda o ≡ true → (has_failed st.course.outcome ≡ false → has_failed c.outcome ≡ false) → Next (Line lane o) mark (if b then refused BadState st else pending c st)
+    begun_if : (b : Bool) (lane : ℕ) (o : Op) (mark : Mark) (c : Course) → is_begin o ≡ false → begins_agenda o ≡ true
+        → (has_failed st.course.outcome ≡ false → has_failed c.outcome ≡ false) → Next (Line lane o) mark (if b then refused BadState st else pending c st)
     begun_if true lane o mark c e f calm = quiet (Line lane o) (Coded BadState) st (and_left (is_begin o) _ e) (and-false (begins_agenda o)) refl (λ n. refl) refl
-    begun_if false lane o mark c e f calm = by_turn (Line lane o) (Coded AsyncPending) _ true (and_left (is_begin o) _ e) (ap (λ b. runs st || (b && true)) f ∙ or_true (runs st)) (begun_turn s so_far c calm)
+    begun_if false lane o mark c e f calm = by_turn (Line lane o) (Coded AsyncPending) _ true (and_left (is_begin o) _ e)
+        (ap (λ b. runs st || (b && true)) f ∙ or_true (runs st)) (begun_turn s so_far c calm)
 
     on_start : (lane : ℕ) (q : Session) → st.session ≡ Some q → makes_set q.stage ≡ false → IsLast (start_set q st).1 (result_after st (Line lane op.Start) (start_set q st).0 (start_set q st).1 last)
     on_start lane q e f p g = grind (arith, some_same, comes_to, or_false, none_started, same_running)
@@ -106,8 +111,10 @@ module _ (s : Plan) (so_far : List Act) (last : Option VssResult) where
       names = λ lane w full q explicit mark g named. quiet (Line lane (op.Component w full)) Fine _ refl refl refl (λ m. refl) refl;
       starts = λ lane q mark g e. on_start lane q g.stands e;
       adds = λ lane v r q mark g e f. goes (Line lane (op.Add v)) Fine _ refl refl (add_turn s so_far v r);
-      prepares = λ lane q mark g. begun_if (has_no_volume (in_progress st)) lane op.Prepare mark (prepared (takers (length s.writers) (selected s q st)) st.clock st.course) refl refl (calm_begun kind.Prepare _ [] st.clock _);
-      snapshots = λ lane q mark g. begun_if (has_no_volume (in_progress st)) lane op.Snapshot mark (snapshot_begun (volumes_of (in_progress st)) st.clock st.course) refl refl (calm_begun kind.Snapshot st.course.members _ st.clock st.course);
+      prepares = λ lane q mark g. begun_if (has_no_volume (in_progress st)) lane op.Prepare mark
+          (prepared (takers (length s.writers) (selected s q st)) st.clock st.course) refl refl (calm_begun kind.Prepare _ [] st.clock _);
+      snapshots = λ lane q mark g. begun_if (has_no_volume (in_progress st)) lane op.Snapshot mark
+          (snapshot_begun (volumes_of (in_progress st)) st.clock st.course) refl refl (calm_begun kind.Snapshot st.course.members _ st.clock st.course);
       completes = λ lane q mark g. begun_if false lane op.Complete mark _ refl refl (calm_begun kind.Complete _ [] st.clock st.course);
       aborts = λ lane q mark e. goes (Line lane op.Abort) Fine _ refl refl (abort_turn s so_far);
       ends = λ lane q mark e. on_close (Line lane op.End) Fine q (failed AsyncCancelled st);

@@ -154,8 +154,13 @@ module _ (l : ℕ → Level) (limit : ℕ → ℕ) where
     steps = λ mark st e h. on_steps mark st h;
     ticks = on_ticks;
     fails = λ why st h. on_failed_in (in_progress st) why st h;
-    gathers = λ s q st e h. on_followed true _ st (lev_begun Gather _ [] st.clock _ (record { rows = rows_map row_gathered (λ r. (refl, refl)) 0 st.course.rows h.rows; members = h.members; distinct = h.distinct }));
-    prepares = λ s q st e h. by_if (λ r. Holds r.1) (has_no_volume (in_progress st)) _ _ h (on_followed true _ st (lev_begun Prepare _ [] st.clock _ (record { rows = h.rows; members = members_of_rows _ 0 st.course.rows h.rows; distinct = ascend_of_rows _ 0 st.course.rows })));
+    gathers = λ s q st e h. on_followed true _ st
+        (lev_begun Gather _ [] st.clock _
+        (record { rows = rows_map row_gathered (λ r. (refl, refl)) 0 st.course.rows h.rows; members = h.members; distinct = h.distinct }));
+    prepares = λ s q st e h. by_if (λ r. Holds r.1) (has_no_volume (in_progress st)) _ _ h
+        (on_followed true _ st
+        (lev_begun Prepare _ [] st.clock _
+        (record { rows = h.rows; members = members_of_rows _ 0 st.course.rows h.rows; distinct = ascend_of_rows _ 0 st.course.rows })));
     snapshots = λ q st e h. by_if (λ r. Holds r.1) (has_no_volume (in_progress st)) _ _ h (on_followed true _ st (lev_begun Snapshot st.course.members _ st.clock st.course h));
     completes = λ q st e h. on_followed true _ st (lev_begun Complete _ [] st.clock st.course h);
     clears = λ s v b st h. h;
@@ -178,7 +183,9 @@ module _ (l : ℕ → Level) (limit : ℕ → ℕ) where
 
 -- ## at the start
 
-rows_at_start : (s : Plan) (ps : List WriterPlan) (k : ℕ) → ((j : ℕ) → (level_in (slice_get ps j) ≡ level_of s (k + j)) × (timeout_in (slice_get ps j) ≡ timeout_of s (k + j))) → RowsOf (level_of s) (timeout_of s) k (map row_of_writer ps)
+rows_at_start : (s : Plan) (ps : List WriterPlan) (k : ℕ)
+    → ((j : ℕ) → (level_in (slice_get ps j) ≡ level_of s (k + j)) × (timeout_in (slice_get ps j) ≡ timeout_of s (k + j)))
+    → RowsOf (level_of s) (timeout_of s) k (map row_of_writer ps)
 rows_at_start s [] k e = tt
 rows_at_start s (p ∷ ps) k e = (
   ((e 0).0 ∙ ap (level_of s) (no_more k), (e 0).1 ∙ ap (timeout_of s) (no_more k)),

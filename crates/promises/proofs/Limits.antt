@@ -6,9 +6,9 @@ use Rattle.promises.proofs.Words.{asked_here, has_failed, has_passed, last_of, h
 use Rattle.promises.proofs.Words.{Decides, same_hold, same_hold_step, same_freeze, freeze_since, answer_since}
 use Rattle.std.proofs.Common.{◌≡◌, ◌∙◌, ℕ, ◌+◌, List, [], ◌∷◌, ◌++◌, Option, Some, None, refl, Bool, true, false, sym, subst, filter, find, fold, min, arith}
 use Rattle.std.specs.Prelude.{◌&&◌, ◌||◌, nat_lt, option_map, if◌then◌else◌, slice_get}
+use Rattle.std.proofs.lemmas.Bool.{and_parts}
 use Rattle.set_agenda.specs.declared.limit.Limit.TheVariants.{Hold as HoldLimit, Freeze as FreezeLimit, Answer as AnswerLimit}
 use Rattle.set_agenda.specs.Course.{Course, posted, failed as course_failed, limit_of, freeze_limit, limits_now, fails_set as decides, treated_as, treated, timed as course_timed}
-use Rattle.promises.proofs.Truth.{both_parts}
 
 -- ## a limit has gone by
 
@@ -72,7 +72,8 @@ first_is [] = refl
 first_is (x ∷ log) = by_test (is_hold x.place.group) (is_hold_step x.place.group) (same_hold_step x.place.group) (first_is log)
   where
     by_test : (b c : Bool) → b ≡ c → first_time (filter (λ e. is_hold e.place.group) log) ≡ option_map (λ (e : Entry). e.time) (find (λ (e : Entry). is_hold_step e.place.group) log)
-        → first_time (if b then x ∷ filter (λ e. is_hold e.place.group) log else filter (λ e. is_hold e.place.group) log) ≡ option_map (λ (e : Entry). e.time) (if c then Some x else find (λ (e : Entry). is_hold_step e.place.group) log)
+        → first_time (if b then x ∷ filter (λ e. is_hold e.place.group) log else filter (λ e. is_hold e.place.group) log)
+        ≡ option_map (λ (e : Entry). e.time) (if c then Some x else find (λ (e : Entry). is_hold_step e.place.group) log)
     by_test true true e ih = refl
     by_test true false e ih = absurd cc
     by_test false true e ih = absurd cc
@@ -83,7 +84,8 @@ held_finds now g a e f = grind (arith, first_is, finds_one, same_hold, passed_sp
 
 -- ## frozen
 
-least_spent : (now since least : ℕ) (rows : List WriterRow) (ms : List Member) → (has_passed least since now || list_any (λ (m : Member). has_passed (limit_of (slice_get rows m.writer)) since now) ms) ≡ true
+least_spent : (now since least : ℕ) (rows : List WriterRow) (ms : List Member)
+    → (has_passed least since now || list_any (λ (m : Member). has_passed (limit_of (slice_get rows m.writer)) since now) ms) ≡ true
     → is_spent now since (fold (λ l (m : Member). min l (limit_of (slice_get rows m.writer))) least ms) ≡ true
 least_spent now since least rows [] e = passed_spent now since least (no_more (has_passed least since now) e)
   where
@@ -91,7 +93,8 @@ least_spent now since least rows [] e = passed_spent now since least (no_more (h
     no_more true e = refl
     no_more false e = absurd cc
 least_spent now since least rows (m ∷ ms) e =
-    least_spent now since (min least (limit_of (slice_get rows m.writer))) rows ms (of_min (limit_of (slice_get rows m.writer)) (list_any (λ (x : Member). has_passed (limit_of (slice_get rows x.writer)) since now) ms) e)
+    least_spent now since (min least (limit_of (slice_get rows m.writer))) rows ms
+    (of_min (limit_of (slice_get rows m.writer)) (list_any (λ (x : Member). has_passed (limit_of (slice_get rows x.writer)) since now) ms) e)
   where
     of_min : (n : ℕ) (rest : Bool) → (has_passed least since now || (has_passed n since now || rest)) ≡ true → (has_passed (min least n) since now || rest) ≡ true
     of_min n true e = all_true (has_passed (min least n) since now)
@@ -104,16 +107,17 @@ least_spent now since least rows (m ∷ ms) e =
         least_of : (a b t x : ℕ) → (nat_lt (t + a) x || (nat_lt (t + b) x || false)) ≡ true → (nat_lt (t + min a b) x || false) ≡ true
         least_of a b t x e = grind arith
 
-pub frozen_finds : (now : ℕ) (g : Group) (c : Course) (a : Agenda) → frozen_too_long now g c a ≡ true → Finds now (runs_if (freeze_runs g) FreezeLimit (freeze_opened_at a) (freeze_limit c)) FreezeLimit
+pub frozen_finds : (now : ℕ) (g : Group) (c : Course) (a : Agenda) → frozen_too_long now g c a ≡ true
+    → Finds now (runs_if (freeze_runs g) FreezeLimit (freeze_opened_at a) (freeze_limit c)) FreezeLimit
 frozen_finds now g c a e =
-    let parts = both_parts (freezes_writers g) _ e in
+    let parts = and_parts (freezes_writers g) _ e in
     finds_one now (freeze_runs g) FreezeLimit (freeze_opened_at a) (freeze_limit c) (same_freeze g ∙ parts.0)
     (subst (λ t. is_spent now t (freeze_limit c) ≡ true) (sym (freeze_since a)) (least_spent now (last_of (λ x. prepares_snapshot x.place.group) a) default_freeze c.rows c.members parts.1))
 
 -- ## unanswered
 
 answer_finds : (now : ℕ) (a : Agenda) (o : Open) → unanswered_too_long now o.place a ≡ true → Finds now (runs_if (answer_runs o.place.group) AnswerLimit (opened_at a o) answer_limit) AnswerLimit
-answer_finds now a o e = grind (arith, both_parts, finds_one, consent_runs, passed_spent, answer_since)
+answer_finds now a o e = grind (arith, and_parts, finds_one, consent_runs, passed_spent, answer_since)
 
 -- ## the spent limit fails the set
 
@@ -132,13 +136,19 @@ pub none_found : (now : ℕ) (ls : List Running) (x : Limit) → spent_of now ls
 none_found now ls x e f = none_and_some (spent_of now ls) f.one e f.is
 
 module _ (now : ℕ) (c : Course) (a : Agenda) (o : Open) where
-  by_limits : (h f : Option Running) → spent_of now (held_here a o) ≡ h → spent_of now (frozen_here (freeze_limit c) a o) ≡ f → (b d u : Bool) → (holds_volumes o.place.group && held_since_first now a) ≡ b → frozen_too_long now o.place.group c a ≡ d → unanswered_too_long now o.place a ≡ u
+  by_limits : (h f : Option Running) → spent_of now (held_here a o) ≡ h → spent_of now (frozen_here (freeze_limit c) a o) ≡ f → (b d u : Bool)
+      → (holds_volumes o.place.group && held_since_first now a) ≡ b → frozen_too_long now o.place.group c a ≡ d → unanswered_too_long now o.place a ≡ u
       → (b || d || u) ≡ true → Spends now (held_here a o ++ frozen_here (freeze_limit c) a o ++ asked_here a o) (order_of o.place.group)
-  by_limits (Some l) f e g b d u i j k due = spends_hold now (held_here a o ++ frozen_here (freeze_limit c) a o ++ asked_here a o) (order_of o.place.group) l (first_found now (held_here a o ++ frozen_here (freeze_limit c) a o) (asked_here a o) l (first_found now (held_here a o) (frozen_here (freeze_limit c) a o) l e)) (hold_found now o.place.group (first_hold a.log) l e)
+  by_limits (Some l) f e g b d u i j k due = spends_hold now (held_here a o ++ frozen_here (freeze_limit c) a o ++ asked_here a o) (order_of o.place.group) l
+      (first_found now (held_here a o ++ frozen_here (freeze_limit c) a o) (asked_here a o) l
+      (first_found now (held_here a o) (frozen_here (freeze_limit c) a o) l e)) (hold_found now o.place.group (first_hold a.log) l e)
   by_limits None (Some l) e g b d u i j k due =
-      spends_freeze now (held_here a o ++ frozen_here (freeze_limit c) a o ++ asked_here a o) (order_of o.place.group) l (first_found now (held_here a o ++ frozen_here (freeze_limit c) a o) (asked_here a o) l (later_found now (held_here a o) (frozen_here (freeze_limit c) a o) e ∙ g)) (limit_found now (freeze_runs o.place.group) FreezeLimit (freeze_opened_at a) (freeze_limit c) l g)
+      spends_freeze now (held_here a o ++ frozen_here (freeze_limit c) a o ++ asked_here a o) (order_of o.place.group) l
+      (first_found now (held_here a o ++ frozen_here (freeze_limit c) a o) (asked_here a o) l
+      (later_found now (held_here a o) (frozen_here (freeze_limit c) a o) e ∙ g))
+      (limit_found now (freeze_runs o.place.group) FreezeLimit (freeze_opened_at a) (freeze_limit c) l g)
   by_limits None None e g true d u i j k due =
-      let parts = both_parts (holds_volumes o.place.group) (held_since_first now a) i in
+      let parts = and_parts (holds_volumes o.place.group) (held_since_first now a) i in
       absurd (none_found now (held_here a o) HoldLimit e (held_finds now o.place.group a parts.0 parts.1))
   by_limits None None e g false true u i j k due = absurd (none_found now (frozen_here (freeze_limit c) a o) FreezeLimit g (frozen_finds now o.place.group c a j))
   by_limits None None e g false false true i j k due =
@@ -146,13 +156,14 @@ module _ (now : ℕ) (c : Course) (a : Agenda) (o : Open) where
       record {
         one = found.one;
         is = later_found now (held_here a o ++ frozen_here (freeze_limit c) a o) (asked_here a o) (later_found now (held_here a o) (frozen_here (freeze_limit c) a o) e ∙ g) ∙ found.is;
-        fails = subst (λ x. Decides x (order_of o.place.group)) (sym found.limit) (consent_decides o.place.group (both_parts (prepares_writers o.place.group) _ k).0);
+        fails = subst (λ x. Decides x (order_of o.place.group)) (sym found.limit) (consent_decides o.place.group (and_parts (prepares_writers o.place.group) _ k).0);
       }
   by_limits None None e g false false false i j k due = absurd cc
 
   due_open : (os : List Open) → is_due_at now c a (o ∷ os) ≡ true → Spends now (running_at (freeze_limit c) a (o ∷ os)) (order_of o.place.group)
   due_open os e =
-      by_limits (spent_of now (held_here a o)) (spent_of now (frozen_here (freeze_limit c) a o)) refl refl (holds_volumes o.place.group && held_since_first now a) (frozen_too_long now o.place.group c a) (unanswered_too_long now o.place a) refl refl refl e
+      by_limits (spent_of now (held_here a o)) (spent_of now (frozen_here (freeze_limit c) a o)) refl refl
+      (holds_volumes o.place.group && held_since_first now a) (frozen_too_long now o.place.group c a) (unanswered_too_long now o.place a) refl refl refl e
 
 due_left : (now : ℕ) (c : Course) (a : Agenda) (os : List Open) → is_due_at now c a os ≡ true → Spends now (running_at (freeze_limit c) a os) (order_now os)
 due_left now c a [] e = absurd cc

@@ -7,8 +7,8 @@ use Rattle.promises.proofs.Words.{lost_order_if, is_over, is_over_at, is_over_in
 use Rattle.std.proofs.Common.{◌≡◌, ◌∙◌, ℕ, ◌+◌, List, [], ◌∷◌, ◌++◌, Option, Some, None, refl, Bool, true, false, ap, fold, arith}
 use Rattle.std.specs.Prelude.{◌&&◌, ◌||◌, is_some, min, nat_lt, slice_get}
 use Rattle.set_agenda.specs.declared.limit.Limit.TheVariants.{Freeze as FreezeLimit, Answer as AnswerLimit}
-use Rattle.promises.proofs.Truth.{first_both}
 use Rattle.promises.proofs.Participants.{off}
+use Rattle.writer_meta.proofs.Laws.{and_left}
 
 -- ## the limit of the open order is spent
 
@@ -17,7 +17,8 @@ spent_is now since limit = grind arith
 
 -- of the least of the time-outs
 least_is : (now since least : ℕ) (rows : List WriterRow) (ms : List Member)
-    → has_passed (fold (λ l (m : Member). min l (limit_of (slice_get rows m.writer))) least ms) since now ≡ (has_passed least since now || list_any (λ (m : Member). has_passed (limit_of (slice_get rows m.writer)) since now) ms)
+    → has_passed (fold (λ l (m : Member). min l (limit_of (slice_get rows m.writer))) least ms) since now
+    ≡ (has_passed least since now || list_any (λ (m : Member). has_passed (limit_of (slice_get rows m.writer)) since now) ms)
 least_is now since least rows [] = or_nothing (has_passed least since now)
   where
     or_nothing : (a : Bool) → a ≡ (a || false)
@@ -70,7 +71,9 @@ module _ (now : ℕ) (c : Course) (a : Agenda) (o : Open) where
   nobody : (w : ℕ) (l : Option RunningLimit) → is_among w (lost_at l None o.waits) ≡ false
   nobody w l = grind arith
 
-  told_at : (g : Group) (w : ℕ) → is_among w (lost_at (spent_of now (running_of (freeze_limit c) a o g)) (order_of g) o.waits) ≡ (is_some (order_if (is_orders g && is_among w o.waits) (order_of g)) && is_over now c a o (order_of g))
+  told_at : (g : Group) (w : ℕ)
+      → is_among w (lost_at (spent_of now (running_of (freeze_limit c) a o g)) (order_of g) o.waits)
+      ≡ (is_some (order_if (is_orders g && is_among w o.waits) (order_of g)) && is_over now c a o (order_of g))
   told_at g w = grind (arith, by_spent, order_spent, nobody)
 
 told_left : (now : ℕ) (c : Course) (a : Agenda) (w : ℕ) (os : List Open)
@@ -93,4 +96,4 @@ someone : (ws : List ℕ) (w : ℕ) (o : Option Order) → is_among w ws ≡ tru
 someone ws w o e = grind arith
 
 pub loses_the_late : (s : Plan) (so_far : List Act) (act : Act) → LosesTheLate s so_far act
-loses_the_late s so_far act = grind (arith, told_after, someone, owes, first_both)
+loses_the_late s so_far act = grind (arith, told_after, someone, owes, and_left)

@@ -38,18 +38,21 @@ one_more test a n w rest l own later = grind arith
 
 -- ## members
 
-head_member : (test : ℕ → Bool) (k : ℕ) (r : WriterRow) (rows : List WriterRow) (w : ℕ) → is_member (members_from test k (r ∷ rows)) w ≡ ((test k && (k == w)) || is_member (members_from test (k + 1) rows) w)
+head_member : (test : ℕ → Bool) (k : ℕ) (r : WriterRow) (rows : List WriterRow) (w : ℕ)
+    → is_member (members_from test k (r ∷ rows)) w ≡ ((test k && (k == w)) || is_member (members_from test (k + 1) rows) w)
 head_member test k r rows w = grind arith
 
 no_member_before : (test : ℕ → Bool) (k : ℕ) (rows : List WriterRow) (w : ℕ) → w < k → is_member (members_from test k rows) w ≡ false
 no_member_before test k [] w l = refl
-no_member_before test k (r ∷ rows) w l = head_member test k r rows w ∙ skips (test k) (k == w) (is_member (members_from test (k + 1) rows) w) (beyond k w l) ∙ no_member_before test (k + 1) rows w (still_less k w l)
+no_member_before test k (r ∷ rows) w l = head_member test k r rows w ∙ skips (test k) (k == w) (is_member (members_from test (k + 1) rows) w) (beyond k w l)
+    ∙ no_member_before test (k + 1) rows w (still_less k w l)
 
 pub members_from_are : (test : ℕ → Bool) (k : ℕ) (rows : List WriterRow) (w : ℕ) → k ≤ w → is_member (members_from test k rows) w ≡ (nat_lt w (k + length rows) && test w)
 members_from_are test k [] w l = sym (and_left (nat_lt w (k + 0)) (test w) (none_from k w l))
 members_from_are test k (r ∷ rows) w l =
     head_member test k r rows w
-    ∙ one_more test k (length rows) w (is_member (members_from test (k + 1) rows) w) l (λ e. no_member_before test (k + 1) rows w (before_next k w e)) (λ e. members_from_are test (k + 1) rows w (next_up k w l e))
+    ∙ one_more test k (length rows) w (is_member (members_from test (k + 1) rows) w) l (λ e. no_member_before test (k + 1) rows w (before_next k w e))
+    (λ e. members_from_are test (k + 1) rows w (next_up k w l e))
 
 -- ## takers
 
@@ -58,7 +61,8 @@ head_passes test a w xs = grind arith
 
 pub none_passes : (test : ℕ → Bool) (a n w : ℕ) → w < a → is_among w (filter test (range_with_len a n)) ≡ false
 none_passes test a zero w l = refl
-none_passes test a (suc n) w l = head_passes test a w (range_with_len (a + 1) n) ∙ skips (test a) (a == w) (is_among w (filter test (range_with_len (a + 1) n))) (beyond a w l) ∙ none_passes test (a + 1) n w (still_less a w l)
+none_passes test a (suc n) w l = head_passes test a w (range_with_len (a + 1) n)
+    ∙ skips (test a) (a == w) (is_among w (filter test (range_with_len (a + 1) n))) (beyond a w l) ∙ none_passes test (a + 1) n w (still_less a w l)
 
 pub range_passes : (test : ℕ → Bool) (a n w : ℕ) → a ≤ w → is_among w (filter test (range_with_len a n)) ≡ (nat_lt w (a + n) && test w)
 range_passes test a zero w l = sym (and_left (nat_lt w (a + 0)) (test w) (none_from a w l))

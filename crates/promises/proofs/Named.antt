@@ -2,7 +2,9 @@
 use Rattle.promises.proofs.Words.{range_with_len, drop-append-le, take-append-le, length-drop, list_any-append, Write, names, blocks_named, to_restore, restoring}
 use Rattle.std.proofs.Common.{◌≡◌, ◌∙◌, ℕ, ◌+◌, ◌-◌, ◌==◌, ◌≤◌, ◌<◌, zero, suc, List, [], ◌∷◌, ◌++◌, ◌⊎◌, refl, Bool, true, false, ap, sym, subst, inl, inr, map, filter, length, take, drop, arith}
 use Rattle.std.specs.Prelude.{◌||◌, if◌then◌else◌, slice_range}
-use Rattle.promises.proofs.Truth.{chain, equal, right_part}
+use Rattle.std.proofs.lemmas.Bool.{or_cases, or_right}
+use Rattle.promises.proofs.Truth.{chain}
+use Rattle.scenario.proofs.Places.{number_is}
 
 -- whatever these writes name, those do
 abbrev pub NameNoMore : List Write → List Write → Type 0
@@ -23,7 +25,8 @@ fewer_pass f g h (b ∷ bs) = by_tests (f b) (g b) (h b) (fewer_pass f g h bs)
     not_so : (true ≡ true → false ≡ true) → ⊥
     not_so e = let f = e refl in cc
 
-    by_tests : (p q : Bool) → (p ≡ true → q ≡ true) → length (filter f bs) ≤ length (filter g bs) → length (if p then b ∷ filter f bs else filter f bs) ≤ length (if q then b ∷ filter g bs else filter g bs)
+    by_tests : (p q : Bool) → (p ≡ true → q ≡ true) → length (filter f bs) ≤ length (filter g bs)
+        → length (if p then b ∷ filter f bs else filter f bs) ≤ length (if q then b ∷ filter g bs else filter g bs)
     by_tests true true e l = both (length (filter f bs)) (length (filter g bs)) l
     by_tests true false e l = absurd (not_so e)
     by_tests false true e l = more (length (filter f bs)) (length (filter g bs)) l
@@ -85,7 +88,8 @@ named_by_one n w = over 0 n
         more : (c a : ℕ) → c < a → c < a + 1
         more c a l = omega arith
 
-        by_test : (t : Bool) → t ≡ false → length (filter (is_block w.block) (range_with_len (a + 1) n)) ≡ 0 → length (if t then a ∷ filter (is_block w.block) (range_with_len (a + 1) n) else filter (is_block w.block) (range_with_len (a + 1) n)) ≡ 0
+        by_test : (t : Bool) → t ≡ false → length (filter (is_block w.block) (range_with_len (a + 1) n)) ≡ 0
+            → length (if t then a ∷ filter (is_block w.block) (range_with_len (a + 1) n) else filter (is_block w.block) (range_with_len (a + 1) n)) ≡ 0
         by_test true e h = absurd cc
         by_test false e h = h
 
@@ -99,14 +103,12 @@ named_by_one n w = over 0 n
         one : (k : ℕ) → k ≡ 0 → suc k ≤ 1
         one k e = omega arith
 
-        by_test : (t : Bool) → is_block w.block a ≡ t → length (filter (is_block w.block) (range_with_len (a + 1) n)) ≤ 1 → length (if t then a ∷ filter (is_block w.block) (range_with_len (a + 1) n) else filter (is_block w.block) (range_with_len (a + 1) n)) ≤ 1
+        by_test : (t : Bool) → is_block w.block a ≡ t → length (filter (is_block w.block) (range_with_len (a + 1) n)) ≤ 1
+            → length (if t then a ∷ filter (is_block w.block) (range_with_len (a + 1) n) else filter (is_block w.block) (range_with_len (a + 1) n)) ≤ 1
         by_test true e h = one (length (filter (is_block w.block) (range_with_len (a + 1) n))) (none_past (a + 1) n (next w.block a e))
         by_test false e h = h
 
 -- ## parts of writes
-
-pub either : (a b : Bool) → (a || b) ≡ true → (a ≡ true) ⊎ (b ≡ true)
-either a b e = grind arith
 
 -- with one more write before both
 with_head : (w : Write) (xs ys : List Write) → NameNoMore xs ys → NameNoMore (w ∷ xs) (w ∷ ys)
@@ -143,7 +145,7 @@ later_no_more (suc a) (suc p) (w ∷ ws) b e = later_no_more a p ws b e
 pub since_later : (a p : ℕ) (ws : List Write) → a ≤ p → NameNoMore (drop p ws) (drop a ws)
 since_later zero zero ws l b e = e
 since_later zero (suc p) [] l b e = e
-since_later zero (suc p) (w ∷ ws) l b e = right_part (w.block == b) (names ws b) (since_later zero p ws (omega arith) b e)
+since_later zero (suc p) (w ∷ ws) l b e = or_right (w.block == b) (names ws b) (since_later zero p ws (omega arith) b e)
 since_later (suc a) zero ws l b e = absurd (omega arith)
 since_later (suc a) (suc p) [] l b e = e
 since_later (suc a) (suc p) (w ∷ ws) l b e = since_later a p ws (omega arith) b e
@@ -176,7 +178,7 @@ restored_named ws since p [] h b e = no_names b _ e
 restored_named ws since p (c ∷ bs) h b e = by_test (c == b) refl e (restored_named ws since p bs h.1 b)
   where
     by_test : (t : Bool) → (c == b) ≡ t → (t || names (map (restoring ws p) bs) b) ≡ true → (names (map (restoring ws p) bs) b ≡ true → names since b ≡ true) → names since b ≡ true
-    by_test true f g ih = subst (λ x. names since x ≡ true) (equal c b f) h.0
+    by_test true f g ih = subst (λ x. names since x ≡ true) (number_is c b f) h.0
     by_test false f g ih = ih g
 
 abbrev restored : ℕ → ℕ → ℕ → List Write → List Write
@@ -184,8 +186,12 @@ restored n p k ws = map (restoring ws p) (take k (to_restore n ws p))
 
 -- blocks that were named since a point, restored, are named no more since any point before it
 pub restored_no_more : (n p k a : ℕ) (ws : List Write) → a ≤ p → p ≤ length ws → NameNoMore (drop a (ws ++ map (restoring ws p) (take k (to_restore n ws p)))) (drop a ws)
-restored_no_more n p k a ws l h b e = by_part (either _ _ (sym (list_any-append (λ (w : Write). w.block == b) (drop a ws) (restored n p k ws)) ∙ ap (λ xs. names xs b) (sym (drop-append-le a ws (restored n p k ws) (chain a p (length ws) l h))) ∙ e))
+restored_no_more n p k a ws l h b e = by_part
+    (or_cases _ _ (sym (list_any-append (λ (w : Write). w.block == b) (drop a ws) (restored n p k ws))
+    ∙ ap (λ xs. names xs b) (sym (drop-append-le a ws (restored n p k ws) (chain a p (length ws) l h))) ∙ e))
   where
     by_part : (names (drop a ws) b ≡ true) ⊎ (names (restored n p k ws) b ≡ true) → names (drop a ws) b ≡ true
     by_part (inl f) = f
-    by_part (inr f) = since_later a p ws l b (restored_named ws (drop p ws) p (take k (to_restore n ws p)) (named_first (drop p ws) k (to_restore n ws p) (named_filter (drop p ws) (range_with_len 0 n))) b f)
+    by_part (inr f) = since_later a p ws l b
+        (restored_named ws (drop p ws) p (take k (to_restore n ws p))
+        (named_first (drop p ws) k (to_restore n ws p) (named_filter (drop p ws) (range_with_len 0 n))) b f)

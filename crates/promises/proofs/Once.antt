@@ -3,8 +3,9 @@ use Rattle.promises.proofs.Words.{list_any, list_any-append, or_parts, Level, Or
 use Rattle.promises.proofs.Words.{Deed, is_heard, is_again, AreOnce, heard, Spoke}
 use Rattle.std.proofs.Common.{◌≡◌, ◌∙◌, ℕ, ◌==◌, ◌≤◌, ◌<◌, List, [], ◌∷◌, ◌++◌, Option, Some, None, refl, Bool, true, false, sym, subst, map, filter, arith, ◌+◌}
 use Rattle.std.specs.Prelude.{◌||◌, not, is_some, if◌then◌else◌}
+use Rattle.std.proofs.lemmas.Bool.{or_from, false_from_ne_true, or_left, or_right}
 use Rattle.set_agenda.specs.Agenda.{Agenda, Open, places, has_said, is_at, writers_at, members_of, waited_for, with_group, left_from, open_place, is_among, waits_now}
-use Rattle.promises.proofs.Truth.{false_of, left_part, right_part, same_number}
+use Rattle.promises.proofs.Truth.{same_number}
 use Rattle.promises.proofs.Levels.{Ascends}
 use Rattle.promises.proofs.Stages.{level_or, leveled}
 use Rattle.promises.proofs.Heard.{order_place}
@@ -22,36 +23,35 @@ once_one (x ∷ ds) d h e =
     none false true e f = absurd cc
     none false false e f = refl
 
-pub both_false : (a b : Bool) → a ≡ false → b ≡ false → (a || b) ≡ false
-both_false a b e f = grind arith
-
 -- each number once
 abbrev pub Apart : List ℕ → Type 0
 Apart [] = Unit {0}
 Apart (x ∷ xs) = (is_among x xs ≡ false) × Apart xs
 
 -- what writers say that were not heard before
-pub unheard : (o : Order) (said : Said) (now : ℕ) (us : List ℕ) (d : Deed) → ((u : ℕ) → is_among u us ≡ true → is_heard o u d ≡ false) → list_any (λ y. is_again y d) (map (λ u. Spoke o u said now) us) ≡ false
+pub unheard : (o : Order) (said : Said) (now : ℕ) (us : List ℕ) (d : Deed) → ((u : ℕ) → is_among u us ≡ true → is_heard o u d ≡ false)
+    → list_any (λ y. is_again y d) (map (λ u. Spoke o u said now) us) ≡ false
 unheard o said now [] d h = refl
 unheard o said now (u ∷ us) d h =
-    both_false (is_heard o u d) _ (h u (left_part (u == u) (is_among u us) (same_number u))) (unheard o said now us d (λ x e. h x (right_part (u == x) (is_among x us) e)))
+    or_from (is_heard o u d) _ (h u (or_left (u == u) (is_among u us) (same_number u))) (unheard o said now us d (λ x e. h x (or_right (u == x) (is_among x us) e)))
 
 pub other_writer : (o : Order) (w : ℕ) (said : Said) (now : ℕ) (us : List ℕ) → is_among w us ≡ false → (u : ℕ) → is_among u us ≡ true → is_heard o u (Spoke o w said now) ≡ false
 other_writer o w said now us e u f = grind arith
 
-pub once_spoken : (ds : List Deed) (o : Order) (said : Said) (now : ℕ) (ws : List ℕ) → AreOnce ds → Apart ws → ((u : ℕ) → is_among u ws ≡ true → heard o u ds ≡ false) → AreOnce (ds ++ map (λ u. Spoke o u said now) ws)
+pub once_spoken : (ds : List Deed) (o : Order) (said : Said) (now : ℕ) (ws : List ℕ) → AreOnce ds → Apart ws
+    → ((u : ℕ) → is_among u ws ≡ true → heard o u ds ≡ false) → AreOnce (ds ++ map (λ u. Spoke o u said now) ws)
 once_spoken [] o said now [] h p f = tt
 once_spoken [] o said now (w ∷ ws) h p f =
     (unheard o said now ws (Spoke o w said now) (other_writer o w said now ws p.0), once_spoken [] o said now ws h p.1 (λ u e. refl))
 once_spoken (x ∷ ds) o said now ws h p f = (
   list_any-append (λ y. is_again y x) ds (map (λ u. Spoke o u said now) ws)
-      ∙ both_false (list_any (λ y. is_again y x) ds) _ h.0 (unheard o said now ws x (λ u e. (or_parts (is_heard o u x) (heard o u ds) (f u e)).0)),
+      ∙ or_from (list_any (λ y. is_again y x) ds) _ h.0 (unheard o said now ws x (λ u e. (or_parts (is_heard o u x) (heard o u ds) (f u e)).0)),
   once_spoken ds o said now ws h.1 p (λ u e. (or_parts (is_heard o u x) (heard o u ds) (f u e)).1),
 )
 
 -- who is waited for is waited for once
 pub among_none : (test : ℕ → Bool) (x : ℕ) (xs : List ℕ) → is_among x xs ≡ false → is_among x (filter test xs) ≡ false
-among_none test x xs e = false_of (is_among x (filter test xs)) (λ f. true_not_false (is_among x xs) (among_filter test x xs f) e)
+among_none test x xs e = false_from_ne_true (is_among x (filter test xs)) (λ f. true_not_false (is_among x xs) (among_filter test x xs f) e)
 
 pub apart_filter : (test : ℕ → Bool) (xs : List ℕ) → Apart xs → Apart (filter test xs)
 apart_filter test [] h = tt
@@ -71,8 +71,10 @@ not_below w x (m ∷ ms) l h i = by_head (is_at l m.level) (not_below (m.writer 
     differs : (w x m : ℕ) → w ≤ m → x < w → (m == x) ≡ false
     differs w x m h i = grind arith
 
-    by_head : (b : Bool) → is_among x (writers_at ms l) ≡ false → is_among x (map (λ (y : Member). y.writer) (if b then m ∷ filter (λ (y : Member). is_at l y.level) ms else filter (λ (y : Member). is_at l y.level) ms)) ≡ false
-    by_head true ih = both_false (m.writer == x) _ (differs w x m.writer h.0 i) ih
+    by_head : (b : Bool) → is_among x (writers_at ms l) ≡ false
+        → is_among x (map (λ (y : Member). y.writer)
+        (if b then m ∷ filter (λ (y : Member). is_at l y.level) ms else filter (λ (y : Member). is_at l y.level) ms)) ≡ false
+    by_head true ih = or_from (m.writer == x) _ (differs w x m.writer h.0 i) ih
     by_head false ih = ih
 
 pub apart_writers : (w : ℕ) (ms : List Member) (l : Option Level) → Ascends w ms → Apart (writers_at ms l)
@@ -95,7 +97,8 @@ waits_apart a (p ∷ ps) o h e =
     at_group (waited_for a p) (left_from a ps)
     (λ g. apart_filter (λ x. not (has_said a.log p x)) (members_of a p.group p.level) (subst (λ x. Apart (members_of a x p.level)) (sym g) (apart_members o a p.level h))) (waits_apart a ps o h) e
   where
-    at_group : (ws : List ℕ) (later : List Open) → (p.group ≡ Orders o → Apart ws) → ((open_place later).group ≡ Orders o → Apart (waits_now later)) → (open_place (with_group p ws later)).group ≡ Orders o → Apart (waits_now (with_group p ws later))
+    at_group : (ws : List ℕ) (later : List Open) → (p.group ≡ Orders o → Apart ws) → ((open_place later).group ≡ Orders o → Apart (waits_now later))
+        → (open_place (with_group p ws later)).group ≡ Orders o → Apart (waits_now (with_group p ws later))
     at_group [] later own ih e = ih e
     at_group (w ∷ ws) later own ih e = own e
 
@@ -111,7 +114,8 @@ pub open_unleveled : (a : Agenda) (ps : List Place) → NoneGiven ps → leveled
 open_unleveled a [] h e = refl
 open_unleveled a (p ∷ ps) h e = at_group (waited_for a p) (left_from a ps) (open_unleveled a ps h.1) e
   where
-    at_group : (ws : List ℕ) (later : List Open) → (leveled (open_place later).group ≡ false → (open_place later).level ≡ None) → leveled (open_place (with_group p ws later)).group ≡ false → (open_place (with_group p ws later)).level ≡ None
+    at_group : (ws : List ℕ) (later : List Open) → (leveled (open_place later).group ≡ false → (open_place later).level ≡ None)
+        → leveled (open_place (with_group p ws later)).group ≡ false → (open_place (with_group p ws later)).level ≡ None
     at_group [] later ih e = ih e
     at_group (w ∷ ws) later ih e = h.0 e
 

@@ -2,15 +2,18 @@
 use Rattle.promises.proofs.Words.{list_any-append, Said, answer_limit, hold_limit, is_spent, Group, Kind, Gather, Prepare, Snapshot, Complete, Place, Agenda, Entry, Open, places, group_code}
 use Rattle.promises.proofs.Words.{level_code, same_place, left_from, groups_left, open_place, at_place, all_say, Running as RunningLimit, last_time, opened_at, is_prepare_snapshot, freeze_opened_at}
 use Rattle.promises.proofs.Words.{is_hold, first_hold, hold_runs, freeze_runs, answer_runs, runs_if, hold_running, running_at, spent_of}
-use Rattle.std.proofs.Common.{◌≡◌, ◌∙◌, ℕ, ◌==◌, ◌≤◌, List, [], ◌∷◌, ◌++◌, Option, Some, None, refl, Bool, true, false, ap, sym, subst, map, filter}
+use Rattle.std.proofs.Common.{◌≡◌, ◌∙◌, ℕ, ◌==◌, ◌≤◌, List, ◌∷◌, ◌++◌, Option, Some, None, refl, Bool, true, false, ap, sym, subst, map, filter, arith}
 use Rattle.std.specs.Prelude.{◌&&◌, ◌||◌, not}
+use Rattle.std.proofs.lemmas.Bool.{and_parts}
 use Rattle.set_agenda.specs.declared.limit.Limit.TheVariants.{Hold as HoldLimit, Freeze as FreezeLimit, Answer as AnswerLimit}
-use Rattle.promises.proofs.Truth.{both_parts, chain, equal, not_itself}
+use Rattle.promises.proofs.Truth.{chain, not_itself}
 use Rattle.promises.proofs.Speaks.{Speaks}
 use Rattle.promises.proofs.Stages.{group_stage, open_stage, closed_stays, goes_up, snapshot_from}
 use Rattle.promises.proofs.Heard.{same_group}
-use Rattle.promises.proofs.NotSpent.{at_once, none_both, none_first, none_second, unspent_if, is_unspent, unspent_hold, is_mild, hold_six, hold_nine, hold_between, freeze_ten, freeze_between, mild_high, is_backup_order, high_mild}
+use Rattle.promises.proofs.NotSpent.{at_once, none_both, none_first, none_second, unspent_if, is_unspent, unspent_hold, is_mild, hold_six, hold_nine}
+use Rattle.promises.proofs.NotSpent.{hold_between, freeze_ten, freeze_between, mild_high, is_backup_order, high_mild}
 use Rattle.promises.proofs.OpenGroup.{every, in_kind, IsOpen, IsSome, speaks_some, speaks_open, last_new, none_new, filter_along, has_hold, hold_there, hold_stays, hold_new, new_hold}
+use Rattle.scenario.proofs.Places.{number_is}
 
 -- ## one more is said
 
@@ -49,7 +52,8 @@ module _ (now : ℕ) (said : Said) (ws : List ℕ) (a : Agenda) (who : Speaks a 
   up : a.kind ≡ Snapshot → open_stage (groups_left a) ≤ open_stage (groups_left more)
   up k =
       let rises = goes_up a more 0 (places Snapshot) snapshot_from (closed_stays said now ws a) in
-      subst (λ n. n ≤ open_stage (groups_left more)) (sym (ap open_stage (snapshot_left a k))) (subst (λ n. open_stage (left_from a (places Snapshot)) ≤ n) (sym (ap open_stage (snapshot_left more k))) rises)
+      subst (λ n. n ≤ open_stage (groups_left more)) (sym (ap open_stage (snapshot_left a k)))
+      (subst (λ n. open_stage (left_from a (places Snapshot)) ≤ n) (sym (ap open_stage (snapshot_left more k))) rises)
 
   stage_is : open_stage (groups_left a) ≡ group_stage shown.place.group shown.place.level
   stage_is = ap open_stage now_open.is
@@ -108,7 +112,7 @@ module _ (now : ℕ) (said : Said) (ws : List ℕ) (a : Agenda) (who : Speaks a 
     freezes_kind Complete e i = absurd (not_in freeze_runs Complete e refl i)
 
     under : (n : ℕ) → a.kind ≡ Snapshot → group_stage x.place.group x.place.level ≤ n → group_stage shown.place.group shown.place.level ≤ n
-    under n k h = subst (λ m. m ≤ n) stage_is (chain (open_stage (groups_left a)) (open_stage (groups_left more)) n (up k) (subst (λ ys. open_stage ys ≤ n) (sym g) h))
+    under n k h = grind (arith, stage_is, chain, up)
 
     hold_part : spent_of now (hold_running x.place.group (first_hold more.log)) ≡ None
     hold_part = unspent_hold now x.place.group (first_hold more.log) (λ since e i. by_old (first_hold a.log) refl since e i)
@@ -132,12 +136,15 @@ module _ (now : ℕ) (said : Said) (ws : List ℕ) (a : Agenda) (who : Speaks a 
         by_prepare : (b : Bool) → is_prepare_snapshot p.group ≡ b → freeze_runs x.place.group ≡ true → is_spent now (freeze_opened_at more) f ≡ false
         by_prepare true e i =
             at_once now (freeze_opened_at more) f
-            (ap (λ us. last_time a.begun (filter (λ (y : Entry). is_prepare_snapshot y.place.group) (a.log ++ map (at_place p said now) us))) one.is ∙ last_new a.begun now (λ q. is_prepare_snapshot q.group) p said a.log one.first one.rest e)
+            (ap (λ us. last_time a.begun (filter (λ (y : Entry). is_prepare_snapshot y.place.group) (a.log ++ map (at_place p said now) us))) one.is
+            ∙ last_new a.begun now (λ q. is_prepare_snapshot q.group) p said a.log one.first one.rest e)
         by_prepare false e i =
             let k = freezes_kind a.kind refl i in
             let frozen = freeze_between shown.place.group shown.place.level (ap (λ (q : Place). is_prepare_snapshot q.group) (sym p_is) ∙ e) (under 10 k (freeze_ten x.place.group x.place.level i)) in
             let same : freeze_opened_at more ≡ freeze_opened_at a = ap (last_time a.begun) (none_new now (λ q. is_prepare_snapshot q.group) p said ws a.log e) in
-            subst (λ n. is_spent now n f ≡ false) (sym same) (is_unspent (freeze_runs shown.place.group) FreezeLimit (freeze_opened_at a) f now (none_second now H F (none_first now (H ++ F) A before)) frozen)
+            subst (λ n. is_spent now n f ≡ false) (sym same)
+            (is_unspent (freeze_runs shown.place.group) FreezeLimit (freeze_opened_at a) f now
+            (none_second now H F (none_first now (H ++ F) A before)) frozen)
 
     answer_part : spent_of now (runs_if (answer_runs x.place.group) AnswerLimit (opened_at more x) answer_limit) ≡ None
     answer_part = unspent_if (answer_runs x.place.group) AnswerLimit (opened_at more x) answer_limit now (λ i. by_place (same_place p x.place) refl i)
@@ -145,28 +152,29 @@ module _ (now : ℕ) (said : Said) (ws : List ℕ) (a : Agenda) (who : Speaks a 
         by_place : (b : Bool) → same_place p x.place ≡ b → answer_runs x.place.group ≡ true → is_spent now (opened_at more x) answer_limit ≡ false
         by_place false e i =
             at_once now (opened_at more x) answer_limit
-            (ap (λ us. last_time a.begun (filter (λ (y : Entry). not (same_place y.place x.place)) (a.log ++ map (at_place p said now) us))) one.is ∙ last_new a.begun now (λ q. not (same_place q x.place)) p said a.log one.first one.rest (ap not e))
+            (ap (λ us. last_time a.begun (filter (λ (y : Entry). not (same_place y.place x.place)) (a.log ++ map (at_place p said now) us))) one.is
+            ∙ last_new a.begun now (λ q. not (same_place q x.place)) p said a.log one.first one.rest (ap not e))
         by_place true e i =
-            let codes = both_parts (group_code p.group == group_code x.place.group) (level_code p.level == level_code x.place.level) e in
-            let groups : group_code x.place.group ≡ group_code p.group = sym (equal (group_code p.group) (group_code x.place.group) codes.0) in
-            let levels : level_code x.place.level ≡ level_code p.level = sym (equal (level_code p.level) (level_code x.place.level) codes.1) in
+            let codes = and_parts (group_code p.group == group_code x.place.group) (level_code p.level == level_code x.place.level) e in
+            let groups : group_code x.place.group ≡ group_code p.group = sym (number_is (group_code p.group) (group_code x.place.group) codes.0) in
+            let levels : level_code x.place.level ≡ level_code p.level = sym (number_is (level_code p.level) (level_code x.place.level) codes.1) in
             let as_p : (y : Entry) → not (same_place y.place x.place) ≡ not (same_place y.place p) = λ y.
             ap (λ n. not ((group_code y.place.group == n) && (level_code y.place.level == level_code x.place.level))) groups
             ∙ ap (λ n. not ((group_code y.place.group == group_code p.group) && (level_code y.place.level == n))) levels in
             let same : opened_at more x ≡ opened_at a shown =
-            ap (last_time a.begun) (none_new now (λ q. not (same_place q x.place)) p said ws a.log (ap not e) ∙ filter_along (λ y. not (same_place y.place x.place)) (λ y. not (same_place y.place p)) as_p a.log)
+            ap (last_time a.begun)
+            (none_new now (λ q. not (same_place q x.place)) p said ws a.log (ap not e)
+            ∙ filter_along (λ y. not (same_place y.place x.place)) (λ y. not (same_place y.place p)) as_p a.log)
             ∙ ap (λ (q : Place). last_time a.begun (filter (λ (y : Entry). not (same_place y.place q)) a.log)) p_is in
             let asks : answer_runs shown.place.group ≡ true = ap (λ (q : Place). answer_runs q.group) (sym p_is) ∙ ap answer_runs (same_group p.group x.place.group codes.0) ∙ i in
-            subst (λ n. is_spent now n answer_limit ≡ false) (sym same) (is_unspent (answer_runs shown.place.group) AnswerLimit (opened_at a shown) answer_limit now (none_second now (H ++ F) A before) asks)
+            subst (λ n. is_spent now n answer_limit ≡ false) (sym same)
+            (is_unspent (answer_runs shown.place.group) AnswerLimit (opened_at a shown) answer_limit now (none_second now (H ++ F) A before) asks)
 
     parts : spent_of now (running_at f more (x ∷ xs)) ≡ None
-    parts =
-        none_both now (hold_running x.place.group (first_hold more.log) ++ runs_if (freeze_runs x.place.group) FreezeLimit (freeze_opened_at more) f) (runs_if (answer_runs x.place.group) AnswerLimit (opened_at more x) answer_limit)
-        (none_both now (hold_running x.place.group (first_hold more.log)) (runs_if (freeze_runs x.place.group) FreezeLimit (freeze_opened_at more) f) hold_part freeze_part) answer_part
+    parts = grind (arith, none_both, hold_part, freeze_part, answer_part)
 
   unspent_at : (f : ℕ) → Unspent now f a → (os : List Open) → groups_left more ≡ os → spent_of now (running_at f more os) ≡ None
-  unspent_at f old [] g = refl
-  unspent_at f old (x ∷ xs) g = parts f old x xs g
+  unspent_at f old os g = grind (arith, parts)
 
   pub said_in_time : (f : ℕ) → Unspent now f a → InTime now f more
   said_in_time f old = record { unspent = unspent_at f old (groups_left more) refl; ordered = ordered_more }

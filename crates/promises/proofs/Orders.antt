@@ -1,63 +1,47 @@
 -- Orders and levels: each participant is heard at its own.
-use Rattle.promises.proofs.Words.{Level, System, BackEnd, FrontEnd, Order, Identify, PrepareSnapshot, Freeze, Thaw, PostSnapshot, Said, is_ok, Group, Orders, PreCommit, Snapshot, Member, Place}
+use Rattle.promises.proofs.Words.{Level, System, BackEnd, FrontEnd, Order, PrepareSnapshot, Freeze, Thaw, PostSnapshot, Said, is_ok, Group, Orders, Snapshot, Member, Place}
 use Rattle.promises.proofs.Words.{is_member, fails_set, Plan}
 use Rattle.std.proofs.Common.{◌≡◌, ◌∙◌, ℕ, ◌==◌, ◌≤◌, ◌<◌, List, [], ◌∷◌, Option, Some, None, refl, Bool, true, false, ap, sym, map, filter, arith}
 use Rattle.std.specs.Prelude.{◌&&◌, ◌||◌, not, is_some, if◌then◌else◌}
+use Rattle.std.proofs.lemmas.Bool.{and_from, and_parts, or_left, or_right}
 use Rattle.vss_names.specs.Level.{number_of}
-use Rattle.set_agenda.specs.Agenda.{Agenda, Entry, Open, places, same_order, order_code, group_code, level_code, order_of, is_orders, has_failed, is_at, writers_at, members_of, waited_for, with_group, left_from, open_place, is_among}
+use Rattle.set_agenda.specs.Agenda.{Agenda, Entry, Open, places, same_order, order_code, group_code, level_code, order_of, is_orders, has_failed, is_at}
+use Rattle.set_agenda.specs.Agenda.{writers_at, members_of, waited_for, with_group, left_from, open_place, is_among}
 use Rattle.promises.specs.Way.{level_of, is_heard, is_agreed, heard, agreed, failed}
-use Rattle.promises.proofs.Truth.{both_are, both_parts, equal, left_part, right_part, same_number}
+use Rattle.promises.proofs.Truth.{same_number}
 use Rattle.promises.proofs.Levels.{MembersOf}
 use Rattle.promises.proofs.Speaks.{deed_at, deed_in}
 use Rattle.promises.proofs.Stages.{deeds_in, level_or, leveled, Closed}
-use Rattle.promises.proofs.Heard.{said_all, same_group, said_deed}
+use Rattle.promises.proofs.Heard.{same_group, said_deed}
+use Rattle.scenario.proofs.Places.{number_is}
+use Rattle.vss_model.proofs.AtCut.{all_said}
 
 -- ## orders
 
 pub order_codes : (o : Order) → group_code (Orders o) ≡ order_code o
-order_codes Identify = refl
-order_codes _ = refl
+order_codes o = grind arith
 
 pub same_orders : (o p : Order) → same_order o p ≡ true → o ≡ p
-same_orders o p e = inner (same_group (Orders o) (Orders p) (ap (λ n. n == group_code (Orders p)) (order_codes o) ∙ ap (λ n. order_code o == n) (order_codes p) ∙ e))
-  where
-    inner : Orders o ≡ Orders p → o ≡ p
-    inner e = cc
+same_orders o p e = grind (arith, same_group, order_codes)
 
-pub agreed_at : (h : Group) (order : Order) (w u : ℕ) (said : Said) (now : ℕ) → is_heard order w (deed_at h u said now) ≡ true → (fails_set (order_of h) && not (is_ok said)) ≡ false → fails_set (Some order) ≡ true
+pub agreed_at : (h : Group) (order : Order) (w u : ℕ) (said : Said) (now : ℕ) → is_heard order w (deed_at h u said now) ≡ true
+    → (fails_set (order_of h) && not (is_ok said)) ≡ false → fails_set (Some order) ≡ true
     → is_agreed order w (deed_at h u said now) ≡ true
-agreed_at (Orders o) order w u said now e mild d =
-    let parts = both_parts (same_order o order) (u == w) e in
-    let decides : fails_set (Some o) ≡ true = ap (λ x. fails_set (Some x)) (same_orders o order parts.0) ∙ d in
-    both_are (same_order o order && is_ok said) (u == w) (both_are (same_order o order) (is_ok said) parts.0 (ok_of (fails_set (Some o)) (is_ok said) decides mild)) parts.1
-  where
-    ok_of : (f k : Bool) → f ≡ true → (f && not k) ≡ false → k ≡ true
-    ok_of true true e m = refl
-    ok_of true false e m = absurd cc
-    ok_of false k e m = absurd cc
-agreed_at PreCommit order w u said now e mild d = absurd cc
-agreed_at _ order w u said now e mild d = absurd cc
+agreed_at h order w u said now e mild d = grind (arith, and_parts, same_orders, and_from)
 
 pub post_group : (h : Group) (w u : ℕ) (said : Said) (now : ℕ) → is_heard PostSnapshot w (deed_at h u said now) ≡ true → (h ≡ Orders PostSnapshot) × (u ≡ w)
-post_group (Orders o) w u said now e =
-    let parts = both_parts (same_order o PostSnapshot) (u == w) e in
-    (ap Orders (same_orders o PostSnapshot parts.0), equal u w parts.1)
-post_group PreCommit w u said now e = absurd cc
-post_group _ w u said now e = absurd cc
+post_group h w u said now e = grind (arith, and_parts, same_orders, number_is)
 
 pub heard_group : (order : Order) (h : Group) (w u : ℕ) (said : Said) (now : ℕ) → is_heard order w (deed_at h u said now) ≡ true → (h ≡ Orders order) × (u ≡ w)
-heard_group order (Orders o) w u said now e =
-    let parts = both_parts (same_order o order) (u == w) e in
-    (ap Orders (same_orders o order parts.0), equal u w parts.1)
-heard_group order PreCommit w u said now e = absurd cc
-heard_group order _ w u said now e = absurd cc
+heard_group order h w u said now e = grind (arith, and_parts, same_orders, number_is)
 
 -- who was heard at Thaw and has not failed said ok
 pub heard_agreed : (log : List Entry) (w : ℕ) → has_failed log w ≡ false → heard Thaw w (map deed_in log) ≡ true → agreed Thaw w (map deed_in log) ≡ true
 heard_agreed [] w e f = absurd cc
 heard_agreed (x ∷ log) w e f = at_group x.place.group x.who x.said x.time e f (heard_agreed log w)
   where
-    by_parts : (same ok own failed more agreed : Bool) → ((true && not ok && own) || failed) ≡ false → ((same && own) || more) ≡ true → (failed ≡ false → more ≡ true → agreed ≡ true) → ((same && ok && own) || agreed) ≡ true
+    by_parts : (same ok own failed more agreed : Bool) → ((true && not ok && own) || failed) ≡ false → ((same && own) || more) ≡ true
+        → (failed ≡ false → more ≡ true → agreed ≡ true) → ((same && ok && own) || agreed) ≡ true
     by_parts true true true failed more agreed e f ih = refl
     by_parts true false true failed more agreed e f ih = absurd cc
     by_parts true true false failed more agreed e f ih = ih e f
@@ -66,8 +50,10 @@ heard_agreed (x ∷ log) w e f = at_group x.place.group x.who x.said x.time e f 
     by_parts false false true failed more agreed e f ih = absurd cc
     by_parts false false false failed more agreed e f ih = ih e f
 
-    at_group : (h : Group) (u : ℕ) (said : Said) (now : ℕ) → ((is_orders h && not (is_ok said) && (u == w)) || has_failed log w) ≡ false → (is_heard Thaw w (deed_at h u said now) || heard Thaw w (map deed_in log)) ≡ true
-        → (has_failed log w ≡ false → heard Thaw w (map deed_in log) ≡ true → agreed Thaw w (map deed_in log) ≡ true) → (is_agreed Thaw w (deed_at h u said now) || agreed Thaw w (map deed_in log)) ≡ true
+    at_group : (h : Group) (u : ℕ) (said : Said) (now : ℕ) → ((is_orders h && not (is_ok said) && (u == w)) || has_failed log w) ≡ false
+        → (is_heard Thaw w (deed_at h u said now) || heard Thaw w (map deed_in log)) ≡ true
+        → (has_failed log w ≡ false → heard Thaw w (map deed_in log) ≡ true → agreed Thaw w (map deed_in log) ≡ true)
+        → (is_agreed Thaw w (deed_at h u said now) || agreed Thaw w (map deed_in log)) ≡ true
     at_group (Orders o) u said now e f ih = by_parts (same_order o Thaw) (is_ok said) (u == w) (has_failed log w) (heard Thaw w (map deed_in log)) (agreed Thaw w (map deed_in log)) e f ih
     at_group _ u said now e f ih = ih e f
 
@@ -76,12 +62,16 @@ pub at_some_level : (ms : List Member) (w : ℕ) (X : Type 0) → ((l : Level) �
 at_some_level [] w X f e = absurd cc
 at_some_level (m ∷ ms) w X f e = by_head (m.writer == w) refl e (λ h. at_some_level ms w X (λ l i. f l (later l (is_at (Some l) m.level) i)) h)
   where
-    later : (l : Level) (b : Bool) → is_among w (writers_at ms (Some l)) ≡ true → is_among w (map (λ (x : Member). x.writer) (if b then m ∷ filter (λ (x : Member). is_at (Some l) x.level) ms else filter (λ (x : Member). is_at (Some l) x.level) ms)) ≡ true
-    later l true i = right_part (m.writer == w) _ i
+    later : (l : Level) (b : Bool) → is_among w (writers_at ms (Some l)) ≡ true
+        → is_among w (map (λ (x : Member). x.writer)
+        (if b then m ∷ filter (λ (x : Member). is_at (Some l) x.level) ms else filter (λ (x : Member). is_at (Some l) x.level) ms)) ≡ true
+    later l true i = or_right (m.writer == w) _ i
     later l false i = i
 
-    own : (b : Bool) → b ≡ true → (m.writer == w) ≡ true → is_among w (map (λ (x : Member). x.writer) (if b then m ∷ filter (λ (x : Member). is_at (Some m.level) x.level) ms else filter (λ (x : Member). is_at (Some m.level) x.level) ms)) ≡ true
-    own true h i = left_part (m.writer == w) _ i
+    own : (b : Bool) → b ≡ true → (m.writer == w) ≡ true
+        → is_among w (map (λ (x : Member). x.writer)
+        (if b then m ∷ filter (λ (x : Member). is_at (Some m.level) x.level) ms else filter (λ (x : Member). is_at (Some m.level) x.level) ms)) ≡ true
+    own true h i = or_left (m.writer == w) _ i
     own false h i = absurd cc
 
     by_head : (b : Bool) → (m.writer == w) ≡ b → (b || is_member ms w) ≡ true → (is_member ms w ≡ true → X) → X
@@ -96,9 +86,12 @@ all_among (m ∷ ms) w e = by_head (m.writer == w) e (all_among ms w)
     by_head true e ih = refl
     by_head false e ih = ih e
 
-pub heard_at : (a : Agenda) (o : Order) (l : Option Level) (w : ℕ) → is_among w (members_of a (Orders o) l) ≡ true → waited_for a (record { group = Orders o; level = l }) ≡ [] → heard o w (deeds_in a) ≡ true
+pub heard_at : (a : Agenda) (o : Order) (l : Option Level) (w : ℕ) → is_among w (members_of a (Orders o) l) ≡ true
+    → waited_for a (record { group = Orders o; level = l }) ≡ [] → heard o w (deeds_in a) ≡ true
 heard_at a o l w m e =
-    said_deed a.log (record { group = Orders o; level = l }) w (is_heard o w) (λ said now u f. both_are (same_order o o) (u == w) (same_number (order_code o)) f) (said_all a.log (record { group = Orders o; level = l }) (members_of a (Orders o) l) w e m)
+    said_deed a.log (record { group = Orders o; level = l }) w (is_heard o w)
+    (λ said now u f. and_from (same_order o o) (u == w) (same_number (order_code o)) f)
+    (all_said a.log (record { group = Orders o; level = l }) (members_of a (Orders o) l) w e m)
 
 pub smaller : (a b k : ℕ) → a ≤ b → b < k → a < k
 smaller a b k l h = omega arith
@@ -125,42 +118,34 @@ thaw_heard a k l c w e = at_some_level a.members w (heard Thaw w (deeds_in a) �
 -- ## levels
 
 pub same_levels : (x y : Level) → (number_of x == number_of y) ≡ true → x ≡ y
-same_levels System System e = refl
-same_levels BackEnd BackEnd e = refl
-same_levels FrontEnd FrontEnd e = refl
-same_levels System BackEnd e = absurd cc
-same_levels System FrontEnd e = absurd cc
-same_levels BackEnd System e = absurd cc
-same_levels BackEnd FrontEnd e = absurd cc
-same_levels FrontEnd System e = absurd cc
-same_levels FrontEnd BackEnd e = absurd cc
+same_levels x y e = grind arith
 
 pub level_among : (s : Plan) (x : Level) (ms : List Member) (w : ℕ) → MembersOf (level_of s) ms → is_among w (writers_at ms (Some x)) ≡ true → level_of s w ≡ x
 level_among s x [] w lv e = absurd cc
 level_among s x (m ∷ ms) w lv e = by_head (is_at (Some x) m.level) (m.writer == w) refl refl e (level_among s x ms w lv.1)
   where
-    by_head : (b c : Bool) → is_at (Some x) m.level ≡ b → (m.writer == w) ≡ c → is_among w (map (λ (y : Member). y.writer) (if b then m ∷ filter (λ (y : Member). is_at (Some x) y.level) ms else filter (λ (y : Member). is_at (Some x) y.level) ms)) ≡ true
+    by_head : (b c : Bool) → is_at (Some x) m.level ≡ b → (m.writer == w) ≡ c
+        → is_among w (map (λ (y : Member). y.writer)
+        (if b then m ∷ filter (λ (y : Member). is_at (Some x) y.level) ms else filter (λ (y : Member). is_at (Some x) y.level) ms)) ≡ true
         → (is_among w (writers_at ms (Some x)) ≡ true → level_of s w ≡ x) → level_of s w ≡ x
     by_head false c f h e ih = ih e
-    by_head true true f h e ih = ap (level_of s) (sym (equal m.writer w h)) ∙ sym lv.0 ∙ sym (same_levels x m.level f)
+    by_head true true f h e ih = ap (level_of s) (sym (number_is m.writer w h)) ∙ sym lv.0 ∙ sym (same_levels x m.level f)
     by_head true false f h e ih = ih (other (m.writer == w) h e)
       where
         other : (c : Bool) → c ≡ false → (c || is_among w (writers_at ms (Some x))) ≡ true → is_among w (writers_at ms (Some x)) ≡ true
         other true h e = absurd cc
         other false h e = e
 
-pub of_group_level : (s : Plan) (a : Agenda) (g : Group) (l : Option Level) (w : ℕ) → MembersOf (level_of s) a.members → is_among w (members_of a g l) ≡ true → leveled g ≡ true → is_some l ≡ true → level_of s w ≡ level_or l
-of_group_level s a (Orders Freeze) (Some x) w lv m e f = level_among s x a.members w lv m
-of_group_level s a (Orders Thaw) (Some x) w lv m e f = level_among s x a.members w lv m
-of_group_level s a g None w lv m e f = absurd cc
-of_group_level s a g (Some x) w lv m e f = absurd cc
+pub of_group_level : (s : Plan) (a : Agenda) (g : Group) (l : Option Level) (w : ℕ) → MembersOf (level_of s) a.members → is_among w (members_of a g l) ≡ true
+    → leveled g ≡ true → is_some l ≡ true → level_of s w ≡ level_or l
+of_group_level s a g l w lv m e f = grind (arith, level_among)
 
 abbrev pub LevelsGiven : List Place → Type 0
 LevelsGiven [] = Unit {0}
 LevelsGiven (p ∷ ps) = (leveled p.group ≡ true → is_some p.level ≡ true) × LevelsGiven ps
 
 pub levels_given : LevelsGiven (places Snapshot)
-levels_given = (λ e. absurd cc, (λ e. refl, (λ e. refl, (λ e. refl, (λ e. absurd cc, (λ e. absurd cc, (λ e. absurd cc, (λ e. absurd cc, (λ e. absurd cc, (λ e. absurd cc, (λ e. absurd cc, (λ e. refl, (λ e. refl, (λ e. refl, (λ e. absurd cc, tt)))))))))))))))
+levels_given = grind arith
 
 pub open_leveled : (a : Agenda) (ps : List Place) → LevelsGiven ps → leveled (open_place (left_from a ps)).group ≡ true → is_some (open_place (left_from a ps)).level ≡ true
 open_leveled a [] h e = absurd cc

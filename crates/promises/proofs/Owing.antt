@@ -11,6 +11,7 @@ use Rattle.promises.proofs.Words.{ForConsent, AtCompletion, order_for, asks, ste
 use Rattle.promises.proofs.Words.{ByComplete, progress, is_step, is_writer, choosing, Covers, covered, after_enabled, after_not_enabled, some_same, by_if, none_runs}
 use Rattle.std.proofs.Common.{◌≡◌, ◌∙◌, ℕ, ◌+◌, ◌==◌, List, [], ◌∷◌, ◌++◌, Option, Some, None, refl, Bool, true, false, ap, sym, subst, inl, inr, map, filter, length, arith}
 use Rattle.std.specs.Prelude.{◌&&◌, ◌||◌, not, is_some, option_map, if◌then◌else◌, nat_lt}
+use Rattle.std.proofs.lemmas.Bool.{and_parts, false_from_ne_true, or_left, or_right}
 use Rattle.writer_calls.specs.declared.answer.Answer.{Answer}
 use Rattle.set_agenda.specs.Course.{Course, is_member, fails_set, begun, answered as course_answered, stepped as course_stepped, timed as course_timed, settled, settled_if, posted}
 use Rattle.set_agenda.specs.Course.{failed as course_failed, released, limits_now, lost_at, members_from, has_row_failed, prepared as course_prepared}
@@ -22,8 +23,7 @@ use Rattle.vss_model.specs.Images.{Replied, refused, with_room_if, put, write, r
 use Rattle.vss_model.specs.Sessions.{disable, new_number, start_set, has_no_volume, closed, is_disabled, selected, pending, gather, complete}
 use Rattle.vss_model.specs.Steps.{answered, is_flush, is_failed_step, stepped_as, stepped, ticked, later}
 use Rattle.vss_model.proofs.LogRule.{Running, unspoken}
-use Rattle.promises.proofs.Truth.{both_parts, equal, false_of, left_part, not_true, right_part}
-use Rattle.promises.proofs.Scripts.{kept_test, kept_among}
+use Rattle.promises.proofs.Scripts.{kept_among}
 use Rattle.promises.proofs.Speaks.{deed_at, deed_in, said_at, Grows, made_now, lost_told, grows_answered, grows_stepped, grows_timed}
 use Rattle.promises.proofs.BusyAgendas.{course_followed}
 use Rattle.promises.proofs.CalmCourses.{calm_begun}
@@ -33,6 +33,9 @@ use Rattle.promises.proofs.Turns.{Turn, begun_turn, answer_turn, tick_turn, step
 use Rattle.promises.proofs.Members.{members_from_are}
 use Rattle.promises.proofs.CalmStages.{IsCalm, calm_kept, calm_always}
 use Rattle.promises.proofs.Participants.{Follows, follows_all, standing, asked_by, asked_are}
+use Rattle.scenario.proofs.Places.{number_is}
+use Rattle.set_agenda.proofs.Closings.{unless}
+use Rattle.promises.proofs.Heard.{passes}
 
 abbrev p0 : Asking → Place
 p0 i = plain (Orders (order_for i))
@@ -75,8 +78,8 @@ new_told g p said now (x ∷ ws) w test f e = by_head (x == w) refl e (new_told 
   where
     by_head : (b : Bool) → (x == w) ≡ b → (b || is_among w ws) ≡ true → (is_among w ws ≡ true → list_any test (map deed_in (map (at_place p said now) ws)) ≡ true)
         → (test (deed_at p.group x said now) || list_any test (map deed_in (map (at_place p said now) ws))) ≡ true
-    by_head true i e ih = left_part (test (deed_at p.group x said now)) _ (f x i)
-    by_head false i e ih = right_part (test (deed_at p.group x said now)) _ (ih e)
+    by_head true i e ih = or_left (test (deed_at p.group x said now)) _ (f x i)
+    by_head false i e ih = or_right (test (deed_at p.group x said now)) _ (ih e)
 
 both : {X : Type 0} (b : Bool) → b ≡ true → b ≡ false → X
 both b e f = absurd cc
@@ -103,14 +106,14 @@ still_waits i w said now ws a k mild untold waits =
     open_now = ap (λ (q : Place). q.group) (open_is i w a k waits)
 
     not_now : is_among w ws ≡ false
-    not_now = false_of (is_among w ws)
+    not_now = false_from_ne_true (is_among w ws)
         (λ f. both (list_any (is_reply i w) (map deed_in new)) (new_told p.group p said now ws w (is_reply i w) (λ u g. own_reply i p.group said now u w open_now mild g) f) untold)
 
     unsaid_now : has_said (a.log ++ new) (p0 i) w ≡ false
     unsaid_now =
         list_any-append (λ (x : Entry). same_place x.place (p0 i) && (x.who == w)) a.log new
-        ∙ ap (λ b. b || has_said new (p0 i) w) (not_true (has_said a.log (p0 i) w) (kept_test (λ x. not (has_said a.log (p0 i) x)) w (writers_at a.members None) waits))
-        ∙ false_of (has_said new (p0 i) w) (λ f. both (is_among w ws) (new_said p (p0 i) said now ws w f) not_now)
+        ∙ ap (λ b. b || has_said new (p0 i) w) (unless (has_said a.log (p0 i) w) (passes (λ x. not (has_said a.log (p0 i) x)) w (writers_at a.members None) waits))
+        ∙ false_from_ne_true (has_said new (p0 i) w) (λ f. both (is_among w ws) (new_said p (p0 i) said now ws w f) not_now)
 
 module _ (i : Asking) (w : ℕ) where
   -- of a running agenda, by whether the writer owes an answer
@@ -132,7 +135,7 @@ module _ (i : Asking) (w : ℕ) where
     settled_waits : (done : Bool) (a : Agenda) (o : SetOutcome) (b : Option Agenda) (p : SetOutcome) → (done ≡ true → is_done (groups_left a) ≡ true) → Settles done a o b p
         → Waits d a
         → Running (Waits d) b × (b ≡ None → a.kind ≡ kind_for i → d ≡ false)
-    settled_waits done a o b p x5 e h = grind (arith, false_of, both, none_waits)
+    settled_waits done a o b p x5 e h = grind (arith, false_from_ne_true, both, none_waits)
 
     grows_waits : (a : Option Agenda) (o : SetOutcome) (b : Option Agenda) (p : SetOutcome) (news : List Deed) → Grows a o b p news
         → (d ≡ true → list_any (is_reply i w) news ≡ false) → Running (Waits c) a → Running (Waits d) b × Ends a b p
@@ -173,7 +176,7 @@ begun_own i w d ms now x own = by_done (is_done (groups_left a)) refl
 
     by_done : (b : Bool) → is_done (groups_left a) ≡ b
         → Running (Waits i w d) (settled_if b (kind_for i) (record x { agenda = Some a })).agenda × ((settled_if b (kind_for i) (record x { agenda = Some a })).agenda ≡ None → d ≡ false)
-    by_done true e = (tt, λ f. false_of d (λ g. both (is_among w (waiting i a)) (member_waits w ms (own g)) (none_waits i w a refl e)))
+    by_done true e = (tt, λ f. false_from_ne_true d (λ g. both (is_among w (waiting i a)) (member_waits w ms (own g)) (none_waits i w a refl e)))
     by_done false e = (λ k g. member_waits w ms (own g), λ f. absurd (differ f))
       where
         differ : Some a ≡ None → ⊥
@@ -192,9 +195,9 @@ member_kept rows (m ∷ ms) w e f = by_head (m.writer == w) (not (has_row_failed
     by_head b true g h f ih = by_number b g f
       where
         by_number : (b : Bool) → (m.writer == w) ≡ b → (b || is_member ms w) ≡ true → is_member (m ∷ filter (λ (x : Member). not (has_row_failed rows x.writer)) ms) w ≡ true
-        by_number true g f = left_part (m.writer == w) _ g
-        by_number false g f = right_part (m.writer == w) _ (ih f)
-    by_head true false g h f ih = both (not (has_row_failed rows m.writer)) (ap (λ n. not (has_row_failed rows n)) (equal m.writer w g) ∙ e) h
+        by_number true g f = or_left (m.writer == w) _ g
+        by_number false g f = or_right (m.writer == w) _ (ih f)
+    by_head true false g h f ih = both (not (has_row_failed rows m.writer)) (ap (λ n. not (has_row_failed rows n)) (number_is m.writer w g) ∙ e) h
     by_head false false g h f ih = ih f
 
 -- ## what acts tell
@@ -246,13 +249,13 @@ complete_not : (i : Asking) → asks op.Complete i ≡ false → (Complete ≡ k
 complete_not i e = grind arith
 
 opened_now : (q : Session) → (is_stage q.stage Opened && has_writers q.context) ≡ true → q.stage ≡ Opened
-opened_now q e = is_opened q.stage (both_parts (is_stage q.stage Opened) (has_writers q.context) e).0
+opened_now q e = is_opened q.stage (and_parts (is_stage q.stage Opened) (has_writers q.context) e).0
 
 started_now : (q : Session) → (is_stage q.stage Started && has_writers q.context) ≡ true → (q.stage ≡ Started) × (has_writers q.context ≡ true)
-started_now q e = let parts = both_parts (is_stage q.stage Started) (has_writers q.context) e in (is_started q.stage parts.0, parts.1)
+started_now q e = let parts = and_parts (is_stage q.stage Started) (has_writers q.context) e in (is_started q.stage parts.0, parts.1)
 
 done_now : (q : Session) → (is_stage q.stage Done && has_writers q.context) ≡ true → q.stage ≡ Done
-done_now q e = is_done_stage q.stage (both_parts (is_stage q.stage Done) (has_writers q.context) e).0
+done_now q e = is_done_stage q.stage (and_parts (is_stage q.stage Done) (has_writers q.context) e).0
 
 not_snapshot : (i : Asking) → Snapshot ≡ kind_for i → ⊥
 not_snapshot i e = grind arith
@@ -326,7 +329,7 @@ module _ (s : Plan) (so_far : List Act) (i : Asking) (w : ℕ) where
       done_by : (q : Session) → x.session ≡ Some q → q.stage ≡ stage_for i → Turn st x (runs st) → d ≡ false
       done_by q f g (inl t) = failed_stage i t.why st.session q (sym t.session ∙ f) g
       done_by q f g (inr (inl t)) = over_by q st.course.agenda st.session refl refl t.ran_is (sym t.session ∙ f) g (orderly s so_far).agenda goes_on.1 f t.quiet
-      done_by q f g (inr (inr t)) = false_of d (λ e. both c (keeps e) (h.done q (sym t.session ∙ f) g))
+      done_by q f g (inr (inr t)) = false_from_ne_true d (λ e. both c (keeps e) (h.done q (sym t.session ∙ f) g))
 
       goes : Stands i w x d
       goes = record {
@@ -343,9 +346,9 @@ module _ (s : Plan) (so_far : List Act) (i : Asking) (w : ℕ) where
         let os = left st.course.agenda in
         let d = c && not (list_any (is_reply i w) (lost_told m l os)) in
         goes (ticked n st) d (course_timed now st.course) (lost_told now l os) (course_followed (runs st) (course_timed now st.course) (later n st))
-        (grows_timed now st.course) (tick_turn s so_far n) (calm_kept.ticks n st (calm_always s so_far)).1 (λ e. (both_parts c _ e).0)
+        (grows_timed now st.course) (tick_turn s so_far n) (calm_kept.ticks n st (calm_always s so_far)).1 (λ e. (and_parts c _ e).0)
         (λ e. lost_when i w now m (lost_order_if (lost_at l (order_now os) (waits_now os)) (order_now os)) (lost_at l (order_now os) (waits_now os))
-        ∙ not_true (list_any (is_reply i w) (lost_told m l os)) (both_parts c _ e).1)
+        ∙ unless (list_any (is_reply i w) (lost_told m l os)) (and_parts c _ e).1)
 
     on_answers : (o : Option Order) (u : ℕ) (answer : Answer) (mark : Mark) → order_of_writer st u ≡ o → is_some o ≡ true
         → Next (AnswerEvent u answer) mark (answer_reply o answer, answered u (said_of answer) st)
@@ -355,7 +358,7 @@ module _ (s : Plan) (so_far : List Act) (i : Asking) (w : ℕ) where
         let k = course_answered u (said_of answer) st.clock st.course in
         goes (answered u (said_of answer) st) _ k (Spoke o u (said_of answer) st.clock ∷ []) (course_followed (runs st) k st)
         (grows_answered u o (said_of answer) st.clock st.course e) (answer_turn s so_far u (said_of answer)) (calm_kept.answers u (said_of answer) st (ap is_some e) (calm_always s so_far)).1
-        (λ e. (both_parts c _ e).0) (λ e. not_true _ (both_parts c _ e).1)
+        (λ e. (and_parts c _ e).0) (λ e. unless _ (and_parts c _ e).1)
 
     step_course : (b : Bool) (g : Option Group) → (stepped_as b g st).course ≡ course_stepped (not b) st.clock st.course
     step_course b g = grind (arith, course_followed)
@@ -367,7 +370,7 @@ module _ (s : Plan) (so_far : List Act) (i : Asking) (w : ℕ) where
         let k = course_stepped (not b) st.clock st.course in
         goes (stepped mark st) _ k (made_now (left st.course.agenda) st.clock (open_group (left st.course.agenda))) (step_course b (open_group (left_now st)))
         (grows_stepped (not b) st.clock st.course e) (step_turn s so_far mark e) (calm_kept.steps mark st e (calm_always s so_far)).1
-        (λ e. (both_parts c _ e).0) (λ e. no_step i w st.clock (left st.course.agenda) (open_group (left st.course.agenda)))
+        (λ e. (and_parts c _ e).0) (λ e. no_step i w st.clock (left st.course.agenda) (open_group (left st.course.agenda)))
 
     -- an agenda of another kind begins
     begins_other : (lane : ℕ) (o : Op) (mark : Mark) (k : Kind) (ms : List Member) (vs : List ℕ) (y : Course) → line_ticks o ≡ None → asks o i ≡ false → (k ≡ kind_for i → ⊥)
@@ -410,7 +413,7 @@ module _ (s : Plan) (so_far : List Act) (i : Asking) (w : ℕ) where
         is = course_followed true (begun (kind_for i) ms [] st.clock y) st
 
         asked_now : (b l : Bool) → b ≡ true → ((if b && true then is_asked_of w i s so_far else c) && l) ≡ true → is_asked_of w i s so_far ≡ true
-        asked_now true l e g = (both_parts (is_asked_of w i s so_far) l g).0
+        asked_now true l e g = (and_parts (is_asked_of w i s so_far) l g).0
         asked_now false l e g = absurd cc
 
         own : Running (Waits i w d) (begun (kind_for i) ms [] st.clock y).agenda × ((begun (kind_for i) ms [] st.clock y).agenda ≡ None → d ≡ false)
@@ -503,7 +506,7 @@ module _ (s : Plan) (so_far : List Act) (i : Asking) (w : ℕ) where
 
         member : is_asked_of w i s so_far ≡ true → is_member ms w ≡ true
         member a =
-            let parts = both_parts (is_member st.course.members w) _ (subst (λ k. is_asked_of w k s so_far ≡ true) same a) in
+            let parts = and_parts (is_member st.course.members w) _ (subst (λ k. is_asked_of w k s so_far ≡ true) same a) in
             member_kept st.course.rows st.course.members w parts.1 parts.0
     on_completes lane q mark g false e =
         begins_other lane op.Complete mark Complete _ [] st.course refl e (complete_not i e).0 (begun_turn s so_far _ (calm_begun Complete _ [] st.clock st.course))

@@ -4,8 +4,8 @@ use Rattle.promises.proofs.Words.{SetRow, in_progress, has_image, going_up_to, c
 use Rattle.promises.proofs.Words.{orderly, at, HasNoSlot, WritesFailForSlots, within, some_same}
 use Rattle.std.proofs.Common.{◌≡◌, ◌∙◌, ℕ, ◌+◌, ◌<◌, ◌≤◌, zero, suc, List, [], ◌∷◌, Option, Some, None, refl, Bool, true, false, ap, sym, subst, find, length, arith}
 use Rattle.std.specs.Prelude.{◌&&◌, ◌||◌, not, nat_lt, unwrap_or, if◌then◌else◌, slice_get}
+use Rattle.std.proofs.lemmas.Bool.{false_from_ne_true}
 use Rattle.scenario.specs.declared.op.Op.TheVariants as op
-use Rattle.promises.proofs.Truth.{false_of}
 use Rattle.promises.proofs.Failing.{fails_for_cause}
 use Rattle.promises.proofs.GoneImages.{gone_group, left_in_group, least_sets}
 
@@ -71,7 +71,8 @@ reaches test a (suc len) bound l h = by_head (test a) (nat_lt a bound) refl refl
     by_head false c e f i = subst (λ k. bound ≤ unwrap_or (find test (range_with_len (a + 1) len)) k) (sym (one_more a len)) i
 
 -- as many go, at least, as leave no slot
-goes_so_far : (sets slots : ℕ) (ps : List Placed) (v b : ℕ) (hs : List History) (n : ℕ) → n ≤ sets → ((m : ℕ) → m < n → lacks_slot slots ps v b (gone_up_to m ps hs) ≡ true) → n ≤ evicted_up_to sets slots ps v b hs
+goes_so_far : (sets slots : ℕ) (ps : List Placed) (v b : ℕ) (hs : List History) (n : ℕ) → n ≤ sets
+    → ((m : ℕ) → m < n → lacks_slot slots ps v b (gone_up_to m ps hs) ≡ true) → n ≤ evicted_up_to sets slots ps v b hs
 goes_so_far sets slots ps v b hs n l h =
     subst (λ k. n ≤ unwrap_or (find (λ m. not (lacks_slot slots ps v b (gone_up_to m ps hs))) (range_with_len 0 sets)) k) (from_none sets)
     (reaches (λ m. not (lacks_slot slots ps v b (gone_up_to m ps hs))) 0 sets n (subst (λ k. n ≤ k) (sym (from_none sets)) l) (λ m i j. ap not (h m j)))
@@ -132,18 +133,18 @@ loses_none s st v b h = by_set (in_progress st) refl
   where
     by_set : (o : Option SetRow) → in_progress st ≡ o → loses_own_image s st v b ≡ false
     by_set None e = ap (λ o. set_loses_image o st.volumes (cleared s v b st).volumes) e
-    by_set (Some r) e = false_of (loses_own_image s st v b) (λ f. h r e (no_slot s st r e v b f))
+    by_set (Some r) e = false_from_ne_true (loses_own_image s st v b) (λ f. h r e (no_slot s st r e v b f))
 
 some_target : (a b : Target) → Some a ≡ Some b → a ≡ b
 some_target a b e = cc
 
-cause_of_write : (s : Plan) (st : State) (lane : ℕ) (o : Op) (t : Target) (act : Act) → act.event ≡ Line lane o → target_of o ≡ Some t → gives_cause s st act.event act.mark ≡ loses_own_image s st t.volume t.block
-cause_of_write s st lane (op.WriteFill v b x) t act e f = ap (λ y. gives_cause s st y act.mark) e ∙ ap (λ (y : Target). loses_own_image s st y.volume y.block) (some_target (record { volume = v; block = b }) t f)
-cause_of_write s st lane (op.WriteStamp v b n) t act e f = ap (λ y. gives_cause s st y act.mark) e ∙ ap (λ (y : Target). loses_own_image s st y.volume y.block) (some_target (record { volume = v; block = b }) t f)
-cause_of_write s st lane o t act e f = absurd cc
+cause_of_write : (s : Plan) (st : State) (lane : ℕ) (o : Op) (t : Target) (act : Act) → act.event ≡ Line lane o → target_of o ≡ Some t
+    → gives_cause s st act.event act.mark ≡ loses_own_image s st t.volume t.block
+cause_of_write s st lane o t act e f = grind (arith, some_target)
 
 pub writes_fail_for_slots : (s : Plan) (so_far : List Act) (act : Act) → WritesFailForSlots s so_far act
 writes_fail_for_slots s so_far act = record {
-  fails = λ lane o t r e f i on h. (fails_for_cause s so_far act).fails r i on (cause_of_write s (state s so_far) lane o t act e f ∙ loses s (state s so_far) r i t.volume t.block (orderly s so_far).numbered h);
+  fails = λ lane o t r e f i on h. (fails_for_cause s so_far act).fails r i on
+      (cause_of_write s (state s so_far) lane o t act e f ∙ loses s (state s so_far) r i t.volume t.block (orderly s so_far).numbered h);
   only = λ lane o t r q e f i g h. no_slot s (state s so_far) r i t.volume t.block (sym (cause_of_write s (state s so_far) lane o t act e f) ∙ (fails_for_cause s so_far act).only r q i g h);
 }

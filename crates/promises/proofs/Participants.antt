@@ -11,9 +11,10 @@ use Rattle.set_agenda.specs.declared.kind.Kind.TheVariants as kind
 use Rattle.set_agenda.specs.Course.{Course, begun, is_member, members_from, prepared as course_prepared, snapshot_begun, released}
 use Rattle.scenario.specs.declared.op.Op.TheVariants.{Prepare, Snapshot}
 use Rattle.vss_model.specs.Sessions.{is_disabled, known_metas, disable, pending, selected, has_no_volume, volumes_of, closed}
-use Rattle.promises.proofs.Truth.{or_false}
 use Rattle.promises.proofs.Members.{is_selected, selected_are}
-use Rattle.promises.proofs.SameChoice.{same_course, SameChoice, same_choice, same_beside, mode_in, on_begun, on_agenda_begun, on_followed, on_failed_in, on_answered, on_ticked, on_stepped, on_write, on_revert}
+use Rattle.promises.proofs.SameChoice.{same_course, SameChoice, same_choice, same_beside, mode_in, on_begun, on_agenda_begun, on_followed, on_failed_in}
+use Rattle.promises.proofs.SameChoice.{on_answered, on_ticked, on_stepped, on_write, on_revert}
+use Rattle.set_agenda.proofs.WriterSets.{or-false}
 
 -- ## who has failed at Identify, in the words of the promise
 
@@ -55,19 +56,21 @@ within : (b c d e : Bool) → d ≡ (c || e) → (b || d) ≡ ((b || c) || e)
 within b c d e f = grind arith
 
 pub pair_added : (test : Pair → Bool) (q : Pair) (ps : List Pair) → list_any test (with_pair q ps) ≡ (list_any test ps || test q)
-pair_added test q [] = or_false (test q)
+pair_added test q [] = or-false (test q)
 pair_added test q (p ∷ ps) = by_place (comes_before q p) (pair_added test q ps)
   where
     by_place : (b : Bool) → list_any test (with_pair q ps) ≡ (list_any test ps || test q) → list_any test (if b then q ∷ p ∷ ps else p ∷ with_pair q ps) ≡ ((test p || list_any test ps) || test q)
     by_place true ih = behind (test q) (test p) (list_any test ps)
     by_place false ih = within (test p) (list_any test ps) (list_any test (with_pair q ps)) (test q) ih
 
-named_if : (w : ℕ) (q : Pair) (ps new : List Pair) (a b : Bool) → naming_if a b q ps ≡ Names new → list_any (λ (p : Pair). p.writer == w) new ≡ (list_any (λ (p : Pair). p.writer == w) ps || (q.writer == w))
+named_if : (w : ℕ) (q : Pair) (ps new : List Pair) (a b : Bool) → naming_if a b q ps ≡ Names new
+    → list_any (λ (p : Pair). p.writer == w) new ≡ (list_any (λ (p : Pair). p.writer == w) ps || (q.writer == w))
 named_if w q ps new false b e = absurd cc
 named_if w q ps new true true e = absurd cc
 named_if w q ps new true false e = let same : with_pair q ps ≡ new = cc in ap (list_any (λ (p : Pair). p.writer == w)) (sym same) ∙ pair_added (λ (p : Pair). p.writer == w) q ps
 
-named_of : (w u : ℕ) (name : List ℕ) (o : Option (Option Meta)) (ps new : List Pair) → naming_of u name o ps ≡ Names new → list_any (λ (p : Pair). p.writer == w) new ≡ (list_any (λ (p : Pair). p.writer == w) ps || (u == w))
+named_of : (w u : ℕ) (name : List ℕ) (o : Option (Option Meta)) (ps new : List Pair) → naming_of u name o ps ≡ Names new
+    → list_any (λ (p : Pair). p.writer == w) new ≡ (list_any (λ (p : Pair). p.writer == w) ps || (u == w))
 named_of w u name None ps new e = absurd cc
 named_of w u name (Some None) ps new e = absurd cc
 named_of w u name (Some (Some m)) ps new e =
@@ -77,7 +80,7 @@ named_of w u name (Some (Some m)) ps new e =
     ]) e
 
 one_disabled : (f : ℕ → Bool) (ds : List ℕ) (u : ℕ) → list_any f (ds ++ u ∷ []) ≡ (list_any f ds || f u)
-one_disabled f ds u = list_any-append f ds (u ∷ []) ∙ ap (λ b. list_any f ds || b) (or_false (f u))
+one_disabled f ds u = list_any-append f ds (u ∷ []) ∙ ap (λ b. list_any f ds || b) (or-false (f u))
 
 pub off : (b : Bool) → false ≡ (b && false)
 off b = grind arith
@@ -108,7 +111,8 @@ module _ (s : Plan) (w : ℕ) (st : State) (c : Choosing) (h : Follows s w st c)
   on_disable : (u : ℕ) (q : Session) → st.session ≡ Some q → Follows s w (disable u st).1 (record c { disabled = c.disabled || (class_of s u == class_of s w) })
   on_disable u q e = grind (arith, standing, stands_on, one_disabled)
 
-  on_name : (u : ℕ) (name : List ℕ) (q : Session) (new : List Pair) → st.session ≡ Some q → naming (known_metas s st) u name st.explicit ≡ Names new → Follows s w (record st { explicit = new }) (record c { named = c.named || (u == w) })
+  on_name : (u : ℕ) (name : List ℕ) (q : Session) (new : List Pair) → st.session ≡ Some q → naming (known_metas s st) u name st.explicit ≡ Names new
+      → Follows s w (record st { explicit = new }) (record c { named = c.named || (u == w) })
   on_name u name q new e f = grind (arith, standing, stands_on, named_of)
 
   -- whom the session chooses
@@ -122,7 +126,9 @@ module _ (s : Plan) (w : ℕ) (st : State) (c : Choosing) (h : Follows s w st c)
   pub asked_are : (q : Session) → st.session ≡ Some q → is_member (asked_by q) w ≡ (is_writer s w && is_chosen (is_unfit st w) c)
   asked_are q e = let k = standing q e in selected_are s st q.mode w h.rows ∙ ap (λ b. is_writer s w && b) (chosen_by q.mode c.all k.mode k.named k.disabled)
 
-  on_prepare : (q : Session) → st.session ≡ Some q → Follows s w (followed true (course_prepared (takers (length s.writers) (selected s q st)) st.clock st.course) st) (record c { takes_part = is_chosen (is_unfit st w) c })
+  on_prepare : (q : Session) → st.session ≡ Some q
+      → Follows s w (followed true (course_prepared (takers (length s.writers) (selected s q st)) st.clock st.course) st)
+      (record c { takes_part = is_chosen (is_unfit st w) c })
   on_prepare q e =
       let k = standing q e in
       let fixed : Course = record st.course { members = asked_by q } in
@@ -156,7 +162,9 @@ module _ (s : Plan) (w : ℕ) (st : State) (c : Choosing) (h : Follows s w st c)
     ticks = λ lane n mark. same _ (on_ticked n st);
     begins = λ lane n all x mark e ctx. on_begin lane all x e (subst (λ (o : Option Session). ChosenIn (mode_in o) s w st c) e h.chosen);
     disables = λ lane u q mark g. on_disable u q g.stands;
-    gathers = λ lane q mark g. same _ (on_agenda_begun kind.Gather _ [] st st (record st.course { rows = map row_gathered st.course.rows }) (same_choice st) (record { disabled = refl; members = refl; rows = length-map st.course.rows row_gathered }));
+    gathers = λ lane q mark g. same _
+        (on_agenda_begun kind.Gather _ [] st st (record st.course { rows = map row_gathered st.course.rows }) (same_choice st)
+        (record { disabled = refl; members = refl; rows = length-map st.course.rows row_gathered }));
     names = λ lane u full q explicit mark g named. on_name u (token s full) q explicit g.stands named;
     starts = λ lane q mark g e. beside _ refl refl (sym (ap mode_in g.stands));
     adds = λ lane v r q mark g e f. beside _ refl refl refl;

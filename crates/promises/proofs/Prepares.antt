@@ -8,9 +8,10 @@ use Rattle.std.specs.Prelude.{◌&&◌, not, if◌then◌else◌, slice_get}
 use Rattle.set_agenda.specs.declared.kind.Kind.TheVariants as kind
 use Rattle.scenario.specs.declared.op.Op.TheVariants.{Prepare}
 use Rattle.vss_model.specs.Sessions.{is_disabled, is_known, known_metas, has_failed_identify, pending, selected, has_no_volume, volumes_of, closed}
-use Rattle.promises.proofs.Truth.{first_both, not_true, second_both}
 use Rattle.promises.proofs.SameChoice.{same_course, same_choice, on_begun, on_agenda_begun, on_followed, on_failed_in, on_answered, on_ticked, on_stepped, on_write, on_revert}
 use Rattle.promises.proofs.Participants.{Follows, standing, asked_by, asked_are, follows_all}
+use Rattle.writer_meta.proofs.Laws.{and_left, and_right}
+use Rattle.set_agenda.proofs.Closings.{unless}
 
 -- ## no other act
 
@@ -38,7 +39,9 @@ module _ (s : Plan) (st : State) where
     ticks = λ lane n mark r g h. (on_ticked n st).course.members;
     begins = λ lane n all c mark e ctx r g h. refl;
     disables = λ lane w q mark e r g h. refl;
-    gathers = λ lane q mark e r g h. (on_agenda_begun kind.Gather _ [] st st (record st.course { rows = map row_gathered st.course.rows }) (same_choice st) (record { disabled = refl; members = refl; rows = length-map st.course.rows row_gathered })).course.members;
+    gathers = λ lane q mark e r g h.
+        (on_agenda_begun kind.Gather _ [] st st (record st.course { rows = map row_gathered st.course.rows }) (same_choice st)
+        (record { disabled = refl; members = refl; rows = length-map st.course.rows row_gathered })).course.members;
     names = λ lane w full q explicit mark e f r g h. refl;
     starts = λ lane q mark e f r g h. refl;
     adds = λ lane v x q mark e f i r g h. refl;
@@ -52,26 +55,31 @@ module _ (s : Plan) (st : State) where
     idles = λ mark e r g h. (on_ticked (idle_now st) st).course.members;
   }
 
-  stay_if : (b : Bool) (act : Act) (r : SetRow) → enabled s st act.event ≡ b → is_prepare act.event ≡ false → in_progress (after s st act) ≡ Some r → (after s st act).course.members ≡ st.course.members
+  stay_if : (b : Bool) (act : Act) (r : SetRow) → enabled s st act.event ≡ b → is_prepare act.event ≡ false → in_progress (after s st act) ≡ Some r
+      → (after s st act).course.members ≡ st.course.members
   stay_if b act r e f g = grind (arith, after_enabled, covered, stays, after_not_enabled)
 
 -- ## a writer that is named is known, so its class is not disabled
 
 pub named_is_known : (s : Plan) (st : State) (w : ℕ) → AreOver (known_metas s st) st.explicit → list_any (λ (p : Pair). p.writer == w) st.explicit ≡ true → is_known s st w ≡ true
 named_is_known s st w over e =
-    subst (λ x. is_known s st x ≡ true) (zero_plus w) (known_at s st 0 s.writers w (named_known (known_metas s st) st.explicit w (first_both (list_all (names_selectable (known_metas s st)) st.explicit) (is_ascending st.explicit) over) e))
+    subst (λ x. is_known s st x ≡ true) (zero_plus w)
+    (known_at s st 0 s.writers w
+    (named_known (known_metas s st) st.explicit w
+    (and_left (list_all (names_selectable (known_metas s st)) st.explicit) (is_ascending st.explicit) over) e))
   where
     zero_plus : (a : ℕ) → 0 + a ≡ a
     zero_plus a = omega arith
 
 named_enabled : (s : Plan) (st : State) (w : ℕ) → AreOver (known_metas s st) st.explicit → list_any (λ (p : Pair). p.writer == w) st.explicit ≡ true → is_disabled s st w ≡ false
-named_enabled s st w over e = not_true (is_disabled s st w) (first_both (not (is_disabled s st w)) (not (has_failed_identify (slice_get st.course.rows w))) (named_is_known s st w over e))
+named_enabled s st w over e = unless (is_disabled s st w) (and_left (not (is_disabled s st w)) (not (has_failed_identify (slice_get st.course.rows w))) (named_is_known s st w over e))
 
 -- ## `prepare`
 
 module _ (s : Plan) (w : ℕ) (st : State) (c : Choosing) (h : Follows s w st c) (over : AreOver (known_metas s st) st.explicit) where
   abbrev Chooses : Event → Mark → Replied → Type 0
-  Chooses event mark x = (lane : ℕ) → event ≡ Line lane Prepare → x.0 ≡ Coded AsyncPending → (is_member x.1.course.members w ≡ (is_writer s w && is_chosen (is_unfit st w) c)) × (is_chosen (is_unfit st w) c ≡ true → c.disabled ≡ false)
+  Chooses event mark x = (lane : ℕ) → event ≡ Line lane Prepare → x.0 ≡ Coded AsyncPending
+      → (is_member x.1.course.members w ≡ (is_writer s w && is_chosen (is_unfit st w) c)) × (is_chosen (is_unfit st w) c ≡ true → c.disabled ≡ false)
 
   both : {X : Type 0} (b : Bool) → b ≡ true → b ≡ false → X
   both b e f = absurd cc
@@ -87,15 +95,20 @@ module _ (s : Plan) (w : ℕ) (st : State) (c : Choosing) (h : Follows s w st c)
 
   enabled_by : (m : Mode) (all : Bool) → m ≡ mode_of all → list_any (λ (p : Pair). p.writer == w) st.explicit ≡ c.named → is_disabled s st w ≡ c.disabled
       → (if all then not c.disabled && not (is_unfit st w) else c.named) ≡ true → c.disabled ≡ false
-  enabled_by m all e named off f = grind (arith, not_true, first_both, named_enabled)
+  enabled_by m all e named off f = grind (arith, unless, and_left, named_enabled)
 
   members_fixed : (q : Session) → (followed true (course_prepared (takers (length s.writers) (selected s q st)) st.clock st.course) st).course.members ≡ asked_by s w st c h q
   members_fixed q =
       let fixed : Course = record st.course { members = asked_by s w st c h q } in
-      (on_followed true (begun kind.Prepare (asked_by s w st c h q) [] st.clock fixed) (record st { course = fixed }) st refl refl (on_begun kind.Prepare (asked_by s w st c h q) [] st.clock fixed)).course.members
+      (on_followed true (begun kind.Prepare (asked_by s w st c h q) [] st.clock fixed) (record st { course = fixed }) st refl refl
+      (on_begun kind.Prepare (asked_by s w st c h q) [] st.clock fixed)).course.members
 
-  prepared_if : (b : Bool) (q : Session) → st.session ≡ Some q → (if b then refused BadState st else pending (course_prepared (takers (length s.writers) (selected s q st)) st.clock st.course) st).0 ≡ Coded AsyncPending
-      → (is_member (if b then refused BadState st else pending (course_prepared (takers (length s.writers) (selected s q st)) st.clock st.course) st).1.course.members w ≡ (is_writer s w && is_chosen (is_unfit st w) c))
+  prepared_if : (b : Bool) (q : Session) → st.session ≡ Some q
+      → (if b then refused BadState st else pending (course_prepared (takers (length s.writers) (selected s q st)) st.clock st.course) st).0
+      ≡ Coded AsyncPending
+      → (is_member (if b then refused BadState st
+      else pending (course_prepared (takers (length s.writers) (selected s q st)) st.clock st.course) st).1.course.members w
+      ≡ (is_writer s w && is_chosen (is_unfit st w) c))
       × (is_chosen (is_unfit st w) c ≡ true → c.disabled ≡ false)
   prepared_if true q e f = absurd cc
   prepared_if false q e f = let k = standing s w st c h q e in (ap (λ ms. is_member ms w) (members_fixed q) ∙ asked_are s w st c h q e, enabled_by q.mode c.all k.mode k.named k.disabled)
@@ -115,6 +128,6 @@ takes_part s so_far act =
       prepared = λ lane w e on told. (chosen_in s w st (choosing s w so_far) (follows_all s w so_far) over act lane e on told).0;
       none_disabled = λ lane w e on told f.
           let x = chosen_in s w st (choosing s w so_far) (follows_all s w so_far) over act lane e on told in
-          x.1 (second_both (is_writer s w) (is_chosen (is_unfit st w) (choosing s w so_far)) (sym x.0 ∙ f));
+          x.1 (and_right (is_writer s w) (is_chosen (is_unfit st w) (choosing s w so_far)) (sym x.0 ∙ f));
       stay = λ r e f. stay_if s st (enabled s st act.event) act r refl e f;
     }

@@ -8,13 +8,13 @@ use Rattle.promises.proofs.Words.{ByGather, ByStart, ByPrepare, BySnapshot, ByCo
 use Rattle.promises.proofs.Words.{HasItsContext, set_fails, Covers, ChangesNothing, covered, after_enabled, after_not_enabled, some_same, append_nothing}
 use Rattle.std.proofs.Common.{◌≡◌, ◌∙◌, ℕ, List, [], ◌∷◌, ◌++◌, Option, Some, None, refl, Bool, true, false, ap, sym, subst, inl, inr, fold, arith}
 use Rattle.std.specs.Prelude.{is_some, option_map, option_and_then, if◌then◌else◌, length}
+use Rattle.std.proofs.lemmas.Bool.{and_parts}
 use Rattle.set_agenda.specs.declared.kind.Kind.TheVariants as kind
 use Rattle.requestor.specs.declared.stage.Stage.TheVariants.{Opened, Gathered, Started, Prepared, Done, Finished, Failed}
 use Rattle.requestor.specs.declared.session_call.SessionCall.TheVariants as call
 use Rattle.scenario.specs.declared.op.Op.TheVariants as op
 use Rattle.vss_model.specs.declared.event.Event.TheVariants.{Line, Answer as AnswerEvent, Provider, Idle}
 use Rattle.vss_model.specs.Sessions.{selected, start_set, has_no_volume, volumes_of, pending, new_number, closed}
-use Rattle.promises.proofs.Truth.{both_parts}
 use Rattle.promises.proofs.CalmCourses.{calm_begun}
 use Rattle.promises.proofs.SetFailures.{failure_at}
 use Rattle.promises.proofs.Turns.{Turn, quiet_turn, write_turn, revert_turn, begun_turn, answer_turn, tick_turn, step_turn, abort_turn, add_turn, none_started}
@@ -98,17 +98,22 @@ module _ (s : Plan) (so_far : List Act) (p : Progress) where
     abbrev Next : Event → Mark → Replied → Type 0
     Next event mark x = Stands x.1 (progress_after st event x.0 x.1 p)
 
-    comes_to : (event : Event) (told : Reply) (x : State) (to : Progress) (b : Bool) → event_brings event told p ≡ to → set_fails (in_progress st) x ≡ b → progress_after st event told x p ≡ lost_if b to
+    comes_to : (event : Event) (told : Reply) (x : State) (to : Progress) (b : Bool) → event_brings event told p ≡ to → set_fails (in_progress st) x ≡ b
+        → progress_after st event told x p ≡ lost_if b to
     comes_to event told x to b e f = ap (λ c. lost_if c (event_brings event told p)) f ∙ ap (lost_if b) e
 
-    on_failed : (why : VssResult) (o : Option Session) (to : Progress) (busy : Bool) → ((q : Session) → o ≡ Some q → (number_of q.context ≡ to.context) × (q.mode ≡ mode_of to.all)) → (own : Session) → option_map (set_failed why) o ≡ Some own → StandsAt own busy (record to { step = ByFailure })
+    on_failed : (why : VssResult) (o : Option Session) (to : Progress) (busy : Bool)
+        → ((q : Session) → o ≡ Some q → (number_of q.context ≡ to.context) × (q.mode ≡ mode_of to.all)) → (own : Session)
+        → option_map (set_failed why) o ≡ Some own → StandsAt own busy (record to { step = ByFailure })
     on_failed why None to busy k own e = absurd cc
-    on_failed why (Some q) to busy k own e = subst (λ (y : Session). StandsAt y busy (record to { step = ByFailure })) (some_same (set_failed why q) own e) (record { context = (k q refl).0; mode = (k q refl).1; stage = come_failed busy why q })
+    on_failed why (Some q) to busy k own e = subst (λ (y : Session). StandsAt y busy (record to { step = ByFailure })) (some_same (set_failed why q) own e)
+        (record { context = (k q refl).0; mode = (k q refl).1; stage = come_failed busy why q })
 
     on_ended : (o : Option Session) (to : Progress) → ((q : Session) → o ≡ Some q → StandsAt q true to) → (own : Session) → option_map agenda_ended o ≡ Some own → StandsAt own false to
     on_ended o to k own e = grind arith
 
-    by_turn : (event : Event) (told : Reply) (x : State) (ran : Bool) (to : Progress) → event_brings event told p ≡ to → ((q : Session) → st.session ≡ Some q → StandsAt q ran to) → Turn st x ran → Stands x (progress_after st event told x p)
+    by_turn : (event : Event) (told : Reply) (x : State) (ran : Bool) (to : Progress) → event_brings event told p ≡ to
+        → ((q : Session) → st.session ≡ Some q → StandsAt q ran to) → Turn st x ran → Stands x (progress_after st event told x p)
     by_turn event told x ran to e k (inl t) own i =
         subst (StandsAt own (runs x)) (sym (comes_to event told x to true e (set_so (in_progress st) x ∙ ap is_some t.failure)))
         (on_failed t.why st.session to (runs x) (λ q j. ((k q j).context, (k q j).mode)) own (sym t.session ∙ i))
@@ -122,17 +127,21 @@ module _ (s : Plan) (so_far : List Act) (p : Progress) where
     goes : (event : Event) (told : Reply) (x : State) → event_brings event told p ≡ p → Turn st x (runs st) → Stands x (progress_after st event told x p)
     goes event told x e t = by_turn event told x (runs st) p e h t
 
-    quiet : (event : Event) (told : Reply) (x : State) → event_brings event told p ≡ p → x.session ≡ st.session → ((n : ℕ) → failure_at x.sets n ≡ failure_at st.sets n) → runs x ≡ runs st → Stands x (progress_after st event told x p)
+    quiet : (event : Event) (told : Reply) (x : State) → event_brings event told p ≡ p → x.session ≡ st.session
+        → ((n : ℕ) → failure_at x.sets n ≡ failure_at st.sets n) → runs x ≡ runs st → Stands x (progress_after st event told x p)
     quiet event told x e f g i = goes event told x e (quiet_turn s so_far x f g i)
 
     -- an agenda begins in the session q
-    on_begun : (lane : ℕ) (o : Op) (to : Step) (q : Session) (c : Course) → line_brings o (Coded AsyncPending) p ≡ record p { step = to } → st.session ≡ Some q → stage_after q.context q.stage ≡ stage_of to → (has_failed st.course.outcome ≡ false → has_failed c.outcome ≡ false)
+    on_begun : (lane : ℕ) (o : Op) (to : Step) (q : Session) (c : Course) → line_brings o (Coded AsyncPending) p ≡ record p { step = to } → st.session ≡ Some q
+        → stage_after q.context q.stage ≡ stage_of to → (has_failed st.course.outcome ≡ false → has_failed c.outcome ≡ false)
         → Stands (followed true c st) (progress_after st (Line lane o) (Coded AsyncPending) (followed true c st) p)
     on_begun lane o to q c e f g calm =
         by_turn (Line lane o) (Coded AsyncPending) (followed true c st) true (record p { step = to }) e
-        (λ x i. subst (λ (y : Session). StandsAt y true (record p { step = to })) (some_same q x (sym f ∙ i)) (record { context = (h q f).context; mode = (h q f).mode; stage = g })) (begun_turn s so_far c calm)
+        (λ x i. subst (λ (y : Session). StandsAt y true (record p { step = to })) (some_same q x (sym f ∙ i))
+        (record { context = (h q f).context; mode = (h q f).mode; stage = g })) (begun_turn s so_far c calm)
 
-    begun_if : (b : Bool) (lane : ℕ) (o : Op) (mark : Mark) (to : Step) (q : Session) (c : Course) → line_brings o (Coded BadState) p ≡ p → line_brings o (Coded AsyncPending) p ≡ record p { step = to } → st.session ≡ Some q → stage_after q.context q.stage ≡ stage_of to
+    begun_if : (b : Bool) (lane : ℕ) (o : Op) (mark : Mark) (to : Step) (q : Session) (c : Course) → line_brings o (Coded BadState) p ≡ p
+        → line_brings o (Coded AsyncPending) p ≡ record p { step = to } → st.session ≡ Some q → stage_after q.context q.stage ≡ stage_of to
         → (has_failed st.course.outcome ≡ false → has_failed c.outcome ≡ false) → Next (Line lane o) mark (if b then refused BadState st else pending c st)
     begun_if true lane o mark to q c d e f g calm = quiet (Line lane o) (Coded BadState) st d refl (λ n. refl) refl
     begun_if false lane o mark to q c d e f g calm = on_begun lane o to q c e f g calm
@@ -151,19 +160,26 @@ module _ (s : Plan) (so_far : List Act) (p : Progress) where
         by_set None i = refl
         by_set (Some r) i = absurd i
 
-    on_opened : (lane n : ℕ) (all : Bool) (c : Context) → st.session ≡ None → context_of n all ≡ Some c → Next (Line lane (op.Begin n all)) Clean (Fine, record st { session = Some (opened lane c all); explicit = [] })
+    on_opened : (lane n : ℕ) (all : Bool) (c : Context) → st.session ≡ None → context_of n all ≡ Some c
+        → Next (Line lane (op.Begin n all)) Clean (Fine, record st { session = Some (opened lane c all); explicit = [] })
     on_opened lane n all c e f own i =
         let x : State = record st { session = Some (opened lane c all); explicit = [] } in
         subst (StandsAt own (runs x)) (sym (comes_to (Line lane (op.Begin n all)) Fine x (record { context = n; all = all; step = ByBegin }) false refl (no_set e x)))
         (subst (λ (y : Session). StandsAt y (runs x) (record { context = n; all = all; step = ByBegin })) (some_same (opened lane c all) own i)
-        (subst (λ b. StandsAt (opened lane c all) b (record { context = n; all = all; step = ByBegin })) (sym (no_agenda st.course.agenda (subst (IsAgendaOf st.course.agenda) e (orderly s so_far).agenda))) (record { context = context_is n all c f; mode = refl; stage = refl })))
+        (subst (λ b. StandsAt (opened lane c all) b (record { context = n; all = all; step = ByBegin }))
+        (sym (no_agenda st.course.agenda (subst (IsAgendaOf st.course.agenda) e (orderly s so_far).agenda)))
+        (record { context = context_is n all c f; mode = refl; stage = refl })))
 
-    on_start : (lane : ℕ) (q : Session) → LetsGo call.Start q st → makes_set q.stage ≡ false → Stands (start_set q st).1 (progress_after st (Line lane op.Start) (start_set q st).0 (start_set q st).1 p)
+    on_start : (lane : ℕ) (q : Session) → LetsGo call.Start q st → makes_set q.stage ≡ false
+        → Stands (start_set q st).1 (progress_after st (Line lane op.Start) (start_set q st).0 (start_set q st).1 p)
     on_start lane q g e own i =
         let x = (start_set q st).1 in
-        subst (StandsAt own (runs st)) (sym (comes_to (Line lane op.Start) (start_set q st).0 x (record p { step = ByStart }) false refl (set_so (in_progress st) x ∙ ap is_some (none_started s so_far q x g.stands e))))
+        subst (StandsAt own (runs st))
+        (sym (comes_to (Line lane op.Start) (start_set q st).0 x (record p { step = ByStart }) false refl
+        (set_so (in_progress st) x ∙ ap is_some (none_started s so_far q x g.stands e))))
         (subst (λ (y : Session). StandsAt y (runs st) (record p { step = ByStart })) (some_same (session_started (new_number st) q) own i)
-        (subst (λ b. StandsAt (session_started (new_number st) q) b (record p { step = ByStart })) (sym g.quiet) (record { context = (h q g.stands).context; mode = (h q g.stands).mode; stage = refl })))
+        (subst (λ b. StandsAt (session_started (new_number st) q) b (record p { step = ByStart })) (sym g.quiet)
+        (record { context = (h q g.stands).context; mode = (h q g.stands).mode; stage = refl })))
 
     stands_on : Covers Next s st
     stands_on = record {
@@ -175,16 +191,21 @@ module _ (s : Plan) (so_far : List Act) (p : Progress) where
       ticks = λ lane n mark. goes (Line lane (op.Tick n)) Fine _ refl (tick_turn s so_far n);
       begins = λ lane n all c mark e f. on_opened lane n all c e f;
       disables = λ lane w q mark g. quiet (Line lane (op.Disable w)) Fine _ refl refl (λ m. refl) refl;
-      gathers = λ lane q mark g. on_begun lane op.Gather ByGather q _ refl g.stands (ap (stage_after q.context) (is_opened q.stage (both_parts (is_stage q.stage Opened) (has_writers q.context) g.allowed).0)) (calm_begun kind.Gather _ [] st.clock _);
+      gathers = λ lane q mark g. on_begun lane op.Gather ByGather q _ refl g.stands
+          (ap (stage_after q.context) (is_opened q.stage (and_parts (is_stage q.stage Opened) (has_writers q.context) g.allowed).0))
+          (calm_begun kind.Gather _ [] st.clock _);
       names = λ lane w full q explicit mark g named. quiet (Line lane (op.Component w full)) Fine _ refl refl (λ m. refl) refl;
       starts = λ lane q mark g e. on_start lane q g e;
       adds = λ lane v r q mark g e f. goes (Line lane (op.Add v)) Fine _ refl (add_turn s so_far v r);
-      prepares = λ lane q mark g. let may = both_parts (is_stage q.stage Started) (has_writers q.context) g.allowed in
+      prepares = λ lane q mark g. let may = and_parts (is_stage q.stage Started) (has_writers q.context) g.allowed in
           begun_if (has_no_volume (in_progress st)) lane op.Prepare mark ByPrepare q (prepared (takers (length s.writers) (selected s q st)) st.clock st.course) refl refl g.stands
           (ap (stage_after q.context) (is_started q.stage may.0) ∙ prepares q.context may.1) (calm_begun kind.Prepare _ [] st.clock _);
-      snapshots = λ lane q mark g. begun_if (has_no_volume (in_progress st)) lane op.Snapshot mark BySnapshot q (snapshot_begun (volumes_of (in_progress st)) st.clock st.course) refl refl g.stands (snapshots q.context q.stage g.allowed)
+      snapshots = λ lane q mark g. begun_if (has_no_volume (in_progress st)) lane op.Snapshot mark BySnapshot q
+          (snapshot_begun (volumes_of (in_progress st)) st.clock st.course) refl refl g.stands (snapshots q.context q.stage g.allowed)
           (calm_begun kind.Snapshot st.course.members _ st.clock st.course);
-      completes = λ lane q mark g. on_begun lane op.Complete ByComplete q _ refl g.stands (ap (stage_after q.context) (is_done q.stage (both_parts (is_stage q.stage Done) (has_writers q.context) g.allowed).0)) (calm_begun kind.Complete _ [] st.clock st.course);
+      completes = λ lane q mark g. on_begun lane op.Complete ByComplete q _ refl g.stands
+          (ap (stage_after q.context) (is_done q.stage (and_parts (is_stage q.stage Done) (has_writers q.context) g.allowed).0))
+          (calm_begun kind.Complete _ [] st.clock st.course);
       aborts = λ lane q mark e. goes (Line lane op.Abort) Fine _ refl (abort_turn s so_far);
       ends = λ lane q mark e. on_close (Line lane op.End) Fine q (failed AsyncCancelled st);
       answers = λ w answer mark e. goes (AnswerEvent w answer) (answer_reply (order_of_writer st w) answer) _ refl (answer_turn s so_far w (said_of answer));
@@ -193,7 +214,8 @@ module _ (s : Plan) (so_far : List Act) (p : Progress) where
     }
 
     stands_if : (b : Bool) (act : Act) → enabled s st act.event ≡ b → Stands (after s st act) (progress_if b s st p act)
-    stands_if true act e = let same = after_enabled s st act e in subst (λ (x : State). Stands x (progress_after st act.event (reply s st act) x p)) (sym same) (covered Next s st stands_on act.event act.mark e)
+    stands_if true act e = let same = after_enabled s st act e
+        in subst (λ (x : State). Stands x (progress_after st act.event (reply s st act) x p)) (sym same) (covered Next s st stands_on act.event act.mark e)
     stands_if false act e = subst (λ (x : State). Stands x p) (sym (after_not_enabled s st act e)) h
 
 -- ## every list of acts
@@ -209,7 +231,8 @@ StandsSo s so_far = (own : Session) → (state s so_far).session ≡ Some own �
 stands_next : (s : Plan) (so_far : List Act) (act : Act) → StandsSo s so_far → StandsSo s (so_far ++ act ∷ [])
 stands_next s so_far act h =
     subst (λ (x : State). (own : Session) → x.session ≡ Some own → StandsAt own (runs x) (progress s (so_far ++ act ∷ []))) (sym (state-append s so_far act))
-    (subst (λ q. (own : Session) → (after s (state s so_far) act).session ≡ Some own → StandsAt own (runs (after s (state s so_far) act)) q) (sym (progress_from-append s (start s) (record { context = 0; all = false; step = ByBegin }) so_far act))
+    (subst (λ q. (own : Session) → (after s (state s so_far) act).session ≡ Some own → StandsAt own (runs (after s (state s so_far) act)) q)
+    (sym (progress_from-append s (start s) (record { context = 0; all = false; step = ByBegin }) so_far act))
     (stands_if s so_far (progress s so_far) h (enabled s (state s so_far) act.event) act refl))
 
 stands_from : (s : Plan) (so_far acts : List Act) → StandsSo s so_far → StandsSo s (so_far ++ acts)

@@ -1,5 +1,6 @@
 -- `properties` tells a kept image: its set's context, the clock at the cut, and the slots that it uses.
-use Rattle.promises.proofs.Words.{range_with_len, AreInTime, images_in_time, is_overwritten, Write, Image, point_in, named, names, used_by, writes_since, Plan, blocks_of, Line, PropertiesOf, State, SetRow, Kept, kept_of, kept_image, row_of, history_of}
+use Rattle.promises.proofs.Words.{range_with_len, AreInTime, images_in_time, is_overwritten, Write, Image, point_in, named, names, used_by, writes_since, Plan}
+use Rattle.promises.proofs.Words.{blocks_of, Line, PropertiesOf, State, SetRow, Kept, kept_of, kept_image, row_of, history_of}
 use Rattle.promises.proofs.Words.{properties, Act, happens, reply, state, row_number, TellsTheImage, PropertiesTell, some_same}
 use Rattle.std.proofs.Common.{◌≡◌, ◌∙◌, ℕ, ◌==◌, List, [], ◌∷◌, Option, Some, None, refl, Bool, true, false, ap, sym, arith}
 use Rattle.std.specs.Prelude.{drop, filter, is_some, option_map, unwrap_or, if◌then◌else◌, length}
@@ -17,8 +18,7 @@ row_of_kept row o k e = grind arith
 -- ## the slots that it uses
 
 filter_along : (f g : ℕ → Bool) → ((b : ℕ) → f b ≡ g b) → (bs : List ℕ) → filter f bs ≡ filter g bs
-filter_along f g same [] = refl
-filter_along f g same (b ∷ bs) = ap (λ (c : Bool). if c then b ∷ filter f bs else filter f bs) (same b) ∙ ap (λ xs. if g b then b ∷ xs else xs) (filter_along f g same bs)
+filter_along f g same bs = grind arith
 
 uses : (n set p : ℕ) (ws : List Write) (images : List Image) → AreInTime (length ws) images → point_in set images ≡ Some p
     → used_by n ws images set ≡ Some (overwritten n set p (record { writes = ws; images = images }))

@@ -30,7 +30,8 @@ module _ (s : Plan) (st : State) where
       by_name : (b : Bool)
           → (is_accepted (named_as (naming_found w (found_from name (i + 1) ps) named) st).0 ≡ false → (named_as (naming_found w (found_from name (i + 1) ps) named) st).0 ≡ name_refusal_in name ps)
           → is_accepted (named_as (naming_found w (if b then Some (record { component = i; selectable = p.selectable }) else found_from name (i + 1) ps) named) st).0 ≡ false
-          → (named_as (naming_found w (if b then Some (record { component = i; selectable = p.selectable }) else found_from name (i + 1) ps) named) st).0 ≡ (if b then (if p.selectable then Coded ObjectAlreadyExists else NotSelectable) else name_refusal_in name ps)
+          → (named_as (naming_found w (if b then Some (record { component = i; selectable = p.selectable }) else found_from name (i + 1) ps) named) st).0
+          ≡ (if b then (if p.selectable then Coded ObjectAlreadyExists else NotSelectable) else name_refusal_in name ps)
       by_name true ih e = one p.selectable (has_pair named w i) e
       by_name false ih e = ih e
 
@@ -45,7 +46,8 @@ module _ (s : Plan) (st : State) where
 
   add_refused : (v : ℕ) (o : Option SetRow) → is_accepted (add v o st).0 ≡ false → (add v o st).0 ≡ place_refusal v o
   add_refused v None e = refl
-  add_refused v (Some r) e = by_tests (is_among v r.volumes) (nat_le most_volumes (length r.volumes)) (nat_lt (length r.volumes) 64) (nat_le most_images (length (history_of st v).images)) (not_full (length r.volumes)) e
+  add_refused v (Some r) e = by_tests (is_among v r.volumes) (nat_le most_volumes (length r.volumes)) (nat_lt (length r.volumes) 64)
+      (nat_le most_images (length (history_of st v).images)) (not_full (length r.volumes)) e
     where
       not_full : (n : ℕ) → nat_le most_volumes n ≡ not (nat_lt n 64)
       not_full n = grind arith
@@ -121,7 +123,8 @@ module _ (s : Plan) (so_far : List Act) (lane : ℕ) where
       by_session (Some q) f =
           let is = called_is c o q f same beside waits in
           is
-          ∙ parts (q.owner == lane) (is_start c && makes_set q.stage) (runs st) (allows q.stage (has_writers q.context) c) (comes_now p o) (session_line s lane o q st).0 (want_refusal s st p o) (order_refusal o (in_progress st))
+          ∙ parts (q.owner == lane) (is_start c && makes_set q.stage) (runs st) (allows q.stage (has_writers q.context) c) (comes_now p o)
+          (session_line s lane o q st).0 (want_refusal s st p o) (order_refusal o (in_progress st))
           (in_order q f) (start q f) (idle q f) (wants q (stands_all s so_far q f).mode) (ap is_accepted (sym is) ∙ e)
           ∙ ap (λ x. Told x o) (sym f)
 
@@ -157,13 +160,17 @@ module _ (s : Plan) (so_far : List Act) (lane : ℕ) where
   refused_line (op.Disable x) mark e = other_call call.Disable (op.Disable x) refl refl refl refl (ap (λ b. b && w) (same_stage p.step ByBegin)) refl (λ q f g. never g)
   refused_line op.Gather mark e = other_call call.Gather op.Gather refl refl refl refl (ap (λ b. b && w) (same_stage p.step ByBegin)) refl (λ q f g. never g)
   refused_line (op.Component x full) mark e =
-      other_call call.Component (op.Component x full) refl refl refl refl (ap (λ b. (b || is_stage (stage_of p.step) Started) && w) (same_stage p.step ByGather) ∙ ap (λ b. (is_step p.step ByGather || b) && w) (same_stage p.step ByStart)) refl
+      other_call call.Component (op.Component x full) refl refl refl refl
+      (ap (λ b. (b || is_stage (stage_of p.step) Started) && w) (same_stage p.step ByGather)
+      ∙ ap (λ b. (is_step p.step ByGather || b) && w) (same_stage p.step ByStart)) refl
       (λ q f g. component_refused s st x (token s full) q.mode p.all f g)
   refused_line op.Document mark e = other_call call.Document op.Document refl refl refl refl (ap (λ b. not b && w) (same_stage p.step ByBegin)) refl (λ q f g. never g)
   refused_line op.Start mark e = refused_call call.Start op.Start refl refl refl (start_stage p.step w) start_now start_idle (λ q f g. never g)
   refused_line (op.Add v) mark e = other_call call.Add (op.Add v) refl refl refl refl (same_stage p.step ByStart) refl (λ q f g. add_refused s st v (in_progress st) g)
-  refused_line op.Prepare mark e = other_call call.Prepare op.Prepare refl refl refl refl (ap (λ b. b && w) (same_stage p.step ByStart)) refl (λ q f g. volume_refused s st (has_no_volume (in_progress st)) _ _ refl refl g)
-  refused_line op.Snapshot mark e = other_call call.Snapshot op.Snapshot refl refl refl refl (either_stage p.step w) refl (λ q f g. volume_refused s st (has_no_volume (in_progress st)) _ _ refl refl g)
+  refused_line op.Prepare mark e = other_call call.Prepare op.Prepare refl refl refl refl (ap (λ b. b && w) (same_stage p.step ByStart)) refl
+      (λ q f g. volume_refused s st (has_no_volume (in_progress st)) _ _ refl refl g)
+  refused_line op.Snapshot mark e = other_call call.Snapshot op.Snapshot refl refl refl refl (either_stage p.step w) refl
+      (λ q f g. volume_refused s st (has_no_volume (in_progress st)) _ _ refl refl g)
   refused_line op.Complete mark e = other_call call.Complete op.Complete refl refl refl refl (ap (λ b. b && w) (same_stage p.step BySnapshot)) refl (λ q f g. never g)
   refused_line o mark e = absurd cc
 

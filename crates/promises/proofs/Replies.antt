@@ -6,8 +6,8 @@ use Rattle.write_history.specs.declared.mark.Mark.TheVariants.{Fault}
 use Rattle.vss_model.specs.Reply.{Faulted}
 use Rattle.std.proofs.Common.{◌≡◌, ◌∙◌, ℕ, ◌==◌, List, [], ◌∷◌, Option, Some, None, refl, Bool, true, false, ap, sym, map, filter, arith}
 use Rattle.std.specs.Prelude.{◌&&◌, ◌||◌, is_some, if◌then◌else◌}
-use Rattle.promises.proofs.Truth.{equal}
 use Rattle.promises.proofs.Participants.{off}
+use Rattle.scenario.proofs.Places.{number_is}
 
 -- ## the point of a kept image
 
@@ -50,13 +50,15 @@ listed st n (i ∷ images) = by_head (i.set == n) (is_kept_set st i.set) (is_kep
     point true e = ap (λ x. is_some (if x then Some i.point else point_in n images)) e
     point false e = ap (λ x. is_some (if x then Some i.point else point_in n images)) e
 
-    by_head : (c d b : Bool) → (i.set == n) ≡ c → is_kept_set st i.set ≡ d → is_kept_set st n ≡ b → is_among n (sets_of (filter (λ j. is_kept_set st j.set) images)) ≡ (is_kept_set st n && is_some (point_in n images))
-        → is_among n (sets_of (if is_kept_set st i.set then i ∷ filter (λ j. is_kept_set st j.set) images else filter (λ j. is_kept_set st j.set) images)) ≡ (is_kept_set st n && is_some (point_in n (i ∷ images)))
+    by_head : (c d b : Bool) → (i.set == n) ≡ c → is_kept_set st i.set ≡ d → is_kept_set st n ≡ b
+        → is_among n (sets_of (filter (λ j. is_kept_set st j.set) images)) ≡ (is_kept_set st n && is_some (point_in n images))
+        → is_among n (sets_of (if is_kept_set st i.set then i ∷ filter (λ j. is_kept_set st j.set) images else filter (λ j. is_kept_set st j.set) images))
+        ≡ (is_kept_set st n && is_some (point_in n (i ∷ images)))
     by_head true true b e f g ih =
-        let kept_too : is_kept_set st n ≡ true = ap (is_kept_set st) (sym (equal i.set n e)) ∙ f in
+        let kept_too : is_kept_set st n ≡ true = ap (is_kept_set st) (sym (number_is i.set n e)) ∙ f in
         rw f (rw kept_too (among true (sets_of (filter (λ j. is_kept_set st j.set) images)) e ∙ sym (point true e)))
     by_head true false b e f g ih =
-        let not_kept : is_kept_set st n ≡ false = ap (is_kept_set st) (sym (equal i.set n e)) ∙ f in
+        let not_kept : is_kept_set st n ≡ false = ap (is_kept_set st) (sym (number_is i.set n e)) ∙ f in
         rw f (ih ∙ rw not_kept refl)
     by_head false true b e f g ih =
         rw f (among false (sets_of (filter (λ j. is_kept_set st j.set) images)) e ∙ ih ∙ ap (λ x. is_kept_set st n && x) (sym (point false e)))
@@ -95,12 +97,10 @@ module _ (s : Plan) (so_far : List Act) (act : Act) where
       }
 
   block_failed : (lane n v b : ℕ) (o : Option Kept) → kept_image st n v ≡ o → is_some o ≡ true → act.event ≡ Line lane (ImageBlock n v b) → act.mark ≡ Fault → reply s st act ≡ Faulted
-  block_failed lane n v b None e f g h = absurd cc
-  block_failed lane n v b (Some k) e f g h = told lane (ImageBlock n v b) Fault g h ∙ ap (λ o. (image_block v b o Fault st).0) e
+  block_failed lane n v b o e f g h = grind (arith, told)
 
   image_failed : (lane n v : ℕ) (o : Option Kept) → kept_image st n v ≡ o → is_some o ≡ true → act.event ≡ Line lane (ImageDigest n v) → act.mark ≡ Fault → reply s st act ≡ Faulted
-  image_failed lane n v None e f g h = absurd cc
-  image_failed lane n v (Some k) e f g h = told lane (ImageDigest n v) Fault g h ∙ ap (λ o. (image_blocks s v o Fault st).0) e
+  image_failed lane n v o e f g h = grind (arith, told)
 
 pub replies_tell : (s : Plan) (so_far : List Act) (act : Act) → RepliesTell s so_far act
 replies_tell s so_far act =

@@ -1,29 +1,34 @@
 -- A writer's row changes by what is said, by its set's failure, by `gather` and by `end`, and by nothing else.
-use Rattle.promises.proofs.Words.{SetOutcome, VssResult, InsufficientStorage, AsyncCancelled, AsyncPending, BadState, Timeout, WriterState, Unknown, Order, Identify, Said, WriterRow, is_ok, is_failed}
+use Rattle.promises.proofs.Words.{SetOutcome, VssResult, InsufficientStorage, AsyncCancelled, AsyncPending, BadState, WriterState, Order, Said, WriterRow, is_failed}
 use Rattle.promises.proofs.Words.{after_ok, failed_at, stable_again, row_after, row_aborted, row_ended, row_gathered, one_more, Mark, Clean, Fault, FaultAfter, Write, said_of, Group, Orders}
-use Rattle.promises.proofs.Words.{PreCommit, Flush, Hold, Cut, Commit, Release, PostCommit, Gather, Prepare, Snapshot, Complete, Open, open_group, open_order, next_volume, order_of, order_if}
+use Rattle.promises.proofs.Words.{Gather, Prepare, Snapshot, Complete, Open, open_group, open_order, next_volume, order_of, order_if}
 use Rattle.promises.proofs.Words.{order_now, is_among, is_asked, is_orders, is_working, waits_now, Running as RunningLimit, spent_of, Session, Op, Target, target_of, Plan, Event, State, SetRow, Kept}
-use Rattle.promises.proofs.Words.{is_running, in_progress, left_now, row_of, row_settled, followed, runs, failed_in, failed, Reply, Fine, Coded, Deleted, Idled, line_ticks, lost_after, Act}
-use Rattle.promises.proofs.Words.{order_of_writer, answer_reply, step_reply, reply, idle_now, after, state, is_veto, is_refused, is_late, is_fault, is_flush_step, loses_own_image, gives_cause}
+use Rattle.promises.proofs.Words.{is_running, in_progress, left_now, row_of, row_settled, followed, runs, failed_in, failed, Reply, Fine, Coded, Deleted, Idled, line_ticks, Act}
+use Rattle.promises.proofs.Words.{order_of_writer, answer_reply, step_reply, idle_now, after, state, is_refused, is_late, is_fault, is_flush_step, loses_own_image, gives_cause}
 use Rattle.promises.proofs.Words.{NumberedFrom, has_failed, IsFailed, outcome_is_running, orderly, running_found, row_running, row_fails, set_fails, row_said, at_rest, row_told, row_asked, row_over}
 use Rattle.promises.proofs.Words.{state_at_ok, state_at_failure, speaks, said_by, asks_anew, ends_session, row_by, row_next, RowsChange, Covers, ChangesNothing, covered, after_enabled, by_if}
-use Rattle.std.proofs.Common.{◌≡◌, ◌∙◌, ℕ, ◌+◌, List, [], ◌∷◌, Option, Some, None, refl, Bool, true, false, ap, sym, subst, inl, inr, map}
-use Rattle.std.specs.Prelude.{◌&&◌, not, is_some, find, ◌==◌, if◌then◌else◌, slice_get}
+use Rattle.std.proofs.Common.{◌≡◌, ◌∙◌, ℕ, ◌+◌, List, [], ◌∷◌, Option, Some, None, refl, Bool, true, false, ap, sym, subst, inl, inr, map, arith}
+use Rattle.std.specs.Prelude.{◌&&◌, is_some, find, ◌==◌, if◌then◌else◌}
+use Rattle.std.proofs.lemmas.Bool.{and_parts, false_from_ne_true}
 use Rattle.vss_names.specs.declared.set_outcome.SetOutcome.TheVariants.{Running as RunningSet}
-use Rattle.writer_state.specs.declared.said.Said.TheVariants.{Ok, Veto, Lost}
+use Rattle.writer_state.specs.declared.said.Said.TheVariants.{Lost}
 use Rattle.writer_calls.specs.declared.answer.Answer.{Answer}
-use Rattle.set_agenda.specs.Course.{Course, posted, failed as course_failed, released, row_if, limits_now, lost_at, is_member, is_decisive, answered as course_answered, stepped as course_stepped, timed as course_timed}
+use Rattle.set_agenda.specs.Course.{Course, posted, failed as course_failed, released, row_if, limits_now, lost_at, is_member, is_decisive}
+use Rattle.set_agenda.specs.Course.{answered as course_answered, stepped as course_stepped, timed as course_timed}
 use Rattle.scenario.specs.declared.op.Op.TheVariants as op
 use Rattle.vss_model.specs.declared.event.Event.TheVariants.{Line, Answer as AnswerEvent, Provider, Idle}
 use Rattle.vss_model.specs.Images.{Replied, refused, cleared, set_loses_image, with_room_if, put, write, reverted_as}
 use Rattle.vss_model.specs.Sessions.{disable, has_no_volume, start_set, closed, end_session}
 use Rattle.vss_model.specs.Steps.{answered, step_made, is_flush, is_failed_step, stepped_as, stepped, ticked, later}
-use Rattle.promises.proofs.Truth.{both_parts, equal, false_of, not_both, or_false}
-use Rattle.promises.proofs.CourseRows.{Becomes, as_it_is, and_told, same_rows, rows_map_are, rise_failed, stay_begun, say_to, refuses, comes_answered, Comes, stay_stepped, rise_stepped, lost_by, PassesOrFails, over_timed}
+use Rattle.promises.proofs.CourseRows.{Becomes, as_it_is, and_told, same_rows, rows_map_are, rise_failed, stay_begun, say_to, refuses, comes_answered, Comes}
+use Rattle.promises.proofs.CourseRows.{stay_stepped, rise_stepped, lost_by, PassesOrFails, over_timed}
 use Rattle.promises.proofs.BusyAgendas.{IsBusy, busy_order, busy_step, busy_set, course_followed}
 use Rattle.promises.proofs.Failing.{fails_for_cause, same_consent, same_veto, refused_fails, falls, followed_sets, failed_fails, write_fails}
 use Rattle.promises.proofs.Limits.{timed_fails}
 use Rattle.promises.proofs.Times.{late_is_due}
+use Rattle.scenario.proofs.Places.{number_is}
+use Rattle.set_agenda.proofs.WriterSets.{or-false}
+use Rattle.vss_model.proofs.Orderly.{true_not_false}
 
 module _ (s : Plan) (so_far : List Act) where
   abbrev st : State
@@ -53,15 +58,15 @@ module _ (s : Plan) (so_far : List Act) where
   is_busy b = busy_set st.course.agenda st.session st.course.outcome (in_progress st) b (orderly s so_far).agenda (orderly s so_far).session
 
   with_set : (o : Option SetRow) (X : Type 0) → is_some o ≡ true → ((r : SetRow) → o ≡ Some r → X) → X
-  with_set None X e f = absurd cc
-  with_set (Some r) X e f = f r refl
+  with_set o x1 e f = grind arith
 
   -- ## whether the set fails
 
   falls_true : (x : State) (r : SetRow) → in_progress st ≡ Some r → IsFailed x r.number → falls_in x ≡ true
   falls_true x r e f = ap (λ o. set_fails o x) e ∙ ap row_fails f.is ∙ f.failed
 
-  cause_of : (event : Event) (mark : Mark) (x : State) (o : Option SetRow) → in_progress st ≡ o → after s st (record { event = event; mark = mark }) ≡ x → set_fails o x ≡ true → gives_cause s st event mark ≡ true
+  cause_of : (event : Event) (mark : Mark) (x : State) (o : Option SetRow) → in_progress st ≡ o → after s st (record { event = event; mark = mark }) ≡ x
+      → set_fails o x ≡ true → gives_cause s st event mark ≡ true
   cause_of event mark x None e h f = absurd cc
   cause_of event mark x (Some r) e h f = by_row (row_of x r.number) refl f
     where
@@ -70,11 +75,10 @@ module _ (s : Plan) (so_far : List Act) where
       by_row (Some q) g i = (fails_for_cause s so_far (record { event = event; mark = mark })).only r q e (ap (λ (y : State). row_of y r.number) h ∙ g) i
 
   no_cause : (event : Event) (mark : Mark) (x : State) → after s st (record { event = event; mark = mark }) ≡ x → gives_cause s st event mark ≡ false → falls_in x ≡ false
-  no_cause event mark x h e = false_of (falls_in x) (λ f. not_both (gives_cause s st event mark) (cause_of event mark x (in_progress st) refl h f) e)
+  no_cause event mark x h e = grind (arith, false_from_ne_true, true_not_false, cause_of)
 
   running_calm : (o : SetOutcome) → is_running o ≡ true → has_failed o ≡ false
-  running_calm RunningSet e = refl
-  running_calm _ e = absurd cc
+  running_calm o e = grind arith
 
   calm_at : (x : State) (o : Option SetRow) → in_progress st ≡ o → x.sets ≡ st.sets → set_fails o x ≡ false
   calm_at x None e f = refl
@@ -88,15 +92,19 @@ module _ (s : Plan) (so_far : List Act) where
   same_sets : (x : State) → x.sets ≡ st.sets → Becomes as_it_is rows x.course.rows → Told as_it_is x
   same_sets x f h = told_none as_it_is x (calm_sets x f) h
 
-  quiet_course : (say : Says) (event : Event) (mark : Mark) (ran : Bool) (c : Course) (x : State) → gives_cause s st event mark ≡ false → Becomes say rows c.rows → after s st (record { event = event; mark = mark }) ≡ followed ran c x → Told say (followed ran c x)
-  quiet_course say event mark ran c x e h i = told_none say (followed ran c x) (no_cause event mark (followed ran c x) i e) (subst (λ (d : Course). Becomes say rows d.rows) (sym (course_followed ran c x)) h)
+  quiet_course : (say : Says) (event : Event) (mark : Mark) (ran : Bool) (c : Course) (x : State) → gives_cause s st event mark ≡ false
+      → Becomes say rows c.rows → after s st (record { event = event; mark = mark }) ≡ followed ran c x → Told say (followed ran c x)
+  quiet_course say event mark ran c x e h i = told_none say (followed ran c x) (no_cause event mark (followed ran c x) i e)
+      (subst (λ (d : Course). Becomes say rows d.rows) (sym (course_followed ran c x)) h)
 
-  loud_course : (say : Says) (ran : Bool) (c : Course) (x : State) (r : SetRow) → in_progress st ≡ Some r → x.sets ≡ st.sets → x.course ≡ st.course → has_failed c.outcome ≡ true → Becomes (and_told st.course.members say) rows c.rows → Told say (followed ran c x)
+  loud_course : (say : Says) (ran : Bool) (c : Course) (x : State) (r : SetRow) → in_progress st ≡ Some r → x.sets ≡ st.sets → x.course ≡ st.course
+      → has_failed c.outcome ≡ true → Becomes (and_told st.course.members say) rows c.rows → Told say (followed ran c x)
   loud_course say ran c x r e sets course failing h =
       let num = (orderly s so_far).numbered in
       let run = outcome_is_running s so_far r e in
       let fallen : IsFailed (followed ran c x) r.number =
-      falls s st r e num run (followed ran c x) c.outcome (followed_sets s st r e num run ran c x (ap (λ (d : Course). d.outcome) course ∙ run) failing ∙ ap (map (row_settled c.outcome)) sets) failing in
+      falls s st r e num run (followed ran c x) c.outcome
+      (followed_sets s st r e num run ran c x (ap (λ (d : Course). d.outcome) course ∙ run) failing ∙ ap (map (row_settled c.outcome)) sets) failing in
       told_all say (followed ran c x) (falls_true (followed ran c x) r e fallen) (subst (λ (d : Course). Becomes (and_told st.course.members say) rows d.rows) (sym (course_followed ran c x)) h)
 
   -- ## the set in progress fails at once
@@ -119,11 +127,7 @@ module _ (s : Plan) (so_far : List Act) where
 
   falls_closed : (q : Session) (x : State) → falls_in (closed q x) ≡ falls_in x
   unfolding closed
-  falls_closed q x = by_set (in_progress st)
-    where
-      by_set : (o : Option SetRow) → set_fails o (closed q x) ≡ set_fails o x
-      by_set None = refl
-      by_set (Some r) = refl
+  falls_closed q x = grind arith
 
   -- the session's end comes upon that
   by_end : (q : Session) (x : State) → Told as_it_is x → Becomes (λ w r. row_ended (row_if (falls_in (closed q x) && is_member st.course.members w) row_aborted r)) rows (closed q x).course.rows
@@ -135,29 +139,32 @@ module _ (s : Plan) (so_far : List Act) where
   -- ## a write
 
   course_put : (v : ℕ) (w : Write) (mark : Mark) (x : State) → (put v w mark x).course ≡ x.course
-  course_put v w Clean x = refl
-  course_put v w _ x = refl
+  course_put v w mark x = grind arith
 
   sets_put : (v : ℕ) (w : Write) (mark : Mark) (x : State) → (put v w mark x).sets ≡ x.sets
-  sets_put v w Clean x = refl
-  sets_put v w _ x = refl
+  sets_put v w mark x = grind arith
 
-  write_falls : (v : ℕ) (w : Write) (mark : Mark) (r : SetRow) (e : in_progress st ≡ Some r) (num : NumberedFrom 1 st.sets) (run : st.course.outcome ≡ RunningSet) → loses_own_image s st v w.block ≡ true
+  write_falls : (v : ℕ) (w : Write) (mark : Mark) (r : SetRow) (e : in_progress st ≡ Some r) (num : NumberedFrom 1 st.sets)
+      (run : st.course.outcome ≡ RunningSet) → loses_own_image s st v w.block ≡ true
       → IsFailed (put v w mark (with_room_if (loses_own_image s st v w.block) (cleared s v w.block st))) r.number
   unfolding write
   write_falls v w mark r e num run f = write_fails s st r e num run v w mark f
 
-  roomy_rows : (v : ℕ) (w : Write) (mark : Mark) (b : Bool) (o : Option SetRow) → in_progress st ≡ o → loses_own_image s st v w.block ≡ b → Told as_it_is (put v w mark (with_room_if b (cleared s v w.block st)))
+  roomy_rows : (v : ℕ) (w : Write) (mark : Mark) (b : Bool) (o : Option SetRow) → in_progress st ≡ o → loses_own_image s st v w.block ≡ b
+      → Told as_it_is (put v w mark (with_room_if b (cleared s v w.block st)))
   roomy_rows v w mark false o e f =
-      same_sets (put v w mark (cleared s v w.block st)) (sets_put v w mark (cleared s v w.block st)) (subst (λ (c : Course). Becomes as_it_is rows c.rows) (sym (course_put v w mark (cleared s v w.block st))) (same_rows rows))
-  roomy_rows v w mark true None e f = absurd (not_both (loses_own_image s st v w.block) f (ap (λ o. set_loses_image o st.volumes (cleared s v w.block st).volumes) e))
+      same_sets (put v w mark (cleared s v w.block st)) (sets_put v w mark (cleared s v w.block st))
+      (subst (λ (c : Course). Becomes as_it_is rows c.rows) (sym (course_put v w mark (cleared s v w.block st))) (same_rows rows))
+  roomy_rows v w mark true None e f = absurd (true_not_false (loses_own_image s st v w.block) f (ap (λ o. set_loses_image o st.volumes (cleared s v w.block st).volumes) e))
   roomy_rows v w mark true (Some r) e f =
       let num = (orderly s so_far).numbered in
       let run = outcome_is_running s so_far r e in
       let x : State = put v w mark (with_room_if true (cleared s v w.block st)) in
       let fallen : IsFailed x r.number = subst (λ b. IsFailed (put v w mark (with_room_if b (cleared s v w.block st))) r.number) f (write_falls v w mark r e num run f) in
       told_all as_it_is x (falls_true x r e fallen)
-      (subst (λ (c : Course). Becomes (and_told st.course.members as_it_is) rows c.rows) (sym (course_put v w mark (with_room_if true (cleared s v w.block st)))) (failed_rows (in_progress st) InsufficientStorage (cleared s v w.block st) refl (ap is_some e)))
+      (subst (λ (c : Course). Becomes (and_told st.course.members as_it_is) rows c.rows)
+      (sym (course_put v w mark (with_room_if true (cleared s v w.block st))))
+      (failed_rows (in_progress st) InsufficientStorage (cleared s v w.block st) refl (ap is_some e)))
 
   write_rows : (v : ℕ) (w : Write) (mark : Mark) → Told as_it_is (write s v w mark st).1
   unfolding write
@@ -166,12 +173,10 @@ module _ (s : Plan) (so_far : List Act) where
   -- ## answers
 
   refused_is : (o : Option Order) (answer : Answer) → is_refused o answer ≡ refuses o (said_of answer)
-  refused_is None answer = refl
-  refused_is (Some o) answer = ap (λ b. b && is_veto answer) (same_consent o) ∙ ap (λ b. is_decisive o && b) (same_veto answer)
+  refused_is o answer = grind (arith, same_consent, same_veto)
 
   order_busy : (o : Option Order) (said : Said) → refuses o said ≡ true → ((p : Order) → o ≡ Some p → is_decisive p ≡ true → IsBusy st.course.agenda) → IsBusy st.course.agenda
-  order_busy None said e f = absurd cc
-  order_busy (Some p) said e f = f p refl (both_parts (is_decisive p) (not (is_ok said)) e).0
+  order_busy o said e f = grind (arith, and_parts)
 
   now_open : (b : Bool) (x : Option Order) (o : Order) → order_if b x ≡ Some o → x ≡ Some o
   now_open true x o e = e
@@ -180,16 +185,19 @@ module _ (s : Plan) (so_far : List Act) where
   abbrev says_answer : ℕ → Answer → Says
   says_answer w answer = say_to (order_of_writer st w) (said_of answer) (w ∷ [])
 
-  answer_rows : (w : ℕ) (answer : Answer) (mark : Mark) → after s st (record { event = AnswerEvent w answer; mark = mark }) ≡ answered w (said_of answer) st → Told (says_answer w answer) (answered w (said_of answer) st)
+  answer_rows : (w : ℕ) (answer : Answer) (mark : Mark) → after s st (record { event = AnswerEvent w answer; mark = mark }) ≡ answered w (said_of answer) st
+      → Told (says_answer w answer) (answered w (said_of answer) st)
   unfolding answered
   answer_rows w answer mark i = by_refusal (refuses (order_of_writer st w) (said_of answer)) refl (comes_answered w (said_of answer) st.clock st.course)
     where
-      by_refusal : (b : Bool) → refuses (order_of_writer st w) (said_of answer) ≡ b → Comes (says_answer w answer) (refuses (order_of_writer st w) (said_of answer)) st.course (course_answered w (said_of answer) st.clock st.course)
+      by_refusal : (b : Bool) → refuses (order_of_writer st w) (said_of answer) ≡ b
+          → Comes (says_answer w answer) (refuses (order_of_writer st w) (said_of answer)) st.course (course_answered w (said_of answer) st.clock st.course)
           → Told (says_answer w answer) (followed (runs st) (course_answered w (said_of answer) st.clock st.course) st)
       by_refusal true e h =
           with_set (in_progress st) (Told (says_answer w answer) (followed (runs st) (course_answered w (said_of answer) st.clock st.course) st))
           (is_busy (order_busy (order_of_writer st w) (said_of answer) e (λ p f d. busy_order st.course.agenda p (now_open (is_asked w (left_now st)) (order_now (left_now st)) p f) d)))
-          (λ r f. loud_course (says_answer w answer) (runs st) (course_answered w (said_of answer) st.clock st.course) st r f refl refl (refused_fails w answer st.clock st.course (refused_is (order_of_writer st w) answer ∙ e))
+          (λ r f. loud_course (says_answer w answer) (runs st) (course_answered w (said_of answer) st.clock st.course) st r f refl refl
+          (refused_fails w answer st.clock st.course (refused_is (order_of_writer st w) answer ∙ e))
           (subst (λ c. Comes (says_answer w answer) c st.course (course_answered w (said_of answer) st.clock st.course)) e h))
       by_refusal false e h =
           quiet_course (says_answer w answer) (AnswerEvent w answer) mark (runs st) (course_answered w (said_of answer) st.clock st.course) st (refused_is (order_of_writer st w) answer ∙ e)
@@ -199,22 +207,10 @@ module _ (s : Plan) (so_far : List Act) where
 
   flushes_alike : (g : Option Group) → is_flush_step g ≡ is_flush g
   flushes_alike None = refl
-  flushes_alike (Some (Orders o)) = refl
-  flushes_alike (Some PreCommit) = refl
-  flushes_alike (Some Flush) = refl
-  flushes_alike (Some Hold) = refl
-  flushes_alike (Some Cut) = refl
-  flushes_alike (Some Commit) = refl
-  flushes_alike (Some Release) = refl
-  flushes_alike (Some PostCommit) = refl
+  flushes_alike _ = refl
 
   step_fails : (b : Bool) (mark : Mark) → (b && is_fault mark) ≡ is_failed_step b mark
-  step_fails true Clean = refl
-  step_fails true Fault = refl
-  step_fails true (FaultAfter k) = refl
-  step_fails false Clean = refl
-  step_fails false Fault = refl
-  step_fails false (FaultAfter k) = refl
+  step_fails b mark = grind arith
 
   cause_of_step : (mark : Mark) → gives_cause s st Provider mark ≡ is_failed_step (is_flush (open_group (left_now st))) mark
   cause_of_step mark = ap (λ b. b && is_fault mark) (flushes_alike (open_group (left_now st))) ∙ step_fails (is_flush (open_group (left_now st))) mark
@@ -223,11 +219,14 @@ module _ (s : Plan) (so_far : List Act) where
   unfolding posted course_failed
   outcome_stepped = refl
 
-  step_rows_as : (b : Bool) (mark : Mark) → is_working (left_now st) ≡ true → gives_cause s st Provider mark ≡ b → after s st (record { event = Provider; mark = mark }) ≡ stepped_as b (open_group (left_now st)) st → Told as_it_is (stepped_as b (open_group (left_now st)) st)
+  step_rows_as : (b : Bool) (mark : Mark) → is_working (left_now st) ≡ true → gives_cause s st Provider mark ≡ b
+      → after s st (record { event = Provider; mark = mark }) ≡ stepped_as b (open_group (left_now st)) st
+      → Told as_it_is (stepped_as b (open_group (left_now st)) st)
   step_rows_as true mark on e i =
       with_set (in_progress st) (Told as_it_is (stepped_as true (open_group (left_now st)) st)) (is_busy (busy_step st.course.agenda on))
       (λ r f. loud_course as_it_is (runs st) (course_stepped false st.clock st.course) st r f refl refl outcome_stepped (rise_stepped st.clock st.course))
-  step_rows_as false mark on e i = quiet_course as_it_is Provider mark (runs st) (course_stepped true st.clock st.course) (step_made (open_group (left_now st)) st) e (stay_stepped st.clock st.course) i
+  step_rows_as false mark on e i = quiet_course as_it_is Provider mark (runs st) (course_stepped true st.clock st.course)
+      (step_made (open_group (left_now st)) st) e (stay_stepped st.clock st.course) i
 
   step_rows : (mark : Mark) → is_working (left_now st) ≡ true → after s st (record { event = Provider; mark = mark }) ≡ stepped mark st → Told as_it_is (stepped mark st)
   unfolding stepped
@@ -238,9 +237,10 @@ module _ (s : Plan) (so_far : List Act) where
   time_passes : (event : Event) (mark : Mark) (n : ℕ) (x : State) → gives_cause s st event mark ≡ is_late st n → after s st (record { event = event; mark = mark }) ≡ x
       → (has_failed st.course.outcome ≡ false → has_failed (course_timed (st.clock + n) st.course).outcome ≡ false) → falls_in x ≡ false
   time_passes event mark n x cause i calm =
-      false_of (falls_in x) (λ e.
+      false_from_ne_true (falls_in x) (λ e.
       with_set (in_progress st) ⊥ (set_there (in_progress st) e) (λ r f.
-      not_both (has_failed (course_timed (st.clock + n) st.course).outcome) (timed_fails (st.clock + n) st.course (late_is_due s so_far (st.clock + n) (sym cause ∙ cause_of event mark x (in_progress st) refl i e)))
+      true_not_false (has_failed (course_timed (st.clock + n) st.course).outcome)
+      (timed_fails (st.clock + n) st.course (late_is_due s so_far (st.clock + n) (sym cause ∙ cause_of event mark x (in_progress st) refl i e)))
       (calm (ap has_failed (outcome_is_running s so_far r f)))))
     where
       set_there : (o : Option SetRow) → set_fails o x ≡ true → is_some o ≡ true
@@ -257,7 +257,8 @@ module _ (s : Plan) (so_far : List Act) where
     where
       by_result : PassesOrFails (spends n) st.course (course_timed (st.clock + n) st.course) → Told (spends n) (followed (runs st) (course_timed (st.clock + n) st.course) (later n st))
       by_result (inl h) =
-          told_none (spends n) (followed (runs st) (course_timed (st.clock + n) st.course) (later n st)) (time_passes event mark n (followed (runs st) (course_timed (st.clock + n) st.course) (later n st)) cause i h.calm)
+          told_none (spends n) (followed (runs st) (course_timed (st.clock + n) st.course) (later n st))
+          (time_passes event mark n (followed (runs st) (course_timed (st.clock + n) st.course) (later n st)) cause i h.calm)
           (subst (λ (d : Course). Becomes (spends n) rows d.rows) (sym (course_followed (runs st) (course_timed (st.clock + n) st.course) (later n st))) h.stay)
       by_result (inr h) =
           with_set (in_progress st) (Told (spends n) (followed (runs st) (course_timed (st.clock + n) st.course) (later n st))) (is_busy h.busy)
@@ -266,8 +267,7 @@ module _ (s : Plan) (so_far : List Act) where
   -- ## in the words of the promise
 
   rests : (x : WriterState) → stable_again x ≡ at_rest x
-  rests Unknown = refl
-  rests _ = refl
+  rests x = grind arith
 
   over_is : (r : WriterRow) → row_ended r ≡ row_over r
   over_is r = ap (λ x. record r { state = x }) (rests r.state)
@@ -276,32 +276,26 @@ module _ (s : Plan) (so_far : List Act) where
   told_is r = ap (λ x. if is_failed r.state then r else record r { state = x; aborts = one_more r.aborts }) (rests r.state)
 
   told_by : (b : Bool) (r : WriterRow) → row_if b row_aborted r ≡ row_by b row_told r
-  told_by true r = told_is r
-  told_by false r = refl
+  told_by b r = grind (arith, told_is)
 
   at_ok : (o : Order) → after_ok o ≡ state_at_ok o
-  at_ok Identify = refl
-  at_ok _ = refl
+  at_ok o = grind arith
 
   at_failure : (o : Order) → failed_at o ≡ state_at_failure o
-  at_failure Identify = refl
-  at_failure _ = refl
+  at_failure o = grind arith
 
   said_is : (o : Order) (said : Said) (r : WriterRow) → row_after o said r ≡ row_said (Some o) said r
-  said_is o Ok r = ap (λ x. record r { state = x; code = None }) (at_ok o)
-  said_is o (Veto why) r = ap (λ x. record r { state = x; code = Some why }) (at_failure o)
-  said_is o Lost r = ap (λ x. record r { state = x; code = Some Timeout }) (at_failure o)
+  said_is o said r = grind (arith, at_ok, at_failure)
 
   said_if : (b : Bool) (o : Order) (said : Said) (r : WriterRow) → row_if b (row_after o said) r ≡ row_by b (row_said (Some o) said) r
-  said_if true o said r = said_is o said r
-  said_if false o said r = refl
+  said_if b o said r = grind (arith, said_is)
 
   nothing_said : (b : Bool) (said : Said) (r : WriterRow) → r ≡ row_by b (row_said None said) r
-  nothing_said true said r = refl
-  nothing_said false said r = refl
+  nothing_said b said r = grind arith
 
   -- whoever is lost has the open order
-  lost_said : (l : Option RunningLimit) (w : ℕ) (r : WriterRow) → lost_by l st.course w r ≡ row_by (is_among w (lost_at l (order_now (left_now st)) (waits_now (left_now st)))) (row_said (order_of_writer st w) Lost) r
+  lost_said : (l : Option RunningLimit) (w : ℕ) (r : WriterRow)
+      → lost_by l st.course w r ≡ row_by (is_among w (lost_at l (order_now (left_now st)) (waits_now (left_now st)))) (row_said (order_of_writer st w) Lost) r
   lost_said None w r = refl
   lost_said (Some l) w r = by_list (left_now st)
     where
@@ -309,7 +303,9 @@ module _ (s : Plan) (so_far : List Act) where
       by_test p true = said_is p Lost r
       by_test p false = refl
 
-      by_group : (g : Group) (ws : List ℕ) → say_to (order_of g) Lost ws w r ≡ row_by (is_among w (lost_at (Some l) (order_of g) ws)) (row_said (order_if (is_orders g && is_among w ws) (order_of g)) Lost) r
+      by_group : (g : Group) (ws : List ℕ)
+          → say_to (order_of g) Lost ws w r
+          ≡ row_by (is_among w (lost_at (Some l) (order_of g) ws)) (row_said (order_if (is_orders g && is_among w ws) (order_of g)) Lost) r
       by_group (Orders p) ws = by_test p (is_among w ws)
       by_group _ ws = refl
 
@@ -318,14 +314,14 @@ module _ (s : Plan) (so_far : List Act) where
       by_list (o ∷ os) = by_group o.place.group o.waits
 
   answer_said : (u w : ℕ) (said : Said) (r : WriterRow) → say_to (order_of_writer st u) said (u ∷ []) w r ≡ row_by (u == w) (row_said (order_of_writer st w) said) r
-  answer_said u w said r = own (order_of_writer st u) (u == w) (or_false (u == w)) ∙ same_writer (u == w) refl
+  answer_said u w said r = own (order_of_writer st u) (u == w) (or-false (u == w)) ∙ same_writer (u == w) refl
     where
       own : (o : Option Order) (b : Bool) → is_among w (u ∷ []) ≡ b → say_to o said (u ∷ []) w r ≡ row_by b (row_said o said) r
       own None b e = nothing_said b said r
       own (Some p) b e = ap (λ c. row_if c (row_after p said) r) e ∙ said_if b p said r
 
       same_writer : (b : Bool) → (u == w) ≡ b → row_by b (row_said (order_of_writer st u) said) r ≡ row_by b (row_said (order_of_writer st w) said) r
-      same_writer true e = ap (λ x. row_said (order_of_writer st x) said r) (equal u w e)
+      same_writer true e = ap (λ x. row_said (order_of_writer st x) said r) (number_is u w e)
       same_writer false e = refl
 
   -- ## every act
@@ -336,40 +332,34 @@ module _ (s : Plan) (so_far : List Act) where
   abbrev says_in : Event → Reply → Says
   says_in event told w r = row_by (speaks st event w) (row_said (order_of_writer st w) (said_by event)) (row_by (asks_anew event told) row_asked r)
 
-  in_words : (say : Says) (event : Event) (told : Reply) (x : State) → ((w : ℕ) (r : WriterRow) → say w r ≡ says_in event told w r) → ends_session event told ≡ false → Told say x → Becomes (row_next st event told x) rows x.course.rows
-  in_words say event told x same ends h w r f =
-      h w r f
-      ∙ ap Some
-      (told_by (falls_in x && is_member st.course.members w) (say w r) ∙ ap (row_by (falls_in x && is_member st.course.members w) row_told) (same w r)
-      ∙ ap (λ b. row_by b row_over (row_by (falls_in x && is_member st.course.members w) row_told (says_in event told w r))) (sym ends))
+  in_words : (say : Says) (event : Event) (told : Reply) (x : State) → ((w : ℕ) (r : WriterRow) → say w r ≡ says_in event told w r)
+      → ends_session event told ≡ false → Told say x → Becomes (row_next st event told x) rows x.course.rows
+  in_words say event told x same ends h w r f = grind (arith, told_by)
 
   -- a line that moves no clock, and asks nothing anew
   quiet_line : (lane : ℕ) (o : Op) (told : Reply) (w : ℕ) (r : WriterRow) → line_ticks o ≡ None → asks_anew (Line lane o) told ≡ false → r ≡ says_in (Line lane o) told w r
-  quiet_line lane o told w r e f =
-      sym (ap (λ t. row_by (is_among w (lost_after t st)) (row_said (order_of_writer st w) Lost) (row_by (asks_anew (Line lane o) told) row_asked r)) e ∙ ap (λ b. row_by b row_asked r) f)
+  quiet_line lane o told w r e f = grind arith
 
-  by_line : (lane : ℕ) (o : Op) (told : Reply) (x : State) → line_ticks o ≡ None → asks_anew (Line lane o) told ≡ false → ends_session (Line lane o) told ≡ false → Told as_it_is x → Becomes (row_next st (Line lane o) told x) rows x.course.rows
+  by_line : (lane : ℕ) (o : Op) (told : Reply) (x : State) → line_ticks o ≡ None → asks_anew (Line lane o) told ≡ false
+      → ends_session (Line lane o) told ≡ false → Told as_it_is x → Becomes (row_next st (Line lane o) told x) rows x.course.rows
   by_line lane o told x e f g h = in_words as_it_is (Line lane o) told x (λ w r. quiet_line lane o told w r e f) g h
 
-  same_line : (lane : ℕ) (o : Op) (told : Reply) (x : State) → line_ticks o ≡ None → asks_anew (Line lane o) told ≡ false → ends_session (Line lane o) told ≡ false → x.sets ≡ st.sets → x.course ≡ st.course → Becomes (row_next st (Line lane o) told x) rows x.course.rows
-  same_line lane o told x e f g i j = by_line lane o told x e f g (same_sets x i (subst (λ (c : Course). Becomes as_it_is rows c.rows) (sym j) (same_rows rows)))
+  same_line : (lane : ℕ) (o : Op) (told : Reply) (x : State) → line_ticks o ≡ None → asks_anew (Line lane o) told ≡ false
+      → ends_session (Line lane o) told ≡ false → x.sets ≡ st.sets → x.course ≡ st.course → Becomes (row_next st (Line lane o) told x) rows x.course.rows
+  same_line lane o told x e f g i j = grind (arith, by_line, same_sets, same_rows)
 
   -- a refused line
   asks_none : (lane : ℕ) (o : Op) (told : Reply) → ChangesNothing o told → asks_anew (Line lane o) told ≡ false
-  asks_none lane op.Gather told g = g.agenda refl
-  asks_none lane o told g = refl
+  asks_none lane o told g = grind arith
 
   ends_none : (lane : ℕ) (o : Op) (told : Reply) → ChangesNothing o told → ends_session (Line lane o) told ≡ false
-  ends_none lane op.End told g = g.session refl
-  ends_none lane o told g = refl
+  ends_none lane o told g = grind arith
 
   write_line : (lane : ℕ) (o : Op) (t : Target) (told : Reply) → target_of o ≡ Some t → (line_ticks o ≡ None) × (asks_anew (Line lane o) told ≡ false) × (ends_session (Line lane o) told ≡ false)
-  write_line lane (op.WriteFill v b x) t told e = (refl, refl, refl)
-  write_line lane (op.WriteStamp v b n) t told e = (refl, refl, refl)
-  write_line lane o t told e = absurd cc
+  write_line lane o t told e = grind arith
 
   on_write : (lane : ℕ) (o : Op) (t : Target) (v : ℕ) (w : Write) (mark : Mark) → target_of o ≡ Some t → Next (Line lane o) mark (write s v w mark st)
-  on_write lane o t v w mark e i = let is = write_line lane o t (write s v w mark st).0 e in by_line lane o (write s v w mark st).0 _ is.0 is.1 is.2 (write_rows v w mark)
+  on_write lane o t v w mark e i = grind (arith, write_line, by_line, write_rows)
 
   on_revert : (lane n v : ℕ) (k : Kept) (mark : Mark) → Next (Line lane (op.Revert n v)) mark (reverted_as s v k mark st)
   on_revert lane n v k Clean i = same_line lane (op.Revert n v) (reverted_as s v k Clean st).0 _ refl refl refl refl refl
@@ -395,23 +385,28 @@ module _ (s : Plan) (so_far : List Act) where
     begins = λ lane n all c mark e ctx i. same_line lane (op.Begin n all) Fine _ refl refl refl refl refl;
     disables = λ lane w q mark g i. by_line lane (op.Disable w) Fine (disable w st).1 refl refl refl (same_sets (disable w st).1 refl (same_rows rows));
     gathers = λ lane q mark g i. in_words (λ w r. row_gathered r) (Line lane op.Gather) (Coded AsyncPending) _ (λ w r. refl) refl
-        (quiet_course (λ w r. row_gathered r) (Line lane op.Gather) mark true _ st refl (stay_begun (λ w r. row_gathered r) Gather _ _ st.clock st.course _ (rows_map_are row_gathered as_it_is rows rows (same_rows rows))) i);
+        (quiet_course (λ w r. row_gathered r) (Line lane op.Gather) mark true _ st refl
+        (stay_begun (λ w r. row_gathered r) Gather _ _ st.clock st.course _ (rows_map_are row_gathered as_it_is rows rows (same_rows rows))) i);
     names = λ lane w full q explicit mark g named i. same_line lane (op.Component w full) Fine _ refl refl refl refl refl;
     starts = λ lane q mark g e i. by_line lane op.Start (start_set q st).0 _ refl refl refl (told_none as_it_is _ (no_cause (Line lane op.Start) mark _ i refl) (same_rows rows));
     adds = λ lane v r q mark g e f i. by_line lane (op.Add v) Fine _ refl refl refl (told_none as_it_is _ (no_cause (Line lane (op.Add v)) mark _ i refl) (same_rows rows));
-    prepares = λ lane q mark g. by_if (Next (Line lane op.Prepare) mark) (has_no_volume (in_progress st)) (refused BadState st) _ (λ i. same_line lane op.Prepare (Coded BadState) st refl refl refl refl refl)
-        (λ i. by_line lane op.Prepare (Coded AsyncPending) _ refl refl refl (quiet_course as_it_is (Line lane op.Prepare) mark true _ st refl (stay_begun as_it_is Prepare _ _ st.clock st.course _ (same_rows rows)) i));
-    snapshots = λ lane q mark g. by_if (Next (Line lane op.Snapshot) mark) (has_no_volume (in_progress st)) (refused BadState st) _ (λ i. same_line lane op.Snapshot (Coded BadState) st refl refl refl refl refl)
-        (λ i. by_line lane op.Snapshot (Coded AsyncPending) _ refl refl refl (quiet_course as_it_is (Line lane op.Snapshot) mark true _ st refl (stay_begun as_it_is Snapshot _ _ st.clock st.course _ (same_rows rows)) i));
-    completes = λ lane q mark g i. by_line lane op.Complete (Coded AsyncPending) _ refl refl refl (quiet_course as_it_is (Line lane op.Complete) mark true _ st refl (stay_begun as_it_is Complete _ _ st.clock st.course _ (same_rows rows)) i);
+    prepares = λ lane q mark g. by_if (Next (Line lane op.Prepare) mark) (has_no_volume (in_progress st)) (refused BadState st) _
+        (λ i. same_line lane op.Prepare (Coded BadState) st refl refl refl refl refl)
+        (λ i. by_line lane op.Prepare (Coded AsyncPending) _ refl refl refl
+        (quiet_course as_it_is (Line lane op.Prepare) mark true _ st refl (stay_begun as_it_is Prepare _ _ st.clock st.course _ (same_rows rows)) i));
+    snapshots = λ lane q mark g. by_if (Next (Line lane op.Snapshot) mark) (has_no_volume (in_progress st)) (refused BadState st) _
+        (λ i. same_line lane op.Snapshot (Coded BadState) st refl refl refl refl refl)
+        (λ i. by_line lane op.Snapshot (Coded AsyncPending) _ refl refl refl
+        (quiet_course as_it_is (Line lane op.Snapshot) mark true _ st refl (stay_begun as_it_is Snapshot _ _ st.clock st.course _ (same_rows rows)) i));
+    completes = λ lane q mark g i. by_line lane op.Complete (Coded AsyncPending) _ refl refl refl
+        (quiet_course as_it_is (Line lane op.Complete) mark true _ st refl (stay_begun as_it_is Complete _ _ st.clock st.course _ (same_rows rows)) i);
     aborts = λ lane q mark e i. by_line lane op.Abort Fine _ refl refl refl (by_abort (in_progress st) AsyncCancelled refl);
     ends = λ lane q mark e i. on_end lane q mark i;
-    answers = λ w answer mark e i. in_words (says_answer w answer) (AnswerEvent w answer) (answer_reply (order_of_writer st w) answer) _ (λ u r. answer_said w u (said_of answer) r) refl (answer_rows w answer mark i);
+    answers = λ w answer mark e i. in_words (says_answer w answer) (AnswerEvent w answer) (answer_reply (order_of_writer st w) answer) _
+        (λ u r. answer_said w u (said_of answer) r) refl (answer_rows w answer mark i);
     steps = λ mark e i. in_words as_it_is Provider (step_reply (open_group (left_now st)) (next_volume (left_now st)) mark) _ (λ w r. refl) refl (step_rows mark e i);
     idles = λ mark e i. in_words (spends (idle_now st)) Idle (Idled (idle_now st)) _ (λ w r. lost_said _ w r) refl (time_rows Idle mark (idle_now st) refl i);
   }
 
   pub rows_change : (act : Act) → RowsChange s so_far act
-  rows_change act w r on e =
-      let same = after_enabled s st act on in
-      subst (λ (x : State). slice_get x.course.rows w ≡ Some (row_next st act.event (reply s st act) x w r)) (sym same) (covered Next s st changes act.event act.mark on same w r e)
+  rows_change act w r on e = grind (arith, after_enabled, covered, changes)

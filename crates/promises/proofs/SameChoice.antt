@@ -90,7 +90,7 @@ on_ticked n st = on_followed (runs st) (course_timed (st.clock + n) st.course) s
 explicit_made : (g : Option Group) (st : State) → (step_made g st).explicit ≡ st.explicit
 explicit_made g st = grind arith
 
-session_made : (g : Option Group) (st : State) → (step_made g st).session ≡ st.session
+pub session_made : (g : Option Group) (st : State) → (step_made g st).session ≡ st.session
 session_made g st = grind arith
 
 on_step_as : (f : Bool) (g : Option Group) (st : State) → SameChoice st (stepped_as f g st)
@@ -111,7 +111,9 @@ on_put v w mark st x h = grind arith
 
 pub on_write : (s : Plan) (v : ℕ) (w : Write) (mark : Mark) (st : State) → SameChoice st (write s v w mark st).1
 unfolding write
-on_write s v w mark st = on_put v w mark st _ (on_room (set_loses_image (in_progress st) st.volumes (cleared s v w.block st).volumes) st (cleared s v w.block st) (record { explicit = refl; course = same_course st.course; mode = refl }))
+on_write s v w mark st = on_put v w mark st _
+    (on_room (set_loses_image (in_progress st) st.volumes (cleared s v w.block st).volumes) st (cleared s v w.block st)
+    (record { explicit = refl; course = same_course st.course; mode = refl }))
 
 pub on_revert : (s : Plan) (v : ℕ) (k : Kept) (mark : Mark) (st : State) → SameChoice st (reverted_as s v k mark st).1
 on_revert s v k mark st = grind arith

@@ -1,38 +1,31 @@
 -- A writer answers by its script: how often it was asked, as the acts tell it, is how many groups of that order have opened for it.
-use Rattle.promises.proofs.Words.{list_any, sum_by-append, Level, Order, VssResult, InsufficientStorage, AsyncCancelled, BadState, SetOutcome, Said, is_ok, row_gathered, Mark, Clean, Writer, Move}
-use Rattle.promises.proofs.Words.{Write, Scripted, said_of, answer_in, is_row_for, scripted_answer, Group, Orders, PreCommit, Flush, Hold, Cut, Commit, Release, PostCommit, Freeze, PostSnapshot, Kind}
-use Rattle.promises.proofs.Words.{Limit, Member, Place, Running as RunningLimit, spent_of, Session, Plan, script_of, Event, State, SetRow, start, in_progress, left_now, followed, runs, failed_in}
-use Rattle.promises.proofs.Words.{failed, Act, enabled, order_of_writer, idle_now, after, state, run, acts, acts_if, answer_event, script_event, event_of, state-run, acts-append, Settles, said_stays}
+use Rattle.promises.proofs.Words.{list_any, sum_by-append, Level, Order, VssResult, AsyncCancelled, BadState, SetOutcome, Said, row_gathered, Mark, Writer, Move}
+use Rattle.promises.proofs.Words.{Write, Scripted, said_of, answer_in, is_row_for, scripted_answer, Group, Orders, PreCommit, Flush, Hold, Cut, Commit, Release, PostCommit, Kind}
+use Rattle.promises.proofs.Words.{Member, Place, Running as RunningLimit, spent_of, Session, Plan, script_of, Event, State, SetRow, in_progress, left_now, followed, runs, failed_in}
+use Rattle.promises.proofs.Words.{failed, Act, order_of_writer, idle_now, after, state, acts, acts_if, answer_event, script_event, state-run, acts-append, Settles, said_stays}
 use Rattle.promises.proofs.Words.{among_filter, is_owed, is_asked_anew, asked_from, times_asked, written_in, AnswersByScript, Deed, Covers, covered, after_enabled, after_not_enabled, by_if}
 use Rattle.promises.proofs.Words.{append_nothing, and-false, none_runs}
-use Rattle.std.proofs.Common.{◌≡◌, ◌∙◌, ℕ, ◌+◌, ◌==◌, List, [], ◌∷◌, ◌++◌, Option, Some, None, refl, Bool, true, false, cond, ap, sym, subst, inl, inr, map, filter, find, fold, arith}
+use Rattle.std.proofs.Common.{◌≡◌, ◌∙◌, ℕ, ◌+◌, ◌==◌, List, [], ◌∷◌, ◌++◌, Option, Some, None, refl, Bool, true, false, ap, sym, subst, inl, inr, map, filter, find, fold, arith}
 use Rattle.std.specs.Prelude.{◌&&◌, ◌||◌, not, is_some, count_by, if◌then◌else◌}
+use Rattle.std.proofs.lemmas.Bool.{and_from, and_parts, or_left, or_right}
 use Rattle.set_agenda.specs.declared.kind.Kind.TheVariants as kind
-use Rattle.set_agenda.specs.declared.limit.Limit.TheVariants.{Hold as HoldLimit, Freeze as FreezeLimit, Answer as AnswerLimit}
-use Rattle.set_agenda.specs.Agenda.{Agenda, Entry, Open, places, group_code, level_code, same_order, same_place, order_of, is_orders, has_failed, has_said, writers_at, members_of, waited_for, with_group, left_from, groups_left, left, open_group, open_place, waits_now, order_now, is_among, order_if, open_order, is_working, is_done, all_say}
-use Rattle.set_agenda.specs.Course.{OrderGroup, Course, group_of_orders, opens, posted, sent, failed as course_failed, settled_if, settled_in, settled, begun, told, is_decisive, decided, answered_to, answered as course_answered, worked, stepped_as as course_stepped_as, stepped as course_stepped, limits_now, lost, lost_to, fails_set, lost_decided, treated_as, treated, timed as course_timed, released}
+use Rattle.set_agenda.specs.Agenda.{Agenda, Open, places, group_code, same_order, same_place, order_of, is_orders, members_of, waited_for, with_group}
+use Rattle.set_agenda.specs.Agenda.{left_from, groups_left, left, open_group, open_place, waits_now, is_among, order_if, open_order, is_working, is_done}
+use Rattle.set_agenda.specs.Agenda.{all_say}
+use Rattle.set_agenda.specs.Course.{OrderGroup, Course, group_of_orders, opens, posted, sent, failed as course_failed, settled, begun, told, answered_to}
+use Rattle.set_agenda.specs.Course.{answered as course_answered, worked, stepped_as as course_stepped_as, stepped as course_stepped, limits_now, lost_to}
+use Rattle.set_agenda.specs.Course.{treated, timed as course_timed, released}
 use Rattle.vss_model.specs.Images.{Replied, refused, cleared, set_loses_image, with_room_if, put, write, reverted_as}
 use Rattle.vss_model.specs.Sessions.{has_no_volume, closed}
 use Rattle.vss_model.specs.Steps.{answered, step_made, is_flush, is_failed_step, stepped_as, stepped, ticked, later}
-use Rattle.promises.proofs.Truth.{both_are, both_parts, equal, left_part, not_itself, right_part, same_number}
+use Rattle.promises.proofs.Truth.{not_itself, same_number}
 use Rattle.promises.proofs.BusyAgendas.{course_followed}
-use Rattle.promises.proofs.Heard.{same_group}
+use Rattle.promises.proofs.Heard.{same_group, passes}
 use Rattle.promises.proofs.Speaks.{Grows, grows_answered, grows_stepped, grows_timed}
-use Rattle.promises.proofs.Stages.{failed_stays, closed_stays, grown, new_log}
+use Rattle.promises.proofs.Stages.{failed_stays, closed_stays, grown}
+use Rattle.scenario.proofs.Places.{number_is}
 
 -- ## who waits at a place does not begin to wait there
-
-pub kept_test : (f : ℕ → Bool) (x : ℕ) (xs : List ℕ) → is_among x (filter f xs) ≡ true → f x ≡ true
-kept_test f x [] e = absurd cc
-kept_test f x (y ∷ xs) e = by_test (f y) refl e (kept_test f x xs)
-  where
-    by_test : (b : Bool) → f y ≡ b → is_among x (if b then y ∷ filter f xs else filter f xs) ≡ true → (is_among x (filter f xs) ≡ true → f x ≡ true) → f x ≡ true
-    by_test true g e ih = head (y == x) refl e
-      where
-        head : (c : Bool) → (y == x) ≡ c → (c || is_among x (filter f xs)) ≡ true → f x ≡ true
-        head true h e = subst (λ z. f z ≡ true) (equal y x h) g
-        head false h e = ih e
-    by_test false g e ih = ih e
 
 pub kept_among : (f : ℕ → Bool) (x : ℕ) (xs : List ℕ) → f x ≡ true → is_among x xs ≡ true → is_among x (filter f xs) ≡ true
 kept_among f x [] e g = absurd cc
@@ -40,7 +33,7 @@ kept_among f x (y ∷ xs) e g = by_head (y == x) refl g (kept_among f x xs e)
   where
     by_head : (c : Bool) → (y == x) ≡ c → (c || is_among x xs) ≡ true → (is_among x xs ≡ true → is_among x (filter f xs) ≡ true)
         → is_among x (if f y then y ∷ filter f xs else filter f xs) ≡ true
-    by_head true h g ih = here (f y) (subst (λ z. f z ≡ true) (sym (equal y x h)) e)
+    by_head true h g ih = here (f y) (subst (λ z. f z ≡ true) (sym (number_is y x h)) e)
       where
         here : (b : Bool) → b ≡ true → is_among x (if b then y ∷ filter f xs else filter f xs) ≡ true
         here true i = ap (λ c. c || is_among x (filter f xs)) h
@@ -53,28 +46,17 @@ kept_among f x (y ∷ xs) e g = by_head (y == x) refl g (kept_among f x xs e)
 
 -- a test that fails no longer did not before
 was_not : (b c : Bool) → (b ≡ true → c ≡ true) → not c ≡ true → not b ≡ true
-was_not true c f e = absurd (not_itself c (f refl) e)
-was_not false c f e = refl
+was_not b c f e = grind (arith, not_itself)
 
 module _ (said : Said) (now : ℕ) (ws : List ℕ) (a : Agenda) (w : ℕ) where
   abbrev more : Agenda
   more = grown said now ws a
 
-  abbrev new : List Entry
-  new = new_log said now ws a
-
   fewer_members : (g : Group) (l : Option Level) → is_among w (members_of more g l) ≡ true → is_among w (members_of a g l) ≡ true
-  fewer_members (Orders PostSnapshot) l e =
-      kept_among (λ x. not (has_failed a.log x)) w (writers_at a.members l)
-      (was_not (has_failed a.log w) (has_failed (a.log ++ new) w) (failed_stays a.log new w) (kept_test (λ x. not (has_failed (a.log ++ new) x)) w (writers_at a.members l) e))
-      (among_filter (λ x. not (has_failed (a.log ++ new) x)) w (writers_at a.members l) e)
-  fewer_members g l e = e
+  fewer_members g l e = grind (arith, kept_among, was_not, failed_stays, passes, among_filter)
 
   fewer_waits : (p : Place) → is_among w (waited_for more p) ≡ true → is_among w (waited_for a p) ≡ true
-  fewer_waits p e =
-      kept_among (λ x. not (has_said a.log p x)) w (members_of a p.group p.level)
-      (was_not (has_said a.log p w) (has_said (a.log ++ new) p w) (said_stays a.log new p w) (kept_test (λ x. not (has_said (a.log ++ new) p x)) w (members_of more p.group p.level) e))
-      (fewer_members p.group p.level (among_filter (λ x. not (has_said (a.log ++ new) p x)) w (members_of more p.group p.level) e))
+  fewer_waits p e = grind (arith, kept_among, was_not, said_stays, passes, fewer_members, among_filter)
 
 -- no place comes twice
 abbrev are_apart : List Place → Bool
@@ -82,8 +64,7 @@ are_apart [] = true
 are_apart (p ∷ ps) = not (list_any (same_place p) ps) && are_apart ps
 
 kinds_apart : (k : Kind) → are_apart (places k) ≡ true
-kinds_apart kind.Gather = refl
-kinds_apart _ = refl
+kinds_apart k = grind arith
 
 -- whoever is waited for at the same place was waited for there
 abbrev Shrinks : ℕ → List Open → List Open → Type 0
@@ -97,17 +78,18 @@ open_among b w p (q ∷ qs) e f = at_group (waited_for b q) (open_among b w p qs
     at_group : (ws : List ℕ) → (is_among w (waits_now (left_from b qs)) ≡ true → same_place p (open_place (left_from b qs)) ≡ true → list_any (same_place p) qs ≡ true)
         → is_among w (waits_now (with_group q ws (left_from b qs))) ≡ true → same_place p (open_place (with_group q ws (left_from b qs))) ≡ true
         → (same_place p q || list_any (same_place p) qs) ≡ true
-    at_group [] ih e f = right_part (same_place p q) (list_any (same_place p) qs) (ih e f)
-    at_group (x ∷ ws) ih e f = left_part (same_place p q) (list_any (same_place p) qs) f
+    at_group [] ih e f = or_right (same_place p q) (list_any (same_place p) qs) (ih e f)
+    at_group (x ∷ ws) ih e f = or_left (same_place p q) (list_any (same_place p) qs) f
 
 left_shrinks : (a b : Agenda) (w : ℕ) → ((p : Place) → waited_for a p ≡ [] → waited_for b p ≡ [])
     → ((p : Place) → is_among w (waited_for b p) ≡ true → is_among w (waited_for a p) ≡ true) → (ps : List Place) → are_apart ps ≡ true
     → Shrinks w (left_from a ps) (left_from b ps)
 left_shrinks a b w closed fewer [] e = λ same i. i
-left_shrinks a b w closed fewer (p ∷ ps) e = by_waits (waited_for a p) (waited_for b p) (closed p) (fewer p) (left_shrinks a b w closed fewer ps (both_parts (not (list_any (same_place p) ps)) (are_apart ps) e).1)
+left_shrinks a b w closed fewer (p ∷ ps) e = by_waits (waited_for a p) (waited_for b p) (closed p) (fewer p)
+    (left_shrinks a b w closed fewer ps (and_parts (not (list_any (same_place p) ps)) (are_apart ps) e).1)
   where
     elsewhere : same_place p (open_place (left_from b ps)) ≡ true → is_among w (waits_now (left_from b ps)) ≡ true → ⊥
-    elsewhere f g = not_itself (list_any (same_place p) ps) (open_among b w p ps g f) (both_parts (not (list_any (same_place p) ps)) (are_apart ps) e).0
+    elsewhere f g = not_itself (list_any (same_place p) ps) (open_among b w p ps g f) (and_parts (not (list_any (same_place p) ps)) (are_apart ps) e).0
 
     by_waits : (xs ys : List ℕ) → (xs ≡ [] → ys ≡ []) → (is_among w ys ≡ true → is_among w xs ≡ true) → Shrinks w (left_from a ps) (left_from b ps)
         → Shrinks w (with_group p xs (left_from a ps)) (with_group p ys (left_from b ps))
@@ -141,8 +123,7 @@ module _ (w : ℕ) (o : Order) where
 
   one_group : (gs : List OrderGroup) (x : Order) (ws : List ℕ) (b : Bool) → (same_order x o && is_among w ws) ≡ b
       → nth (gs ++ record { order = x; members = ws } ∷ []) ≡ more_if b (nth gs)
-  one_group gs x ws true e = sum_by-append (λ (g : OrderGroup). cond (same_order g.order o && is_among w g.members) 1 0) gs (record { order = x; members = ws } ∷ []) ∙ ap (λ c. nth gs + (0 + cond c 1 0)) e
-  one_group gs x ws false e = sum_by-append (λ (g : OrderGroup). cond (same_order g.order o && is_among w g.members) 1 0) gs (record { order = x; members = ws } ∷ []) ∙ ap (λ c. nth gs + (0 + cond c 1 0)) e ∙ omega arith
+  one_group gs x ws b e = grind (arith, sum_by-append)
 
   new_group : (gs : List OrderGroup) (g : Group) (ws : List ℕ)
       → nth (gs ++ group_of_orders (order_of g) ws) ≡ more_if (is_owed o (order_if (is_orders g && is_among w ws) (order_of g)) && true) (nth gs)
@@ -157,7 +138,7 @@ module _ (w : ℕ) (o : Order) where
   same_owed : (x p : Open) (xs ps : List Open) → same_place x.place p.place ≡ true → Shrinks w (x ∷ xs) (p ∷ ps) → is_owed o (open_order (p ∷ ps) w) ≡ true
       → is_owed o (open_order (x ∷ xs) w) ≡ true
   same_owed x p xs ps e h f =
-      let group = same_group x.place.group p.place.group (both_parts (group_code x.place.group == group_code p.place.group) _ e).0 in
+      let group = same_group x.place.group p.place.group (and_parts (group_code x.place.group == group_code p.place.group) _ e).0 in
       by_among p.place.group (is_among w p.waits) refl f group
     where
       by_among : (g : Group) (b : Bool) → is_among w p.waits ≡ b → is_owed o (order_if (is_orders g && b) (order_of g)) ≡ true → x.place.group ≡ g
@@ -197,10 +178,14 @@ module _ (w : ℕ) (o : Order) where
       by_same : (c : Bool) → same_place x.place p.place ≡ c → nth (gs ++ opens (x ∷ xs) (p ∷ ps)) ≡ more_if (anew (x ∷ xs) (p ∷ ps)) (nth gs)
       by_same true e =
           ap (λ ys. nth (gs ++ ys)) (at_same e) ∙ no_group gs
-          ∙ ap (λ c. more_if c (nth gs)) (sym (ap (λ c. is_owed o (open_order (p ∷ ps) w) && not (is_owed o (open_order (x ∷ xs) w) && c)) e ∙ not_anew (is_owed o (open_order (p ∷ ps) w)) (is_owed o (open_order (x ∷ xs) w)) (same_owed x p xs ps e h)))
+          ∙ ap (λ c. more_if c (nth gs))
+          (sym (ap (λ c. is_owed o (open_order (p ∷ ps) w) && not (is_owed o (open_order (x ∷ xs) w) && c)) e
+          ∙ not_anew (is_owed o (open_order (p ∷ ps) w)) (is_owed o (open_order (x ∷ xs) w)) (same_owed x p xs ps e h)))
       by_same false e =
           ap (λ ys. nth (gs ++ ys)) (at_other e) ∙ new_group gs p.place.group p.waits
-          ∙ ap (λ c. more_if c (nth gs)) (all_anew (is_owed o (open_order (p ∷ ps) w)) (is_owed o (open_order (x ∷ xs) w)) ∙ ap (λ c. is_owed o (open_order (p ∷ ps) w) && not (is_owed o (open_order (x ∷ xs) w) && c)) (sym e))
+          ∙ ap (λ c. more_if c (nth gs))
+          (all_anew (is_owed o (open_order (p ∷ ps) w)) (is_owed o (open_order (x ∷ xs) w))
+          ∙ ap (λ c. is_owed o (open_order (p ∷ ps) w) && not (is_owed o (open_order (x ∷ xs) w) && c)) (sym e))
 
   -- ## courses
 
@@ -213,16 +198,7 @@ module _ (w : ℕ) (o : Order) where
 
   -- an agenda that stands as it did
   asks_still : (c d : Course) → d.agenda ≡ c.agenda → d.opened ≡ c.opened → Asks c d
-  asks_still c d e f =
-      ap nth f
-      ∙ ap (λ b. more_if b (nth c.opened)) (sym (ap (λ x. anew (left c.agenda) (left x)) e ∙ ap (λ b. is_owed o (open_order (left c.agenda) w) && not (is_owed o (open_order (left c.agenda) w) && b)) (own (open_place (left c.agenda))) ∙ off (is_owed o (open_order (left c.agenda) w))))
-    where
-      own : (p : Place) → same_place p p ≡ true
-      own p = both_are (group_code p.group == group_code p.group) (level_code p.level == level_code p.level) (same_number (group_code p.group)) (same_number (level_code p.level))
-
-      off : (b : Bool) → (b && not (b && true)) ≡ false
-      off true = refl
-      off false = refl
+  asks_still c d e f = grind (arith, and_from, same_number)
 
   -- no agenda runs
   asks_none : (c d : Course) → d.agenda ≡ None → d.opened ≡ c.opened → Asks c d
@@ -230,8 +206,7 @@ module _ (w : ℕ) (o : Order) where
 
   shrinks_settled : (done : Bool) (a x : Agenda) (r : SetOutcome) (b : Option Agenda) (p : SetOutcome) → Settles done x r b p → Shrinks w (groups_left a) (groups_left x)
       → Shrinks w (groups_left a) (left b)
-  shrinks_settled true a x r b p e h = subst (λ y. Shrinks w (groups_left a) (left y)) (sym e.0) (λ same i. absurd cc)
-  shrinks_settled false a x r b p e h = subst (λ y. Shrinks w (groups_left a) (left y)) (sym e.0) h
+  shrinks_settled done a x r b p e h = grind arith
 
   shrinks_grows : (a : Option Agenda) (r : SetOutcome) (b : Option Agenda) (p : SetOutcome) (news : List Deed) → Grows a r b p news → Shrinks w (left a) (left b)
   shrinks_grows None r b p news h = subst (λ y. Shrinks w [] (left y)) (sym h.0) (λ same i. i)
@@ -244,15 +219,7 @@ module _ (w : ℕ) (o : Order) where
   -- what calls leave of the groups that have opened
   opened_settled : (c : Course) → (settled c).opened ≡ c.opened
   unfolding settled
-  opened_settled c = in_agenda c.agenda
-    where
-      if_done : (b : Bool) (k : Kind) → (settled_if b k c).opened ≡ c.opened
-      if_done true k = refl
-      if_done false k = refl
-
-      in_agenda : (x : Option Agenda) → (settled_in x c).opened ≡ c.opened
-      in_agenda None = refl
-      in_agenda (Some a) = if_done (is_done (groups_left a)) a.kind
+  opened_settled c = grind arith
 
   opened_failed : (why : VssResult) (c : Course) → (course_failed why c).opened ≡ c.opened
   unfolding course_failed
@@ -267,33 +234,16 @@ module _ (w : ℕ) (o : Order) where
   opened_worked now c = refl
 
   opened_answered : (x : Option Order) (u : ℕ) (said : Said) (now : ℕ) (c : Course) → (answered_to x u said now c).opened ≡ c.opened
-  opened_answered None u said now c = refl
-  opened_answered (Some x) u said now c = by_test (is_decisive x && not (is_ok said))
-    where
-      by_test : (b : Bool) → (decided b said (told x said now (u ∷ []) c)).opened ≡ c.opened
-      by_test true = opened_failed _ (told x said now (u ∷ []) c) ∙ opened_told x said now (u ∷ []) c
-      by_test false = opened_settled (told x said now (u ∷ []) c) ∙ opened_told x said now (u ∷ []) c
+  opened_answered x u said now c = grind (arith, opened_failed, opened_told, opened_settled)
 
   opened_stepped : (ok : Bool) (now : ℕ) (c : Course) → (course_stepped_as ok now c).opened ≡ c.opened
-  opened_stepped true now c = opened_settled (worked now c) ∙ opened_worked now c
-  opened_stepped false now c = opened_failed _ c
+  opened_stepped ok now c = grind (arith, opened_settled, opened_worked, opened_failed)
 
   opened_lost : (x : Option Order) (now : ℕ) (c : Course) → (lost_to x now c).opened ≡ c.opened
-  opened_lost None now c = refl
-  opened_lost (Some x) now c = opened_told x _ now _ c
+  opened_lost x now c = grind (arith, opened_told)
 
   opened_treated : (l : Option RunningLimit) (now : ℕ) (c : Course) → (treated l now c).opened ≡ c.opened
-  opened_treated None now c = refl
-  opened_treated (Some l) now c = by_limit l.limit
-    where
-      by_order : (b : Bool) → (lost_decided b (lost now c)).opened ≡ c.opened
-      by_order true = opened_failed _ (lost now c) ∙ opened_lost (order_now (left c.agenda)) now c
-      by_order false = opened_settled (lost now c) ∙ opened_lost (order_now (left c.agenda)) now c
-
-      by_limit : (x : Limit) → (treated_as x now c).opened ≡ c.opened
-      by_limit HoldLimit = opened_failed _ c
-      by_limit FreezeLimit = opened_failed _ (lost now c) ∙ opened_lost (order_now (left c.agenda)) now c
-      by_limit AnswerLimit = by_order (fails_set (order_now (left c.agenda)))
+  opened_treated l now c = grind (arith, opened_failed, opened_lost, opened_settled)
 
   posted_agenda : (c x : Course) → (posted c x).agenda ≡ x.agenda
   unfolding posted
@@ -317,18 +267,11 @@ module _ (w : ℕ) (o : Order) where
 
   -- where no agenda runs, one begins
   count_first : (ps : List Open) (gs : List OrderGroup) → nth (gs ++ opens [] ps) ≡ more_if (anew [] ps) (nth gs)
-  count_first [] gs = no_group gs
-  count_first (p ∷ ps) gs = new_group gs p.place.group p.waits
+  count_first ps gs = grind (arith, no_group, new_group)
 
   asks_begun : (k : Kind) (ms : List Member) (vs : List ℕ) (now : ℕ) (b c : Course) → b.agenda ≡ None → c.agenda ≡ None → c.opened ≡ b.opened → Asks b (begun k ms vs now c)
   unfolding begun posted
-  asks_begun k ms vs now b c e f g =
-      let a : Agenda = record { kind = k; members = ms; volumes = vs; begun = now; log = [] } in
-      let x = settled (record c { agenda = Some a }) in
-      ap (λ gs. nth (gs ++ opens (left c.agenda) (left x.agenda))) (opened_settled (record c { agenda = Some a }) ∙ g)
-      ∙ ap (λ y. nth (b.opened ++ opens (left y) (left x.agenda))) f
-      ∙ count_first (left x.agenda) b.opened
-      ∙ ap (λ y. more_if (anew (left y) (left x.agenda)) (nth b.opened)) (sym e)
+  asks_begun k ms vs now b c e f g = grind (arith, opened_settled, count_first)
 
 -- ## every act
 
@@ -345,8 +288,7 @@ unfolding closed
 closed_course q x = refl
 
 failed_opened : (r : Option SetRow) (why : VssResult) (x : State) → (failed_in r why x).course.opened ≡ x.course.opened
-failed_opened None why x = refl
-failed_opened (Some r) why x = opened_failed 0 Freeze why x.course
+failed_opened r why x = grind (arith, opened_failed)
 
 module _ (s : Plan) (w : ℕ) (o : Order) (st : State) where
   abbrev To : Course → Type 0
@@ -362,29 +304,23 @@ module _ (s : Plan) (w : ℕ) (o : Order) (st : State) where
   on_followed ran c x h = subst To (sym (course_followed ran c x)) h
 
   on_failed : (r : Option SetRow) (why : VssResult) (x : State) → x.course ≡ st.course → To (failed_in r why x).course
-  on_failed None why x e = subst To (sym e) as_it_was
-  on_failed (Some r) why x e = asks_none w o st.course (course_failed why x.course) (failed_agenda why x.course) (opened_failed w o why x.course ∙ ap (λ (c : Course). c.opened) e)
+  on_failed r why x e = grind (arith, as_it_was, asks_none, failed_agenda, opened_failed)
 
   on_room : (b : Bool) (x : State) → x.course ≡ st.course → To (with_room_if b x).course
-  on_room true x e = on_failed (in_progress x) InsufficientStorage x e
-  on_room false x e = subst To (sym e) as_it_was
+  on_room b x e = grind (arith, on_failed, as_it_was)
 
   on_put : (v : ℕ) (b : Write) (mark : Mark) (x : State) → To x.course → To (put v b mark x).course
-  on_put v b Clean x h = h
-  on_put v b _ x h = h
+  on_put v b mark x h = grind arith
 
   on_write : (v : ℕ) (b : Write) (mark : Mark) → To (write s v b mark st).1.course
   unfolding write
   on_write v b mark = on_put v b mark _ (on_room (set_loses_image (in_progress st) st.volumes (cleared s v b.block st).volumes) (cleared s v b.block st) refl)
 
   on_reverts : (v : ℕ) (k : _) (mark : Mark) → To (reverted_as s v k mark st).1.course
-  on_reverts v k Clean = as_it_was
-  on_reverts v k _ = as_it_was
+  on_reverts v k mark = grind (arith, as_it_was)
 
   on_end : (q : Session) → To (closed q (failed AsyncCancelled st)).course
-  on_end q =
-      let x = failed AsyncCancelled st in
-      subst To (sym (closed_course q x)) (asks_none w o st.course (released x.course) (released_agenda x.course).0 ((released_agenda x.course).1 ∙ failed_opened (in_progress st) AsyncCancelled st))
+  on_end q = grind (arith, closed_course, asks_none, released_agenda, failed_opened)
 
   on_ticks : (n : ℕ) → To (ticked n st).course
   unfolding ticked
@@ -404,7 +340,7 @@ module _ (s : Plan) (w : ℕ) (o : Order) (st : State) where
 
   begins : (k : Kind) (ms : List Member) (vs : List ℕ) (c : Course) → runs st ≡ false → c.agenda ≡ st.course.agenda → c.opened ≡ st.course.opened
       → To (followed true (begun k ms vs st.clock c) st).course
-  begins k ms vs c e f g = on_followed true (begun k ms vs st.clock c) st (asks_begun w o k ms vs st.clock st.course c (none_runs st.course.agenda e) (f ∙ none_runs st.course.agenda e) g)
+  begins k ms vs c e f g = grind (arith, on_followed, asks_begun, none_runs)
 
   every_act : Covers Next s st
   every_act = record {
@@ -420,7 +356,8 @@ module _ (s : Plan) (w : ℕ) (o : Order) (st : State) where
     names = λ lane u full q explicit mark g named. as_it_was;
     starts = λ lane q mark g e. as_it_was;
     adds = λ lane v r q mark g e f. as_it_was;
-    prepares = λ lane q mark g. by_if (λ r. To r.1.course) (has_no_volume (in_progress st)) (refused BadState st) _ as_it_was (begins kind.Prepare _ [] (record st.course { members = _ }) g.quiet refl refl);
+    prepares = λ lane q mark g. by_if (λ r. To r.1.course) (has_no_volume (in_progress st)) (refused BadState st) _ as_it_was
+        (begins kind.Prepare _ [] (record st.course { members = _ }) g.quiet refl refl);
     snapshots = λ lane q mark g. by_if (λ r. To r.1.course) (has_no_volume (in_progress st)) (refused BadState st) _ as_it_was (begins kind.Snapshot st.course.members _ st.course g.quiet refl refl);
     completes = λ lane q mark g. begins kind.Complete _ [] st.course g.quiet refl refl;
     aborts = λ lane q mark e. on_failed (in_progress st) AsyncCancelled st refl;
@@ -431,11 +368,7 @@ module _ (s : Plan) (w : ℕ) (o : Order) (st : State) where
   }
 
   on_act : (act : Act) → To (after s st act).course
-  on_act act = by_test (enabled s st act.event) refl
-    where
-      by_test : (b : Bool) → enabled s st act.event ≡ b → To (after s st act).course
-      by_test true e = subst (λ (x : State). To x.course) (sym (after_enabled s st act e)) (covered Next s st every_act act.event act.mark e)
-      by_test false e = subst (λ (x : State). To x.course) (sym (after_not_enabled s st act e)) as_it_was
+  on_act act = grind (arith, after_enabled, covered, every_act, after_not_enabled, as_it_was)
 
 asked_is : (s : Plan) (w : ℕ) (o : Order) (st : State) (n : ℕ) (acts : List Act) → n ≡ sent st.course w o → asked_from s st w o n acts ≡ sent (fold (after s) st acts).course w o
 asked_is s w o st n [] e = e
@@ -459,19 +392,14 @@ module _ (s : Plan) (before : List Move) (m : Move) (w : ℕ) (e : m.actor ≡ W
   st = state s (acts s before)
 
   own_event : acts s (before ++ m ∷ []) ≡ acts s before ++ acts_if (script_event s st w (order_of_writer st w)) m.mark
-  own_event =
-      acts-append s before m ∙ ap (λ x. acts s before ++ acts_if (event_of s (run s before) x) m.mark) e
-      ∙ ap (λ (x : State). acts s before ++ acts_if (script_event s x w (order_of_writer x w)) m.mark) (state-run s before)
+  own_event = grind (arith, acts-append, state-run)
 
   own_script : (o : Order) → order_of_writer st w ≡ Some o
       → acts s (before ++ m ∷ []) ≡ acts s before ++ acts_if (answer_event w (written_in (script_of s w) o (times_asked s w o (acts s before)))) m.mark
-  own_script o f =
-      own_event
-      ∙ ap (λ x. acts s before ++ acts_if (script_event s st w x) m.mark) f
-      ∙ ap (λ a. acts s before ++ acts_if (answer_event w a) m.mark) (ap (scripted_answer (script_of s w) o) (sym (asked_is s w o (start s) 0 (acts s before) refl)) ∙ written_is (script_of s w) o (times_asked s w o (acts s before)))
+  own_script o f = grind (arith, own_event, asked_is, written_is)
 
   own_silence : order_of_writer st w ≡ None → acts s (before ++ m ∷ []) ≡ acts s before
   own_silence f = own_event ∙ ap (λ x. acts s before ++ acts_if (script_event s st w x) m.mark) f ∙ append_nothing (acts s before)
 
 pub answers_by_script : (s : Plan) (trail : List Move) → AnswersByScript s trail
-answers_by_script s trail = record { says = λ before rest m w o e f g. own_script s before m w f o g; silent = λ before rest m w e f g. own_silence s before m w f g }
+answers_by_script s trail = grind (arith, own_script, own_silence)

@@ -8,7 +8,8 @@ use Rattle.promises.proofs.Contexts.{changed_number}
 abbrev pub failure_at : List SetRow → ℕ → Option VssResult
 failure_at rows n = failure_in (find (λ (r : SetRow). r.number == n) rows)
 
-pub failure_map : (f : SetRow → SetRow) → ((r : SetRow) → (f r).number ≡ r.number) → ((r : SetRow) → failure_of (f r).result ≡ failure_of r.result) → (rows : List SetRow) (n : ℕ) → failure_at (map f rows) n ≡ failure_at rows n
+pub failure_map : (f : SetRow → SetRow) → ((r : SetRow) → (f r).number ≡ r.number) → ((r : SetRow) → failure_of (f r).result ≡ failure_of r.result)
+    → (rows : List SetRow) (n : ℕ) → failure_at (map f rows) n ≡ failure_at rows n
 failure_map f num res [] n = refl
 failure_map f num res (r ∷ rows) n = by_head (r.number == n) ((f r).number == n) (ap (λ k. k == n) (num r)) (failure_map f num res rows n)
   where
@@ -33,6 +34,3 @@ failures_cut o st n = grind (arith, failure_map, changed_number, changed_result)
 
 pub failures_made : (g : Option Group) (st : State) (n : ℕ) → failure_at (step_made g st).sets n ≡ failure_at st.sets n
 failures_made g st n = grind (arith, failures_cut)
-
-pub session_made : (g : Option Group) (st : State) → (step_made g st).session ≡ st.session
-session_made g st = grind arith

@@ -5,13 +5,14 @@ use Rattle.promises.proofs.Words.{enabled, idle_now, after, state, state-append,
 use Rattle.promises.proofs.Words.{by_if, append_nothing}
 use Rattle.std.proofs.Common.{◌≡◌, ◌∙◌, ℕ, ◌+◌, ◌==◌, ◌<◌, ◌≤◌, List, [], ◌∷◌, ◌++◌, Option, Some, None, refl, Bool, true, false, ap, sym, subst, map, find, arith}
 use Rattle.std.specs.Prelude.{if◌then◌else◌}
+use Rattle.std.proofs.lemmas.Bool.{or_left}
 use Rattle.set_agenda.specs.Course.{Course, answered as course_answered, timed as course_timed}
 use Rattle.vss_model.specs.Ending.{Ending, ending, row_settled, concluded, followed, runs, failed_in, failed}
 use Rattle.vss_model.specs.Images.{Replied, with_room_if, put, write, reverted_as}
 use Rattle.vss_model.specs.Sessions.{new_set, new_number, with_volume, has_no_volume, closed}
 use Rattle.vss_model.specs.Steps.{answered, with_cut, cut_set, step_made, is_flush, is_failed_step, stepped_as, stepped, ticked, later}
-use Rattle.promises.proofs.Truth.{equal, left_part}
 use Rattle.promises.proofs.Members.{still_less}
+use Rattle.scenario.proofs.Places.{number_is}
 
 -- ## one row
 
@@ -25,7 +26,7 @@ settled_row : (p : SetOutcome) (r : SetRow) → IsLaterRow r (row_settled p r)
 settled_row p r = grind arith
 
 more_volumes : (v : ℕ) (r : SetRow) → is_running r.result ≡ true → IsLaterRow r (with_volume v r)
-more_volumes v r e = grind (arith, list_any-append, left_part)
+more_volumes v r e = grind (arith, list_any-append, or_left)
 
 row_with_cut : (now : ℕ) (r : SetRow) → is_running r.result ≡ true → IsLaterRow r (with_cut now r)
 row_with_cut now r e = record { number = refl; context = refl; volumes = λ v f. f; over = λ f. absurd cc }
@@ -200,8 +201,9 @@ own_number : (rows : List SetRow) (n : ℕ) (r : SetRow) → find (λ (x : SetRo
 own_number [] n r e = absurd cc
 own_number (q ∷ rows) n r e = by_head (q.number == n) refl e (own_number rows n r)
   where
-    by_head : (b : Bool) → (q.number == n) ≡ b → (if b then Some q else find (λ (x : SetRow). x.number == n) rows) ≡ Some r → (find (λ (x : SetRow). x.number == n) rows ≡ Some r → r.number ≡ n) → r.number ≡ n
-    by_head true f e ih = subst (λ (x : SetRow). x.number ≡ n) (some_same q r e) (equal q.number n f)
+    by_head : (b : Bool) → (q.number == n) ≡ b → (if b then Some q else find (λ (x : SetRow). x.number == n) rows) ≡ Some r
+        → (find (λ (x : SetRow). x.number == n) rows ≡ Some r → r.number ≡ n) → r.number ≡ n
+    by_head true f e ih = subst (λ (x : SetRow). x.number ≡ n) (some_same q r e) (number_is q.number n f)
     by_head false f e ih = ih e
 
 pub later_row : (rows : List SetRow) (st : State) (n : ℕ) (r : SetRow) → GoOn rows st.sets → find (λ (x : SetRow). x.number == n) rows ≡ Some r → HasLaterRow st r

@@ -28,7 +28,8 @@ distinct_found : (n : ℕ) (rows : List SetRow) (r : SetRow) → AllDistinct row
 distinct_found n [] r h e = absurd cc
 distinct_found n (q ∷ rows) r h e = by_head (q.number == n) e (distinct_found n rows r h.1)
   where
-    by_head : (b : Bool) → (if b then Some q else find (λ (x : SetRow). x.number == n) rows) ≡ Some r → (find (λ (x : SetRow). x.number == n) rows ≡ Some r → are_distinct r.volumes ≡ true) → are_distinct r.volumes ≡ true
+    by_head : (b : Bool) → (if b then Some q else find (λ (x : SetRow). x.number == n) rows) ≡ Some r
+        → (find (λ (x : SetRow). x.number == n) rows ≡ Some r → are_distinct r.volumes ≡ true) → are_distinct r.volumes ≡ true
     by_head true f ih = subst (λ (x : SetRow). are_distinct x.volumes ≡ true) (some_same q r f) h.0
     by_head false f ih = ih f
 
@@ -47,7 +48,8 @@ distinct_more v (x ∷ xs) e f = by_parts (x == v) (is_among x xs) refl e f (dis
     both true b e f = absurd cc
     both false b e f = f
 
-    by_parts : (c d : Bool) → (x == v) ≡ c → (c || is_among v xs) ≡ false → (not (is_among x xs) && are_distinct xs) ≡ true → (is_among v xs ≡ false → are_distinct xs ≡ true → are_distinct (xs ++ v ∷ []) ≡ true)
+    by_parts : (c d : Bool) → (x == v) ≡ c → (c || is_among v xs) ≡ false → (not (is_among x xs) && are_distinct xs) ≡ true
+        → (is_among v xs ≡ false → are_distinct xs ≡ true → are_distinct (xs ++ v ∷ []) ≡ true)
         → (not (is_among x (xs ++ v ∷ [])) && are_distinct (xs ++ v ∷ [])) ≡ true
     by_parts true d g e f ih = absurd cc
     by_parts false d g e f ih =
@@ -69,7 +71,8 @@ none_changed k n f (r ∷ rows) num l h =
     differs : (a k n : ℕ) → a ≡ k → n < k → (a == n) ≡ false
     differs a k n e l = grind arith
 
-added : (k : ℕ) (rows : List SetRow) (r : SetRow) (v : ℕ) → NumberedFrom k rows → find (λ (q : SetRow). q.number == r.number) rows ≡ Some r → is_among v r.volumes ≡ false → AllDistinct rows → AllDistinct (map (row_changed r.number (with_volume v)) rows)
+added : (k : ℕ) (rows : List SetRow) (r : SetRow) (v : ℕ) → NumberedFrom k rows → find (λ (q : SetRow). q.number == r.number) rows ≡ Some r
+    → is_among v r.volumes ≡ false → AllDistinct rows → AllDistinct (map (row_changed r.number (with_volume v)) rows)
 added k [] r v num e f h = tt
 added k (q ∷ rows) r v num e f h = by_head (q.number == r.number) refl e (added (k + 1) rows r v num.1)
   where
@@ -184,7 +187,8 @@ module _ (s : Plan) (st : State) (num : NumberedFrom 1 st.sets) (h : AllDistinct
 distinct_from : (s : Plan) (so_far acts : List Act) → AllDistinct (state s so_far).sets → AllDistinct (fold (after s) (state s so_far) acts).sets
 distinct_from s so_far [] h = h
 distinct_from s so_far (act ∷ acts) h =
-    let next : AllDistinct (state s (so_far ++ act ∷ [])).sets = subst (λ (x : State). AllDistinct x.sets) (sym (state-append s so_far act)) (distinct_after s (state s so_far) (orderly s so_far).numbered h act) in
+    let next : AllDistinct (state s (so_far ++ act ∷ [])).sets = subst (λ (x : State). AllDistinct x.sets) (sym (state-append s so_far act))
+    (distinct_after s (state s so_far) (orderly s so_far).numbered h act) in
     subst (λ (x : State). AllDistinct (fold (after s) x acts).sets) (state-append s so_far act) (distinct_from s (so_far ++ act ∷ []) acts next)
 
 pub volumes_are_distinct : (s : Plan) (so_far : List Act) → VolumesAreDistinct s so_far

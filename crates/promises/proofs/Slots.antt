@@ -11,11 +11,13 @@ use Rattle.vss_model.specs.Ending.{Ending, SetFails, ending, concluded, followed
 use Rattle.vss_model.specs.Images.{Replied, going_up_to, cleared, set_loses_image, with_room_if, put, write, reverted_as}
 use Rattle.vss_model.specs.Sessions.{has_no_volume, closed}
 use Rattle.vss_model.specs.Steps.{answered, cut_set, step_made, is_flush, is_failed_step, stepped_as, stepped, ticked, later}
-use Rattle.promises.proofs.Truth.{chain, equal, same_number}
+use Rattle.promises.proofs.Truth.{chain, same_number}
 use Rattle.promises.proofs.GroupUsed.{group_less, group_other, group_more, changed_uses, enough_goes, one_left}
-use Rattle.promises.proofs.Shrinks.{InTime, used_in, LessIn, less_in_same, less_in_over, less_in_map, less_in_change, less_in_gone, less_images_dropped, less_released, UsesNoMore, uses_less, uses_over, uses_cut}
+use Rattle.promises.proofs.Shrinks.{InTime, used_in, LessIn, less_in_same, less_in_over, less_in_map, less_in_change, less_in_gone, less_images_dropped}
+use Rattle.promises.proofs.Shrinks.{less_released, UsesNoMore, uses_less, uses_over, uses_cut}
 use Rattle.promises.proofs.Used.{rising, one_if, written_used, reverted_used, restored_used}
 use Rattle.promises.proofs.Orders.{smaller}
+use Rattle.scenario.proofs.Places.{number_is}
 
 -- ## the groups of a plan
 
@@ -82,7 +84,8 @@ module _ (s : Plan) (plan : IsPlan s) (st : State) (time : (v : ℕ) → AreInTi
       room b e n =
           let less = less_room b roomy in
           let before = (less.each v ((less_roomy.each v (in_time v)).in_time)).needs w.block n in
-          let one = one_left (slots_of s v) (group_of s v) v w.block roomy.volumes (enough_goes (length st.sets) (slots_of s v) (group_of s v) v w.block st.volumes e (up v)) (by_less roomy.volumes less_roomy v) before in
+          let one = one_left (slots_of s v) (group_of s v) v w.block roomy.volumes
+          (enough_goes (length st.sets) (slots_of s v) (group_of s v) v w.block st.volumes e (up v)) (by_less roomy.volumes less_roomy v) before in
           smaller _ _ _ (group_less (group_of s v) roomy.volumes (with_room_if b roomy).volumes (λ x m. (less.each x ((less_roomy.each x (in_time x)).in_time)).uses m) less.as_many) one
 
       less_all : (b : Bool) → LessIn st.volumes (with_room_if b roomy).volumes
@@ -106,19 +109,27 @@ module _ (s : Plan) (plan : IsPlan s) (st : State) (time : (v : ℕ) → AreInTi
           none_more a b c l h = omega arith
 
           by_needs : (u : Bool) → needs_slot (at (with_room_if b roomy).volumes v).writes (at (with_room_if b roomy).volumes v).images w.block ≡ u
-              → group_used (group_of s v) (change_at v (written w) (with_room_if b roomy).volumes) ≤ group_used (group_of s v) (with_room_if b roomy).volumes + one_if (needs_slot (at (with_room_if b roomy).volumes v).writes (at (with_room_if b roomy).volumes v).images w.block)
+              → group_used (group_of s v) (change_at v (written w) (with_room_if b roomy).volumes) ≤ group_used (group_of s v)
+              (with_room_if b roomy).volumes + one_if
+              (needs_slot (at (with_room_if b roomy).volumes v).writes (at (with_room_if b roomy).volumes v).images w.block)
               → group_used (group_of s v) (change_at v (written w) (with_room_if b roomy).volumes) ≤ slots_of s v
-          by_needs true f l = one_more _ _ _ (subst (λ u. group_used (group_of s v) (change_at v (written w) (with_room_if b roomy).volumes) ≤ group_used (group_of s v) (with_room_if b roomy).volumes + one_if u) f l) (room b e f)
-          by_needs false f l = none_more _ _ _ (subst (λ u. group_used (group_of s v) (change_at v (written w) (with_room_if b roomy).volumes) ≤ group_used (group_of s v) (with_room_if b roomy).volumes + one_if u) f l) (fit_room b v)
+          by_needs true f l = one_more _ _ _
+              (subst (λ u. group_used (group_of s v) (change_at v (written w) (with_room_if b roomy).volumes) ≤ group_used (group_of s v)
+              (with_room_if b roomy).volumes + one_if u) f l) (room b e f)
+          by_needs false f l = none_more _ _ _
+              (subst (λ u. group_used (group_of s v) (change_at v (written w) (with_room_if b roomy).volumes) ≤ group_used (group_of s v)
+              (with_room_if b roomy).volumes + one_if u) f l) (fit_room b v)
 
       within_own : (q : VolumeRow) → slice_get s.volumes v ≡ Some q → within (slice_get (group_of s v) v) ≡ true
       within_own q f = grind (arith, within_placed, same_number)
 
       -- in any group
-      put_fits : (b t : Bool) (x : ℕ) (r q : VolumeRow) → slice_get s.volumes x ≡ Some r → slice_get s.volumes v ≡ Some q → (q.group == r.group) ≡ t → group_used (group_of s x) (change_at v (written w) (with_room_if b roomy).volumes) ≤ slots_of s x
-      put_fits b t x r q e f g = grind (arith, equal, own_fits, within_own, same_slots, same_group, group_other, within_placed, fit_room)
+      put_fits : (b t : Bool) (x : ℕ) (r q : VolumeRow) → slice_get s.volumes x ≡ Some r → slice_get s.volumes v ≡ Some q → (q.group == r.group) ≡ t
+          → group_used (group_of s x) (change_at v (written w) (with_room_if b roomy).volumes) ≤ slots_of s x
+      put_fits b t x r q e f g = grind (arith, number_is, own_fits, within_own, same_slots, same_group, group_other, within_placed, fit_room)
 
-      fit_put_at : (b : Bool) (x : ℕ) (o p : Option VolumeRow) → slice_get s.volumes x ≡ o → slice_get s.volumes v ≡ p → group_used (group_of s x) (change_at v (written w) (with_room_if b roomy).volumes) ≤ slots_of s x
+      fit_put_at : (b : Bool) (x : ℕ) (o p : Option VolumeRow) → slice_get s.volumes x ≡ o → slice_get s.volumes v ≡ p
+          → group_used (group_of s x) (change_at v (written w) (with_room_if b roomy).volumes) ≤ slots_of s x
       fit_put_at b x None p e f = subst (λ ps. group_used ps (change_at v (written w) (with_room_if b roomy).volumes) ≤ slots_of s x) (sym (ap (placed_in s.volumes) e)) (none_used (slots_of s x))
         where
           none_used : (n : ℕ) → 0 ≤ n
@@ -148,7 +159,8 @@ module _ (s : Plan) (plan : IsPlan s) (st : State) (time : (v : ℕ) → AreInTi
     fit_revert n v k Clean e = fit_changed (reverted k.row.number k.point) v (λ m. reverted_used m k.row.number k.point (at st.volumes v).writes (at st.volumes v).images (time v) (point_of n v k e))
     fit_revert n v k Fault e = fit
     fit_revert n v k (FaultAfter j) e =
-        fit_changed (reverted_in_part (blocks_of s v) k.row.number k.point j) v (λ m. restored_used (blocks_of s v) j m k.row.number k.point (at st.volumes v).writes (at st.volumes v).images (time v) (point_of n v k e))
+        fit_changed (reverted_in_part (blocks_of s v) k.row.number k.point j) v
+        (λ m. restored_used (blocks_of s v) j m k.row.number k.point (at st.volumes v).writes (at st.volumes v).images (time v) (point_of n v k e))
 
     -- ## answers, steps, time
 
@@ -270,9 +282,11 @@ copies_are v (p ∷ ps) (h ∷ hs) = by_group p.within (copies_of_are v p.blocks
     none_more : (n : ℕ) → n ≡ 0 + n
     none_more n = omega arith
 
-    by_group : (b : Bool) → length (copies_of v p.blocks h.writes h.images) ≡ used p.blocks h.writes h.images → length (copies_from (v + 1) ps hs) ≡ group_used ps hs → length (copies_from v ps hs) ≡ group_used ps hs
+    by_group : (b : Bool) → length (copies_of v p.blocks h.writes h.images) ≡ used p.blocks h.writes h.images
+        → length (copies_from (v + 1) ps hs) ≡ group_used ps hs → length (copies_from v ps hs) ≡ group_used ps hs
         → length (if b then copies_of v p.blocks h.writes h.images ++ copies_from (v + 1) ps hs else copies_from v ps hs) ≡ (if b then used p.blocks h.writes h.images else 0) + group_used ps hs
-    by_group true e f g = joined (copies_of v p.blocks h.writes h.images) (copies_from (v + 1) ps hs) ∙ ap (λ k. k + length (copies_from (v + 1) ps hs)) e ∙ ap (λ k. used p.blocks h.writes h.images + k) f
+    by_group true e f g = joined (copies_of v p.blocks h.writes h.images) (copies_from (v + 1) ps hs) ∙ ap (λ k. k + length (copies_from (v + 1) ps hs)) e
+        ∙ ap (λ k. used p.blocks h.writes h.images + k) f
     by_group false e f g = g ∙ none_more (group_used ps hs)
 
 pub slots_suffice : (s : Plan) (so_far : List Act) → SlotsSuffice s so_far

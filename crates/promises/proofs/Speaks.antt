@@ -7,7 +7,9 @@ use Rattle.promises.proofs.Words.{lost_order_if, Settles, Stops, asked_if, asked
 use Rattle.std.proofs.Common.{◌≡◌, ◌∙◌, ℕ, List, [], ◌∷◌, ◌⊎◌, Option, Some, None, refl, Bool, true, false, ap, sym, subst, inl, inr, map, arith}
 use Rattle.std.specs.Prelude.{option_map, ◌&&◌, not}
 use Rattle.set_agenda.specs.declared.limit.Limit.TheVariants.{Hold as HoldLimit, Freeze as FreezeLimit, Answer as AnswerLimit}
-use Rattle.set_agenda.specs.Course.{Course, posted, failed as course_failed, settled_in, settled, is_decisive, told, decided, answered_to, answered as course_answered, worked, stepped_as as course_stepped_as, stepped as course_stepped, freeze_limit, limits_now, lost_at, lost_to, lost, fails_set, lost_decided, treated_as, treated, timed as course_timed}
+use Rattle.set_agenda.specs.Course.{Course, posted, failed as course_failed, settled_in, settled, is_decisive, told, decided, answered_to}
+use Rattle.set_agenda.specs.Course.{answered as course_answered, worked, stepped_as as course_stepped_as, stepped as course_stepped, freeze_limit, limits_now}
+use Rattle.set_agenda.specs.Course.{lost_at, lost_to, lost, fails_set, lost_decided, treated_as, treated, timed as course_timed}
 
 -- ## deeds in a log
 
@@ -68,7 +70,8 @@ GrowsTo c d news = Grows c.agenda c.outcome d.agenda d.outcome news
 
 -- ## settled
 
-settles_in : (x : Option Agenda) (b : Agenda) (o : SetOutcome) (d : Course) → d.agenda ≡ x → x ≡ Some b → d.outcome ≡ o → Settles (is_done (groups_left b)) b o (settled_in x d).agenda (settled_in x d).outcome
+settles_in : (x : Option Agenda) (b : Agenda) (o : SetOutcome) (d : Course) → d.agenda ≡ x → x ≡ Some b → d.outcome ≡ o
+    → Settles (is_done (groups_left b)) b o (settled_in x d).agenda (settled_in x d).outcome
 settles_in x b o d e f g = grind arith
 
 settles : (b : Agenda) (o : SetOutcome) (d : Course) → d.agenda ≡ Some b → d.outcome ≡ o → Settles (is_done (groups_left b)) b o (settled d).agenda (settled d).outcome
@@ -108,7 +111,8 @@ says_told o said now ws news a c e who mild told_so = grind (arith, settles)
 one_spoke : (g : Group) (o : Order) (w : ℕ) (said : Said) (now : ℕ) → g ≡ Orders o → Spoke o w said now ∷ [] ≡ deed_at g w said now ∷ []
 one_spoke g o w said now e = ap (λ x. deed_at x w said now ∷ []) (sym e)
 
-grows_decided : (fails : Bool) (w : ℕ) (o : Order) (said : Said) (now : ℕ) (a : Agenda) (c : Course) → c.agenda ≡ Some a → open_order (groups_left a) w ≡ Some o → (is_decisive o && not (is_ok said)) ≡ fails
+grows_decided : (fails : Bool) (w : ℕ) (o : Order) (said : Said) (now : ℕ) (a : Agenda) (c : Course) → c.agenda ≡ Some a → open_order (groups_left a) w ≡ Some o
+    → (is_decisive o && not (is_ok said)) ≡ fails
     → Grows (Some a) c.outcome (decided fails said (told o said now (w ∷ []) c)).agenda (decided fails said (told o said now (w ∷ []) c)).outcome (Spoke o w said now ∷ [])
 grows_decided true w o said now a c e f g = grows_failed a c.outcome _ (told o said now (w ∷ []) c) _
 grows_decided false w o said now a c e f g =
@@ -117,7 +121,8 @@ grows_decided false w o said now a c e f g =
     says_told o said now (w ∷ []) _ a c e (inl (record { one = w; is = refl; waits = (asked_waits os w (asked_if (is_asked w os) (order_now os) o f)).1 }))
     (mild_at (open_place os).group o said group g) (one_spoke (open_place os).group o w said now group)
 
-grows_answered_at : (x : Option Agenda) (w : ℕ) (o : Order) (said : Said) (now : ℕ) (c : Course) → c.agenda ≡ x → open_order (left x) w ≡ Some o → GrowsTo c (answered_to (Some o) w said now c) (Spoke o w said now ∷ [])
+grows_answered_at : (x : Option Agenda) (w : ℕ) (o : Order) (said : Said) (now : ℕ) (c : Course) → c.agenda ≡ x → open_order (left x) w ≡ Some o
+    → GrowsTo c (answered_to (Some o) w said now c) (Spoke o w said now ∷ [])
 grows_answered_at x w o said now c e f = grind (arith, along, grows_decided)
 
 pub grows_answered : (w : ℕ) (o : Order) (said : Said) (now : ℕ) (c : Course) → open_order (left c.agenda) w ≡ Some o → GrowsTo c (course_answered w said now c) (Spoke o w said now ∷ [])
@@ -157,7 +162,8 @@ says_worked now a c e f =
       settles = settles b c.outcome (worked now c) (ap (λ x. option_map (all_say Ok now (next_member (left x) ∷ [])) x) e) refl;
     }))
 
-grows_stepped_as : (ok : Bool) (x : Option Agenda) (now : ℕ) (c : Course) → c.agenda ≡ x → is_working (left x) ≡ true → GrowsTo c (course_stepped_as ok now c) (made_now (left x) now (open_group (left x)))
+grows_stepped_as : (ok : Bool) (x : Option Agenda) (now : ℕ) (c : Course) → c.agenda ≡ x → is_working (left x) ≡ true
+    → GrowsTo c (course_stepped_as ok now c) (made_now (left x) now (open_group (left x)))
 grows_stepped_as ok x now c e f = grind (arith, along, says_worked, grows_failed)
 
 pub grows_stepped : (ok : Bool) (now : ℕ) (c : Course) → is_working (left c.agenda) ≡ true → GrowsTo c (course_stepped ok now c) (made_now (left c.agenda) now (open_group (left c.agenda)))
@@ -188,28 +194,37 @@ grows_lost_to (Some o) now a c e f g =
     let os = groups_left a in
     let group = now_group os o f in
     subst (λ ws. Grows (Some a) c.outcome (settled (told o Lost now ws c)).agenda (settled (told o Lost now ws c)).outcome (lost_by now (Some o) (waits_now os))) (ap (λ x. waits_now (left x)) (sym e))
-    (says_told o Lost now (waits_now os) _ a c e (inr (record { is = refl; writers = ap is_orders group })) (mild_at (open_place os).group o Lost group (rw g refl)) (lost_are (open_place os) o now (waits_now os) group))
+    (says_told o Lost now (waits_now os) _ a c e (inr (record { is = refl; writers = ap is_orders group }))
+    (mild_at (open_place os).group o Lost group (rw g refl)) (lost_are (open_place os) o now (waits_now os) group))
 
 grows_lost_decided : (fails : Bool) (now : ℕ) (a : Agenda) (c : Course) → c.agenda ≡ Some a → fails_set (order_now (groups_left a)) ≡ fails
-    → Grows (Some a) c.outcome (lost_decided fails (lost_to (order_now (groups_left a)) now c)).agenda (lost_decided fails (lost_to (order_now (groups_left a)) now c)).outcome (lost_by now (order_now (groups_left a)) (waits_now (groups_left a)))
+    → Grows (Some a) c.outcome (lost_decided fails (lost_to (order_now (groups_left a)) now c)).agenda
+    (lost_decided fails (lost_to (order_now (groups_left a)) now c)).outcome (lost_by now (order_now (groups_left a)) (waits_now (groups_left a)))
 grows_lost_decided fails now a c e f = grind (arith, grows_failed, grows_lost_to)
 
-grows_treated_as : (l : Limit) (now : ℕ) (a : Agenda) (c : Course) → c.agenda ≡ Some a → Grows (Some a) c.outcome (treated_as l now c).agenda (treated_as l now c).outcome (lost_by now (order_now (groups_left a)) (waits_now (groups_left a)))
+grows_treated_as : (l : Limit) (now : ℕ) (a : Agenda) (c : Course) → c.agenda ≡ Some a
+    → Grows (Some a) c.outcome (treated_as l now c).agenda (treated_as l now c).outcome (lost_by now (order_now (groups_left a)) (waits_now (groups_left a)))
 grows_treated_as HoldLimit now a c e = grows_failed a c.outcome _ c _
 grows_treated_as FreezeLimit now a c e = grows_failed a c.outcome _ (lost now c) _
 grows_treated_as AnswerLimit now a c e =
-    let R : Option Agenda → Type 0 = λ x. Grows (Some a) c.outcome (lost_decided (fails_set (order_now (left x))) (lost_to (order_now (left x)) now c)).agenda (lost_decided (fails_set (order_now (left x))) (lost_to (order_now (left x)) now c)).outcome (lost_by now (order_now (groups_left a)) (waits_now (groups_left a))) in
+    let R : Option Agenda
+    → Type 0 = λ x. Grows (Some a) c.outcome (lost_decided (fails_set (order_now (left x))) (lost_to (order_now (left x)) now c)).agenda
+    (lost_decided (fails_set (order_now (left x))) (lost_to (order_now (left x)) now c)).outcome
+    (lost_by now (order_now (groups_left a)) (waits_now (groups_left a))) in
     subst R (sym e) (grows_lost_decided (fails_set (order_now (groups_left a))) now a c e refl)
 
 lost_by_is : (l : RunningLimit) (now : ℕ) (o : Option Order) (ws : List ℕ) → lost_by now o ws ≡ deeds_lost now (lost_order_if (lost_at (Some l) o ws) o) (lost_at (Some l) o ws)
 lost_by_is l now o ws = grind arith
 
-grows_treated : (l : Option RunningLimit) (now : ℕ) (a : Agenda) (c : Course) → c.agenda ≡ Some a → Grows (Some a) c.outcome (treated l now c).agenda (treated l now c).outcome (lost_told now l (groups_left a))
+grows_treated : (l : Option RunningLimit) (now : ℕ) (a : Agenda) (c : Course) → c.agenda ≡ Some a
+    → Grows (Some a) c.outcome (treated l now c).agenda (treated l now c).outcome (lost_told now l (groups_left a))
 grows_treated None now a c e = subst (λ x. Grows (Some a) c.outcome x c.outcome []) (sym e) (grows_same (Some a) c.outcome)
 grows_treated (Some l) now a c e =
-    subst (λ news. Grows (Some a) c.outcome (treated_as l.limit now c).agenda (treated_as l.limit now c).outcome news) (lost_by_is l now (order_now (groups_left a)) (waits_now (groups_left a))) (grows_treated_as l.limit now a c e)
+    subst (λ news. Grows (Some a) c.outcome (treated_as l.limit now c).agenda (treated_as l.limit now c).outcome news)
+    (lost_by_is l now (order_now (groups_left a)) (waits_now (groups_left a))) (grows_treated_as l.limit now a c e)
 
-grows_timed_at : (x : Option Agenda) (now : ℕ) (c : Course) → c.agenda ≡ x → GrowsTo c (treated (spent_of now (running_limits (freeze_limit c) x)) now c) (lost_told now (spent_of now (running_limits (freeze_limit c) x)) (left x))
+grows_timed_at : (x : Option Agenda) (now : ℕ) (c : Course) → c.agenda ≡ x
+    → GrowsTo c (treated (spent_of now (running_limits (freeze_limit c) x)) now c) (lost_told now (spent_of now (running_limits (freeze_limit c) x)) (left x))
 grows_timed_at x now c e = grind (arith, grows_same, along, grows_treated)
 
 pub grows_timed : (now : ℕ) (c : Course) → GrowsTo c (course_timed now c) (lost_told now (spent_of now (limits_now c)) (left c.agenda))

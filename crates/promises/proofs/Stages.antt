@@ -4,17 +4,16 @@ use Rattle.promises.proofs.Words.{list_any, list_any-append, Level, System, Iden
 use Rattle.promises.proofs.Words.{Flush, Hold, Cut, Commit, Release, PostCommit, Snapshot, Place, Plan, after, said_stays, true_not_false, Deed, level_of, order_stage, stage, Rising}
 use Rattle.std.proofs.Common.{◌≡◌, ◌∙◌, ℕ, ◌==◌, ◌≤◌, ◌<◌, List, [], ◌∷◌, ◌++◌, Option, Some, None, refl, Bool, true, false, ap, sym, map, filter, arith}
 use Rattle.std.specs.Prelude.{◌||◌, not, if◌then◌else◌}
+use Rattle.std.proofs.lemmas.Bool.{or_left, or_right}
 use Rattle.set_agenda.specs.Agenda.{Agenda, Entry, Open, places, has_failed, has_said, writers_at, members_of, waited_for, with_group, left_from, groups_left, is_among, at_place, all_say}
-use Rattle.promises.proofs.Truth.{chain, left_part, no_less, right_part, same_number}
+use Rattle.promises.proofs.Truth.{chain, no_less, same_number}
 use Rattle.promises.proofs.Speaks.{deed_at, deed_in, said_at}
+use Rattle.vss_model.proofs.Spoken.{fewer_wait}
 
 abbrev pub deeds_in : Agenda → List Deed
 deeds_in a = map deed_in a.log
 
 -- ## truth values
-
-pub either_true : (a b c : Bool) → (a || b) ≡ true → (a ≡ true → c ≡ true) → (b ≡ true → c ≡ true) → c ≡ true
-either_true a b c e f g = grind arith
 
 pub deeds_append : (xs ys : List Entry) → map deed_in (xs ++ ys) ≡ map deed_in xs ++ map deed_in ys
 deeds_append [] ys = refl
@@ -24,12 +23,14 @@ pub any_more : (test : Deed → Bool) (log new : List Entry) → list_any test (
 any_more test log new = ap (list_any test) (deeds_append log new) ∙ list_any-append test (map deed_in log) (map deed_in new)
 
 -- what one member more says holds of all or of none
-pub any_said : (test : Deed → Bool) (p : Place) (said : Said) (now : ℕ) (ws : List ℕ) (X : Type 0) → ((w : ℕ) → is_among w ws ≡ true → test (deed_at p.group w said now) ≡ true → X) → list_any test (map deed_in (map (at_place p said now) ws)) ≡ true → X
+pub any_said : (test : Deed → Bool) (p : Place) (said : Said) (now : ℕ) (ws : List ℕ) (X : Type 0)
+    → ((w : ℕ) → is_among w ws ≡ true → test (deed_at p.group w said now) ≡ true → X) → list_any test (map deed_in (map (at_place p said now) ws)) ≡ true → X
 any_said test p said now [] X f e = absurd cc
-any_said test p said now (w ∷ ws) X f e = by_head (test (deed_at p.group w said now)) refl e (any_said test p said now ws X (λ u i. f u (right_part (w == u) (is_among u ws) i)))
+any_said test p said now (w ∷ ws) X f e = by_head (test (deed_at p.group w said now)) refl e (any_said test p said now ws X (λ u i. f u (or_right (w == u) (is_among u ws) i)))
   where
-    by_head : (b : Bool) → test (deed_at p.group w said now) ≡ b → (b || list_any test (map deed_in (map (at_place p said now) ws))) ≡ true → (list_any test (map deed_in (map (at_place p said now) ws)) ≡ true → X) → X
-    by_head true g h ih = f w (left_part (w == w) (is_among w ws) (same_number w)) g
+    by_head : (b : Bool) → test (deed_at p.group w said now) ≡ b → (b || list_any test (map deed_in (map (at_place p said now) ws))) ≡ true
+        → (list_any test (map deed_in (map (at_place p said now) ws)) ≡ true → X) → X
+    by_head true g h ih = f w (or_left (w == w) (is_among w ws) (same_number w)) g
     by_head false g h ih = ih h
 
 -- ## stages
@@ -96,32 +97,23 @@ pub stages_append : (s : Plan) (xs ys : List Deed) → map (stage s) (xs ++ ys) 
 stages_append s [] ys = refl
 stages_append s (x ∷ xs) ys = ap (λ zs. stage s x ∷ zs) (stages_append s xs ys)
 
-pub stages_said : (s : Plan) (p : Place) (said : Said) (now : ℕ) (ws : List ℕ) → ((w : ℕ) → is_among w ws ≡ true → IsOfLevel s p w) → map (stage s) (map deed_in (map (at_place p said now) ws)) ≡ map (λ w. place_stage p) ws
+pub stages_said : (s : Plan) (p : Place) (said : Said) (now : ℕ) (ws : List ℕ) → ((w : ℕ) → is_among w ws ≡ true → IsOfLevel s p w)
+    → map (stage s) (map deed_in (map (at_place p said now) ws)) ≡ map (λ w. place_stage p) ws
 stages_said s p said now [] h = refl
 stages_said s p said now (w ∷ ws) h =
-    ap (λ n. n ∷ map (stage s) (map deed_in (map (at_place p said now) ws))) (stage_at s p.group p.level w said now (h w (left_part (w == w) (is_among w ws) (same_number w))))
-    ∙ ap (λ ns. place_stage p ∷ ns) (stages_said s p said now ws (λ u e. h u (right_part (w == u) (is_among u ws) e)))
+    ap (λ n. n ∷ map (stage s) (map deed_in (map (at_place p said now) ws))) (stage_at s p.group p.level w said now (h w (or_left (w == w) (is_among w ws) (same_number w))))
+    ∙ ap (λ ns. place_stage p ∷ ns) (stages_said s p said now ws (λ u e. h u (or_right (w == u) (is_among u ws) e)))
 
 pub stages_more : (s : Plan) (log : List Entry) (p : Place) (said : Said) (now : ℕ) (ws : List ℕ) → ((w : ℕ) → is_among w ws ≡ true → IsOfLevel s p w)
     → map (stage s) (map deed_in (log ++ map (at_place p said now) ws)) ≡ map (stage s) (map deed_in log) ++ map (λ w. place_stage p) ws
 stages_more s log p said now ws h =
-    ap (map (stage s)) (deeds_append log (map (at_place p said now) ws)) ∙ stages_append s (map deed_in log) (map deed_in (map (at_place p said now) ws)) ∙ ap (λ ns. map (stage s) (map deed_in log) ++ ns) (stages_said s p said now ws h)
+    ap (map (stage s)) (deeds_append log (map (at_place p said now) ws)) ∙ stages_append s (map deed_in log) (map deed_in (map (at_place p said now) ws))
+    ∙ ap (λ ns. map (stage s) (map deed_in log) ++ ns) (stages_said s p said now ws h)
 
 -- ## groups stay closed
 
-pub fewer_wait : (log new : List Entry) (p : Place) (xs : List ℕ) → filter (λ x. not (has_said log p x)) xs ≡ [] → filter (λ x. not (has_said (log ++ new) p x)) xs ≡ []
-fewer_wait log new p [] e = refl
-fewer_wait log new p (x ∷ xs) e = by_head (has_said log p x) (has_said (log ++ new) p x) (said_stays log new p x) e (fewer_wait log new p xs)
-  where
-    by_head : (b c : Bool) → (b ≡ true → c ≡ true) → (if not b then x ∷ filter (λ x. not (has_said log p x)) xs else filter (λ x. not (has_said log p x)) xs) ≡ []
-        → (filter (λ x. not (has_said log p x)) xs ≡ [] → filter (λ x. not (has_said (log ++ new) p x)) xs ≡ [])
-        → (if not c then x ∷ filter (λ x. not (has_said (log ++ new) p x)) xs else filter (λ x. not (has_said (log ++ new) p x)) xs) ≡ []
-    by_head true true f e ih = ih e
-    by_head true false f e ih = absurd (true_not_false false (f refl) refl)
-    by_head false c f e ih = absurd cc
-
 pub failed_stays : (log new : List Entry) (w : ℕ) → has_failed log w ≡ true → has_failed (log ++ new) w ≡ true
-failed_stays log new w e = grind (arith, list_any-append, left_part)
+failed_stays log new w e = grind (arith, list_any-append, or_left)
 
 -- of those that have not failed
 pub fewer_unfailed : (log new : List Entry) (p : Place) (xs : List ℕ) → filter (λ x. not (has_said log p x)) (filter (λ w. not (has_failed log w)) xs) ≡ []
@@ -156,7 +148,8 @@ module _ (said : Said) (now : ℕ) (ws : List ℕ) (a : Agenda) where
   abbrev pub grown : Agenda
   grown = all_say said now ws a
 
-  pub closed_group : (g : Group) (p : Place) → filter (λ who. not (has_said a.log p who)) (members_of a g p.level) ≡ [] → filter (λ who. not (has_said (a.log ++ new_log) p who)) (members_of grown g p.level) ≡ []
+  pub closed_group : (g : Group) (p : Place) → filter (λ who. not (has_said a.log p who)) (members_of a g p.level) ≡ []
+      → filter (λ who. not (has_said (a.log ++ new_log) p who)) (members_of grown g p.level) ≡ []
   closed_group (Orders Identify) p e = fewer_wait a.log new_log p (members_of a (Orders Identify) p.level) e
   closed_group (Orders PrepareBackup) p e = fewer_wait a.log new_log p (members_of a (Orders PrepareBackup) p.level) e
   closed_group (Orders PrepareSnapshot) p e = fewer_wait a.log new_log p (members_of a (Orders PrepareSnapshot) p.level) e
@@ -195,7 +188,8 @@ goes_up a b m [] h stays = no_less 15
 goes_up a b m (p ∷ ps) h stays =
     at_group (waited_for a p) (waited_for b p) (left_from a ps) (left_from b ps) (stays p) (not_before b (place_stage p) ps h.1) (goes_up a b (place_stage p) ps h.1 stays)
   where
-    at_group : (ws us : List ℕ) (later after : List Open) → (ws ≡ [] → us ≡ []) → place_stage p ≤ open_stage after → open_stage later ≤ open_stage after → open_stage (with_group p ws later) ≤ open_stage (with_group p us after)
+    at_group : (ws us : List ℕ) (later after : List Open) → (ws ≡ [] → us ≡ []) → place_stage p ≤ open_stage after → open_stage later ≤ open_stage after
+        → open_stage (with_group p ws later) ≤ open_stage (with_group p us after)
     at_group [] [] later after f l ih = ih
     at_group [] (u ∷ us) later after f l ih = absurd (none u us (f refl))
       where

@@ -1,9 +1,9 @@
 -- What is held and frozen, as the deeds since the `snapshot` line tell it: they are those of the log of the agenda that runs.
-use Rattle.promises.proofs.Words.{Context, Backup, AppRollback, NasRollback, Identify, PrepareBackup, PrepareSnapshot, Freeze, Thaw, PostSnapshot, BackupComplete, Said, is_ok, Group, Orders}
-use Rattle.promises.proofs.Words.{PreCommit, Flush, Hold, Cut, Commit, Release, PostCommit, Kind, Gather, Prepare, Snapshot, Complete, Stage, Done, Session, has_writers, stage_after, is_stage, Plan}
+use Rattle.promises.proofs.Words.{Context, Identify, PrepareBackup, PrepareSnapshot, Freeze, Thaw, PostSnapshot, BackupComplete, Said, is_ok, Group, Orders}
+use Rattle.promises.proofs.Words.{PreCommit, Flush, Hold, Cut, Commit, Release, PostCommit, Kind, Snapshot, Stage, Done, Session, stage_after, is_stage, Plan}
 use Rattle.promises.proofs.Words.{WaitsFor, IsAgendaOf, Act, state, orderly, BySnapshot, is_step, progress, StandsStill, takes_snapshot, Deed, is_agreed, is_heard, is_made, agreed, heard, made, way}
 use Rattle.promises.proofs.Words.{kind_is}
-use Rattle.std.proofs.Common.{◌≡◌, ◌∙◌, ℕ, ◌==◌, List, [], ◌∷◌, Option, Some, None, refl, Bool, true, false, ap, sym, subst, map}
+use Rattle.std.proofs.Common.{◌≡◌, ◌∙◌, ℕ, ◌==◌, List, [], ◌∷◌, Option, Some, None, refl, Bool, true, false, ap, sym, subst, map, arith}
 use Rattle.std.specs.Prelude.{is_some, ◌&&◌, ◌||◌, not}
 use Rattle.set_agenda.specs.Agenda.{Agenda, Entry, plain, has_said, is_snapshot, is_freeze, is_thaw, has_frozen, has_thawed, is_held as holds, is_frozen as freezes}
 use Rattle.vss_model.proofs.LogRule.{Running}
@@ -18,17 +18,7 @@ use Rattle.promises.proofs.Whole.{good_along}
 -- ## the agenda that runs is the one of `snapshot`
 
 waits_for_done : (k : Kind) (c : Context) (t : Stage) → WaitsFor k c t → is_snapshot k ≡ is_stage (stage_after c t) Done
-waits_for_done Gather c t h = ap (λ x. is_stage (stage_after c x) Done) (sym h)
-waits_for_done Prepare Backup t h = ap (λ x. is_stage (stage_after Backup x) Done) (sym h.0)
-waits_for_done Prepare AppRollback t h = ap (λ x. is_stage (stage_after AppRollback x) Done) (sym h.0)
-waits_for_done Prepare NasRollback t h = absurd (none h.1)
-  where
-    none : has_writers NasRollback ≡ true → ⊥
-    none e = cc
-waits_for_done Snapshot Backup t h = ap (λ x. is_stage (stage_after Backup x) Done) (sym h)
-waits_for_done Snapshot AppRollback t h = ap (λ x. is_stage (stage_after AppRollback x) Done) (sym h)
-waits_for_done Snapshot NasRollback t h = ap (λ x. is_stage (stage_after NasRollback x) Done) (sym h)
-waits_for_done Complete c t h = ap (λ x. is_stage (stage_after c x) Done) (sym h)
+waits_for_done k c t h = grind arith
 
 kind_told : (s : Plan) (so_far : List Act) (a : Agenda) (o : Option Session) → (state s so_far).course.agenda ≡ Some a → (state s so_far).session ≡ o → IsAgendaOf (Some a) o
     → is_snapshot a.kind ≡ is_step (progress s so_far).step BySnapshot
@@ -88,22 +78,11 @@ step_told s a g v own h = both_ways (has_said a.log (plain g) v) (made g (Some v
 -- of a running snapshot agenda, by its log; nothing of another one
 held_in : (s : Plan) (ds : List Deed) (v : ℕ) (a : Agenda) (b : Bool) → is_snapshot a.kind ≡ b → (a.kind ≡ Snapshot → (map deed_in a.log ≡ ds) × Good s a)
     → holds (Some a) v ≡ (b && (made Hold (Some v) ds && not (made Release (Some v) ds)))
-held_in s ds v a false e h = ap (λ b. b && has_said a.log (plain Hold) v && not (has_said a.log (plain Release) v)) e
-held_in s ds v a true e h =
-    let own = h (kind_is a.kind e) in
-    ap (λ b. b && has_said a.log (plain Hold) v && not (has_said a.log (plain Release) v)) e
-    ∙ ap (λ b. b && not (has_said a.log (plain Release) v)) (step_told s a Hold v (λ said now u f. f) own.1)
-    ∙ ap (λ b. made Hold (Some v) (map deed_in a.log) && not b) (step_told s a Release v (λ said now u f. f) own.1)
-    ∙ ap (λ xs. made Hold (Some v) xs && not (made Release (Some v) xs)) own.0
+held_in s ds v a b e h = grind (arith, kind_is, step_told)
 
 frozen_in : (s : Plan) (ds : List Deed) (w : ℕ) (a : Agenda) (b : Bool) → is_snapshot a.kind ≡ b → (a.kind ≡ Snapshot → (map deed_in a.log ≡ ds) × Good s a)
     → freezes (Some a) w ≡ (b && (agreed Freeze w ds && not (heard Thaw w ds)))
-frozen_in s ds w a false e h = ap (λ b. b && has_frozen a.log w && not (has_thawed a.log w)) e
-frozen_in s ds w a true e h =
-    ap (λ b. b && has_frozen a.log w && not (has_thawed a.log w)) e
-    ∙ ap (λ b. b && not (has_thawed a.log w)) (frozen_told a.log w)
-    ∙ ap (λ b. agreed Freeze w (map deed_in a.log) && not b) (thawed_told a.log w)
-    ∙ ap (λ xs. agreed Freeze w xs && not (heard Thaw w xs)) (h (kind_is a.kind e)).0
+frozen_in s ds w a b e h = grind (arith, frozen_told, thawed_told, kind_is)
 
 pub stands_still : (s : Plan) (so_far : List Act) → StandsStill s so_far
 stands_still s so_far = record {

@@ -5,10 +5,10 @@ use Rattle.promises.proofs.Words.{holds_volumes, is_hold_step, held_too_long, fr
 use Rattle.promises.proofs.Words.{deeds_lost, deeds_if, deeds, begins_snapshot, Rising, way_after, way_from, way}
 use Rattle.std.proofs.Common.{◌≡◌, ◌∙◌, ℕ, ◌+◌, ◌≤◌, List, [], ◌∷◌, ◌++◌, Option, Some, None, refl, Bool, true, false, ap, sym, subst, map, find, fold, arith}
 use Rattle.std.specs.Prelude.{◌&&◌, ◌||◌, nat_lt, if◌then◌else◌}
+use Rattle.std.proofs.lemmas.Bool.{and_from, and_parts}
 use Rattle.vss_model.specs.declared.event.Event.TheVariants.{Line, Answer as AnswerEvent, Provider, Idle}
 use Rattle.vss_model.specs.Effects.{lost, lost_order}
 use Rattle.vss_model.proofs.LogRule.{Running}
-use Rattle.promises.proofs.Truth.{both_are, both_parts, not_both}
 use Rattle.promises.proofs.Along.{along}
 use Rattle.promises.proofs.Clock.{clock_after}
 use Rattle.promises.proofs.Limits.{held_since_first, passed_since, is_due_at, is_due_in}
@@ -16,6 +16,7 @@ use Rattle.promises.proofs.Speaks.{deed_at, deed_in}
 use Rattle.promises.proofs.Stages.{Below, below_more}
 use Rattle.promises.proofs.Heard.{Good}
 use Rattle.promises.proofs.Whole.{good_along}
+use Rattle.vss_model.proofs.Orderly.{true_not_false}
 
 abbrev time_of : Deed → ℕ
 time_of (Spoke order w said now) = now
@@ -55,7 +56,8 @@ at_lost now (Some order) (w ∷ ws) = (refl, at_lost now (Some order) ws)
 at_deeds : (b : Bool) (s : Plan) (st : State) (act : Act) → AllAt (after s st act).clock (deeds_if b s st act)
 at_deeds true s st act =
     let now = (after s st act).clock in
-    at_both now (deeds_told now act.event (reply s st act)) (deeds_lost now (lost_order st act.event) (lost st act.event)) (at_told now act.event (reply s st act)) (at_lost now (lost_order st act.event) (lost st act.event))
+    at_both now (deeds_told now act.event (reply s st act)) (deeds_lost now (lost_order st act.event) (lost st act.event))
+    (at_told now act.event (reply s st act)) (at_lost now (lost_order st act.event) (lost st act.event))
 at_deeds false s st act = tt
 
 -- ## every list of acts
@@ -126,7 +128,8 @@ abbrev pub times : List Entry → List ℕ
 times log = map (λ (e : Entry). e.time) log
 
 -- what has gone by since a later entry has since the first
-passed_before : (limit now t : ℕ) (test : Entry → Bool) (log : List Entry) → Rising (t ∷ times log) → list_any (λ (e : Entry). test e && has_passed limit e.time now) log ≡ true → has_passed limit t now ≡ true
+passed_before : (limit now t : ℕ) (test : Entry → Bool) (log : List Entry) → Rising (t ∷ times log)
+    → list_any (λ (e : Entry). test e && has_passed limit e.time now) log ≡ true → has_passed limit t now ≡ true
 passed_before limit now t test [] r e = absurd cc
 passed_before limit now t test (x ∷ log) r e = by_head (test x) (has_passed limit x.time now) refl e (passed_before limit now x.time test log r.1)
   where
@@ -158,7 +161,7 @@ first_passed now (x ∷ log) r e = by_head (is_hold_step x.place.group) (has_pas
 -- only a snapshot holds volumes
 no_hold : (p : Place) (ws : List ℕ) → holds_volumes p.group ≡ false → (o : Open) (os : List Open) → with_group p ws [] ≡ o ∷ os → holds_volumes o.place.group ≡ true → ⊥
 no_hold p [] f o os e h = absurd cc
-no_hold p (w ∷ ws) f o os e h = not_both (holds_volumes o.place.group) h (ap (λ (x : Open). holds_volumes x.place.group) (sym (first_of_lists (record { place = p; waits = w ∷ ws }) o os e)) ∙ f)
+no_hold p (w ∷ ws) f o os e h = true_not_false (holds_volumes o.place.group) h (ap (λ (x : Open). holds_volumes x.place.group) (sym (first_of_lists (record { place = p; waits = w ∷ ws }) o os e)) ∙ f)
   where
     first_of_lists : (x o : Open) (os : List Open) → x ∷ [] ≡ o ∷ os → x ≡ o
     first_of_lists x o os e = cc
@@ -175,12 +178,14 @@ holds_in_snapshot Complete a o os e h = absurd (no_hold (plain (Orders BackupCom
 pub held_is_first : (now : ℕ) (a : Agenda) (o : Open) (os : List Open) → groups_left a ≡ o ∷ os → (a.kind ≡ Snapshot → Rising (times a.log)) → held_too_long now o.place.group a ≡ true
     → (holds_volumes o.place.group ≡ true) × (held_since_first now a ≡ true)
 held_is_first now a o os e r h =
-    let parts = both_parts (holds_volumes o.place.group) _ h in (parts.0, first_passed now a.log (r (holds_in_snapshot a.kind a o os e parts.0)) parts.1)
+    let parts = and_parts (holds_volumes o.place.group) _ h in (parts.0, first_passed now a.log (r (holds_in_snapshot a.kind a o os e parts.0)) parts.1)
 
 due_at : (now : ℕ) (c : Course) (a : Agenda) (os : List Open) → groups_left a ≡ os → (a.kind ≡ Snapshot → Rising (times a.log)) → is_late_at now c a os ≡ true → is_due_at now c a os ≡ true
 due_at now c a [] e r h = absurd cc
 due_at now c a (o ∷ os) e r h =
-    by_parts (held_too_long now o.place.group a) (holds_volumes o.place.group && held_since_first now a) (frozen_too_long now o.place.group c a) (unanswered_too_long now o.place a) (λ g. let parts = held_is_first now a o os e r g in both_are (holds_volumes o.place.group) (held_since_first now a) parts.0 parts.1) h
+    by_parts (held_too_long now o.place.group a) (holds_volumes o.place.group && held_since_first now a) (frozen_too_long now o.place.group c a)
+    (unanswered_too_long now o.place a)
+    (λ g. let parts = held_is_first now a o os e r g in and_from (holds_volumes o.place.group) (held_since_first now a) parts.0 parts.1) h
   where
     by_parts : (x y f u : Bool) → (x ≡ true → y ≡ true) → (x || f || u) ≡ true → (y || f || u) ≡ true
     by_parts true true f u g i = refl
@@ -195,7 +200,8 @@ due_in_agenda : (now : ℕ) (c : Course) (a : Option Agenda) → Running (λ (x 
 due_in_agenda now c None r h = absurd cc
 due_in_agenda now c (Some a) r h = due_at now c a (groups_left a) refl r h
 
-log_in_time : (s : Plan) (ds : List Deed) (a : Option Agenda) → Rising (map time_of ds) → Running (λ (x : Agenda). x.kind ≡ Snapshot → (map deed_in x.log ≡ ds) × Good s x) a → Running (λ (x : Agenda). x.kind ≡ Snapshot → Rising (times x.log)) a
+log_in_time : (s : Plan) (ds : List Deed) (a : Option Agenda) → Rising (map time_of ds)
+    → Running (λ (x : Agenda). x.kind ≡ Snapshot → (map deed_in x.log ≡ ds) × Good s x) a → Running (λ (x : Agenda). x.kind ≡ Snapshot → Rising (times x.log)) a
 log_in_time s ds None r h = tt
 log_in_time s ds (Some a) r h = λ k. subst Rising (ap (map time_of) (sym (h k).0) ∙ times_are a.log) r
 
@@ -203,6 +209,7 @@ log_in_time s ds (Some a) r h = λ k. subst Rising (ap (map time_of) (sym (h k).
 pub logs_rise : (s : Plan) (acts : List Act) → Running (λ (x : Agenda). x.kind ≡ Snapshot → Rising (times x.log)) (state s acts).course.agenda
 logs_rise s acts = log_in_time s (way s acts) (state s acts).course.agenda (way_in_time s acts).rising (along (Good s) (good_along s) s acts)
 
-pub late_is_due : (s : Plan) (acts : List Act) (now : ℕ) → is_late_in now (state s acts).course (state s acts).course.agenda ≡ true → is_due_in now (state s acts).course (state s acts).course.agenda ≡ true
+pub late_is_due : (s : Plan) (acts : List Act) (now : ℕ) → is_late_in now (state s acts).course (state s acts).course.agenda ≡ true
+    → is_due_in now (state s acts).course (state s acts).course.agenda ≡ true
 late_is_due s acts now h =
     due_in_agenda now (state s acts).course (state s acts).course.agenda (logs_rise s acts) h

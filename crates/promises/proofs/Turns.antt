@@ -10,12 +10,13 @@ use Rattle.set_agenda.specs.Course.{Course, failed as course_failed, stepped as 
 use Rattle.vss_model.specs.Ending.{AgendaEnds, SetFails, ending, row_settled, concluded, followed, runs, failed_in, failed}
 use Rattle.vss_model.specs.Images.{cleared, set_loses_image, with_room_if, put, write, reverted_as}
 use Rattle.vss_model.specs.Steps.{answered, step_made, is_flush, is_failed_step, stepped_as, stepped, ticked}
-use Rattle.promises.proofs.Truth.{not_both}
 use Rattle.promises.proofs.BusyAgendas.{IsBusy, busy_set, busy_step}
 use Rattle.promises.proofs.CalmCourses.{CalmOrBusy, calm_answered, calm_stepped, calm_timed}
 use Rattle.promises.proofs.Contexts.{settled_number, changed_number}
 use Rattle.promises.proofs.GoneImages.{none_stepped}
-use Rattle.promises.proofs.SetFailures.{failure_at, failure_map, running_calm, settled_calm, changed_result, failures_made, session_made}
+use Rattle.promises.proofs.SetFailures.{failure_at, failure_map, running_calm, settled_calm, changed_result, failures_made}
+use Rattle.vss_model.proofs.Orderly.{true_not_false}
+use Rattle.promises.proofs.SameChoice.{session_made}
 
 -- the set in progress fails, and the session with it
 pub record Falls (st x : State) : Type 0 where
@@ -96,9 +97,16 @@ module _ (s : Plan) (so_far : List Act) where
     nothing : (ran : Bool) → is_some c.agenda ≡ ran → set_failure (in_progress st) z ≡ None → Turn st z ran
     nothing ran e f = inr (inr (record { session = session; failure = f; runs_is = e }))
 
-    by_ending : (o n : SetOutcome) (ran : Bool) (a : Option Agenda) → st.course.outcome ≡ o → c.outcome ≡ n → c.agenda ≡ a → (ran ≡ false → is_some c.agenda ≡ false) → Turn st (concluded (ending o n ran a) z) ran
+    by_ending : (o n : SetOutcome) (ran : Bool) (a : Option Agenda) → st.course.outcome ≡ o → c.outcome ≡ n → c.agenda ≡ a
+        → (ran ≡ false → is_some c.agenda ≡ false) → Turn st (concluded (ending o n ran a) z) ran
     by_ending RunningSet (FailedSet why) ran a e f g idle =
-        inl (record { why = why; session = ap (option_map (set_failed why)) session; failure = fallen (concluded (SetFails why) z) c.outcome why (ap (map (row_settled c.outcome)) (sets (ap has_failed f))) f (failing_set c why e f calm); outcome = f })
+        inl (record {
+          why = why;
+          session = ap (option_map (set_failed why)) session;
+          failure = fallen (concluded (SetFails why) z) c.outcome why
+              (ap (map (row_settled c.outcome)) (sets (ap has_failed f))) f (failing_set c why e f calm);
+          outcome = f;
+        })
     by_ending RunningSet RunningSet true None e f g idle = over g (no_failure (concluded AgendaEnds z) (settled_failures (ap failure_of f)))
     by_ending RunningSet RunningSet true (Some a) e f g idle = nothing true (ap is_some g) (no_failure z failures)
     by_ending RunningSet RunningSet false a e f g idle = nothing false (idle refl) (no_failure z failures)
@@ -126,7 +134,13 @@ module _ (s : Plan) (so_far : List Act) where
   unfolding course_failed
   failed_turn None why y e sets session course = quiet_turn y session (λ n. ap (λ rows. failure_at rows n) sets) (ap (λ (d : Course). is_some d.agenda) course)
   failed_turn (Some r) why y e sets session course =
-      inl (record { why = why; session = ap (option_map (set_failed why)) session; failure = fallen (failed_in (Some r) why y) (FailedSet why) why (ap (map (row_settled (FailedSet why))) sets) refl (ap is_some e); outcome = refl })
+      inl (record {
+        why = why;
+        session = ap (option_map (set_failed why)) session;
+        failure = fallen (failed_in (Some r) why y) (FailedSet why) why
+            (ap (map (row_settled (FailedSet why))) sets) refl (ap is_some e);
+        outcome = refl;
+      })
 
   pub abort_turn : Turn st (failed AsyncCancelled st) (runs st)
   abort_turn = failed_turn (in_progress st) AsyncCancelled st refl refl refl refl
@@ -161,7 +175,7 @@ module _ (s : Plan) (so_far : List Act) where
 
   -- a step that is made fails nothing
   step_calm : is_working (left_now st) ≡ true → has_failed (course_stepped true st.clock st.course).outcome ≡ true → ⊥
-  step_calm e f = grind (arith, set_there, calm_stepped, none_stepped, outcome_is_running, not_both, busy_there, busy_step)
+  step_calm e f = grind (arith, set_there, calm_stepped, none_stepped, outcome_is_running, true_not_false, busy_there, busy_step)
 
   step_as : (b : Bool) (g : Option Group) → is_working (left_now st) ≡ true → Turn st (stepped_as b g st) (runs st)
   step_as true g e =
@@ -169,7 +183,8 @@ module _ (s : Plan) (so_far : List Act) where
       followed_turn c st refl (λ n. refl) (calm_stepped false st.clock st.course e) (λ f. refl) (runs st) refl (still_idle c (moves_stepped false st.clock st.course e))
   step_as false g e =
       let c = course_stepped true st.clock st.course in
-      followed_turn c (step_made g st) (session_made g st) (failures_made g st) (calm_stepped true st.clock st.course e) (λ f. absurd (step_calm e f)) (runs st) (course-step_made g st) (still_idle c (moves_stepped true st.clock st.course e))
+      followed_turn c (step_made g st) (session_made g st) (failures_made g st) (calm_stepped true st.clock st.course e) (λ f. absurd (step_calm e f)) (runs st)
+      (course-step_made g st) (still_idle c (moves_stepped true st.clock st.course e))
 
   pub step_turn : (mark : Mark) → is_working (left_now st) ≡ true → Turn st (stepped mark st) (runs st)
   unfolding stepped
@@ -184,7 +199,7 @@ module _ (s : Plan) (so_far : List Act) where
       by_set None e i = refl
       by_set (Some r) e i =
           let own : IsOfSession (Some q) st.course.outcome (Some r) = subst (λ o. IsOfSession (Some q) st.course.outcome o) e (subst (λ p. IsOfSession p st.course.outcome (in_progress st)) f i) in
-          absurd (not_both (makes_set q.stage) own.0 g)
+          absurd (true_not_false (makes_set q.stage) own.0 g)
 
   pub add_turn : (v : ℕ) (r : SetRow) → Turn st (change_set r.number (with_volume v) st) (runs st)
   add_turn v r = grind (arith, quiet_turn, failure_map, changed_number, changed_result)

@@ -4,8 +4,11 @@ use Rattle.promises.proofs.Words.{take-add, drop-nil, drop-append-le, take-appen
 use Rattle.promises.proofs.Words.{blocks_named, to_restore, restoring, writes_since, used, needs_slot, some_same}
 use Rattle.std.proofs.Common.{◌≡◌, ◌∙◌, ℕ, ◌+◌, ◌-◌, ◌==◌, ◌≤◌, ◌<◌, zero, suc, List, [], ◌∷◌, ◌++◌, Some, refl, Bool, true, false, ap, sym, subst, map, filter, length, take, drop, arith}
 use Rattle.std.specs.Prelude.{not, nat_lt, if◌then◌else◌, slice_range}
-use Rattle.promises.proofs.Truth.{chain, no_less, not_both, not_true}
-use Rattle.promises.proofs.Named.{NameNoMore, either, named_no_more, named_in_parts, named_by_none, named_by_one, inner_no_more, later_no_more, since_later, inner_append, restored_no_more}
+use Rattle.std.proofs.lemmas.Bool.{or_cases}
+use Rattle.promises.proofs.Truth.{chain, no_less}
+use Rattle.promises.proofs.Named.{NameNoMore, named_no_more, named_in_parts, named_by_none, named_by_one, inner_no_more, later_no_more, since_later, inner_append, restored_no_more}
+use Rattle.set_agenda.proofs.Closings.{unless}
+use Rattle.vss_model.proofs.Orderly.{true_not_false}
 
 -- ## points that rise
 
@@ -84,9 +87,11 @@ fewer_from test n ws p (i ∷ newer) h = by_test (test i) (fewer_from test n ws 
         → used_from n ws p (if b then i ∷ filter test newer else filter test newer) ≤ used_from n ws p (i ∷ newer)
     by_test true ih from = add (length (blocks_named n (slice_range ws p i.point))) (used_from n ws i.point (filter test newer)) (used_from n ws i.point newer) ih
     by_test false ih from =
-        over (used_from n ws p (filter test newer)) (length (blocks_named n (writes_since ws p newer))) (length (blocks_named n (slice_range ws p i.point))) (length (blocks_named n (writes_since ws i.point newer))) (used n ws newer)
+        over (used_from n ws p (filter test newer)) (length (blocks_named n (writes_since ws p newer))) (length (blocks_named n (slice_range ws p i.point)))
+        (length (blocks_named n (writes_since ws i.point newer))) (used n ws newer)
         from
-        (subst (λ xs. length (blocks_named n xs) ≤ length (blocks_named n (slice_range ws p i.point)) + length (blocks_named n (writes_since ws i.point newer))) (sym (since_in_parts ws p i.point newer h.0 h.1))
+        (subst (λ xs. length (blocks_named n xs) ≤ length (blocks_named n (slice_range ws p i.point)) + length (blocks_named n (writes_since ws i.point newer)))
+        (sym (since_in_parts ws p i.point newer h.0 h.1))
         (named_in_parts n (slice_range ws p i.point) (writes_since ws i.point newer)))
 
 -- fewer images use no more slots
@@ -114,7 +119,8 @@ needs_from b ws i (j ∷ newer) h e = needs_from b ws j newer h.1 (none_later (n
     none_later false f = refl
 
 -- where a write needs a slot with fewer images, it needs one with all
-pub fewer_need : (test : Image → Bool) (b from : ℕ) (ws : List Write) (images : List Image) → Rising from (length ws) images → needs_slot ws (filter test images) b ≡ true → needs_slot ws images b ≡ true
+pub fewer_need : (test : Image → Bool) (b from : ℕ) (ws : List Write) (images : List Image) → Rising from (length ws) images
+    → needs_slot ws (filter test images) b ≡ true → needs_slot ws images b ≡ true
 fewer_need test b from ws [] h e = e
 fewer_need test b from ws (i ∷ images) h e = by_test (test i) e (fewer_need test b i.point ws images h.1)
   where
@@ -123,10 +129,11 @@ fewer_need test b from ws (i ∷ images) h e = by_test (test i) e (fewer_need te
     with_one (j ∷ newer) f = f
 
     at_least : (newer : List Image) → (needs_slot ws newer b ≡ true → needs_slot ws images b ≡ true) → needs_slot ws (i ∷ newer) b ≡ true → needs_slot ws (i ∷ images) b ≡ true
-    at_least [] ih f = needs_from b ws i images h.1 (not_true (names (drop i.point ws) b) f)
+    at_least [] ih f = needs_from b ws i images h.1 (unless (names (drop i.point ws) b) f)
     at_least (j ∷ newer) ih f = with_one images (ih f)
 
-    by_test : (t : Bool) → needs_slot ws (if t then i ∷ filter test images else filter test images) b ≡ true → (needs_slot ws (filter test images) b ≡ true → needs_slot ws images b ≡ true) → needs_slot ws (i ∷ images) b ≡ true
+    by_test : (t : Bool) → needs_slot ws (if t then i ∷ filter test images else filter test images) b ≡ true
+        → (needs_slot ws (filter test images) b ≡ true → needs_slot ws images b ≡ true) → needs_slot ws (i ∷ images) b ≡ true
     by_test true f ih = at_least (filter test images) ih f
     by_test false f ih = with_one images (ih f)
 
@@ -138,7 +145,8 @@ up_to_end p ws = take_all (length ws - p) (drop p ws) (subst (λ n. n ≤ length
 -- an image that is cut uses no slot
 pub cut_used : (m n : ℕ) (ws : List Write) (images : List Image) → used n ws (images ++ record { set = m; point = length ws } ∷ []) ≡ used n ws images
 cut_used m n ws [] = ap (λ xs. length (blocks_named n xs) + 0) (drop_all (length ws) ws (no_less (length ws))) ∙ ap (λ k. k + 0) (named_by_none n)
-cut_used m n ws (i ∷ []) = ap (λ xs. length (blocks_named n xs) + used n ws (record { set = m; point = length ws } ∷ [])) (up_to_end i.point ws) ∙ ap (λ k. length (blocks_named n (drop i.point ws)) + k) (cut_used m n ws [])
+cut_used m n ws (i ∷ []) = ap (λ xs. length (blocks_named n xs) + used n ws (record { set = m; point = length ws } ∷ [])) (up_to_end i.point ws)
+    ∙ ap (λ k. length (blocks_named n (drop i.point ws)) + k) (cut_used m n ws [])
 cut_used m n ws (i ∷ j ∷ images) = ap (λ k. length (blocks_named n (slice_range ws i.point j.point)) + k) (cut_used m n ws (j ∷ images))
 
 -- ## a write
@@ -147,17 +155,20 @@ abbrev pub one_if : Bool → ℕ
 one_if b = if b then 1 else 0
 
 -- the newest image gets the block, unless it has it
-newest_gains : (n p : ℕ) (ws : List Write) (w : Write) → p ≤ length ws → length (blocks_named n (drop p (ws ++ w ∷ []))) ≤ length (blocks_named n (drop p ws)) + one_if (not (names (drop p ws) w.block))
-newest_gains n p ws w l = grind (arith, drop-append-le, named_no_more, either, list_any-append, named_in_parts, named_by_one)
+newest_gains : (n p : ℕ) (ws : List Write) (w : Write) → p ≤ length ws
+    → length (blocks_named n (drop p (ws ++ w ∷ []))) ≤ length (blocks_named n (drop p ws)) + one_if (not (names (drop p ws) w.block))
+newest_gains n p ws w l = grind (arith, drop-append-le, named_no_more, or_cases, list_any-append, named_in_parts, named_by_one)
 
-pub written_used : (n from : ℕ) (ws : List Write) (w : Write) (images : List Image) → Rising from (length ws) images → used n (ws ++ w ∷ []) images ≤ used n ws images + one_if (needs_slot ws images w.block)
+pub written_used : (n from : ℕ) (ws : List Write) (w : Write) (images : List Image) → Rising from (length ws) images
+    → used n (ws ++ w ∷ []) images ≤ used n ws images + one_if (needs_slot ws images w.block)
 written_used n from ws w [] h = omega arith
 written_used n from ws w (i ∷ []) h = last _ _ _ (newest_gains n i.point ws w h.1)
   where
     last : (x y z : ℕ) → x ≤ y + z → x + 0 ≤ (y + 0) + z
     last x y z l = omega arith
 written_used n from ws w (i ∷ j ∷ images) h =
-    inner _ _ _ _ _ (ap (λ xs. length (blocks_named n xs)) (inner_append i.point j.point ws (w ∷ []) h.1.0 (rising_most j.point (length ws) images h.1.1))) (written_used n i.point ws w (j ∷ images) h.1)
+    inner _ _ _ _ _ (ap (λ xs. length (blocks_named n xs)) (inner_append i.point j.point ws (w ∷ []) h.1.0 (rising_most j.point (length ws) images h.1.1)))
+    (written_used n i.point ws w (j ∷ images) h.1)
   where
     inner : (a b x y z : ℕ) → a ≡ b → x ≤ y + z → a + x ≤ (b + y) + z
     inner a b x y z e l = omega arith
@@ -173,7 +184,8 @@ less_used n ws ys from most (i ∷ []) h last inner = same _ _ (named_no_more n 
     same : (x y : ℕ) → x ≤ y → x + 0 ≤ y + 0
     same x y l = omega arith
 less_used n ws ys from most (i ∷ j ∷ images) h last inner =
-    both _ _ _ _ (named_no_more n (slice_range ys i.point j.point) (slice_range ws i.point j.point) (inner i.point j.point h.1.0 (rising_most j.point most images h.1.1))) (less_used n ws ys i.point most (j ∷ images) h.1 last inner)
+    both _ _ _ _ (named_no_more n (slice_range ys i.point j.point) (slice_range ws i.point j.point)
+    (inner i.point j.point h.1.0 (rising_most j.point most images h.1.1))) (less_used n ws ys i.point most (j ∷ images) h.1 last inner)
   where
     both : (a b x y : ℕ) → a ≤ b → x ≤ y → a + x ≤ b + y
     both a b x y l h = omega arith
@@ -197,9 +209,10 @@ rising_up_to m p most from (i ∷ images) h t e = by_test (i.set == m) (not (nat
     is_kept : (a m : ℕ) → (a == m) ≡ true → not (nat_lt m a) ≡ true
     is_kept a m e = grind arith
 
-    by_test : (t u : Bool) → (i.set == m) ≡ t → not (nat_lt m i.set) ≡ u → (if t then Some i.point else point_in m images) ≡ Some p → (point_in m images ≡ Some p → Rising i.point p (up_to_set m images)) → Rising from p (if u then i ∷ up_to_set m images else up_to_set m images)
+    by_test : (t u : Bool) → (i.set == m) ≡ t → not (nat_lt m i.set) ≡ u → (if t then Some i.point else point_in m images) ≡ Some p
+        → (point_in m images ≡ Some p → Rising i.point p (up_to_set m images)) → Rising from p (if u then i ∷ up_to_set m images else up_to_set m images)
     by_test true true f g e ih = (h.0, subst (Rising i.point p) (sym (none_later images t.1 f)) (subst (λ q. i.point ≤ q) (some_same i.point p e) (no_less i.point)))
-    by_test true false f g e ih = absurd (not_both (not (nat_lt m i.set)) (is_kept i.set m f) g)
+    by_test true false f g e ih = absurd (true_not_false (not (nat_lt m i.set)) (is_kept i.set m f) g)
     by_test false true f g e ih = (h.0, ih e)
     by_test false false f g e ih = rising_from from i.point p (up_to_set m images) h.0 (ih e)
 

@@ -1,19 +1,21 @@
 -- No limit that would fail the set is outrun as the clock stands.
-use Rattle.promises.proofs.Words.{Order, VssResult, InsufficientStorage, AsyncCancelled, Said, Ok, Lost, WriterRow, is_ok, row_after, answer_limit, default_freeze, Mark, Clean, Write, said_of, Group}
-use Rattle.promises.proofs.Words.{Orders, Kind, Limit, Member, Agenda, Open, places, order_of, is_orders, groups_left, left, open_group, waits_now, order_now, is_among, is_asked, open_order}
-use Rattle.promises.proofs.Words.{is_working, next_member, is_done, all_say, Running as RunningLimit, opened_at, freeze_runs, answer_runs, runs_if, running_at, running_limits, spent_of, none_and_some}
-use Rattle.promises.proofs.Words.{IsSpentHere, spent_here, Session, Plan, Event, State, SetRow, Kept, start, in_progress, left_now, Act, enabled, idle_now, after, state, is_late_in, asked_if}
+use Rattle.promises.proofs.Words.{Order, VssResult, AsyncCancelled, Said, Ok, Lost, WriterRow, is_ok, row_after, default_freeze, Mark, Write, said_of, Group}
+use Rattle.promises.proofs.Words.{Kind, Limit, Member, Agenda, Open, order_of, is_orders, groups_left, left, open_group, waits_now, order_now, is_among, open_order}
+use Rattle.promises.proofs.Words.{is_working, next_member, all_say, Running as RunningLimit, answer_runs, running_at, running_limits, spent_of, none_and_some}
+use Rattle.promises.proofs.Words.{spent_here, Session, Plan, Event, State, SetRow, Kept, start, in_progress, left_now, Act, enabled, idle_now, after, state, is_late_in, asked_if}
 use Rattle.promises.proofs.Words.{asked_waits, StandsWithinLimits, Covers, covered, after_enabled, after_not_enabled, by_if}
-use Rattle.std.proofs.Common.{◌≡◌, ◌∙◌, ℕ, ◌+◌, zero, suc, List, [], ◌∷◌, Option, Some, None, refl, Bool, true, false, ap, sym, subst, inl, fold, min, arith}
+use Rattle.std.proofs.Common.{◌≡◌, ◌∙◌, ℕ, ◌+◌, zero, suc, List, [], ◌∷◌, Option, Some, None, refl, Bool, true, false, ap, sym, subst, fold, min, arith}
 use Rattle.std.specs.Prelude.{◌&&◌, not, option_map, slice_get}
+use Rattle.std.proofs.lemmas.Bool.{false_from_ne_true}
 use Rattle.set_agenda.specs.declared.limit.Limit.TheVariants.{Hold as HoldLimit, Freeze as FreezeLimit, Answer as AnswerLimit}
-use Rattle.set_agenda.specs.Course.{Course, posted, failed as course_failed, rows_where, row_if, limit_of, freeze_limit, limits_now, settled_if, settled_in, settled, begun, told, is_decisive, decided, answered_to, answered as course_answered, worked, stepped as course_stepped, lost_to, lost, fails_set, lost_decided, treated_as, treated, timed as course_timed, released}
-use Rattle.vss_model.specs.Ending.{Ending, NothingEnds, ending, concluded, followed, runs, failed_in, failed}
-use Rattle.vss_model.specs.Images.{Replied, cleared, set_loses_image, with_room_if, put, write, reverted_as}
+use Rattle.set_agenda.specs.Course.{Course, posted, failed as course_failed, rows_where, row_if, limit_of, freeze_limit, limits_now, settled_if, settled_in}
+use Rattle.set_agenda.specs.Course.{settled, begun, told, is_decisive, decided, answered_to, answered as course_answered, worked, stepped as course_stepped}
+use Rattle.set_agenda.specs.Course.{lost_to, lost, fails_set, lost_decided, treated_as, treated, timed as course_timed, released}
+use Rattle.vss_model.specs.Ending.{Ending, ending, concluded, followed, runs, failed_in, failed}
+use Rattle.vss_model.specs.Images.{Replied, with_room_if, put, write, reverted_as}
 use Rattle.vss_model.specs.Sessions.{has_no_volume, closed}
-use Rattle.vss_model.specs.Steps.{answered, step_made, is_flush, is_failed_step, stepped_as, stepped, ticked, later}
+use Rattle.vss_model.specs.Steps.{answered, step_made, is_flush, is_failed_step, stepped_as, stepped, ticked}
 use Rattle.vss_model.proofs.LogRule.{Running, unspoken}
-use Rattle.promises.proofs.Truth.{false_of}
 use Rattle.promises.proofs.Clock.{clock-made}
 use Rattle.promises.proofs.Limits.{is_due_in, due_in, spent_runs}
 use Rattle.promises.proofs.Speaks.{Speaks, now_group, head_waits}
@@ -36,12 +38,10 @@ unfolding posted
 keeps_posted now prior c h = h
 
 keeps_settled_if : (now : ℕ) (b : Bool) (k : Kind) (c : Course) → Keeps now c → Keeps now (settled_if b k c)
-keeps_settled_if now true k c h = tt
-keeps_settled_if now false k c h = h
+keeps_settled_if now b k c h = grind arith
 
 keeps_settled_in : (now : ℕ) (o : Option Agenda) (c : Course) → Keeps now c → Keeps now (settled_in o c)
-keeps_settled_in now None c h = h
-keeps_settled_in now (Some a) c h = keeps_settled_if now (is_done (groups_left a)) a.kind c h
+keeps_settled_in now o c h = grind (arith, keeps_settled_if)
 
 keeps_settled : (now : ℕ) (c : Course) → Keeps now c → Keeps now (settled c)
 unfolding settled
@@ -57,11 +57,10 @@ limit_stays o said test k (r ∷ rows) zero = by_test (test k)
     by_test false = refl
 limit_stays o said test k (r ∷ rows) (suc w) = limit_stays o said test (k + 1) rows w
 
-least_stays : (rows newer : List WriterRow) → ((w : ℕ) → limit_of (slice_get newer w) ≡ limit_of (slice_get rows w)) → (least : ℕ) (ms : List Member) → fold (λ l (m : Member). min l (limit_of (slice_get rows m.writer))) least ms ≡ fold (λ l (m : Member). min l (limit_of (slice_get newer m.writer))) least ms
-least_stays rows newer same least [] = refl
-least_stays rows newer same least (m ∷ ms) =
-    least_stays rows newer same (min least (limit_of (slice_get rows m.writer))) ms
-    ∙ ap (λ n. fold (λ l (x : Member). min l (limit_of (slice_get newer x.writer))) (min least n) ms) (sym (same m.writer))
+least_stays : (rows newer : List WriterRow) → ((w : ℕ) → limit_of (slice_get newer w) ≡ limit_of (slice_get rows w)) → (least : ℕ) (ms : List Member)
+    → fold (λ l (m : Member). min l (limit_of (slice_get rows m.writer))) least ms
+    ≡ fold (λ l (m : Member). min l (limit_of (slice_get newer m.writer))) least ms
+least_stays rows newer same least ms = grind arith
 
 -- who speaks, and what holds before
 abbrev MaySay : ℕ → ℕ → List ℕ → Option Agenda → Type 0
@@ -80,9 +79,7 @@ keeps_told o said now ws c h =
     h
 
 one_may : (now f w : ℕ) (x : Option Agenda) (o : Order) → open_order (left x) w ≡ Some o → Running (InTime now f) x → MaySay now f (w ∷ []) x
-one_may now f w None o e h = tt
-one_may now f w (Some a) o e h =
-    (inl (record { one = w; is = refl; waits = (asked_waits (groups_left a) w (asked_if (is_asked w (groups_left a)) (order_now (groups_left a)) o e)).1 }), h.unspent, h.ordered)
+one_may now f w x o e h = grind (arith, asked_waits, asked_if)
 
 keeps_decided : (now : ℕ) (b : Bool) (said : Said) (c : Course) → Keeps now c → Keeps now (decided b said c)
 keeps_decided now true said c h = keeps_failed now _ c
@@ -90,14 +87,14 @@ keeps_decided now false said c h = keeps_settled now c h
 
 keeps_answered_to : (x : Option Order) (w : ℕ) (said : Said) (now : ℕ) (c : Course) → open_order (left c.agenda) w ≡ x → Keeps now c → Keeps now (answered_to x w said now c)
 keeps_answered_to None w said now c e h = h
-keeps_answered_to (Some o) w said now c e h = keeps_decided now (is_decisive o && not (is_ok said)) said _ (keeps_told o said now (w ∷ []) c (says_at now (freeze_limit c) said (w ∷ []) c.agenda (one_may now (freeze_limit c) w c.agenda o e h)))
+keeps_answered_to (Some o) w said now c e h = keeps_decided now (is_decisive o && not (is_ok said)) said _
+    (keeps_told o said now (w ∷ []) c (says_at now (freeze_limit c) said (w ∷ []) c.agenda (one_may now (freeze_limit c) w c.agenda o e h)))
 
 keeps_answered : (w : ℕ) (said : Said) (now : ℕ) (c : Course) → Keeps now c → Keeps now (course_answered w said now c)
 keeps_answered w said now c h = keeps_posted now c _ (keeps_answered_to (open_order (left c.agenda) w) w said now c refl h)
 
 step_may : (now f : ℕ) (x : Option Agenda) → is_working (left x) ≡ true → Running (InTime now f) x → MaySay now f (next_member (left x) ∷ []) x
-step_may now f None e h = tt
-step_may now f (Some a) e h = (inl (record { one = next_member (groups_left a); is = refl; waits = head_waits a (places a.kind) e }), h.unspent, h.ordered)
+step_may now f x e h = grind (arith, head_waits)
 
 keeps_worked : (now : ℕ) (c : Course) → is_working (left c.agenda) ≡ true → Keeps now c → Keeps now (worked now c)
 unfolding worked
@@ -110,20 +107,17 @@ keeps_stepped false now c e h = keeps_posted now c _ (keeps_failed now _ c)
 -- ## time
 
 in_order : (now f : ℕ) (x : Option Agenda) → Running (InTime now f) x → Running Ordered x
-in_order now f None h = tt
-in_order now f (Some a) h = h.ordered
+in_order now f x h = grind arith
 
 goes_by : (now f : ℕ) (x : Option Agenda) → spent_of now (running_limits f x) ≡ None → Running Ordered x → Running (InTime now f) x
-goes_by now f None e h = tt
-goes_by now f (Some a) e h = record { unspent = e; ordered = h }
+goes_by now f x e h = grind arith
 
 -- where the answer limit is spent, writers are asked
 asks : (now f : ℕ) (a : Agenda) (o : Open) (os : List Open) (l : RunningLimit) → spent_of now (running_at f a (o ∷ os)) ≡ Some l → l.limit ≡ AnswerLimit → answer_runs o.place.group ≡ true
-asks now f a o os l e k = spent_runs now (answer_runs o.place.group) AnswerLimit (opened_at a o) answer_limit l (subst (λ x. IsSpentHere now f a o l x) k (spent_here now f a o os l e)).2
+asks now f a o os l e k = grind (arith, spent_runs, spent_here)
 
 answers_order : (g : Group) → answer_runs g ≡ true → order_of g ≡ None → ⊥
-answers_order (Orders o) e f = cc
-answers_order _ e f = cc
+answers_order g e f = grind arith
 
 nobody_asked : (now f : ℕ) (x : Option Agenda) (l : RunningLimit) → spent_of now (running_limits f x) ≡ Some l → l.limit ≡ AnswerLimit → order_now (left x) ≡ None → ⊥
 nobody_asked now f None l e k i = none_and_some None l refl e
@@ -133,17 +127,20 @@ nobody_asked now f (Some a) l e k i = at_list (groups_left a) e i
     at_list [] e i = none_and_some None l refl e
     at_list (o ∷ os) e i = answers_order o.place.group (asks now f a o os l e k) i
 
-all_lost : (now f : ℕ) (x : Option Agenda) (o : Order) → order_now (left x) ≡ Some o → is_decisive o ≡ false → Running Ordered x → Running (InTime now f) (option_map (all_say Lost now (waits_now (left x))) x)
+all_lost : (now f : ℕ) (x : Option Agenda) (o : Order) → order_now (left x) ≡ Some o → is_decisive o ≡ false → Running Ordered x
+    → Running (InTime now f) (option_map (all_say Lost now (waits_now (left x))) x)
 all_lost now f None o e d h = tt
 all_lost now f (Some a) o e d h =
     let group = now_group (groups_left a) o e in
     lost_in_time now a (ap is_orders group) h (ap is_mild group ∙ mild_order o d) f
 
-keeps_lost_to : (now : ℕ) (c : Course) (l : RunningLimit) (x : Option Order) → order_now (left c.agenda) ≡ x → fails_set x ≡ false → spent_of now (limits_now c) ≡ Some l → l.limit ≡ AnswerLimit → Running Ordered c.agenda → Keeps now (lost_to x now c)
+keeps_lost_to : (now : ℕ) (c : Course) (l : RunningLimit) (x : Option Order) → order_now (left c.agenda) ≡ x → fails_set x ≡ false
+    → spent_of now (limits_now c) ≡ Some l → l.limit ≡ AnswerLimit → Running Ordered c.agenda → Keeps now (lost_to x now c)
 keeps_lost_to now c l None i d e k h = absurd (nobody_asked now (freeze_limit c) c.agenda l e k i)
 keeps_lost_to now c l (Some o) i d e k h = keeps_told o Lost now (waits_now (left c.agenda)) c (all_lost now (freeze_limit c) c.agenda o i d h)
 
-keeps_lost : (b : Bool) (now : ℕ) (c : Course) (l : RunningLimit) → fails_set (order_now (left c.agenda)) ≡ b → spent_of now (limits_now c) ≡ Some l → l.limit ≡ AnswerLimit → Running Ordered c.agenda → Keeps now (lost_decided b (lost now c))
+keeps_lost : (b : Bool) (now : ℕ) (c : Course) (l : RunningLimit) → fails_set (order_now (left c.agenda)) ≡ b → spent_of now (limits_now c) ≡ Some l
+    → l.limit ≡ AnswerLimit → Running Ordered c.agenda → Keeps now (lost_decided b (lost now c))
 keeps_lost true now c l d e k h = keeps_failed now _ (lost now c)
 keeps_lost false now c l d e k h = keeps_settled now (lost now c) (keeps_lost_to now c l (order_now (left c.agenda)) refl d e k h)
 
@@ -162,11 +159,7 @@ keeps_timed now c h = keeps_posted now c _ (keeps_treated (spent_of now (limits_
 -- ## an agenda begins
 
 new_agenda : (k : Kind) (ms : List Member) (vs : List ℕ) (now f : ℕ) (os : List Open) → spent_of now (running_at f (unspoken k ms vs now) os) ≡ None
-new_agenda k ms vs now f [] = refl
-new_agenda k ms vs now f (o ∷ os) =
-    none_both now (runs_if (freeze_runs o.place.group) FreezeLimit now f) (runs_if (answer_runs o.place.group) AnswerLimit now answer_limit)
-    (unspent_if (freeze_runs o.place.group) FreezeLimit now f now (λ e. at_once now now f refl))
-    (unspent_if (answer_runs o.place.group) AnswerLimit now answer_limit now (λ e. at_once now now answer_limit refl))
+new_agenda k ms vs now f os = grind (arith, none_both, unspent_if, at_once)
 
 keeps_begun : (k : Kind) (ms : List Member) (vs : List ℕ) (now : ℕ) (c : Course) → Keeps now (begun k ms vs now c)
 unfolding begun
@@ -180,8 +173,7 @@ abbrev InTimeNow : State → Type 0
 InTimeNow st = Keeps st.clock st.course
 
 ended_in_time : (e : Ending) (x : State) → InTimeNow x → InTimeNow (concluded e x)
-ended_in_time NothingEnds x h = h
-ended_in_time _ x h = h
+ended_in_time e x h = grind arith
 
 followed_in_time : (ran : Bool) (c : Course) (x : State) → Keeps x.clock c → InTimeNow (followed ran c x)
 unfolding followed
@@ -192,21 +184,18 @@ failed_in_time None why x h = h
 failed_in_time (Some r) why x h = keeps_failed x.clock why x.course
 
 room_in_time : (b : Bool) (x : State) → InTimeNow x → InTimeNow (with_room_if b x)
-room_in_time true x h = failed_in_time (in_progress x) InsufficientStorage x h
-room_in_time false x h = h
+room_in_time b x h = grind (arith, failed_in_time)
 
 put_in_time : (v : ℕ) (w : Write) (mark : Mark) (x : State) → InTimeNow x → InTimeNow (put v w mark x)
-put_in_time v w Clean x h = h
-put_in_time v w _ x h = h
+put_in_time v w mark x h = grind arith
 
 module _ (s : Plan) (st : State) (h : InTimeNow st) where
   on_write : (v : ℕ) (w : Write) (mark : Mark) → InTimeNow (write s v w mark st).1
   unfolding write
-  on_write v w mark = put_in_time v w mark _ (room_in_time (set_loses_image (in_progress st) st.volumes (cleared s v w.block st).volumes) (cleared s v w.block st) h)
+  on_write v w mark = grind (arith, put_in_time, room_in_time)
 
   on_revert : (v : ℕ) (k : Kept) (mark : Mark) → InTimeNow (reverted_as s v k mark st).1
-  on_revert v k Clean = h
-  on_revert v k _ = h
+  on_revert v k mark = grind arith
 
   on_close : (q : Session) (x : State) → InTimeNow (closed q x)
   unfolding closed released
@@ -218,7 +207,7 @@ module _ (s : Plan) (st : State) (h : InTimeNow st) where
 
   on_tick : (n : ℕ) → InTimeNow (ticked n st)
   unfolding ticked
-  on_tick n = followed_in_time (runs st) (course_timed (st.clock + n) st.course) (later n st) (keeps_timed (st.clock + n) st.course (in_order st.clock (freeze_limit st.course) st.course.agenda h))
+  on_tick n = grind (arith, followed_in_time, keeps_timed, in_order)
 
   on_step_as : (b : Bool) (g : Option Group) → is_working (left_now st) ≡ true → InTimeNow (stepped_as b g st)
   on_step_as true g e = followed_in_time (runs st) (course_stepped false st.clock st.course) st (keeps_stepped false st.clock st.course e h)
@@ -273,7 +262,7 @@ none_spent s so_far = in_time_from s (start s) so_far tt
 
 not_late : (now : ℕ) (c : Course) (x : Option Agenda) → Running (InTime now (freeze_limit c)) x → (is_late_in now c x ≡ true → is_due_in now c x ≡ true) → is_late_in now c x ≡ false
 not_late now c None h due = refl
-not_late now c (Some a) h due = false_of _ (λ late. let spends = due_in now c (Some a) (due late) in none_and_some _ spends.one h.unspent spends.is)
+not_late now c (Some a) h due = false_from_ne_true _ (λ late. let spends = due_in now c (Some a) (due late) in none_and_some _ spends.one h.unspent spends.is)
 
 pub stands_within_limits : (s : Plan) (so_far : List Act) → StandsWithinLimits s so_far
 stands_within_limits s so_far =

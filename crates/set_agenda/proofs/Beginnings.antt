@@ -3,7 +3,7 @@ use Rattle.std.proofs.Common.{◌≡◌, ℕ, List, [], ◌∷◌, ◌++◌, Opt
 use Rattle.std.specs.Prelude.{◌&&◌, ◌||◌, not, ◌==◌}
 use Rattle.std.specs.List.{list_any, flat_map, range_with_len}
 use Rattle.std.proofs.lemmas.Bool.Decides.{nat_tests}
-use Rattle.std.proofs.lemmas.Bool.{and_parts}
+use Rattle.std.proofs.lemmas.Bool.{and_parts, or_parts}
 use Rattle.vss_names.specs.declared.level.Level.{Level}
 use Rattle.vss_names.specs.declared.order.Order.TheVariants.{Identify, PrepareBackup, PrepareSnapshot, Freeze, Thaw, PostSnapshot, BackupComplete}
 use Rattle.set_agenda.specs.declared.group.Group.{Group}
@@ -18,7 +18,7 @@ use Rattle.set_agenda.specs.Begin.{are_distinct, by_writer, unspoken}
 use Rattle.set_agenda.specs.WriterSet.{writers}
 use Rattle.set_agenda.specs.Cursor.{HasRows, fresh, left_fresh, left_here, left_of, row_at, row_of}
 use Rattle.set_agenda.proofs.GroupsLeft.{any-append}
-use Rattle.set_agenda.proofs.Closings.{neither, unless}
+use Rattle.set_agenda.proofs.Closings.{unless}
 use Rattle.set_agenda.proofs.WriterSets.{among-writers, and-false, or-false, writers-agree, writers-none}
 
 -- ## rows
@@ -49,7 +49,11 @@ of_writer ms w = filter (λ (m : Member). m.writer == w) ms
 
 writers_at-append : (ms ns : List Member) (l : Option Level) → writers_at (ms ++ ns) l ≡ writers_at ms l ++ writers_at ns l
 writers_at-append [] ns l = refl
-writers_at-append (m ∷ ms) ns l = elim (is_at l m.level) as (λ b. map (λ (x : Member). x.writer) (cond b (m ∷ filter (λ (x : Member). is_at l x.level) (ms ++ ns)) (filter (λ (x : Member). is_at l x.level) (ms ++ ns))) ≡ map (λ (x : Member). x.writer) (cond b (m ∷ filter (λ (x : Member). is_at l x.level) ms) (filter (λ (x : Member). is_at l x.level) ms)) ++ writers_at ns l)
+writers_at-append (m ∷ ms) ns l = elim (is_at l m.level) as
+    (λ b. map (λ (x : Member). x.writer)
+    (cond b (m ∷ filter (λ (x : Member). is_at l x.level) (ms ++ ns)) (filter (λ (x : Member). is_at l x.level) (ms ++ ns)))
+    ≡ map (λ (x : Member). x.writer)
+    (cond b (m ∷ filter (λ (x : Member). is_at l x.level) ms) (filter (λ (x : Member). is_at l x.level) ms)) ++ writers_at ns l)
     [ true ↦ ap (λ xs. m.writer ∷ xs) (writers_at-append ms ns l) | false ↦ writers_at-append ms ns l ]
 
 abbrev numbers : List Member → List ℕ
@@ -57,11 +61,12 @@ numbers ms = map (λ (m : Member). m.writer) ms
 
 none-of : (w : ℕ) (ms : List Member) → is_among w (numbers ms) ≡ false → of_writer ms w ≡ []
 none-of w [] h = refl
-none-of w (m ∷ ms) h = let a : ((m.writer == w) ≡ false) × (is_among w (numbers ms) ≡ false) = neither (m.writer == w) (is_among w (numbers ms)) h in rw a.0 (none-of w ms a.1)
+none-of w (m ∷ ms) h = let a : ((m.writer == w) ≡ false) × (is_among w (numbers ms) ≡ false) = or_parts (m.writer == w) (is_among w (numbers ms)) h in rw a.0 (none-of w ms a.1)
 
 none-has : (l : Option Level) (w : ℕ) (ms : List Member) → is_among w (numbers ms) ≡ false → has_member l ms w ≡ false
 none-has l w [] h = refl
-none-has l w (m ∷ ms) h = let a : ((m.writer == w) ≡ false) × (is_among w (numbers ms) ≡ false) = neither (m.writer == w) (is_among w (numbers ms)) h in rw (a.0, and-false (is_at l m.level)) (none-has l w ms a.1)
+none-has l w (m ∷ ms) h = let a : ((m.writer == w) ≡ false) × (is_among w (numbers ms) ≡ false) = or_parts (m.writer == w) (is_among w (numbers ms)) h
+    in rw (a.0, and-false (is_at l m.level)) (none-has l w ms a.1)
 
 same_from : (a w : ℕ) → (a == w) ≡ true → a ≡ w
 same_from a w e = grind (arith, nat_tests)
@@ -125,10 +130,12 @@ abbrev PostIsPlainAll : List Place → Type 0
 PostIsPlainAll [] = Unit {0}
 PostIsPlainAll (p ∷ ps) = PostIsPlain p.group p.level × PostIsPlainAll ps
 
-begin-from : (k : Kind) (ms : List Member) (vs : List ℕ) (now : ℕ) (r : Rows) → IsOnce ms → HasRows r ms → (ps : List Place) → PostIsPlainAll ps → left_from (unspoken k (by_writer ms) vs now) ps ≡ left_fresh r vs ps
+begin-from : (k : Kind) (ms : List Member) (vs : List ℕ) (now : ℕ) (r : Rows) → IsOnce ms → HasRows r ms → (ps : List Place) → PostIsPlainAll ps
+    → left_from (unspoken k (by_writer ms) vs now) ps ≡ left_fresh r vs ps
 begin-from k ms vs now r d h [] n = refl
 begin-from k ms vs now r d h (p ∷ ps) n =
-    ap (λ ws. with_group p ws (left_from (unspoken k (by_writer ms) vs now) ps)) (filter-all (members_of (unspoken k (by_writer ms) vs now) p.group p.level) ∙ members-are k ms vs now r d h p.group p.level n.0)
+    ap (λ ws. with_group p ws (left_from (unspoken k (by_writer ms) vs now) ps))
+    (filter-all (members_of (unspoken k (by_writer ms) vs now) p.group p.level) ∙ members-are k ms vs now r d h p.group p.level n.0)
     ∙ ap (with_group p (fresh r vs p)) (begin-from k ms vs now r d h ps n.1)
 
 all-plain : (k : Kind) → PostIsPlainAll (places k)

@@ -1,8 +1,8 @@
 -- The groups left, as rows and a cursor have them: writers are done, and steps are made.
 use Rattle.std.proofs.Common.{◌≡◌, ℕ, zero, suc, ◌+◌, List, [], ◌∷◌, Option, refl, Bool, true, false, cond, ap, sym, ◌∙◌, arith, drop}
-use Rattle.std.specs.Prelude.{◌&&◌, ◌||◌, not, ◌==◌}
+use Rattle.std.specs.Prelude.{◌&&◌, not, ◌==◌}
 use Rattle.std.proofs.lemmas.Bool.Decides.{nat_tests}
-use Rattle.std.proofs.lemmas.Bool.{and_parts}
+use Rattle.std.proofs.lemmas.Bool.{and_parts, or_parts}
 use Rattle.vss_names.specs.declared.level.Level.{Level}
 use Rattle.set_agenda.specs.declared.group.Group.{Group}
 use Rattle.set_agenda.specs.declared.kind.Kind.{Kind}
@@ -23,7 +23,8 @@ fresh-unfailed : (r : Rows) (vs whos ws : List ℕ) (f : Bool) → ws ≡ others
     → fresh (with_unfailed r ws) vs (record { group = g; level = l }) ≡ others_if (asks_unfailed g && f) whos (fresh r vs (record { group = g; level = l }))
 fresh-unfailed r vs whos ws f e g l = grind arith
 
-left_fresh-unfailed : (r : Rows) (vs whos ws : List ℕ) (f : Bool) → ws ≡ others_if f whos r.unfailed → (ps : List Place) → left_fresh (with_unfailed r ws) vs ps ≡ unasked_if f whos (left_fresh r vs ps)
+left_fresh-unfailed : (r : Rows) (vs whos ws : List ℕ) (f : Bool) → ws ≡ others_if f whos r.unfailed → (ps : List Place)
+    → left_fresh (with_unfailed r ws) vs ps ≡ unasked_if f whos (left_fresh r vs ps)
 left_fresh-unfailed r vs whos ws f e [] = sym (unasked_if-nil f whos)
 left_fresh-unfailed r vs whos ws f e (p ∷ ps) =
     ap (with_group p (fresh (with_unfailed r ws) vs p)) (left_fresh-unfailed r vs whos ws f e ps)
@@ -70,16 +71,13 @@ tail-drop (suc n) (x ∷ xs) = tail-drop n xs
 pub unless : (b : Bool) → not b ≡ true → b ≡ false
 unless b e = grind arith
 
-pub neither : (b c : Bool) → (b || c) ≡ false → (b ≡ false) × (c ≡ false)
-neither b c e = grind arith
-
 flipped : (x y : ℕ) → (y == x) ≡ false → (x == y) ≡ false
 flipped x y e = grind (arith, nat_tests)
 
 others-apart : (x : ℕ) (xs : List ℕ) → is_among x xs ≡ false → others (x ∷ []) xs ≡ xs
 others-apart x [] h = refl
 others-apart x (y ∷ ys) h =
-    let a : ((y == x) ≡ false) × (is_among x ys ≡ false) = neither (y == x) (is_among x ys) h in
+    let a : ((y == x) ≡ false) × (is_among x ys ≡ false) = or_parts (y == x) (is_among x ys) h in
     rw (flipped x y a.0) (ap (λ zs. y ∷ zs) (others-apart x ys a.1))
 
 same-nat : (n : ℕ) → (n == n) ≡ true

@@ -13,7 +13,8 @@ use Rattle.set_agenda.specs.declared.group.Group.{Group}
 use Rattle.set_agenda.specs.declared.group.Group.TheVariants.{Orders, PreCommit, Flush, Hold, Cut, Commit, Release, PostCommit}
 use Rattle.set_agenda.specs.declared.kind.Kind.{Kind}
 use Rattle.set_agenda.specs.declared.place.Place.{Place}
-use Rattle.set_agenda.specs.Agenda.{Agenda, Entry, Open, all_say, at_place, groups_left, has_failed, has_said, is_among, is_asking, is_orders, left_from, members_of, open_place, places, same_place, waited_for, waits_now, with_group, writers_at}
+use Rattle.set_agenda.specs.Agenda.{Agenda, Entry, Open, all_say, at_place, groups_left, has_failed, has_said, is_among, is_asking, is_orders, left_from}
+use Rattle.set_agenda.specs.Agenda.{members_of, open_place, places, same_place, waited_for, waits_now, with_group, writers_at}
 use Rattle.set_agenda.specs.Advance.{advance, asks_unfailed, others_if, unasked_if}
 use Rattle.set_agenda.specs.WriterSet.{is_nil}
 use Rattle.set_agenda.proofs.WriterSets.{filter-and, or-false}
@@ -34,11 +35,13 @@ others_if-filter h true whos xs = filter_agree _ (λ x. not (h x) && not (is_amo
 others_if-filter h false whos xs = filter_agree _ (λ x. not (h x)) (λ x. ap not (or-false (h x))) xs
 
 filter-others_if : (b : Bool) (whos : List ℕ) (q : ℕ → Bool) (xs : List ℕ) → filter q (others_if b whos xs) ≡ others_if b whos (filter q xs)
-filter-others_if true whos q xs = sym (filter-and (λ x. not (is_among x whos)) q xs) ∙ filter_agree _ (λ x. q x && not (is_among x whos)) (λ x. and-swap (not (is_among x whos)) (q x)) xs ∙ filter-and q (λ x. not (is_among x whos)) xs
+filter-others_if true whos q xs = sym (filter-and (λ x. not (is_among x whos)) q xs)
+    ∙ filter_agree _ (λ x. q x && not (is_among x whos)) (λ x. and-swap (not (is_among x whos)) (q x)) xs ∙ filter-and q (λ x. not (is_among x whos)) xs
 filter-others_if false whos q xs = refl
 
 others_if-twice : (b c : Bool) (whos xs : List ℕ) → others_if b whos (others_if c whos xs) ≡ others_if (b || c) whos xs
-others_if-twice true true whos xs = sym (filter-and (λ x. not (is_among x whos)) (λ x. not (is_among x whos)) xs) ∙ filter_agree _ (λ x. not (is_among x whos)) (λ x. and-same (not (is_among x whos))) xs
+others_if-twice true true whos xs = sym (filter-and (λ x. not (is_among x whos)) (λ x. not (is_among x whos)) xs)
+    ∙ filter_agree _ (λ x. not (is_among x whos)) (λ x. and-same (not (is_among x whos))) xs
 others_if-twice true false whos xs = refl
 others_if-twice false c whos xs = refl
 
@@ -48,7 +51,8 @@ others_if-nil b whos = grind arith
 pub unasked_if-nil : (b : Bool) (whos : List ℕ) → unasked_if b whos [] ≡ []
 unasked_if-nil b whos = grind arith
 
-pub unasked_if-group : (b : Bool) (whos : List ℕ) (p : Place) (xs : List ℕ) (os : List Open) → with_group p (others_if (asks_unfailed p.group && b) whos xs) (unasked_if b whos os) ≡ unasked_if b whos (with_group p xs os)
+pub unasked_if-group : (b : Bool) (whos : List ℕ) (p : Place) (xs : List ℕ) (os : List Open)
+    → with_group p (others_if (asks_unfailed p.group && b) whos xs) (unasked_if b whos os) ≡ unasked_if b whos (with_group p xs os)
 unasked_if-group b whos p xs os = grind arith
 
 -- ## entries at the end of a log
@@ -86,12 +90,15 @@ adds-says_at p said now whos a = record {
   said = λ q x. any-append (λ (e : Entry). same_place e.place q && (e.who == x)) a.log (map (at_place p said now) whos)
       ∙ ap (λ b. has_said a.log q x || b) (any-map (λ (e : Entry). same_place e.place q && (e.who == x)) (at_place p said now) whos ∙ any-among (same_place p q) x whos);
   failing = λ x. any-append (λ (e : Entry). is_orders e.place.group && not (is_ok e.said) && (e.who == x)) a.log (map (at_place p said now) whos)
-      ∙ ap (λ b. has_failed a.log x || b) (any-map (λ (e : Entry). is_orders e.place.group && not (is_ok e.said) && (e.who == x)) (at_place p said now) whos ∙ any-among (is_orders p.group && not (is_ok said)) x whos);
+      ∙ ap (λ b. has_failed a.log x || b)
+      (any-map (λ (e : Entry). is_orders e.place.group && not (is_ok e.said) && (e.who == x)) (at_place p said now) whos
+      ∙ any-among (is_orders p.group && not (is_ok said)) x whos);
 }
 
 -- ## who is waited for
 
-members-add : (a b : Agenda) (p : Place) (whos : List ℕ) (f : Bool) → Adds a b p whos f → (g : Group) (l : Option Level) → members_of b g l ≡ others_if (asks_unfailed g && (is_orders p.group && f)) whos (members_of a g l)
+members-add : (a b : Agenda) (p : Place) (whos : List ℕ) (f : Bool) → Adds a b p whos f → (g : Group) (l : Option Level)
+    → members_of b g l ≡ others_if (asks_unfailed g && (is_orders p.group && f)) whos (members_of a g l)
 members-add a b p whos f h (Orders PostSnapshot) l =
     ap (λ ms. filter (λ w. not (has_failed b.log w)) (writers_at ms l)) h.members
     ∙ filter_agree _ (λ w. not (has_failed a.log w || ((is_orders p.group && f) && is_among w whos))) (λ w. ap not (h.failing w)) (writers_at a.members l)
@@ -147,11 +154,13 @@ IsOpen p (o ∷ os) = p ≡ o.place
 open_place-open : (os : List Open) → IsOpen (open_place os) os
 open_place-open os = grind arith
 
-later-add : (a b : Agenda) (p : Place) (whos : List ℕ) (f : Bool) → Adds a b p whos f → (ps : List Place) → IsApartFrom p ps → left_from b ps ≡ unasked_if (is_orders p.group && f) whos (left_from a ps)
+later-add : (a b : Agenda) (p : Place) (whos : List ℕ) (f : Bool) → Adds a b p whos f → (ps : List Place) → IsApartFrom p ps
+    → left_from b ps ≡ unasked_if (is_orders p.group && f) whos (left_from a ps)
 later-add a b p whos f h [] d = sym (unasked_if-nil (is_orders p.group && f) whos)
 later-add a b p whos f h (q ∷ qs) d =
     ap (with_group q (waited_for b q)) (later-add a b p whos f h qs d.1)
-    ∙ ap (λ ws. with_group q ws (unasked_if (is_orders p.group && f) whos (left_from a qs))) (waited-add a b p whos f h q ∙ ap (λ c. others_if (c || (asks_unfailed q.group && (is_orders p.group && f))) whos (waited_for a q)) d.0)
+    ∙ ap (λ ws. with_group q ws (unasked_if (is_orders p.group && f) whos (left_from a qs)))
+    (waited-add a b p whos f h q ∙ ap (λ c. others_if (c || (asks_unfailed q.group && (is_orders p.group && f))) whos (waited_for a q)) d.0)
     ∙ unasked_if-group (is_orders p.group && f) whos q (waited_for a q) (left_from a qs)
 
 step-add : (a b : Agenda) (p : Place) (whos : List ℕ) (f : Bool) → Adds a b p whos f → (q : Place) (qs : List Place) → IsApartFrom q qs → (xs : List ℕ)
@@ -160,7 +169,8 @@ step-add : (a b : Agenda) (p : Place) (whos : List ℕ) (f : Bool) → Adds a b 
     → with_group q (others_if (takes p f q) whos xs) (left_from b qs) ≡ advance whos f (with_group q xs (left_from a qs))
 step-add a b p whos f h q qs d xs later first = grind (arith, others_if-nil, same_place-self, later-add)
 
-left_from-add : (a b : Agenda) (p : Place) (whos : List ℕ) (f : Bool) → Adds a b p whos f → (qs : List Place) → AreApart qs → IsOpen p (left_from a qs) → left_from b qs ≡ advance whos f (left_from a qs)
+left_from-add : (a b : Agenda) (p : Place) (whos : List ℕ) (f : Bool) → Adds a b p whos f → (qs : List Place) → AreApart qs → IsOpen p (left_from a qs)
+    → left_from b qs ≡ advance whos f (left_from a qs)
 left_from-add a b p whos f h [] d first = refl
 left_from-add a b p whos f h (q ∷ qs) d first =
     ap (λ ws. with_group q ws (left_from b qs)) (waited-add a b p whos f h q)

@@ -11,7 +11,8 @@ use Rattle.set_agenda.specs.declared.kind.Kind.TheVariants.{Gather, Prepare, Sna
 use Rattle.set_agenda.specs.declared.place.Place.{Place}
 use Rattle.set_agenda.specs.declared.rows.Rows.{Rows}
 use Rattle.set_agenda.specs.declared.cursor.Cursor.{Cursor}
-use Rattle.set_agenda.specs.Agenda.{Agenda, Entry, HoldsOwn, Open, all_say, at_place, group_code, groups_left, has_said, head_or_0, is_among, is_asked, is_held, is_held_now, is_snapshot, is_waited_at, is_working}
+use Rattle.set_agenda.specs.Agenda.{Agenda, Entry, HoldsOwn, Open, all_say, at_place, group_code, groups_left, has_said, head_or_0, is_among, is_asked}
+use Rattle.set_agenda.specs.Agenda.{is_held, is_held_now, is_snapshot, is_waited_at, is_working}
 use Rattle.set_agenda.specs.Agenda.{left_from, next_member, open_place, places, plain, same_place, waited_for, waits_now, with_group}
 use Rattle.set_agenda.specs.WriterSet.{is_nil}
 use Rattle.set_agenda.proofs.GroupsLeft.{any-among, any-append, any-map, left_from-waits}
@@ -110,7 +111,9 @@ by_parts m h r e = grind arith
 abbrev any_of : Place → ℕ → Agenda → List Place → Bool
 any_of p v a qs = list_any (λ q. same_place q p && is_among v (waited_for a q)) qs
 
-held-said : (a : Agenda) (v : ℕ) (k : Kind) → HoldsOwn a → (any_of (plain Release) v a (places k) && not (any_of (plain Hold) v a (places k))) ≡ (is_snapshot k && has_said a.log (plain Hold) v && not (has_said a.log (plain Release) v))
+held-said : (a : Agenda) (v : ℕ) (k : Kind) → HoldsOwn a
+    → (any_of (plain Release) v a (places k) && not (any_of (plain Hold) v a (places k)))
+    ≡ (is_snapshot k && has_said a.log (plain Hold) v && not (has_said a.log (plain Release) v))
 held-said a v k own = grind (arith, among-filtered, by_parts)
 
 -- the groups left tell which volumes are held
@@ -138,7 +141,8 @@ either : (x y z : Bool) (P : Type 0) → (x || (y && z)) ≡ true → (x ≡ tru
 either x y z x3 e f g = grind arith
 
 -- whoever is waited for says something
-pub own-said : (said : Said) (now : ℕ) (whos : List ℕ) (a : Agenda) → ((v : ℕ) → is_among v whos ≡ true → is_among v (waits_now (groups_left a)) ≡ true) → HoldsOwn a → HoldsOwn (all_say said now whos a)
+pub own-said : (said : Said) (now : ℕ) (whos : List ℕ) (a : Agenda) → ((v : ℕ) → is_among v whos ≡ true → is_among v (waits_now (groups_left a)) ≡ true)
+    → HoldsOwn a → HoldsOwn (all_say said now whos a)
 own-said said now whos a waited own v e =
     either (has_said a.log (plain Hold) v) (same_place (open_place (groups_left a)) (plain Hold)) (is_among v whos) (is_among v a.volumes ≡ true) (sym more ∙ e) (own v)
     (λ at among. left-own a v (places a.kind) (waited v among) at)
@@ -147,7 +151,8 @@ own-said said now whos a waited own v e =
     more =
         any-append (λ (x : Entry). same_place x.place (plain Hold) && (x.who == v)) a.log (map (at_place (open_place (groups_left a)) said now) whos)
         ∙ ap (λ (b : Bool). has_said a.log (plain Hold) v || b)
-        (any-map (λ (x : Entry). same_place x.place (plain Hold) && (x.who == v)) (at_place (open_place (groups_left a)) said now) whos ∙ any-among (same_place (open_place (groups_left a)) (plain Hold)) v whos)
+        (any-map (λ (x : Entry). same_place x.place (plain Hold) && (x.who == v)) (at_place (open_place (groups_left a)) said now) whos
+        ∙ any-among (same_place (open_place (groups_left a)) (plain Hold)) v whos)
 
 pub one-waited : (w v : ℕ) (xs : List ℕ) → is_among w xs ≡ true → is_among v (w ∷ []) ≡ true → is_among v xs ≡ true
 one-waited w v xs h e = ap (λ (n : ℕ). is_among n xs) (sym (eqb-true w v (sym (or-false (w == v)) ∙ e))) ∙ h

@@ -1,10 +1,12 @@
 -- Sets of writers as bits and as ascending lists.
-use Rattle.std.proofs.Common.{◌≡◌, ◌≢◌, ℕ, zero, suc, ◌+◌, ◌-◌, ◌*◌, ◌%◌, ◌/◌, ◌^◌, ◌<◌, ◌≤◌, min, max, List, [], ◌∷◌, refl, Bool, true, false, cond, ap, sym, ◌∙◌, subst, filter, arith, bit_and, bit_or, w64, nat_eq}
+use Rattle.std.proofs.Common.{◌≡◌, ◌≢◌, ℕ, zero, suc, ◌+◌, ◌-◌, ◌*◌, ◌%◌, ◌/◌, ◌^◌, ◌<◌, ◌≤◌, min, max, List, [], ◌∷◌, refl, Bool, true, false, cond, ap, sym}
+use Rattle.std.proofs.Common.{◌∙◌, subst, filter, arith, bit_and, bit_or, w64, nat_eq}
 use Rattle.std.specs.Prelude.{◌&&◌, ◌||◌, not, ◌==◌}
 use Rattle.std.specs.List.{range_with_len}
 use Rattle.std.specs.Int.{bit_at}
 use Rattle.std.proofs.lemmas.Bool.Decides.{nat_tests}
 use Rattle.std.proofs.lemmas.Nat.Bits.{shr_and_one, bit_at-lt, bit_at-zero, same_from_bits_below, bit_at_set_same, bit_at_set_other, bit_at_and, bit_at_not, bit_at_or}
+use Rattle.std.proofs.lemmas.Bool.{and_right}
 use Rattle.set_agenda.specs.Agenda.{is_among}
 use Rattle.set_agenda.specs.Advance.{others}
 use Rattle.set_agenda.specs.WriterSet.{has_bit, is_nil, writers, writers_of}
@@ -19,9 +21,6 @@ and-false b = grind arith
 
 pub and-true : (b : Bool) → (b && true) ≡ b
 and-true b = grind arith
-
-and_false : (b c : Bool) → c ≡ false → (b && c) ≡ false
-and_false b c e = grind arith
 
 same_from : (a w : ℕ) → (a == w) ≡ true → a ≡ w
 same_from a w e = grind (arith, nat_tests)
@@ -54,7 +53,7 @@ among-below : (p : ℕ → Bool) (a n w : ℕ) → w < a → is_among w (filter 
 among-below p a zero w h = refl
 among-below p a (suc n) w h =
     let e : (a == w) ≡ false = grind (arith, nat_tests) in
-    among-cond (p a) a w _ ∙ ap (λ b. b || is_among w (filter p (range_with_len (a + 1) n))) (and_false (p a) (a == w) e) ∙ among-below p (a + 1) n w (omega arith)
+    among-cond (p a) a w _ ∙ ap (λ b. b || is_among w (filter p (range_with_len (a + 1) n))) (and_right (p a) (a == w) e) ∙ among-below p (a + 1) n w (omega arith)
 
 among-step : (p : ℕ → Bool) (a w : ℕ) (d c : Bool) → (a == w) ≡ c → ((a == w) ≡ true → d ≡ false) → ((a == w) ≡ false → d ≡ p w) → ((p a && c) || d) ≡ p w
 among-step p a w d c e f g = grind arith
@@ -73,7 +72,8 @@ filter-above : (a n w : ℕ) → w < a → filter (λ i. w == i) (range_with_len
 filter-above a zero w h = refl
 filter-above a (suc n) w h = let e : (w == a) ≡ false = grind (arith, nat_tests) in rw e (filter-above (a + 1) n w (omega arith))
 
-one-step : (a n w : ℕ) (c : Bool) → (w == a) ≡ c → w < a + suc n → ((w == a) ≡ false → filter (λ i. w == i) (range_with_len (a + 1) n) ≡ w ∷ []) → cond c (a ∷ filter (λ i. w == i) (range_with_len (a + 1) n)) (filter (λ i. w == i) (range_with_len (a + 1) n)) ≡ w ∷ []
+one-step : (a n w : ℕ) (c : Bool) → (w == a) ≡ c → w < a + suc n → ((w == a) ≡ false → filter (λ i. w == i) (range_with_len (a + 1) n) ≡ w ∷ [])
+    → cond c (a ∷ filter (λ i. w == i) (range_with_len (a + 1) n)) (filter (λ i. w == i) (range_with_len (a + 1) n)) ≡ w ∷ []
 one-step a n w c e h f = grind (arith, same_from, filter-above)
 
 filter-one : (a n w : ℕ) → a ≤ w → w < a + n → filter (λ i. w == i) (range_with_len a n) ≡ w ∷ []
