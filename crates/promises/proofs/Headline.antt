@@ -4,7 +4,6 @@ use Rattle.std.proofs.Common.{◌≡◌, List, true}
 use Rattle.vss_model.specs.Trail.{is_legal, is_complete}
 use Rattle.promises.proofs.Ends.{ends_each_set, complete_where_calm}
 use Rattle.promises.proofs.Failing.{fails_for_cause}
-use Rattle.promises.proofs.Promises.{as_promised}
 
 pub has_headline : (s : Plan) (trail : List Move) → IsPlan s → is_legal s trail ≡ true → is_complete s trail ≡ true → Headline s trail
 has_headline s trail plan legal whole = record {
@@ -18,5 +17,4 @@ has_headline s trail plan legal whole = record {
   fails_for_cause = λ so_far rest act e. fails_for_cause s so_far act;
   completes = complete_where_calm s trail plan legal whole;
   short = trail_is_short s trail plan legal;
-  as_promised = as_promised s trail;
 }

@@ -14,7 +14,6 @@ use Rattle.vss_model.specs.Headline.{MakesEachLineOnce, ReadsAsAtTheCut, LeavesN
 use Rattle.vss_model.specs.Trail.{acts}
 use Rattle.promises.specs.Ends.{EndsEachSet, CompletesWhereCalm}
 use Rattle.promises.specs.Failing.{FailsForCause}
-use Rattle.promises.specs.Promises.{IsAsPromised}
 
 pub record Headline (s : Plan) (trail : List Move) : Type 0 where
   -- each lane has made each of its lines once, in order
@@ -40,5 +39,3 @@ pub record Headline (s : Plan) (trail : List Move) : Type 0 where
   pub completes : CompletesWhereCalm s trail
   -- a run has at most so many moves
   pub short : length trail ≤ most_moves
-  -- and what else a reader of the report may believe
-  pub as_promised : IsAsPromised s trail
