@@ -5,7 +5,7 @@ ghost use Rattle.write_history.specs.History.{History, fresh, cut};
 ghost use Rattle.write_history.specs.Slots.{used, used_by};
 ghost use Rattle.diff_area.specs.Records.{free};
 ghost use Rattle.diff_map.specs.MapValue.{AreImages};
-ghost use Rattle.cow_volume.specs.Ending.{IsSync};
+ghost use Rattle.cow_volume.specs.Ending.{IsSync, IsTable};
 ghost use Rattle.cow_volume.specs.Calls.{IsQuiet, IsUnfailed, VolumeRose, is_among};
 ghost use Rattle.cow_volume.specs.Parts.{IsUnseen};
 ghost use Rattle.cow_volume.specs.Resuming.{AllHaveImages, IsResumeFault, IsOneKept, NoneTell};
@@ -250,6 +250,7 @@ impl<D: Device> CowVolume<D> {
     /// Writes the records of the copies to the area's device, and brings all that was written to it to where it lasts.
     pub fn sync(&mut self) -> Result<(), Cause>
         ensures lasts { OnOk result (D.lasting self.new.area.device ≡ D.told self.new.area.device) }
+        ensures table { IsTable D.told self.old self.new result }
         ensures sync { IsOneSync D.Device self.old self.new result }
         ensures of_group { IsSync D.Device self.old self.new result }
     {

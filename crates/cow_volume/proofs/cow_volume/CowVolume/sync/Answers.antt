@@ -13,3 +13,6 @@ returns-clause-sync g c =
 
 pub returns-clause-of_group : goal.returns-clause-of_group
 returns-clause-of_group g c = rw (← c.self.view_is) c.sync.ensures.sync
+
+pub returns-clause-table : goal.returns-clause-table
+returns-clause-table g c = rw (← c.self.view_is) c.sync.ensures.table
