@@ -16,7 +16,8 @@ import time
 
 # How often the program is woken, in seconds.
 WAKE = 0.05
-# The status of a program that ended without a word.
+# The status of a job whose hooks are refused, and of a program that ended without a word.
+REFUSED = 3
 NO_WORD = 70
 
 
@@ -137,13 +138,29 @@ class Carrier:
 
 
 def hooks_of(job):
-    """The writers of a job that have a hook, and its command. What is no job the program refuses."""
+    """The writers of a job that have a hook, and its command. What else is no job the program refuses."""
+    hooks = {}
     try:
         with open(job, encoding="utf-8") as lines:
-            parts = [line.split(None, 2) for line in lines if line.startswith("hook ")]
-            return [(words[1], shlex.split(words[2])) for words in parts if len(words) == 3]
-    except (OSError, UnicodeDecodeError, ValueError):
+            parts = [(number, line.split(None, 2)) for number, line in enumerate(lines, 1) if line.startswith("hook ")]
+    except (OSError, UnicodeDecodeError):
         return []
+    for number, words in parts:
+        if len(words) < 3:
+            continue
+        place, command = f"{job}: line {number}: hook {words[1]}", words[2].strip()
+        if words[1] in hooks:
+            refuse(f"{place}: a line above has one")
+        try:
+            hooks[words[1]] = shlex.split(command)
+        except ValueError as error:
+            refuse(f"{place}: {error}: {command}")
+    return hooks.items()
+
+
+def refuse(why):
+    print(f"backup: {why}", file=sys.stderr)
+    sys.exit(REFUSED)
 
 
 if __name__ == "__main__":

@@ -47,11 +47,20 @@ class Commands:
                 print(f"{self.name}: thaw: {refused}", file=sys.stderr)
 
 
-def are_words(words):
-    return len(words) % 2 == 0 and all(word[2:] in ORDERS and word[:2] == "--" for word in words[::2])
+def wrong_in(words):
+    """What is wrong with words, if something is."""
+    for word in words[::2]:
+        if word[:2] != "--" or word[2:] not in ORDERS:
+            return f"`{word}` is no option; they are --{', --'.join(ORDERS)}"
+    if len(words) % 2:
+        return f"behind {words[-1]} a command is missing; one of several words stands in quotes"
+    missing = [word for word in ("--freeze", "--thaw") if word not in words[::2]]
+    return f"{missing[0]} is missing" if missing else None
 
 
 if __name__ == "__main__":
-    if not are_words(sys.argv[1:]) or not {"--freeze", "--thaw"} <= set(sys.argv[1::2]):
-        sys.exit(__doc__)
+    if sys.argv[1:] in (["help"], ["--help"], ["-h"]):
+        sys.exit(print(__doc__))
+    if WRONG := wrong_in(sys.argv[1:]):
+        sys.exit(f"commands.py: {WRONG}\n{__doc__}")
     serve(Commands(sys.argv[1:]))

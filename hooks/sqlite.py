@@ -86,9 +86,25 @@ class Database:
             lock.close()
 
 
-if __name__ == "__main__":
-    if len(sys.argv) not in (2, 3):
+def seconds_in(word):
+    try:
+        return float(word)
+    except ValueError:
+        sys.exit(f"sqlite.py: SECONDS is `{word}`, and no number")
+
+
+def main(words):
+    if words in (["help"], ["--help"], ["-h"]):
+        print(__doc__)
+    elif len(words) == 2 and words[0] == "--job":
+        if not os.path.isfile(words[1]):
+            sys.exit(f"sqlite.py: {words[1]}: there is no such database")
+        print(job_of(words[1]), end="")
+    elif len(words) in (1, 2) and not words[0].startswith("-"):
+        serve(Database(words[0], seconds_in(words[1]) if len(words) == 2 else 30))
+    else:
         sys.exit(__doc__)
-    if sys.argv[1] == "--job":
-        sys.exit(print(job_of(sys.argv[-1]), end=""))
-    serve(Database(sys.argv[1], float(sys.argv[2]) if len(sys.argv) == 3 else 30))
+
+
+if __name__ == "__main__":
+    main(sys.argv[1:])

@@ -24,6 +24,8 @@ explain_scenario() {
     tail -c "+$((started_at + 1))" < /dev/stdin | explain_by scenario
   elif { true <&5; } 2> /dev/null; then
     explain_by scenario < /dev/fd/5
+  elif [ "$(readlink /proc/self/fd/0)" = /dev/null ]; then
+    explain_by scenario < /dev/null
   fi
 }
 

@@ -74,14 +74,15 @@ fn add_upright(frame: &mut Frame<'_>, mark: &Mark<'_>, bottom: u64) -> Result<()
     frame.upright(class, mark.place.x, bottom)
 }
 
-/// Adds what stands behind the marks of a band: each fifth move has its number, and the first one.
+/// Adds what stands behind the marks of a band: each fifth move has its number, and the first one, but beside a fifth one of four digits.
 fn add_columns(frame: &mut Frame<'_>, marks: &[Mark<'_>], bottom: u64) -> Result<(), OutOfMemory> {
     let mut last = 0;
     let mut is_first = true;
     for mark in marks {
         add_passing(frame, mark, bottom)?;
         add_upright(frame, mark, bottom)?;
-        let is_told = is_first || mark.moves % 5 == 0 && mark.moves != last;
+        let is_free = mark.moves < 1000 || mark.moves % 5 != 4;
+        let is_told = is_first && is_free || mark.moves % 5 == 0 && mark.moves != last;
         if is_told && mark.place.passed == 0 {
             frame.words("number", mark.place.x, 17, "", Part::Number(mark.moves))?;
         }
