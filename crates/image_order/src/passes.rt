@@ -1,0 +1,70 @@
+ghost use Rattle.std.specs.Prelude.{ℕ, ◌≡◌, List, IfOk, OnOk, OnErr};
+ghost use Rattle.image_order.specs.declared.copied.Copied.{Copied as CopiedOf};
+
+use crate::copied::Copied;
+use vss_names::Text;
+
+/// The passes of an update over a store. What they are of the store as the call began, `first`, is said by relations.
+pub trait Passes<E>: Drop {
+    /// The bytes of the head of its state.
+    ghost head: { Self → List ℕ };
+
+    /// In memory each image of `first` is as it was, but for those that were evicted.
+    ghost stands: { Self → Self → Type 0 };
+
+    /// No block of a volume was written since `first`.
+    ghost is_before: { Self → Self → Type 0 };
+
+    /// A state of this head opens to the images of `first`, but for those that were evicted, whatever has lasted of the blocks that were written.
+    ghost opens: { Self → Self → List ℕ → Type 0 };
+
+    /// It does, and no slot in which it has a copy was given up.
+    ghost holds: { Self → Self → List ℕ → Type 0 };
+
+    /// It does, and it has a copy of each block that is to be overwritten.
+    ghost covers: { Self → Self → List ℕ → Type 0 };
+
+    /// Each block that is to be overwritten has its copies in memory.
+    ghost is_copied: { Self → Type 0 };
+
+    /// The volumes have what they are brought to, and that lasts.
+    ghost lasts: { Self → Type 0 };
+
+    /// Copies old bytes into slots that no state has in use.
+    fn copy(&mut self) -> Result<Copied, E>
+        ensures done { IfOk result (λ copied. copied ≡ CopiedOf.All → ((first : Self) (h : List ℕ) → holds first self.old h → holds first self.new h) × is_copied self.new) }
+        ensures opens { (first : Self) (h : List ℕ) → holds first self.old h → opens first self.new h }
+        ensures stands { (first : Self) → stands first self.old → stands first self.new }
+        ensures before { (first : Self) → is_before first self.old → is_before first self.new };
+
+    /// Says which images went, once that is committed.
+    fn say_gone(&self) -> Result<(), E>;
+
+    /// Writes the table of the area, and brings it and all slots to where they last.
+    fn sync(&mut self) -> Result<(), E>
+        ensures opens { (first : Self) (h : List ℕ) → opens first self.old h → opens first self.new h }
+        ensures holds { OnOk result ((first : Self) → stands first self.old → holds first self.new (head self.new)) }
+        ensures covers { OnOk result ((first : Self) → stands first self.old → is_copied self.old → covers first self.new (head self.new)) }
+        ensures stands { (first : Self) → stands first self.old → stands first self.new }
+        ensures before { (first : Self) → is_before first self.old → is_before first self.new };
+
+    /// The head of its state.
+    fn head(&self) -> Result<Text, E>
+        ensures { IfOk result (λ text. text.bytes ≡ head self.now) };
+
+    /// How many slots the area has.
+    fn slots(&self) -> u32;
+
+    /// Overwrites the blocks that differ.
+    fn overwrite(&mut self) -> Result<(), E>
+        ensures opens { (first : Self) (h : List ℕ) → covers first self.old h → opens first self.new h };
+
+    /// Brings all volumes to where they last.
+    fn finish(&mut self) -> Result<(), E>
+        ensures opens { (first : Self) (h : List ℕ) → opens first self.old h → opens first self.new h }
+        ensures lasts { OnOk result (lasts self.new) };
+
+    ghost held_open: { (first now : Self) (h : List ℕ) → holds first now h → opens first now h };
+
+    ghost covered_open: { (first now : Self) (h : List ℕ) → covers first now h → opens first now h };
+}
