@@ -11,7 +11,7 @@ ghost use Rattle.vss_catalog.specs.Written.{bytes_of};
 ghost use Rattle.write_history.specs.History.{History};
 ghost use Rattle.write_history.specs.Slots.{group_used, used_by};
 ghost use Rattle.cow_volume.specs.Calls.{DeviceRose, IsUnfailed, VolumeRose, blocks_at, history_at, is_among, sets_at};
-ghost use Rattle.cow_volume.specs.Ending.{AllTell, IsSync};
+ghost use Rattle.cow_volume.specs.Ending.{AllTell, IsSync, IsTable};
 ghost use Rattle.cow_volume.specs.Resuming.{AreKept, NoneTell};
 ghost use Rattle.cow_volume.specs.StandsFor.{StandsFor};
 ghost use Rattle.vss_names.specs.Faults.{Rose};
@@ -456,6 +456,7 @@ impl<D: Device> Store<D> {
     /// Writes the table of its area, and brings all slots and it to where they last.
     pub fn sync(&mut self) -> Result<(), Cause>
         ensures lasts { OnOk result (D.lasting self.new.group.area.device ≡ D.told self.new.group.area.device) }
+        ensures table { IsTable D.told self.old.group self.new.group result }
         ensures sync { IsSync D.Device self.old.group self.new.group result }
         ensures committed { OnOk result ((p : PlainStore) → StandsAs D.told self.old p → IsCommitted D.told self.new p) }
         ensures under_way { (committed : GroupValue D) → IsUnderWay D.told committed self.old.group → IsUnderWay D.told committed self.new.group }

@@ -74,5 +74,7 @@ pub mod Owing
 pub mod Promises
 pub mod Headline
 pub mod CutStep
+pub mod InTurn
+pub mod Closing
 pub mod Ended
 pub mod Marks

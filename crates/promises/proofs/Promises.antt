@@ -7,6 +7,7 @@ use Rattle.promises.proofs.Asked.{asks_its_own}
 use Rattle.promises.proofs.Awaited.{await_tells}
 use Rattle.promises.proofs.Calls.{calls_are_owned, waits_are_few, waits_are_due, stands_quiet, frozen_do_not_write}
 use Rattle.promises.proofs.Clock.{clock_moves}
+use Rattle.promises.proofs.Closing.{closes_as_kept}
 use Rattle.promises.proofs.Codes.{fails_by_code}
 use Rattle.promises.proofs.Completing.{completes_unfailed}
 use Rattle.promises.proofs.Contents.{contents_change}
@@ -18,6 +19,7 @@ use Rattle.promises.proofs.Ended.{tells_the_end}
 use Rattle.promises.proofs.Evicted.{tells_evicted}
 use Rattle.promises.proofs.Idle.{idles_shortest}
 use Rattle.promises.proofs.Images.{images_go_for_cause}
+use Rattle.promises.proofs.InTurn.{steps_in_turn}
 use Rattle.promises.proofs.Kept.{finds_the_kept}
 use Rattle.promises.proofs.KeptCopies.{keeps_copies}
 use Rattle.promises.proofs.Levels.{has_its_numbers}
@@ -68,6 +70,7 @@ as_promised s trail = record {
     loses = loses_the_late s so_far act;
     document = tells_document s so_far act;
     cuts = cuts_at_the_step s so_far act;
+    turns = steps_in_turn s so_far act;
     ends = tells_the_end s so_far act;
     refused = refuses_for_cause s so_far act;
   };
@@ -92,6 +95,7 @@ as_promised s trail = record {
     still = stands_still s so_far;
     keeps = keeps_copies s so_far;
     marks = marks_are_due s so_far;
+    closes = closes_as_kept s so_far;
   };
   scripts = answers_by_script s trail;
 }

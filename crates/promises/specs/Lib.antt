@@ -37,5 +37,7 @@ pub mod Owed
 pub mod Promises
 pub mod Headline
 pub mod CutStep
+pub mod InTurn
+pub mod Closing
 pub mod Ended
 pub mod Marks

@@ -10,6 +10,7 @@ use Rattle.promises.specs.Asked.{AsksItsOwn}
 use Rattle.promises.specs.Awaited.{AwaitTells}
 use Rattle.promises.specs.Calls.{CallsAreOwned, WaitsAreFew, WaitsAreDue, StandsQuiet, FrozenDoNotWrite}
 use Rattle.promises.specs.Clock.{ClockMoves}
+use Rattle.promises.specs.Closing.{ClosesAsKept}
 use Rattle.promises.specs.Codes.{FailsByCode}
 use Rattle.promises.specs.Completing.{CompletesUnfailed}
 use Rattle.promises.specs.Contents.{ContentsChange}
@@ -24,6 +25,7 @@ use Rattle.promises.specs.Failing.{WritesFailForSlots}
 use Rattle.promises.specs.Gone.{ImagesGoForCause}
 use Rattle.promises.specs.Idle.{IdlesShortest}
 use Rattle.promises.specs.InOrder.{HasItsContext}
+use Rattle.promises.specs.InTurn.{StepsInTurn}
 use Rattle.promises.specs.Kept.{FindsTheKept}
 use Rattle.promises.specs.Lost.{LosesTheLate}
 use Rattle.promises.specs.Marks.{MarksAreDue}
@@ -69,6 +71,7 @@ pub record IsActAsPromised (s : Plan) (so_far : List Act) (act : Act) : Type 0 w
   pub refused : RefusesForCause s so_far act
   pub document : TellsDocument s so_far act
   pub cuts : CutsAtTheStep s so_far act
+  pub turns : StepsInTurn s so_far act
   pub ends : TellsTheEnd s so_far act
 
 -- of the state after these acts
@@ -93,6 +96,7 @@ pub record IsStateAsPromised (s : Plan) (so_far : List Act) : Type 0 where
   pub still : StandsStill s so_far
   pub keeps : KeepsCopies s so_far
   pub marks : MarksAreDue s so_far
+  pub closes : ClosesAsKept s so_far
 
 -- of each act of a trail, and of each state on its way
 pub record IsAsPromised (s : Plan) (trail : List Move) : Type 0 where

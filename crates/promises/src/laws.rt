@@ -12,6 +12,7 @@ ghost use Rattle.promises.specs.Asked.{AsksItsOwn};
 ghost use Rattle.promises.specs.Awaited.{AwaitTells};
 ghost use Rattle.promises.specs.Calls.{CallsAreOwned, WaitsAreFew, WaitsAreDue, StandsQuiet, FrozenDoNotWrite};
 ghost use Rattle.promises.specs.Clock.{ClockMoves};
+ghost use Rattle.promises.specs.Closing.{ClosesAsKept};
 ghost use Rattle.promises.specs.Codes.{FailsByCode};
 ghost use Rattle.promises.specs.Completing.{CompletesUnfailed};
 ghost use Rattle.promises.specs.Contents.{ContentsChange};
@@ -27,6 +28,7 @@ ghost use Rattle.promises.specs.Gone.{ImagesGoForCause};
 ghost use Rattle.promises.specs.Headline.{Headline};
 ghost use Rattle.promises.specs.Idle.{IdlesShortest};
 ghost use Rattle.promises.specs.InOrder.{HasItsContext};
+ghost use Rattle.promises.specs.InTurn.{StepsInTurn};
 ghost use Rattle.promises.specs.Kept.{FindsTheKept};
 ghost use Rattle.promises.specs.Lost.{LosesTheLate};
 ghost use Rattle.promises.specs.Marks.{MarksAreDue};
@@ -72,6 +74,16 @@ pub fn copies_hold_the_cut()
 /// A set is cut in the act that is answered as its Cut step, and in no other.
 pub fn sets_are_cut_at_their_step()
     ensures { (s : Plan) (so_far : List Act) (act : Act) → CutsAtTheStep s so_far act }
+{}
+
+/// The closing lines of a volume show the copies that its area keeps of it, and the images that `query` lists.
+pub fn closing_lines_show_what_is_kept()
+    ensures { (s : Plan) (so_far : List Act) → ClosesAsKept s so_far }
+{}
+
+/// A step on a volume comes only when the same step was made on each volume that was added before it.
+pub fn steps_are_made_in_turn()
+    ensures { (s : Plan) (so_far : List Act) (act : Act) → StepsInTurn s so_far act }
 {}
 
 /// The set that is told as ended is the one that was in progress and is over after the act.

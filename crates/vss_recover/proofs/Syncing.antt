@@ -1,6 +1,6 @@
 -- What is kept where the records of an overlay are written to its device, and for what a volume stands after that.
 use Rattle.std.proofs.Common.{◌≡◌, ◌≤◌, ◌+◌, ℕ, List, ◌∷◌, [], take, length, ap, sym, subst, ◌∙◌, arith}
-use Rattle.std.specs.Prelude.{slice_get, option_map, Result}
+use Rattle.std.specs.Prelude.{slice_get, option_map, Result, Ok, Err}
 use Rattle.std.proofs.lemmas.List.{length-take-le}
 use Rattle.write_history.specs.History.{last_bytes}
 use Rattle.diff_area.specs.AreaValue.{AreaValue, KeepsTable, AreInPart, with_first}
@@ -13,10 +13,10 @@ use Rattle.cow_volume.specs.Calls.{sets_in}
 use Rattle.cow_volume.specs.Ending.{IsSynced}
 use Rattle.cow_volume.specs.OneVolume.{blocks_of, IsOneSync}
 use Rattle.cow_volume.specs.declared.cause.Cause.{Cause}
-use Rattle.cow_volume.proofs.Synced.{past_first, tells_written}
+use Rattle.cow_volume.proofs.Synced.{past_first, tells_written, written_whole}
 use Rattle.vss_recover.specs.Recoveries.{Recovery, Recovering, recovered, IsOfImages}
 use Rattle.vss_recover.specs.RecoverValue.{RecoverValue, StandsFor, IsOverlay}
-use Rattle.vss_recover.specs.Syncing.{KeepsSlots, KeepsSaid}
+use Rattle.vss_recover.specs.Syncing.{KeepsSlots, KeepsSaid, IsOverlayTable}
 use Rattle.vss_recover.proofs.Glue.{blocks_kept}
 use Rattle.volume_device.specs.declared.device.Device.{Ghosts}
 
@@ -56,6 +56,12 @@ module _ {D : Type 0} (ghosts : Ghosts D) where
   pub slots_further : (old mid new : AreaValue D) → KeepsSlots ghosts old mid → KeepsTable ghosts.size ghosts.lending mid new → ghosts.told new.device ≡ ghosts.told mid.device
       → ghosts.count mid.device ≤ ghosts.count new.device → KeepsSlots ghosts old new
   slots_further old mid new kept table same later = grind arith
+
+  -- all of the table was written before its device was brought to where it lasts, or failed
+  pub flushed_table : {E : Type 0} (old mid new : AreaValue D) (result : Result Unit E) → ghosts.told mid.device ≡ option_map (with_first (table_blocks old.volumes old.records)) (ghosts.told old.device)
+      → ghosts.told new.device ≡ ghosts.told mid.device → IsOverlayTable ghosts.told old new result
+  flushed_table old mid new (Ok done) written same = same ∙ written
+  flushed_table old mid new (Err fault) written same = written_whole (ghosts.told old.device) (ghosts.told mid.device) (ghosts.told new.device) (table_blocks old.volumes old.records) written same
 
   -- ## the volume
 

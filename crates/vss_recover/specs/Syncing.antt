@@ -1,11 +1,13 @@
 -- What is left of a volume with recovery writes where the records of its copies and of its recovered blocks are written to their areas
 -- and brought to where they last. (This project's own.)
-use Rattle.std.specs.Prelude.{ℕ, ◌≡◌, ◌⊎◌, List, Some, IfSome, slice_get, length, Result, Ok, Err}
+use Rattle.std.specs.Prelude.{ℕ, ◌≡◌, ◌⊎◌, List, Option, Some, IfSome, option_map, slice_get, length, Result, Ok, Err}
 use Rattle.vss_names.specs.Faults.{Rose}
 use Rattle.volume_device.specs.declared.device.Device.{Ghosts}
-use Rattle.diff_area.specs.AreaValue.{AreaValue}
+use Rattle.diff_area.specs.AreaValue.{AreaValue, AreInPart, with_first}
 use Rattle.diff_area.specs.Places.{place_of_slot}
+use Rattle.diff_area.specs.Written.{table_blocks}
 use Rattle.cow_volume.specs.Calls.{IsSameDevice}
+use Rattle.cow_volume.specs.Ending.{IsTable}
 use Rattle.cow_volume.specs.OneVolume.{IsOneSync}
 use Rattle.cow_volume.specs.declared.cause.Cause.{Cause}
 use Rattle.cow_volume.specs.declared.cause.Cause.TheVariants.{Area}
@@ -25,11 +27,24 @@ pub record KeepsSaid {D : Type 0} (old new : RecoverValue D) : Type 0 where
   pub claims : new.claims ≡ old.claims
   pub final : new.final ≡ old.final
 
+-- the overlay's header and table are on its device, or where that failed the first few of their blocks
+abbrev pub IsOverlayTable : {D E : Type 0} → (D → Option (List (List ℕ))) → AreaValue D → AreaValue D → Result Unit E → Type 0
+IsOverlayTable told old new (Ok done) = told new.device ≡ option_map (with_first (table_blocks old.volumes old.records)) (told old.device)
+IsOverlayTable told old new (Err fault) = AreInPart (table_blocks old.volumes old.records) (told old.device) (told new.device)
+
+-- the volume was synced, as this says
+abbrev pub IsVolumeSync : {D : Type 0} → Ghosts D → RecoverValue D → RecoverValue D → Result Unit Cause → Type 0
+IsVolumeSync ghosts old new result = IsOneSync ghosts old.volume new.volume result × IsTable ghosts.told old.volume new.volume result
+
+-- the overlay's table was written, as this says
+abbrev pub IsOverlaySync : {D : Type 0} → Ghosts D → RecoverValue D → RecoverValue D → Result Unit Cause → Type 0
+IsOverlaySync ghosts old new result = KeepsSlots ghosts old.overlay new.overlay × IsOverlayTable ghosts.told old.overlay new.overlay result
+
 -- the volume was synced, and then the overlay; or a device failed: that of the volume's area, and the overlay is as it was; or the
 -- overlay's
 abbrev pub IsRecoverSync : {D : Type 0} → Ghosts D → RecoverValue D → RecoverValue D → Result Unit Cause → Type 0
-IsRecoverSync ghosts old new (Ok done) = IsOneSync ghosts old.volume new.volume (Ok done)
-    × KeepsSlots ghosts old.overlay new.overlay × (ghosts.count new.overlay.device ≡ ghosts.count old.overlay.device)
+IsRecoverSync ghosts old new (Ok done) =
+    IsVolumeSync ghosts old new (Ok done) × IsOverlaySync ghosts old new (Ok done) × (ghosts.count new.overlay.device ≡ ghosts.count old.overlay.device)
 IsRecoverSync ghosts old new (Err cause) = (cause ≡ Area)
-    × ((IsOneSync ghosts old.volume new.volume (Err cause) × (new.overlay ≡ old.overlay))
-    ⊎ (IsOneSync ghosts old.volume new.volume (Ok tt) × KeepsSlots ghosts old.overlay new.overlay × Rose (ghosts.count old.overlay.device) (ghosts.count new.overlay.device)))
+    × ((IsVolumeSync ghosts old new (Err cause) × (new.overlay ≡ old.overlay))
+    ⊎ (IsVolumeSync ghosts old new (Ok tt) × IsOverlaySync ghosts old new (Err cause) × Rose (ghosts.count old.overlay.device) (ghosts.count new.overlay.device)))

@@ -12,7 +12,7 @@ ghost use Rattle.cow_volume.specs.StandsFor.{record_of};
 ghost use Rattle.cow_volume.specs.Changes.{has_record};
 ghost use Rattle.cow_volume.specs.CopiesAfter.{with_records};
 ghost use Rattle.vss_recover.specs.OverlayCalls.{IsPut, IsWrittenIn, count_in, kept_records};
-ghost use Rattle.vss_recover.specs.Syncing.{KeepsSlots};
+ghost use Rattle.vss_recover.specs.Syncing.{IsOverlayTable, KeepsSlots};
 
 use crate::entries::{entries_of, free_gone, is_at, note_used, place_from};
 use crate::recover_fault::RecoverFault;
@@ -88,6 +88,7 @@ impl<D: Device> Overlay<D> {
         ensures stored { OnOk result ((copies : List Copy) → AreHeld (D.told self.old.device) self.old.records copies → AreStored (D.told self.new.device) copies) }
         ensures lasts { OnOk result (D.lasting self.new.device ≡ D.told self.new.device) }
         ensures kept { KeepsSlots D.Device self.old self.new }
+        ensures table { IsOverlayTable D.told self.old self.new result }
         ensures cause { HasCause (D.count self.old.device) (D.count self.new.device) result }
     {
         let _facts = self.area.slots();

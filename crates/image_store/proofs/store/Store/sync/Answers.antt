@@ -32,3 +32,6 @@ returns-clause-under_way g c =
     let kept = synced g.D.Device c.self.inside.group c.sync-done.new.self c.sync-done.result c.sync-done.ensures.sync in
     rw (← c.self.view_is) (λ committed under. synced_on g.D.Device.told committed c.self.inside.group c.sync-done.new.self _ c.sync-done.result c.sync-done.ensures.table kept.devices kept.records
     c.volumes-facts.ensures.whole c.volumes-facts.ensures.slots under)
+
+pub returns-clause-table : goal.returns-clause-table
+returns-clause-table g c = rw (← c.self.view_is) c.sync-done.ensures.table

@@ -1,4 +1,5 @@
-use Rattle.vss_recover.proofs.Syncing.{slots_all, slots_part, slots_further}
+use Rattle.std.proofs.lemmas.Result.{err_from_is_err_and}
+use Rattle.vss_recover.proofs.Syncing.{slots_all, slots_part, slots_further, flushed_table}
 use Rattle.vss_recover.proofs.overlay.Overlay.sync.Goals as goal
 
 pub returns-in_err-sync-clause-kept : goal.returns-in_err-sync-clause-kept
@@ -12,3 +13,12 @@ returns-clause-kept g c =
     (slots_all g.D.Device c.self.inside.area c.sync.new.self
     c.in_ok-sync.ensures.table c.in_ok-sync.ensures.cause.later c.in_ok-sync.ensures.written)
     c.flush.ensures.table c.flush.ensures.told c.flush.ensures.cause.later)
+
+pub returns-in_err-sync-clause-table : goal.returns-in_err-sync-clause-table
+returns-in_err-sync-clause-table g c =
+    let p = err_from_is_err_and c.from_residual.result c.from_residual.ensures.1 in
+    rw (p.1, ← c.self.view_is) c.in_err-sync.ensures.in_part
+
+pub returns-clause-table : goal.returns-clause-table
+returns-clause-table g c = rw (← c.self.view_is)
+    (flushed_table g.D.Device c.self.inside.area c.sync.new.self c.flush.new.self c.flush.result c.in_ok-sync.ensures.written c.flush.ensures.told)
