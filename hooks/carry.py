@@ -73,6 +73,7 @@ class Carrier:
         if word == "order":
             name, number, order, nth = rest.split(" ")
             if name not in self.hooks:
+                print(f"backup: {name}: the job has no line `hook {name} ..`", file=sys.stderr)
                 self.program.tell(f"gone {name}")
                 return
             self.hooks[name].open.append(number)
