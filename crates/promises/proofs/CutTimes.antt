@@ -1,18 +1,18 @@
 -- The row of a set that was cut has the clock at its cut: only the Cut step writes it, and it comes once.
-use Rattle.promises.proofs.Words.{SetOutcome, VssResult, AsyncCancelled, Mark, Write, Said, said_of, Group}
-use Rattle.promises.proofs.Words.{open_group, Session, Plan, Event, Line, State, SetRow, Kept, in_progress, row_changed, left_now, Act, enabled, idle_now, after, state, state-append, cuts}
-use Rattle.promises.proofs.Words.{or_cut, cut-append, append_nothing, both, after_cut, not_cut_yet, orderly, row_running, Covers, covered, after_enabled, after_not_enabled, by_if}
+use Rattle.promises.proofs.Words.{SetOutcome, Mark}
+use Rattle.promises.proofs.Words.{open_group, Plan, Event, State, SetRow, in_progress, row_changed, left_now, Act, after, state, state-append, cuts}
+use Rattle.promises.proofs.Words.{or_cut, cut-append, append_nothing, both, after_cut, not_cut_yet, orderly, row_running}
 use Rattle.std.proofs.Common.{◌≡◌, ◌∙◌, ℕ, ◌+◌, ◌==◌, List, [], ◌∷◌, ◌++◌, Option, Some, None, refl, Bool, true, false, ap, sym, subst, map, find, arith}
 use Rattle.std.specs.Prelude.{◌&&◌, option_map, if◌then◌else◌}
-use Rattle.set_agenda.specs.Course.{Course, answered as course_answered, stepped as course_stepped, timed as course_timed}
-use Rattle.scenario.specs.declared.op.Op.TheVariants as op
-use Rattle.vss_model.specs.Ending.{Ending, ending, row_settled, concluded, followed, runs, failed_in, failed}
-use Rattle.vss_model.specs.Images.{Replied, with_room_if, put, write, reverted_as}
-use Rattle.vss_model.specs.Sessions.{has_no_volume, new_set, new_number, with_volume, closed}
-use Rattle.vss_model.specs.Steps.{answered, with_cut, row_cut, cut_set, step_made, is_flush, is_failed_step, stepped_as, stepped, ticked, later}
+use Rattle.set_agenda.specs.Course.{Course, stepped as course_stepped}
+use Rattle.vss_model.specs.Ending.{Ending, ending, row_settled, concluded, followed, runs}
+use Rattle.vss_model.specs.Sessions.{with_volume}
+use Rattle.vss_model.specs.Steps.{with_cut, row_cut, cut_set}
 use Rattle.vss_model.specs.Cut.{is_provider, is_cut_group, is_set, is_cut_of, cut_if, cut}
 use Rattle.promises.proofs.Truth.{equal, not_both}
 use Rattle.promises.proofs.Contexts.{settled_number, changed_number}
+use Rattle.vss_model.specs.Changes.{Change, StartsSet, AddsVolume, IsCutAt, Settles, apply}
+use Rattle.vss_model.proofs.Changes.{IsCut, Comes, by_changes}
 
 -- ## the time of a set
 
@@ -83,82 +83,24 @@ times_followed : (ran : Bool) (c : Course) (x : State) → SameTimes x (followed
 unfolding followed
 times_followed ran c x n = times_ended (ending x.course.outcome c.outcome ran c.agenda) (record x { course = c }) n
 
-times_failed : (o : Option SetRow) (why : VssResult) (x : State) → SameTimes x (failed_in o why x)
-times_failed o why x n = grind (arith, times_settled)
-
-times_room : (b : Bool) (x : State) → SameTimes x (with_room_if b x)
-times_room b x n = grind (arith, times_failed)
-
-times_put : (v : ℕ) (w : Write) (mark : Mark) (x : State) → SameTimes x (put v w mark x)
-times_put v w mark x n = grind arith
-
-times_closed : (q : Session) (x : State) → SameTimes x (closed q x)
-unfolding closed
-times_closed q x n = refl
-
 module _ (s : Plan) (st : State) (n : ℕ) (t : Option ℕ) where
   -- an act that is not the Cut step of set n
-  abbrev Next : Event → Mark → Replied → Type 0
-  Next event mark x = is_cut_of n st (record { event = event; mark = mark }) ≡ false → time_in st.sets n ≡ Some t → time_in x.1.sets n ≡ Some t
-
-  on_write : (v : ℕ) (w : Write) (mark : Mark) → time_in (write s v w mark st).1.sets n ≡ time_in st.sets n
-  unfolding write
-  on_write v w mark = grind (arith, times_put, times_room)
-
-  on_revert : (v : ℕ) (k : Kept) (mark : Mark) → time_in (reverted_as s v k mark st).1.sets n ≡ time_in st.sets n
-  on_revert v k mark = grind arith
-
-  on_answer : (w : ℕ) (said : Said) → time_in (answered w said st).sets n ≡ time_in st.sets n
-  unfolding answered
-  on_answer w said = times_followed (runs st) (course_answered w said st.clock st.course) st n
-
-  on_tick : (k : ℕ) → time_in (ticked k st).sets n ≡ time_in st.sets n
-  unfolding ticked
-  on_tick k = times_followed (runs st) (course_timed (st.clock + k) st.course) (later k st) n
-
-  on_cut : (o : Option SetRow) → is_set n o ≡ false → time_in (cut_set o st).sets n ≡ time_in st.sets n
-  on_cut o e = grind (arith, time_cut_other)
-
-  on_made : (g : Option Group) → (is_cut_group g && is_set n (in_progress st)) ≡ false → time_in (step_made g st).sets n ≡ time_in st.sets n
-  on_made g e = grind (arith, on_cut)
-
-  on_step_as : (b : Bool) (g : Option Group) → (is_cut_group g && is_set n (in_progress st)) ≡ false → time_in (stepped_as b g st).sets n ≡ time_in st.sets n
-  on_step_as b g e = grind (arith, times_followed, on_made)
-
-  on_step : (mark : Mark) → (is_cut_group (open_group (left_now st)) && is_set n (in_progress st)) ≡ false → time_in (stepped mark st).sets n ≡ time_in st.sets n
-  unfolding stepped
-  on_step mark e = on_step_as (is_failed_step (is_flush (open_group (left_now st))) mark) (open_group (left_now st)) e
-
-  keeps_time : Covers Next s st
-  keeps_time = record {
-    stays = λ lane o mark told e f c h. h;
-    writes = λ lane o v w mark e f c h. on_write v w mark ∙ h;
-    reverts = λ lane m v k mark e f c h. on_revert v k mark ∙ h;
-    deletes_set = λ lane m k mark e c h. h;
-    deletes_image = λ lane m v k mark e c h. h;
-    ticks = λ lane k mark c h. on_tick k ∙ h;
-    begins = λ lane m all x mark e ctx c h. h;
-    disables = λ lane w q mark g c h. h;
-    gathers = λ lane q mark g c h. times_followed true _ st n ∙ h;
-    names = λ lane w full q explicit mark g named c h. h;
-    starts = λ lane q mark g e c h. time_more st.sets (new_set (new_number st) q.context) n t h;
-    adds = λ lane v r q mark g e f c h. time_map (row_changed r.number (with_volume v)) (λ x. changed_number r.number (with_volume v) x refl) n (λ x i. added_time r.number v x) st.sets ∙ h;
-    prepares = λ lane q mark g. by_if (Next (Line lane op.Prepare) mark) (has_no_volume (in_progress st)) _ _ (λ c h. h) (λ c h. times_followed true _ st n ∙ h);
-    snapshots = λ lane q mark g. by_if (Next (Line lane op.Snapshot) mark) (has_no_volume (in_progress st)) _ _ (λ c h. h) (λ c h. times_followed true _ st n ∙ h);
-    completes = λ lane q mark g c h. times_followed true _ st n ∙ h;
-    aborts = λ lane q mark e c h. times_failed (in_progress st) AsyncCancelled st n ∙ h;
-    ends = λ lane q mark e c h. times_closed q (failed AsyncCancelled st) n ∙ times_failed (in_progress st) AsyncCancelled st n ∙ h;
-    answers = λ w answer mark e c h. on_answer w (said_of answer) ∙ h;
-    steps = λ mark e c h. on_step mark (parts c) ∙ h;
-    idles = λ mark e c h. on_tick (idle_now st) ∙ h;
-  }
+  cut_other : (e : Event) (m : Mark) (x : State) (k now : ℕ) → is_cut_of n st (record { event = e; mark = m }) ≡ false → IsCut e st x k → (k == n) ≡ false
+  cut_other e m x k now f i = apart (is_provider e) (is_cut_group (open_group (left_now st))) (k == n) i.provider i.group
+      (ap (λ j. (is_provider e && is_cut_group (open_group (left_now st))) && (j == n)) i.number ∙ ap (λ o. (is_provider e && is_cut_group (open_group (left_now st))) && is_set n o) (sym i.found) ∙ f)
     where
-      parts : ((true && is_cut_group (open_group (left_now st))) && is_set n (in_progress st)) ≡ false → (is_cut_group (open_group (left_now st)) && is_set n (in_progress st)) ≡ false
-      parts e = e
+      apart : (a b c : Bool) → a ≡ true → b ≡ true → ((a && b) && c) ≡ false → c ≡ false
+      apart a b c g h f = grind arith
 
-  time_if : (b : Bool) (act : Act) → enabled s st act.event ≡ b → is_cut_of n st act ≡ false → time_in st.sets n ≡ Some t → time_in (after s st act).sets n ≡ Some t
-  time_if true act e c h = ap (λ (x : State). time_in x.sets n) (after_enabled s st act e) ∙ covered Next s st keeps_time act.event act.mark e c h
-  time_if false act e c h = ap (λ (x : State). time_in x.sets n) (after_not_enabled s st act e) ∙ h
+  keeps_time : (e : Event) (m : Mark) → is_cut_of n st (record { event = e; mark = m }) ≡ false → (c : Change) (x : State) → Comes s e m st x c → time_in x.sets n ≡ Some t → time_in (apply x c).sets n ≡ Some t
+  keeps_time e m f (StartsSet r) x i h = time_more x.sets r n t h
+  keeps_time e m f (AddsVolume k v) x i h = time_map (row_changed k (with_volume v)) (λ r. changed_number k (with_volume v) r refl) n (λ r g. added_time k v r) x.sets ∙ h
+  keeps_time e m f (IsCutAt k now) x i h = time_cut_other k now n x.sets (cut_other e m x k now f i.0) ∙ h
+  keeps_time e m f (Settles o) x i h = times_settled o x.sets n ∙ h
+  keeps_time e m f _ x i h = h
+
+  time_stays : (act : Act) → is_cut_of n st act ≡ false → time_in st.sets n ≡ Some t → time_in (after s st act).sets n ≡ Some t
+  time_stays act f h = by_changes (λ x. time_in x.sets n ≡ Some t) s st act (keeps_time act.event act.mark f) h
 
 -- ## at its cut
 
@@ -188,7 +130,7 @@ module _ (s : Plan) (so_far : List Act) (act : Act) (n : ℕ) where
 
   time_next : (o : Option (List Act)) (b : Bool) (before : List Act) → cut s n so_far ≡ o → is_cut_of n st act ≡ b → or_cut o (cut_if b so_far None) ≡ Some before
       → ((past : List Act) → cut s n so_far ≡ Some past → time_in st.sets n ≡ Some (Some (state s past).clock)) → time_in (after s st act).sets n ≡ Some (Some (state s before).clock)
-  time_next o b before e c f h = grind (arith, parts, cut_before, some_acts, time_if, cut_now)
+  time_next o b before e c f h = grind (arith, parts, cut_before, some_acts, time_stays, cut_now)
 
 abbrev Timed : Plan → List Act → Type 0
 Timed s so_far = (n : ℕ) (before : List Act) → cut s n so_far ≡ Some before → time_in (state s so_far).sets n ≡ Some (Some (state s before).clock)
