@@ -1,23 +1,19 @@
 -- BackupComplete goes to no writer that has failed.
-use Rattle.promises.proofs.Words.{Order, BackupComplete, VssResult, AsyncCancelled, WriterState}
-use Rattle.promises.proofs.Words.{Said, Ok, WriterRow, is_failed, row_after, Mark, Write, said_of, Group, Kind, Gather, Prepare, Snapshot, Complete, Member, Agenda}
-use Rattle.promises.proofs.Words.{open_group, places, has_said, waited_for, with_group, groups_left, left, is_asked, is_among, order_now, open_order, next_member, all_say, writers_at, IsKeptInCourse}
-use Rattle.promises.proofs.Words.{course_answered as kept_answered, course_stepped as kept_stepped, course_timed as kept_timed, course_begun as kept_begun, Session, Plan, Event, State, SetRow, Kept}
-use Rattle.promises.proofs.Words.{start, in_progress, left_now, Act, enabled, idle_now, after, asked_if, unspoken, StandsWell, CompletesUnfailed, Covers, covered, after_enabled, after_not_enabled}
-use Rattle.promises.proofs.Words.{by_if}
-use Rattle.std.proofs.Common.{◌≡◌, ◌∙◌, ℕ, ◌+◌, ◌==◌, zero, suc, List, [], ◌∷◌, Option, Some, None, refl, Bool, true, false, ap, sym, subst, filter, fold, arith}
+use Rattle.promises.proofs.Words.{Order, BackupComplete, VssResult, WriterState}
+use Rattle.promises.proofs.Words.{Said, Ok, WriterRow, is_failed, row_after, Kind, Gather, Prepare, Snapshot, Complete, Member, Agenda}
+use Rattle.promises.proofs.Words.{places, has_said, waited_for, with_group, groups_left, left, is_asked, is_among, order_now, open_order, next_member, all_say, writers_at, IsKeptInCourse}
+use Rattle.promises.proofs.Words.{course_answered as kept_answered, course_stepped as kept_stepped, course_timed as kept_timed, course_begun as kept_begun, Plan, State}
+use Rattle.promises.proofs.Words.{start, state, Act, asked_if, unspoken, StandsWell, CompletesUnfailed}
+use Rattle.std.proofs.Common.{◌≡◌, ◌∙◌, ℕ, ◌+◌, ◌==◌, zero, suc, List, [], ◌∷◌, Option, Some, None, refl, Bool, true, false, ap, sym, subst, filter, arith}
 use Rattle.std.specs.Prelude.{◌||◌, not, option_map, if◌then◌else◌, slice_get}
-use Rattle.set_agenda.specs.Course.{Course, posted, failed as course_failed, rows_where, row_if, has_row_failed, row_failed, begun, told}
-use Rattle.set_agenda.specs.Course.{answered as course_answered, worked, stepped as course_stepped, timed as course_timed, released}
-use Rattle.vss_model.specs.Ending.{Ending, ending, concluded, followed, runs, failed_in, failed}
-use Rattle.vss_model.specs.Images.{Replied, cleared, set_loses_image, with_room_if, put, write, reverted_as}
-use Rattle.vss_model.specs.Sessions.{has_no_volume, closed}
-use Rattle.vss_model.specs.Steps.{answered, step_made, is_flush, is_failed_step, stepped_as, stepped, ticked, later}
-use Rattle.promises.proofs.LastOrder.{is_last_order, last_place, not_in_kind, still_open}
+use Rattle.set_agenda.specs.Course.{Course, posted, failed as course_failed, rows_where, row_if, has_row_failed, row_failed, begun, told, worked, released}
+use Rattle.vss_model.specs.Ending.{failed}
+use Rattle.promises.proofs.Truth.{equal}
+use Rattle.promises.proofs.LastOrder.{is_last_order, among_all, last_place, not_in_kind, still_open}
 use Rattle.promises.proofs.OpenGroup.{every}
 use Rattle.promises.proofs.Members.{one_on}
-use Rattle.scenario.proofs.Places.{number_is}
-use Rattle.vss_model.proofs.Spoken.{among_filter}
+use Rattle.vss_model.proofs.Changes.{CourseCall, Answers, Steps, Times, Gathers, Prepares, Snapshots, Completes, Disables, Fails, Releases, called}
+use Rattle.vss_model.proofs.CourseFacts.{of_calls}
 
 -- ## the course
 
@@ -47,8 +43,7 @@ row_stays f test k (r ∷ rows) zero e = ap (λ b. Some (row_if b f r)) (ap test
     none_more n = omega arith
 row_stays f test k (r ∷ rows) (suc w) e = row_stays f test (k + 1) rows w (ap test (one_on k w) ∙ e)
 
-well_said : (o : Order) (said : Said) (now : ℕ) (ws : List ℕ) (rows : List WriterRow) (x : Option Agenda) → Unfailed rows x
-    → Unfailed (rows_where (row_after o said) (λ w. is_among w ws) 0 rows) (option_map (all_say said now ws) x)
+well_said : (o : Order) (said : Said) (now : ℕ) (ws : List ℕ) (rows : List WriterRow) (x : Option Agenda) → Unfailed rows x → Unfailed (rows_where (row_after o said) (λ w. is_among w ws) 0 rows) (option_map (all_say said now ws) x)
 well_said o said now ws rows None h w e = nobody (rows_where (row_after o said) (λ w. is_among w ws) 0 rows) w e
 well_said o said now ws rows (Some a) h w e =
     let was = still_open a.kind said now ws a w refl e in
@@ -80,20 +75,16 @@ well_begun_as k ms vs now c h = kept_begun Well well_kept k ms vs now c h
 well_begun : (k : Kind) (ms : List Member) (vs : List ℕ) (now : ℕ) (c : Course) → every (λ q. not (is_last_order q.group)) (places k) ≡ true → Well (begun k ms vs now c)
 well_begun k ms vs now c h = well_begun_as k ms vs now c (λ w e. absurd (not_in_kind k (unspoken k ms vs now) w refl h e))
 
-unfailed_member : (rows : List WriterRow) (w : ℕ) (ms : List Member)
-    → is_among w (writers_at (filter (λ (m : Member). not (has_row_failed rows m.writer)) ms) None) ≡ true → has_row_failed rows w ≡ false
+unfailed_member : (rows : List WriterRow) (w : ℕ) (ms : List Member) → is_among w (writers_at (filter (λ (m : Member). not (has_row_failed rows m.writer)) ms) None) ≡ true → has_row_failed rows w ≡ false
 unfailed_member rows w [] e = absurd cc
 unfailed_member rows w (m ∷ ms) e = by_test (has_row_failed rows m.writer) refl e (unfailed_member rows w ms)
   where
     by_head : (c : Bool) → (m.writer == w) ≡ c → has_row_failed rows m.writer ≡ false → (c || is_among w (writers_at (filter (λ (x : Member). not (has_row_failed rows x.writer)) ms) None)) ≡ true
         → (is_among w (writers_at (filter (λ (x : Member). not (has_row_failed rows x.writer)) ms) None) ≡ true → has_row_failed rows w ≡ false) → has_row_failed rows w ≡ false
-    by_head true f g e ih = subst (λ x. has_row_failed rows x ≡ false) (number_is m.writer w f) g
+    by_head true f g e ih = subst (λ x. has_row_failed rows x ≡ false) (equal m.writer w f) g
     by_head false f g e ih = ih e
 
-    by_test : (b : Bool) → has_row_failed rows m.writer ≡ b
-        → is_among w (writers_at
-        (if not b then m ∷ filter (λ (x : Member). not (has_row_failed rows x.writer)) ms else filter (λ (x : Member). not (has_row_failed rows x.writer)) ms)
-        None) ≡ true
+    by_test : (b : Bool) → has_row_failed rows m.writer ≡ b → is_among w (writers_at (if not b then m ∷ filter (λ (x : Member). not (has_row_failed rows x.writer)) ms else filter (λ (x : Member). not (has_row_failed rows x.writer)) ms) None) ≡ true
         → (is_among w (writers_at (filter (λ (x : Member). not (has_row_failed rows x.writer)) ms) None) ≡ true → has_row_failed rows w ≡ false) → has_row_failed rows w ≡ false
     by_test true f e ih = ih e
     by_test false f e ih = by_head (m.writer == w) refl f e ih
@@ -107,97 +98,30 @@ well_completing ms now c =
     well_begun_as Complete asked [] now c
     (λ w e.
     unfailed_member c.rows w ms
-    (among_filter (λ who. not (has_said [] last_place who)) w (writers_at (filter (λ (m : Member). not (has_row_failed c.rows m.writer)) ms) None)
+    (among_all (λ who. not (has_said [] last_place who)) w (writers_at (filter (λ (m : Member). not (has_row_failed c.rows m.writer)) ms) None)
     (waiting_there (waited_for (unspoken Complete (filter (λ (m : Member). not (has_row_failed c.rows m.writer)) ms) [] now) last_place) w
-    (asked_if (is_asked w (groups_left (unspoken Complete (filter (λ (m : Member). not (has_row_failed c.rows m.writer)) ms) [] now)))
-    (order_now (groups_left (unspoken Complete (filter (λ (m : Member). not (has_row_failed c.rows m.writer)) ms) [] now))) BackupComplete e))))
+    (asked_if (is_asked w (groups_left (unspoken Complete (filter (λ (m : Member). not (has_row_failed c.rows m.writer)) ms) [] now))) (order_now (groups_left (unspoken Complete (filter (λ (m : Member). not (has_row_failed c.rows m.writer)) ms) [] now))) BackupComplete e))))
 
 -- ## every act
 
-abbrev WellNow : State → Type 0
-WellNow st = Well st.course
+well_called : (s : Plan) (st : State) (call : CourseCall) (c : Course) → Well c → Well (called s st call c)
+unfolding released
+well_called s st (Answers w said) c h = kept_answered Well well_kept w said st.clock c h
+well_called s st (Steps ok) c h = kept_stepped Well well_kept ok st.clock c h
+well_called s st (Times now) c h = kept_timed Well well_kept now c h
+well_called s st Gathers c h = well_begun Gather _ _ st.clock _ refl
+well_called s st (Prepares q) c h = well_begun Prepare _ _ st.clock _ refl
+well_called s st Snapshots c h = well_begun Snapshot _ _ st.clock _ refl
+well_called s st Completes c h = well_completing c.members st.clock c
+well_called s st (Disables w) c h = h
+well_called s st (Fails why) c h = well_failed why c
+well_called s st Releases c h = nobody (released c).rows
 
-well_ended : (e : Ending) (x : State) → WellNow x → WellNow (concluded e x)
-well_ended e x h = grind arith
-
-well_followed : (ran : Bool) (c : Course) (x : State) → Well c → WellNow (followed ran c x)
-unfolding followed
-well_followed ran c x h = well_ended (ending x.course.outcome c.outcome ran c.agenda) (record x { course = c }) h
-
-well_failed_in : (o : Option SetRow) (why : VssResult) (x : State) → WellNow x → WellNow (failed_in o why x)
-well_failed_in o why x h = grind (arith, well_failed)
-
-well_room : (b : Bool) (x : State) → WellNow x → WellNow (with_room_if b x)
-well_room b x h = grind (arith, well_failed_in)
-
-well_put : (v : ℕ) (w : Write) (mark : Mark) (x : State) → WellNow x → WellNow (put v w mark x)
-well_put v w mark x h = grind arith
-
-module _ (s : Plan) (st : State) (h : WellNow st) where
-  on_write : (v : ℕ) (w : Write) (mark : Mark) → WellNow (write s v w mark st).1
-  unfolding write
-  on_write v w mark = well_put v w mark _ (well_room (set_loses_image (in_progress st) st.volumes (cleared s v w.block st).volumes) (cleared s v w.block st) h)
-
-  on_revert : (v : ℕ) (k : Kept) (mark : Mark) → WellNow (reverted_as s v k mark st).1
-  on_revert v k mark = grind arith
-
-  on_close : (q : Session) (x : State) → WellNow (closed q x)
-  unfolding closed released
-  on_close q x = nobody (closed q x).course.rows
-
-  on_answer : (w : ℕ) (said : Said) → WellNow (answered w said st)
-  unfolding answered
-  on_answer w said = well_followed (runs st) (course_answered w said st.clock st.course) st (kept_answered Well well_kept w said st.clock st.course h)
-
-  on_tick : (n : ℕ) → WellNow (ticked n st)
-  unfolding ticked
-  on_tick n = well_followed (runs st) (course_timed (st.clock + n) st.course) (later n st) (kept_timed Well well_kept (st.clock + n) st.course h)
-
-  on_step_as : (b : Bool) (g : Option Group) → WellNow (stepped_as b g st)
-  on_step_as true g = well_followed (runs st) (course_stepped false st.clock st.course) st (kept_stepped Well well_kept false st.clock st.course h)
-  on_step_as false g = well_followed (runs st) (course_stepped true st.clock st.course) (step_made g st) (kept_stepped Well well_kept true st.clock st.course h)
-
-  on_step : (mark : Mark) → WellNow (stepped mark st)
-  unfolding stepped
-  on_step mark = on_step_as (is_failed_step (is_flush (open_group (left_now st))) mark) (open_group (left_now st))
-
-  abbrev Next : Event → Mark → Replied → Type 0
-  Next event mark x = WellNow x.1
-
-  well : Covers Next s st
-  well = record {
-    stays = λ lane o mark told e f. h;
-    writes = λ lane o v w mark e f. on_write v w mark;
-    reverts = λ lane n v k mark e f. on_revert v k mark;
-    deletes_set = λ lane n c mark e. h;
-    deletes_image = λ lane n v k mark e. h;
-    ticks = λ lane n mark. on_tick n;
-    begins = λ lane n all c mark e ctx. h;
-    disables = λ lane w q mark g. h;
-    gathers = λ lane q mark g. well_followed true _ st (well_begun Gather _ _ st.clock _ refl);
-    names = λ lane w full q explicit mark g named. h;
-    starts = λ lane q mark g e. h;
-    adds = λ lane v r q mark g e f. h;
-    prepares = λ lane q mark g. by_if (λ r. WellNow r.1) (has_no_volume (in_progress st)) _ _ h (well_followed true _ st (well_begun Prepare _ _ st.clock _ refl));
-    snapshots = λ lane q mark g. by_if (λ r. WellNow r.1) (has_no_volume (in_progress st)) _ _ h (well_followed true _ st (well_begun Snapshot _ _ st.clock _ refl));
-    completes = λ lane q mark g. well_followed true _ st (well_completing st.course.members st.clock st.course);
-    aborts = λ lane q mark e. well_failed_in (in_progress st) AsyncCancelled st h;
-    ends = λ lane q mark e. on_close q (failed AsyncCancelled st);
-    answers = λ w answer mark e. on_answer w (said_of answer);
-    steps = λ mark e. on_step mark;
-    idles = λ mark e. on_tick (idle_now st);
-  }
-
-  well_if : (b : Bool) (act : Act) → enabled s st act.event ≡ b → WellNow (after s st act)
-  well_if true act e = subst WellNow (sym (after_enabled s st act e)) (covered Next s st well act.event act.mark e)
-  well_if false act e = subst WellNow (sym (after_not_enabled s st act e)) h
-
-well_from : (s : Plan) (st : State) (acts : List Act) → WellNow st → WellNow (fold (after s) st acts)
-well_from s st [] h = h
-well_from s st (act ∷ acts) h = well_from s (after s st act) acts (well_if s st h (enabled s st act.event) act refl)
+well : (s : Plan) (acts : List Act) → Well (state s acts).course
+well s acts = of_calls Well s (λ st call c i h. well_called s st call c h) (start s) acts (nobody (start s).course.rows)
 
 stands_well : (state : WriterState) → is_failed state ≡ false → StandsWell state
 stands_well state e = grind arith
 
 pub completes_unfailed : (s : Plan) (so_far : List Act) → CompletesUnfailed s so_far
-completes_unfailed s so_far w row e f = stands_well row.state (ap row_failed (sym f) ∙ well_from s (start s) so_far (nobody (start s).course.rows) w e)
+completes_unfailed s so_far w row e f = stands_well row.state (ap row_failed (sym f) ∙ well s so_far w e)

@@ -1,15 +1,12 @@
 -- The levels and the freeze time-outs of the writers' rows, and the levels of the participants, are those that the scenario gives the writers.
-use Rattle.promises.proofs.Words.{Context, Level, Order, VssResult, AsyncCancelled, Said, WriterRow, one_more, row_aborted, row_gathered, row_ended, Mark}
-use Rattle.promises.proofs.Words.{Group, Kind, Gather, Prepare, Snapshot, Complete, Member, open_group, IsKeptInCourse, course_answered as kept_answered}
-use Rattle.promises.proofs.Words.{course_stepped as kept_stepped, course_timed as kept_timed, course_begun as kept_begun, Session, Plan, WriterPlan, State, SetRow, start, row_of_writer}
-use Rattle.promises.proofs.Words.{in_progress, left_now, Act, after, state, IsKeptByChanges, IsKeptByWrites, on_after, timeout_in, timeout_of, HasItsNumbers, level_in, level_of}
-use Rattle.promises.proofs.Words.{by_if}
-use Rattle.std.proofs.Common.{◌≡◌, ◌∙◌, ℕ, ◌+◌, ◌≤◌, zero, suc, sym, List, [], ◌∷◌, ◌++◌, Option, Some, None, refl, Bool, true, false, ap, map, fold, arith}
+use Rattle.promises.proofs.Words.{Level, Order, VssResult, Said, WriterRow, one_more, row_aborted, row_gathered, row_ended}
+use Rattle.promises.proofs.Words.{Member, IsKeptInCourse}
+use Rattle.promises.proofs.Words.{Plan, WriterPlan, start, row_of_writer}
+use Rattle.promises.proofs.Words.{Act, state, timeout_in, timeout_of, HasItsNumbers, level_in, level_of}
+use Rattle.std.proofs.Common.{◌≡◌, ◌∙◌, ℕ, ◌+◌, ◌≤◌, zero, suc, sym, List, [], ◌∷◌, ◌++◌, Some, refl, Bool, true, false, ap, map, arith}
 use Rattle.std.specs.Prelude.{slice_get}
-use Rattle.set_agenda.specs.Course.{Course, posted, rows_where, row_if, member_if, members_from, is_member, failed as course_failed, begun, told, worked, released}
-use Rattle.vss_model.specs.Ending.{Ending, ending, concluded, followed, runs, failed_in, failed}
-use Rattle.vss_model.specs.Sessions.{begin_in, has_no_volume, closed}
-use Rattle.vss_model.specs.Steps.{answered, step_made, is_flush, is_failed_step, stepped_as, stepped, ticked, later}
+use Rattle.set_agenda.specs.Course.{Course, posted, rows_where, row_if, member_if, members_from, is_member, failed as course_failed, told, worked, released}
+use Rattle.vss_model.proofs.CourseFacts.{IsKeptByCalls, of_course}
 use Rattle.promises.proofs.Truth.{no_less}
 use Rattle.promises.proofs.Members.{one_on}
 
@@ -102,90 +99,23 @@ module _ (l : ℕ → Level) (limit : ℕ → ℕ) where
     closes = λ k c h. record { rows = h.rows; members = h.members; distinct = h.distinct };
   }
 
-  lev_begun : (k : Kind) (ms : List Member) (vs : List ℕ) (now : ℕ) (c : Course) → Leveled c → Leveled (begun k ms vs now c)
-  lev_begun k ms vs now c h = kept_begun Leveled lev_kept k ms vs now c (record { rows = h.rows; members = h.members; distinct = h.distinct })
-
   lev_released : (c : Course) → Leveled c → Leveled (released c)
   unfolding released
   lev_released c h = record { rows = rows_map row_ended (λ r. (refl, refl)) 0 c.rows h.rows; members = tt; distinct = tt }
 
-  -- ## the state
-
-  abbrev Holds : State → Type 0
-  Holds st = Leveled st.course
-
-  on_concluded : (e : Ending) (st : State) → Holds st → Holds (concluded e st)
-  on_concluded e st h = grind arith
-
-  on_followed : (ran : Bool) (c : Course) (st : State) → Leveled c → Holds (followed ran c st)
-  unfolding followed
-  on_followed ran c st h = on_concluded (ending st.course.outcome c.outcome ran c.agenda) (record st { course = c }) h
-
-  on_answers : (w : ℕ) (said : Said) (st : State) → Holds st → Holds (answered w said st)
-  unfolding answered
-  on_answers w said st h = on_followed (runs st) _ st (kept_answered Leveled lev_kept w said st.clock st.course h)
-
-  on_stepped_as : (fails : Bool) (g : Option Group) (st : State) → Holds st → Holds (stepped_as fails g st)
-  on_stepped_as true g st h = on_followed (runs st) _ st (kept_stepped Leveled lev_kept false st.clock st.course h)
-  on_stepped_as false g st h = on_followed (runs st) _ (step_made g st) (kept_stepped Leveled lev_kept true st.clock st.course h)
-
-  on_steps : (mark : Mark) (st : State) → Holds st → Holds (stepped mark st)
-  unfolding stepped
-  on_steps mark st h = on_stepped_as (is_failed_step (is_flush (open_group (left_now st))) mark) (open_group (left_now st)) st h
-
-  on_ticks : (n : ℕ) (st : State) → Holds st → Holds (ticked n st)
-  unfolding ticked
-  on_ticks n st h = on_followed (runs st) _ (later n st) (kept_timed Leveled lev_kept (st.clock + n) st.course h)
-
-  on_failed_in : (o : Option SetRow) (why : VssResult) (st : State) → Holds st → Holds (failed_in o why st)
-  on_failed_in None why st h = h
-  on_failed_in (Some r) why st h = lev_failed why st.course h
-
-  on_begin : (lane : ℕ) (all : Bool) (c : Option Context) (st : State) → Holds st → Holds (begin_in lane all c st).1
-  on_begin lane all c st h = grind arith
-
-  on_closes : (q : Session) (st : State) → Holds st → Holds (closed q st)
-  unfolding closed
-  on_closes q st h = lev_released st.course h
-
-  kept_by_changes : IsKeptByChanges Holds
-  kept_by_changes = record {
-    answers = λ w said st e h. on_answers w said st h;
-    steps = λ mark st e h. on_steps mark st h;
-    ticks = on_ticks;
-    fails = λ why st h. on_failed_in (in_progress st) why st h;
-    gathers = λ s q st e h. on_followed true _ st
-        (lev_begun Gather _ [] st.clock _
-        (record { rows = rows_map row_gathered (λ r. (refl, refl)) 0 st.course.rows h.rows; members = h.members; distinct = h.distinct }));
-    prepares = λ s q st e h. by_if (λ r. Holds r.1) (has_no_volume (in_progress st)) _ _ h
-        (on_followed true _ st
-        (lev_begun Prepare _ [] st.clock _
-        (record { rows = h.rows; members = members_of_rows _ 0 st.course.rows h.rows; distinct = ascend_of_rows _ 0 st.course.rows })));
-    snapshots = λ q st e h. by_if (λ r. Holds r.1) (has_no_volume (in_progress st)) _ _ h (on_followed true _ st (lev_begun Snapshot st.course.members _ st.clock st.course h));
-    completes = λ q st e h. on_followed true _ st (lev_begun Complete _ [] st.clock st.course h);
-    clears = λ s v b st h. h;
-    deletes_set = λ n st h. h;
-    deletes_image = λ n v st h. h;
-    begins = λ lane all c st e h. on_begin lane all c st h;
-    names = λ q explicit st e h. h;
-    disables = λ w q st e h. record { rows = h.rows; members = h.members; distinct = h.distinct };
-    starts = λ q st e f h. h;
-    adds = λ v r q st e f g h. h;
-    ends = λ q st e h. on_closes q (failed AsyncCancelled st) (on_failed_in (in_progress st) AsyncCancelled st h);
+  lev_calls : IsKeptByCalls Leveled
+  lev_calls = record {
+    within = lev_kept;
+    begins = λ k ms vs now c h. record { rows = h.rows; members = h.members; distinct = h.distinct };
+    gathers = λ c h. record { rows = rows_map row_gathered (λ r. (refl, refl)) 0 c.rows h.rows; members = h.members; distinct = h.distinct };
+    takes = λ test c h. record { rows = h.rows; members = members_of_rows test 0 c.rows h.rows; distinct = ascend_of_rows test 0 c.rows };
+    disables = λ w c h. record { rows = h.rows; members = h.members; distinct = h.distinct };
+    releases = lev_released;
   }
-
-  kept_by_writes : (st : State) → IsKeptByWrites Holds st
-  kept_by_writes st = grind arith
-
-  pub on_fold : (s : Plan) (st : State) (acts : List Act) → Holds st → Holds (fold (after s) st acts)
-  on_fold s st [] h = h
-  on_fold s st (act ∷ acts) h = on_fold s (after s st act) acts (on_after Holds kept_by_changes s st act (kept_by_writes st) h)
 
 -- ## at the start
 
-rows_at_start : (s : Plan) (ps : List WriterPlan) (k : ℕ)
-    → ((j : ℕ) → (level_in (slice_get ps j) ≡ level_of s (k + j)) × (timeout_in (slice_get ps j) ≡ timeout_of s (k + j)))
-    → RowsOf (level_of s) (timeout_of s) k (map row_of_writer ps)
+rows_at_start : (s : Plan) (ps : List WriterPlan) (k : ℕ) → ((j : ℕ) → (level_in (slice_get ps j) ≡ level_of s (k + j)) × (timeout_in (slice_get ps j) ≡ timeout_of s (k + j))) → RowsOf (level_of s) (timeout_of s) k (map row_of_writer ps)
 rows_at_start s [] k e = tt
 rows_at_start s (p ∷ ps) k e = (
   ((e 0).0 ∙ ap (level_of s) (no_more k), (e 0).1 ∙ ap (timeout_of s) (no_more k)),
@@ -203,7 +133,7 @@ none_before j = omega arith
 
 leveled_from_start : (s : Plan) (acts : List Act) → Leveled (level_of s) (timeout_of s) (state s acts).course
 leveled_from_start s acts =
-    on_fold (level_of s) (timeout_of s) s (start s) acts
+    of_course (Leveled (level_of s) (timeout_of s)) (lev_calls (level_of s) (timeout_of s)) s acts
     (record { rows = rows_at_start s s.writers 0 (λ j. (ap (level_of s) (none_before j), ap (timeout_of s) (none_before j))); members = tt; distinct = tt })
 
 pub levels_are : (s : Plan) (acts : List Act) → MembersOf (level_of s) (state s acts).course.members

@@ -1,18 +1,17 @@
 -- The rows of sets go on: no act loses one, and one that is over stays as it is.
-use Rattle.promises.proofs.Words.{append_assoc, list_any-append, SetOutcome, VssResult, AsyncCancelled, Said, Mark, Write, said_of, Group}
-use Rattle.promises.proofs.Words.{open_group, Session, Plan, Event, State, SetRow, Kept, is_running, in_progress, row_changed, left_now, NumberedFrom, Act}
-use Rattle.promises.proofs.Words.{enabled, idle_now, after, state, state-append, orderly, found_above, IsLaterRow, HasLaterRow, KeepsRows, Covers, covered, after_enabled, after_not_enabled, some_same}
-use Rattle.promises.proofs.Words.{by_if, append_nothing}
-use Rattle.std.proofs.Common.{◌≡◌, ◌∙◌, ℕ, ◌+◌, ◌==◌, ◌<◌, ◌≤◌, List, [], ◌∷◌, ◌++◌, Option, Some, None, refl, Bool, true, false, ap, sym, subst, map, find, arith}
+use Rattle.promises.proofs.Words.{append_assoc, list_any-append, SetOutcome, Mark}
+use Rattle.promises.proofs.Words.{Plan, Event, State, SetRow, is_running, in_progress, row_changed, NumberedFrom, Act}
+use Rattle.promises.proofs.Words.{after, state, state-append, orderly, found_above, IsLaterRow, HasLaterRow, KeepsRows, some_same}
+use Rattle.promises.proofs.Words.{append_nothing}
+use Rattle.std.proofs.Common.{◌≡◌, ◌∙◌, ℕ, ◌+◌, ◌==◌, ◌<◌, ◌≤◌, List, [], ◌∷◌, ◌++◌, Some, refl, Bool, true, false, ap, sym, subst, map, find, arith}
 use Rattle.std.specs.Prelude.{if◌then◌else◌}
-use Rattle.std.proofs.lemmas.Bool.{or_left}
-use Rattle.set_agenda.specs.Course.{Course, answered as course_answered, timed as course_timed}
-use Rattle.vss_model.specs.Ending.{Ending, ending, row_settled, concluded, followed, runs, failed_in, failed}
-use Rattle.vss_model.specs.Images.{Replied, with_room_if, put, write, reverted_as}
-use Rattle.vss_model.specs.Sessions.{new_set, new_number, with_volume, has_no_volume, closed}
-use Rattle.vss_model.specs.Steps.{answered, with_cut, cut_set, step_made, is_flush, is_failed_step, stepped_as, stepped, ticked, later}
+use Rattle.vss_model.specs.Ending.{row_settled}
+use Rattle.vss_model.specs.Sessions.{with_volume}
+use Rattle.vss_model.specs.Steps.{with_cut, later}
+use Rattle.promises.proofs.Truth.{equal, left_part}
 use Rattle.promises.proofs.Members.{still_less}
-use Rattle.scenario.proofs.Places.{number_is}
+use Rattle.vss_model.specs.Changes.{Change, StartsSet, AddsVolume, IsCutAt, Settles, apply}
+use Rattle.vss_model.proofs.Changes.{Comes, by_changes}
 
 -- ## one row
 
@@ -26,7 +25,7 @@ settled_row : (p : SetOutcome) (r : SetRow) → IsLaterRow r (row_settled p r)
 settled_row p r = grind arith
 
 more_volumes : (v : ℕ) (r : SetRow) → is_running r.result ≡ true → IsLaterRow r (with_volume v r)
-more_volumes v r e = grind (arith, list_any-append, or_left)
+more_volumes v r e = grind (arith, list_any-append, left_part)
 
 row_with_cut : (now : ℕ) (r : SetRow) → is_running r.result ≡ true → IsLaterRow r (with_cut now r)
 row_with_cut now r e = record { number = refl; context = refl; volumes = λ v f. f; over = λ f. absurd cc }
@@ -113,87 +112,19 @@ changed_in_progress k f (q ∷ rows) r num e h = by_head (is_running q.result) r
 -- ## every act
 
 module _ (s : Plan) (st : State) (num : NumberedFrom 1 st.sets) where
-  in_concluded : (e : Ending) (x : State) → GoOn st.sets x.sets → GoOn st.sets (concluded e x).sets
-  in_concluded e x g = grind (arith, go_on_again, go_on_settled)
+  changed : (f : SetRow → SetRow) (x : State) (n : ℕ) (r : SetRow) → x.sets ≡ st.sets → n ≡ r.number → in_progress st ≡ Some r → ((q : SetRow) → is_running q.result ≡ true → IsLaterRow q (f q)) → GoOn st.sets (map (row_changed n f) x.sets)
+  changed f x n r same number found later =
+      subst (λ rows. GoOn st.sets (map (row_changed n f) rows)) (sym same) (subst (λ k. GoOn st.sets (map (row_changed k f) st.sets)) (sym number) (changed_in_progress 1 f st.sets r num found later))
 
-  in_followed : (ran : Bool) (c : Course) (x : State) → GoOn st.sets x.sets → GoOn st.sets (followed ran c x).sets
-  unfolding followed
-  in_followed ran c x g = in_concluded (ending x.course.outcome c.outcome ran c.agenda) (record x { course = c }) g
-
-  in_failed : (o : Option SetRow) (why : VssResult) (x : State) → GoOn st.sets x.sets → GoOn st.sets (failed_in o why x).sets
-  in_failed o why x g = grind (arith, go_on_again, go_on_settled)
-
-  in_room : (b : Bool) (x : State) → GoOn st.sets x.sets → GoOn st.sets (with_room_if b x).sets
-  in_room b x g = grind (arith, in_failed)
-
-  in_put : (v : ℕ) (w : Write) (mark : Mark) (x : State) → GoOn st.sets x.sets → GoOn st.sets (put v w mark x).sets
-  in_put v w mark x g = grind arith
-
-  in_write : (v : ℕ) (w : Write) (mark : Mark) → GoOn st.sets (write s v w mark st).1.sets
-  unfolding write
-  in_write v w mark = grind (arith, in_put, in_room, go_on_same)
-
-  in_revert : (v : ℕ) (k : Kept) (mark : Mark) → GoOn st.sets (reverted_as s v k mark st).1.sets
-  in_revert v k mark = grind (arith, go_on_same)
-
-  in_closed : (q : Session) (x : State) → GoOn st.sets x.sets → GoOn st.sets (closed q x).sets
-  unfolding closed
-  in_closed q x g = g
-
-  in_cut : (o : Option SetRow) → in_progress st ≡ o → GoOn st.sets (cut_set o st).sets
-  in_cut None e = go_on_same st.sets
-  in_cut (Some r) e = changed_in_progress 1 (with_cut st.clock) st.sets r num e (row_with_cut st.clock)
-
-  in_made : (g : Option Group) → GoOn st.sets (step_made g st).sets
-  in_made g = grind (arith, go_on_same, in_cut)
-
-  in_answers : (w : ℕ) (said : Said) → GoOn st.sets (answered w said st).sets
-  unfolding answered
-  in_answers w said = in_followed (runs st) (course_answered w said st.clock st.course) st (go_on_same st.sets)
-
-  in_ticks : (n : ℕ) → GoOn st.sets (ticked n st).sets
-  unfolding ticked
-  in_ticks n = in_followed (runs st) (course_timed (st.clock + n) st.course) (later n st) (go_on_same st.sets)
-
-  in_step_as : (f : Bool) (g : Option Group) → GoOn st.sets (stepped_as f g st).sets
-  in_step_as f g = grind (arith, in_followed, go_on_same, in_made)
-
-  in_steps : (mark : Mark) → GoOn st.sets (stepped mark st).sets
-  unfolding stepped
-  in_steps mark = in_step_as (is_failed_step (is_flush (open_group (left_now st))) mark) (open_group (left_now st))
-
-  abbrev RowsGoOn : Event → Mark → Replied → Type 0
-  RowsGoOn event mark x = GoOn st.sets x.1.sets
-
-  rows_go_on : Covers RowsGoOn s st
-  rows_go_on = record {
-    stays = λ lane o mark told e f. go_on_same st.sets;
-    writes = λ lane o v w mark e f. in_write v w mark;
-    reverts = λ lane n v k mark e f. in_revert v k mark;
-    deletes_set = λ lane n c mark e. go_on_same st.sets;
-    deletes_image = λ lane n v k mark e. go_on_same st.sets;
-    ticks = λ lane n mark. in_ticks n;
-    begins = λ lane n all c mark e ctx. go_on_same st.sets;
-    disables = λ lane w q mark g. go_on_same st.sets;
-    gathers = λ lane q mark g. in_followed true _ st (go_on_same st.sets);
-    names = λ lane w full q explicit mark g named. go_on_same st.sets;
-    starts = λ lane q mark g e. go_on_more st.sets (new_set (new_number st) q.context);
-    adds = λ lane v r q mark g e f. changed_in_progress 1 (with_volume v) st.sets r num e (more_volumes v);
-    prepares = λ lane q mark g. by_if (λ r. GoOn st.sets r.1.sets) (has_no_volume (in_progress st)) _ _ (go_on_same st.sets) (in_followed true _ st (go_on_same st.sets));
-    snapshots = λ lane q mark g. by_if (λ r. GoOn st.sets r.1.sets) (has_no_volume (in_progress st)) _ _ (go_on_same st.sets) (in_followed true _ st (go_on_same st.sets));
-    completes = λ lane q mark g. in_followed true _ st (go_on_same st.sets);
-    aborts = λ lane q mark e. in_failed (in_progress st) AsyncCancelled st (go_on_same st.sets);
-    ends = λ lane q mark e. in_closed q (failed AsyncCancelled st) (in_failed (in_progress st) AsyncCancelled st (go_on_same st.sets));
-    answers = λ w answer mark e. in_answers w (said_of answer);
-    steps = λ mark e. in_steps mark;
-    idles = λ mark e. in_ticks (idle_now st);
-  }
-
-  go_on_if : (b : Bool) (act : Act) → enabled s st act.event ≡ b → GoOn st.sets (after s st act).sets
-  go_on_if b act e = grind (arith, after_enabled, covered, rows_go_on, after_not_enabled, go_on_same)
+  goes_on : (e : Event) (m : Mark) (c : Change) (x : State) → Comes s e m st x c → GoOn st.sets x.sets → GoOn st.sets (apply x c).sets
+  goes_on e m (StartsSet r) x i h = go_on_again st.sets x.sets _ h (go_on_more x.sets r)
+  goes_on e m (AddsVolume n v) x i h = changed (with_volume v) x n i.row (ap (λ (y : State). y.sets) i.first) i.number i.found (more_volumes v)
+  goes_on e m (IsCutAt n now) x i h = changed (with_cut now) x n i.0.row (ap (λ (y : State). y.sets) i.1) i.0.number i.0.found (row_with_cut now)
+  goes_on e m (Settles o) x i h = go_on_again st.sets x.sets _ h (go_on_settled o x.sets)
+  goes_on e m _ x i h = h
 
   pub go_on_after : (act : Act) → GoOn st.sets (after s st act).sets
-  go_on_after act = go_on_if (enabled s st act.event) act refl
+  go_on_after act = by_changes (λ x. GoOn st.sets x.sets) s st act (goes_on act.event act.mark) (go_on_same st.sets)
 
 -- ## the row of a set
 
@@ -201,9 +132,8 @@ own_number : (rows : List SetRow) (n : ℕ) (r : SetRow) → find (λ (x : SetRo
 own_number [] n r e = absurd cc
 own_number (q ∷ rows) n r e = by_head (q.number == n) refl e (own_number rows n r)
   where
-    by_head : (b : Bool) → (q.number == n) ≡ b → (if b then Some q else find (λ (x : SetRow). x.number == n) rows) ≡ Some r
-        → (find (λ (x : SetRow). x.number == n) rows ≡ Some r → r.number ≡ n) → r.number ≡ n
-    by_head true f e ih = subst (λ (x : SetRow). x.number ≡ n) (some_same q r e) (number_is q.number n f)
+    by_head : (b : Bool) → (q.number == n) ≡ b → (if b then Some q else find (λ (x : SetRow). x.number == n) rows) ≡ Some r → (find (λ (x : SetRow). x.number == n) rows ≡ Some r → r.number ≡ n) → r.number ≡ n
+    by_head true f e ih = subst (λ (x : SetRow). x.number ≡ n) (some_same q r e) (equal q.number n f)
     by_head false f e ih = ih e
 
 pub later_row : (rows : List SetRow) (st : State) (n : ℕ) (r : SetRow) → GoOn rows st.sets → find (λ (x : SetRow). x.number == n) rows ≡ Some r → HasLaterRow st r

@@ -1,16 +1,16 @@
 -- No volume is twice in a set.
-use Rattle.promises.proofs.Words.{list_any-append, SetOutcome, VssResult, AsyncCancelled}
-use Rattle.promises.proofs.Words.{Said, Mark, Write, said_of, Group, is_among, open_group, are_distinct, Session, Plan, Event}
-use Rattle.promises.proofs.Words.{State, SetRow, Kept, in_progress, row_changed, left_now, NumberedFrom, Act, enabled, idle_now, after, state, state-append, orderly}
-use Rattle.promises.proofs.Words.{row_running, VolumesAreDistinct, Covers, covered, after_enabled, after_not_enabled, some_same, by_if, other_way}
-use Rattle.std.proofs.Common.{◌≡◌, ◌∙◌, ℕ, ◌+◌, ◌==◌, ◌<◌, List, [], ◌∷◌, ◌++◌, Option, Some, None, refl, Bool, true, false, ap, sym, subst, map, find, fold, arith}
+use Rattle.promises.proofs.Words.{list_any-append, SetOutcome, VssResult}
+use Rattle.promises.proofs.Words.{Mark, is_among, are_distinct, Plan, Event}
+use Rattle.promises.proofs.Words.{State, SetRow, in_progress, row_changed, NumberedFrom, Act, after, state, state-append, orderly}
+use Rattle.promises.proofs.Words.{row_running, VolumesAreDistinct, some_same, other_way}
+use Rattle.std.proofs.Common.{◌≡◌, ◌∙◌, ℕ, ◌+◌, ◌==◌, ◌<◌, List, [], ◌∷◌, ◌++◌, Some, None, refl, Bool, true, false, ap, sym, subst, map, find, fold, arith}
 use Rattle.std.specs.Prelude.{◌&&◌, ◌||◌, not, if◌then◌else◌}
-use Rattle.set_agenda.specs.Course.{Course, answered as course_answered, timed as course_timed}
-use Rattle.vss_model.specs.Ending.{Ending, ending, row_settled, concluded, followed, runs, failed_in, failed}
-use Rattle.vss_model.specs.Images.{Replied, cleared, set_loses_image, with_room_if, put, write, reverted_as}
-use Rattle.vss_model.specs.Sessions.{new_set, new_number, with_volume, add_refusal, has_no_volume, closed}
-use Rattle.vss_model.specs.Steps.{answered, row_cut, cut_set, step_made, is_flush, is_failed_step, stepped_as, stepped, ticked, later}
+use Rattle.vss_model.specs.Ending.{row_settled}
+use Rattle.vss_model.specs.Sessions.{with_volume, add_refusal}
+use Rattle.vss_model.specs.Steps.{row_cut}
 use Rattle.promises.proofs.Members.{still_less}
+use Rattle.vss_model.specs.Changes.{Change, StartsSet, AddsVolume, IsCutAt, Settles, apply}
+use Rattle.vss_model.proofs.Changes.{IsAdd, Comes, by_changes}
 
 abbrev AllDistinct : List SetRow → Type 0
 AllDistinct [] = Unit {0}
@@ -100,89 +100,23 @@ cut_volumes : (n now : ℕ) (r : SetRow) → (row_cut n now r).volumes ≡ r.vol
 cut_volumes n now r = grind arith
 
 module _ (s : Plan) (st : State) (num : NumberedFrom 1 st.sets) (h : AllDistinct st.sets) where
-  in_ended : (e : Ending) (x : State) → AllDistinct x.sets → AllDistinct (concluded e x).sets
-  in_ended e x d = grind (arith, distinct_map, settled_volumes)
+  added_volume : (x : State) (n v : ℕ) → IsAdd st x n v → AllDistinct (map (row_changed n (with_volume v)) x.sets)
+  added_volume x n v i =
+      subst (λ (y : State). AllDistinct (map (row_changed n (with_volume v)) y.sets)) (sym i.first)
+      (subst (λ k. AllDistinct (map (row_changed k (with_volume v)) st.sets)) (sym i.number) (on_add v i.row i.found i.allowed))
+    where
+      on_add : (v : ℕ) (r : SetRow) → in_progress st ≡ Some r → add_refusal v r st ≡ None → AllDistinct (map (row_changed r.number (with_volume v)) st.sets)
+      on_add v r e f = grind (arith, added, row_running, not_in_set)
 
-  in_followed : (ran : Bool) (c : Course) (x : State) → AllDistinct x.sets → AllDistinct (followed ran c x).sets
-  unfolding followed
-  in_followed ran c x d = in_ended (ending x.course.outcome c.outcome ran c.agenda) (record x { course = c }) d
-
-  in_failed : (o : Option SetRow) (why : VssResult) (x : State) → AllDistinct x.sets → AllDistinct (failed_in o why x).sets
-  in_failed o why x d = grind (arith, distinct_map, settled_volumes)
-
-  in_room : (b : Bool) (x : State) → AllDistinct x.sets → AllDistinct (with_room_if b x).sets
-  in_room b x d = grind (arith, in_failed)
-
-  in_put : (v : ℕ) (w : Write) (mark : Mark) (x : State) → AllDistinct x.sets → AllDistinct (put v w mark x).sets
-  in_put v w mark x d = grind arith
-
-  in_write : (v : ℕ) (w : Write) (mark : Mark) → AllDistinct (write s v w mark st).1.sets
-  unfolding write
-  in_write v w mark = in_put v w mark _ (in_room (set_loses_image (in_progress st) st.volumes (cleared s v w.block st).volumes) (cleared s v w.block st) h)
-
-  in_revert : (v : ℕ) (k : Kept) (mark : Mark) → AllDistinct (reverted_as s v k mark st).1.sets
-  in_revert v k mark = grind arith
-
-  in_closed : (q : Session) (x : State) → AllDistinct x.sets → AllDistinct (closed q x).sets
-  unfolding closed
-  in_closed q x d = d
-
-  in_cut : (o : Option SetRow) → AllDistinct (cut_set o st).sets
-  in_cut o = grind (arith, distinct_map, cut_volumes)
-
-  in_made : (g : Option Group) → AllDistinct (step_made g st).sets
-  in_made g = grind (arith, in_cut)
-
-  in_answers : (w : ℕ) (said : Said) → AllDistinct (answered w said st).sets
-  unfolding answered
-  in_answers w said = in_followed (runs st) (course_answered w said st.clock st.course) st h
-
-  in_ticks : (n : ℕ) → AllDistinct (ticked n st).sets
-  unfolding ticked
-  in_ticks n = in_followed (runs st) (course_timed (st.clock + n) st.course) (later n st) h
-
-  in_step_as : (f : Bool) (g : Option Group) → AllDistinct (stepped_as f g st).sets
-  in_step_as f g = grind (arith, in_followed, in_made)
-
-  in_steps : (mark : Mark) → AllDistinct (stepped mark st).sets
-  unfolding stepped
-  in_steps mark = in_step_as (is_failed_step (is_flush (open_group (left_now st))) mark) (open_group (left_now st))
-
-  abbrev Distinct : Event → Mark → Replied → Type 0
-  Distinct event mark x = AllDistinct x.1.sets
-
-  on_add : (v : ℕ) (r : SetRow) → in_progress st ≡ Some r → add_refusal v r st ≡ None → AllDistinct (map (row_changed r.number (with_volume v)) st.sets)
-  on_add v r e f = grind (arith, added, row_running, not_in_set)
-
-  all_distinct : Covers Distinct s st
-  all_distinct = record {
-    stays = λ lane o mark told e f. h;
-    writes = λ lane o v w mark e f. in_write v w mark;
-    reverts = λ lane n v k mark e f. in_revert v k mark;
-    deletes_set = λ lane n c mark e. h;
-    deletes_image = λ lane n v k mark e. h;
-    ticks = λ lane n mark. in_ticks n;
-    begins = λ lane n all c mark e ctx. h;
-    disables = λ lane w q mark g. h;
-    gathers = λ lane q mark g. in_followed true _ st h;
-    names = λ lane w full q explicit mark g named. h;
-    starts = λ lane q mark g e. distinct_append st.sets (new_set (new_number st) q.context) h refl;
-    adds = λ lane v r q mark g e f. on_add v r e f;
-    prepares = λ lane q mark g. by_if (λ r. AllDistinct r.1.sets) (has_no_volume (in_progress st)) _ _ h (in_followed true _ st h);
-    snapshots = λ lane q mark g. by_if (λ r. AllDistinct r.1.sets) (has_no_volume (in_progress st)) _ _ h (in_followed true _ st h);
-    completes = λ lane q mark g. in_followed true _ st h;
-    aborts = λ lane q mark e. in_failed (in_progress st) AsyncCancelled st h;
-    ends = λ lane q mark e. in_closed q (failed AsyncCancelled st) (in_failed (in_progress st) AsyncCancelled st h);
-    answers = λ w answer mark e. in_answers w (said_of answer);
-    steps = λ mark e. in_steps mark;
-    idles = λ mark e. in_ticks (idle_now st);
-  }
-
-  distinct_if : (b : Bool) (act : Act) → enabled s st act.event ≡ b → AllDistinct (after s st act).sets
-  distinct_if b act e = grind (arith, after_enabled, covered, all_distinct, after_not_enabled)
+  stays_distinct : (e : Event) (m : Mark) (c : Change) (x : State) → Comes s e m st x c → AllDistinct x.sets → AllDistinct (apply x c).sets
+  stays_distinct e m (StartsSet r) x i d = distinct_append x.sets r d (ap (λ (q : SetRow). are_distinct q.volumes) i.row)
+  stays_distinct e m (AddsVolume n v) x i d = added_volume x n v i
+  stays_distinct e m (IsCutAt n now) x i d = distinct_map (row_cut n now) (cut_volumes n now) x.sets d
+  stays_distinct e m (Settles o) x i d = distinct_map (row_settled o) (settled_volumes o) x.sets d
+  stays_distinct e m _ x i d = d
 
   pub distinct_after : (act : Act) → AllDistinct (after s st act).sets
-  distinct_after act = distinct_if (enabled s st act.event) act refl
+  distinct_after act = by_changes (λ x. AllDistinct x.sets) s st act (stays_distinct act.event act.mark) h
 
 distinct_from : (s : Plan) (so_far acts : List Act) → AllDistinct (state s so_far).sets → AllDistinct (fold (after s) (state s so_far) acts).sets
 distinct_from s so_far [] h = h

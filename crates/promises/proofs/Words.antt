@@ -37,7 +37,7 @@ pub use Rattle.vss_model.specs.Facts.{IsAgendaOf, IsOfSession, IsOfStage, IsOrde
 pub use Rattle.vss_model.specs.Causes.{freezes_writers, frozen_too_long, gives_cause, has_passed, held_too_long, holds_volumes, is_elsewhere, is_fault, is_flush_step, is_hold_step, is_late}
 pub use Rattle.vss_model.specs.Causes.{is_late_at, is_late_in, is_refused, is_veto, last_of, line_gives_cause, loses_own_image, needs_consent, owns, prepares_snapshot, prepares_writers}
 pub use Rattle.vss_model.specs.Causes.{unanswered_too_long}
-pub use Rattle.vss_model.specs.Replies.{is_fine, is_pending}
+pub use Rattle.vss_model.specs.Replies.{is_fine, is_pending, leaves_all}
 pub use Rattle.vss_model.proofs.OrderlyActs.{Moves, MovesOn, kept_by_changes, kept_by_writes, moves_answered, moves_stepped, moves_timed, none_after, orderly}
 pub use Rattle.promises.specs.Accepted.{AcceptsInOrder, IsAccepting, Owns, can_name, can_name_in, has_its_wants, has_place, has_volume, is_accepted, is_context, is_ordered}
 pub use Rattle.promises.specs.InOrder.{ByBegin, ByComplete, ByFailure, ByGather, ByPrepare, BySnapshot, ByStart, HasItsContext, Progress, Step, asks_writers, comes_now, event_brings, is_step}
@@ -161,7 +161,7 @@ pub use Rattle.promises.specs.Rows.{state_at_ok}
 pub use Rattle.promises.specs.Promises.{IsAsPromised}
 pub use Rattle.promises.specs.Properties.{PropertiesTell, TellsTheImage}
 pub use Rattle.promises.specs.Refusing.{RefusesForCause, name_refusal, name_refusal_in, order_refusal, place_refusal, want_refusal}
-pub use Rattle.promises.specs.Refused.{RefusalsChangeNothing, leaves_all}
+pub use Rattle.promises.specs.Refused.{RefusalsChangeNothing}
 pub use Rattle.promises.specs.Replies.{AreRising, IsBelow, RepliesTell, TellsTheCut}
 pub use Rattle.std.proofs.Math.Seq.{drop-nil, take-add, take-length}
 pub use Rattle.vss_model.proofs.FewTurns.{length-rows_where}

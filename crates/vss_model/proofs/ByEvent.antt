@@ -17,9 +17,9 @@ use Rattle.requestor.specs.declared.mode.Mode.{Mode}
 use Rattle.requestor.specs.declared.session_call.SessionCall.{SessionCall}
 use Rattle.requestor.specs.declared.session_call.SessionCall.TheVariants as call
 use Rattle.requestor.specs.declared.verdict.Verdict.{Verdict}
-use Rattle.requestor.specs.declared.verdict.Verdict.TheVariants.{Go, Refused}
+use Rattle.requestor.specs.declared.verdict.Verdict.TheVariants.{Go, Blocked, Refused}
 use Rattle.requestor.specs.Session.{Session, context_of, opened, has_writers, makes_set}
-use Rattle.requestor.specs.Check.{check, check_other, check_owner, owner_only, verdict_of, goes_beside_agenda, is_start, is_await, allows}
+use Rattle.requestor.specs.Check.{check, check_begin, check_other, check_owner, owner_only, verdict_of, goes_beside_agenda, is_start, is_await, allows}
 use Rattle.scenario.specs.declared.op.Op.{Op}
 use Rattle.scenario.specs.declared.op.Op.TheVariants.{WriteFill, WriteStamp, Read, ImageDigest, ImageBlock, Query, Properties, Revert, DeleteSet, DeleteImage, Tick, Begin, Disable, Gather, Component, Document, Start, Add, Prepare, Snapshot, Await, Status, Complete, Abort, End}
 use Rattle.scenario.specs.Bounds.{begins_agenda}
@@ -28,7 +28,7 @@ use Rattle.scenario.specs.declared.span.Span.{Span}
 use Rattle.scenario.specs.Plan.{Plan, token, acts_as}
 use Rattle.vss_model.specs.declared.event.Event.{Event}
 use Rattle.vss_model.specs.declared.event.Event.TheVariants.{Line, Answer as AnswerEvent, Provider, Idle}
-use Rattle.vss_model.specs.Reply.{Reply, Fine, Deleted, Idled}
+use Rattle.vss_model.specs.Reply.{Reply, Fine, Coded, Deleted, Idled}
 use Rattle.vss_model.specs.State.{State, SetRow, Kept, in_progress, left_now, is_held, kept_image, is_kept_set}
 use Rattle.vss_model.specs.Ending.{runs, failed}
 use Rattle.vss_model.specs.Images.{Replied, write, reverted_as, image_block, image_blocks, properties, delete_set, delete_kept, delete_image, revert_refusal, revert_to, revert}
@@ -39,7 +39,7 @@ use Rattle.vss_model.specs.Effects.{line_ticks}
 use Rattle.vss_model.specs.Acts.{Act, order_of_writer, is_free, line_enabled, enabled, happens, idle_now, answer_reply, step_reply, after_if, after}
 use Rattle.vss_model.specs.Laws.{LetsGo}
 use Rattle.vss_model.proofs.GoingOn.{Goes, other_goes}
-use Rattle.vss_model.specs.Replies.{is_fine, is_numbered, is_pending_code, is_pending}
+use Rattle.vss_model.specs.Replies.{is_fine, is_numbered, is_pending_code, is_pending, leaves_all}
 
 -- ## shorter steps of proofs by events
 
@@ -68,11 +68,24 @@ abbrev pub starts_set : Op → Bool
 starts_set Start = true
 starts_set _ = false
 
+-- the lines that do more than look
+abbrev pub may_change : Op → Bool
+may_change (Read v b) = false
+may_change (ImageDigest n v) = false
+may_change (ImageBlock n v b) = false
+may_change (Query v) = false
+may_change (Properties n v) = false
+may_change Document = false
+may_change Await = false
+may_change Status = false
+may_change _ = true
+
 -- the reply of a line that changes nothing is not that of a line that does
 pub record ChangesNothing (op : Op) (told : Reply) : Type 0 where
   pub agenda : begins_agenda op ≡ true → is_pending told ≡ false
   pub session : changes_session op ≡ true → is_fine told ≡ false
   pub set : starts_set op ≡ true → is_numbered told ≡ false
+  pub refused : may_change op ≡ true → leaves_all told ≡ true
 
 pub record Covers (P : Event → Mark → Replied → Type 0) (s : Plan) (st : State) : Type 0 where
   -- lines that change nothing
@@ -119,19 +132,18 @@ other_refuses (Some q) running lane c why e =
     owner_refuses (q.owner == lane) (check_owner q running c) why
     (verdict_refuses (is_start c && makes_set q.stage) (running && not (goes_beside_agenda c)) (allows q.stage (has_writers q.context) c) (is_await c && running) why) e
 
+begin_refuses : (q : Option Session) (lane : ℕ) (why : VssResult) → check_begin q lane ≡ Refused why → is_pending_code why ≡ false
+begin_refuses q lane why e = grind (arith, other_reason)
+
+refused_line : (op : Op) (why : VssResult) → is_pending_code why ≡ false → ChangesNothing op (Coded why)
+refused_line op why e = record { agenda = λ f. e; session = λ f. refl; set = λ f. refl; refused = λ f. ap not e }
+
 not_held : (held free : Bool) → (not held && free) ≡ true → held ≡ false
 not_held held free e = grind arith
 
--- a line that begins no agenda
-no_agenda : {X : Type 0} → false ≡ true → X
-no_agenda e = absurd cc
-
-not_so : {X : Type 0} (b : Bool) → b ≡ false → b ≡ true → X
-not_so b e f = absurd cc
-
 -- and one that changes no session
-other_line : (op : Op) (told : Reply) → begins_agenda op ≡ false → changes_session op ≡ false → starts_set op ≡ false → ChangesNothing op told
-other_line op told e f g = record { agenda = not_so (begins_agenda op) e; session = not_so (changes_session op) f; set = not_so (starts_set op) g }
+other_line : (op : Op) (told : Reply) → may_change op ≡ false → ChangesNothing op told
+other_line op told e = grind arith
 
 module _ (P : Event → Mark → Replied → Type 0) (s : Plan) (st : State) (k : Covers P s st) where
   -- ## images
@@ -177,11 +189,13 @@ module _ (P : Event → Mark → Replied → Type 0) (s : Plan) (st : State) (k 
   on_await : (lane : ℕ) (last : Option VssResult) (mark : Mark) → P (Line lane Await) mark (await_last last st)
   on_await lane last mark = grind arith
 
-  on_judged : (v : Verdict) (lane : ℕ) (op : Op) (mark : Mark) → line_ticks op ≡ None → (begins_agenda op ≡ true → (why : VssResult) → v ≡ Refused why → is_pending_code why ≡ false)
+  on_judged : (v : Verdict) (lane : ℕ) (op : Op) (mark : Mark) → line_ticks op ≡ None → ((why : VssResult) → v ≡ Refused why → is_pending_code why ≡ false)
       → (v ≡ Go → P (Line lane op) mark (line_in s lane op st.session st)) → P (Line lane op) mark (judged v s lane op st)
-  on_judged v lane op mark e refuses goes = grind arith
+  on_judged Go lane op mark e refuses goes = goes refl
+  on_judged Blocked lane op mark e refuses goes = k.stays lane op mark (Coded BadState) e (refused_line op BadState refl)
+  on_judged (Refused why) lane op mark e refuses goes = k.stays lane op mark (Coded why) e (refused_line op why (refuses why refl))
 
-  on_called : (c : SessionCall) (lane : ℕ) (op : Op) (mark : Mark) → line_ticks op ≡ None → (begins_agenda op ≡ true → (why : VssResult) → check st.session (runs st) lane c ≡ Refused why → is_pending_code why ≡ false)
+  on_called : (c : SessionCall) (lane : ℕ) (op : Op) (mark : Mark) → line_ticks op ≡ None → ((why : VssResult) → check st.session (runs st) lane c ≡ Refused why → is_pending_code why ≡ false)
       → (check st.session (runs st) lane c ≡ Go → P (Line lane op) mark (line_in s lane op st.session st)) → P (Line lane op) mark (called c s lane op st)
   unfolding called
   on_called c lane op mark e refuses goes = on_judged (check st.session (runs st) lane c) lane op mark e refuses goes
@@ -190,7 +204,7 @@ module _ (P : Event → Mark → Replied → Type 0) (s : Plan) (st : State) (k 
   on_owned : (c : SessionCall) (lane : ℕ) (op : Op) (mark : Mark) → line_ticks op ≡ None → check_other st.session (runs st) lane c ≡ check st.session (runs st) lane c
       → ((g : Goes st.session (runs st) c) → P (Line lane op) mark (session_line s lane op g.own st)) → P (Line lane op) mark (called c s lane op st)
   on_owned c lane op mark e same goes =
-      on_called c lane op mark e (λ b why f. other_refuses st.session (runs st) lane c why (same ∙ f)) (λ f. with_session (other_goes st.session (runs st) lane c (same ∙ f)))
+      on_called c lane op mark e (λ why f. other_refuses st.session (runs st) lane c why (same ∙ f)) (λ f. with_session (other_goes st.session (runs st) lane c (same ∙ f)))
     where
       with_session : Goes st.session (runs st) c → P (Line lane op) mark (line_in s lane op st.session st)
       with_session g = subst (λ (q : Option Session). P (Line lane op) mark (line_in s lane op q st)) (sym g.is) (goes g)
@@ -203,26 +217,26 @@ module _ (P : Event → Mark → Replied → Type 0) (s : Plan) (st : State) (k 
   on_line : (lane : ℕ) (op : Op) (mark : Mark) → line_enabled s st lane op ≡ true → P (Line lane op) mark (line s lane op mark st)
   on_line lane (WriteFill v b x) mark e = k.writes lane (WriteFill v b x) v (record { block = b; bytes = payload_bytes (Fill x) }) mark refl (not_held (is_held st v) (is_free st (acts_as s lane)) e)
   on_line lane (WriteStamp v b n) mark e = k.writes lane (WriteStamp v b n) v (record { block = b; bytes = payload_bytes (Stamp n) }) mark refl (not_held (is_held st v) (is_free st (acts_as s lane)) e)
-  on_line lane (Read v b) mark e = k.stays lane (Read v b) mark _ refl (other_line (Read v b) _ refl refl refl)
+  on_line lane (Read v b) mark e = k.stays lane (Read v b) mark _ refl (other_line (Read v b) _ refl)
   on_line lane (ImageDigest n v) mark e = on_image_blocks lane n v (kept_image st n v) mark
   on_line lane (ImageBlock n v b) mark e = on_image_block lane n v b (kept_image st n v) mark
-  on_line lane (Query v) mark e = k.stays lane (Query v) mark _ refl (other_line (Query v) _ refl refl refl)
+  on_line lane (Query v) mark e = k.stays lane (Query v) mark _ refl (other_line (Query v) _ refl)
   on_line lane (Properties n v) mark e = on_properties lane n v (kept_image st n v) mark
   on_line lane (Revert n v) mark e = on_revert lane n v mark
   on_line lane (DeleteSet n) mark e = on_delete_set lane n mark
   on_line lane (DeleteImage n v) mark e = on_delete_image lane n v mark
   on_line lane (Tick n) mark e = k.ticks lane n mark
-  on_line lane (Begin n all) mark e = on_called (call.Begin n all) lane (Begin n all) mark refl no_agenda (λ g. on_begin_line lane n all st.session mark refl)
+  on_line lane (Begin n all) mark e = on_called (call.Begin n all) lane (Begin n all) mark refl (begin_refuses st.session lane) (λ g. on_begin_line lane n all st.session mark refl)
   on_line lane (Disable w) mark e = on_owned call.Disable lane (Disable w) mark refl refl (λ g. k.disables lane w g.own mark (quiet_of call.Disable g refl))
   on_line lane Gather mark e = on_owned call.Gather lane Gather mark refl refl (λ g. k.gathers lane g.own mark (quiet_of call.Gather g refl))
   on_line lane (Component w full) mark e = on_owned call.Component lane (Component w full) mark refl refl (λ g. on_component lane w full g.own g.own.mode mark (quiet_of call.Component g refl))
-  on_line lane Document mark e = on_owned call.Document lane Document mark refl refl (λ g. k.stays lane Document mark _ refl (other_line Document _ refl refl refl))
+  on_line lane Document mark e = on_owned call.Document lane Document mark refl refl (λ g. k.stays lane Document mark _ refl (other_line Document _ refl))
   on_line lane Start mark e = on_owned call.Start lane Start mark refl refl (λ g. k.starts lane g.own mark (quiet_of call.Start g refl) (g.free refl))
   on_line lane (Add v) mark e = on_owned call.Add lane (Add v) mark refl refl (λ g. on_add lane v (in_progress st) g.own mark (quiet_of call.Add g refl) refl)
   on_line lane Prepare mark e = on_owned call.Prepare lane Prepare mark refl refl (λ g. k.prepares lane g.own mark (quiet_of call.Prepare g refl))
   on_line lane Snapshot mark e = on_owned call.Snapshot lane Snapshot mark refl refl (λ g. k.snapshots lane g.own mark (quiet_of call.Snapshot g refl))
   on_line lane Await mark e = on_owned call.Await lane Await mark refl refl (λ g. on_await lane g.own.last mark)
-  on_line lane Status mark e = on_owned call.Status lane Status mark refl refl (λ g. k.stays lane Status mark _ refl (other_line Status _ refl refl refl))
+  on_line lane Status mark e = on_owned call.Status lane Status mark refl refl (λ g. k.stays lane Status mark _ refl (other_line Status _ refl))
   on_line lane Complete mark e = on_owned call.Complete lane Complete mark refl refl (λ g. k.completes lane g.own mark (quiet_of call.Complete g refl))
   on_line lane Abort mark e = on_owned call.Abort lane Abort mark refl refl (λ g. k.aborts lane g.own mark g.is)
   on_line lane End mark e = on_owned call.End lane End mark refl refl (λ g. k.ends lane g.own mark g.is)

@@ -11,7 +11,7 @@ use Rattle.vss_names.specs.declared.set_outcome.SetOutcome.{SetOutcome}
 use Rattle.writer_state.specs.declared.said.Said.{Said}
 use Rattle.write_history.specs.declared.mark.Mark.{Mark}
 use Rattle.write_history.specs.History.{Write, Image, History, point_in, names, blocks_named, dropped, written, reverted, reverted_in_part, after_set, cut as history_cut, AreLater, AreInTime}
-use Rattle.write_history.specs.Slots.{Placed, gone_up_to, named, used_by}
+use Rattle.write_history.specs.Slots.{named, used_by}
 use Rattle.set_agenda.specs.declared.group.Group.{Group}
 use Rattle.set_agenda.specs.declared.group.Group.TheVariants.{Hold, Release}
 use Rattle.set_agenda.specs.declared.member.Member.{Member}
@@ -40,6 +40,7 @@ use Rattle.vss_model.proofs.OneCut.{ends_settle, plain_kind, changed_number, cha
 use Rattle.vss_model.proofs.NewestImage.{UpTo, image_of, images_up_to, newest_image}
 use Rattle.vss_model.proofs.Rows.{apart as apart_below}
 use Rattle.vss_model.proofs.ByEvent.{by_if}
+use Rattle.vss_model.proofs.Volumes.{each_map, each_change, each_gone, change_other}
 
 -- ## the fact
 
@@ -118,43 +119,12 @@ fewer_reverted n point h = record { writes = λ e. absurd cc; images = λ k p e.
 fewer_reverted_in_part : (blocks n point m : ℕ) (h : History) → Fewer false h (reverted_in_part blocks n point m h)
 fewer_reverted_in_part blocks n point m h = record { writes = λ e. absurd cc; images = λ k p e. kept_images (λ x. not (nat_lt n x)) k p h.images e }
 
-fewer-map : (m : Bool) (f : History → History) → ((h : History) → Fewer m h (f h)) → (hs : List History) (v : ℕ) → Fewer m (history_in (slice_get hs v)) (history_in (slice_get (map f hs) v))
-fewer-map m f less [] zero = fewer_same m _
-fewer-map m f less [] (suc v) = fewer_same m _
-fewer-map m f less (x ∷ hs) zero = less x
-fewer-map m f less (x ∷ hs) (suc v) = fewer-map m f less hs v
-
-fewer-change_at : (m : Bool) (f : History → History) → ((h : History) → Fewer m h (f h)) → (at : ℕ) (hs : List History) (v : ℕ) → Fewer m (history_in (slice_get hs v)) (history_in (slice_get (change_at at f hs) v))
-fewer-change_at m f less at [] v = fewer_same m _
-fewer-change_at m f less zero (x ∷ hs) zero = less x
-fewer-change_at m f less zero (x ∷ hs) (suc v) = fewer_same m _
-fewer-change_at m f less (suc at) (x ∷ hs) zero = fewer_same m _
-fewer-change_at m f less (suc at) (x ∷ hs) (suc v) = fewer-change_at m f less at hs v
-
-gone_if : (b m : Bool) (n : ℕ) (h : History) → Fewer m h (if b then record { writes = h.writes; images = after_set n h.images } else h)
-gone_if true m n h = record { writes = λ e. refl; images = λ k p e. kept_images (λ x. nat_lt n x) k p h.images e }
-gone_if false m n h = fewer_same m h
-
-fewer-gone : (m : Bool) (n : ℕ) (ps : List Placed) (hs : List History) (v : ℕ) → Fewer m (history_in (slice_get hs v)) (history_in (slice_get (gone_up_to n ps hs) v))
-fewer-gone m n [] hs v = fewer_same m _
-fewer-gone m n (p ∷ ps) [] v = fewer_same m _
-fewer-gone m n (p ∷ ps) (x ∷ hs) zero = gone_if p.within m n x
-fewer-gone m n (p ∷ ps) (x ∷ hs) (suc v) = fewer-gone m n ps hs v
+fewer_after : (m : Bool) (n : ℕ) (h : History) → Fewer m h (record { writes = h.writes; images = after_set n h.images })
+fewer_after m n h = record { writes = λ e. refl; images = λ k p e. kept_images (λ x. nat_lt n x) k p h.images e }
 
 fewer-images_dropped : (m : Bool) (o : Option SetRow) (hs : List History) (v : ℕ) → Fewer m (history_in (slice_get hs v)) (history_in (slice_get (images_dropped o hs) v))
 fewer-images_dropped m None hs v = fewer_same m _
-fewer-images_dropped m (Some r) hs v = fewer-map m (dropped r.number) (fewer_dropped m r.number) hs v
-
--- another volume changes
-other_same : (f : History → History) (at : ℕ) (hs : List History) (v : ℕ) → (at == v) ≡ false → slice_get (change_at at f hs) v ≡ slice_get hs v
-other_same f at [] v e = refl
-other_same f zero (x ∷ hs) zero e = absurd cc
-other_same f zero (x ∷ hs) (suc v) e = refl
-other_same f (suc at) (x ∷ hs) zero e = refl
-other_same f (suc at) (x ∷ hs) (suc v) e = other_same f at hs v (one_less at v e)
-  where
-    one_less : (a b : ℕ) → (suc a == suc b) ≡ false → (a == b) ≡ false
-    one_less a b e = grind arith
+fewer-images_dropped m (Some r) hs v = each_map (Fewer m) (fewer_same m) (dropped r.number) (fewer_dropped m r.number) hs v
 
 -- ## the fact with fewer images
 
@@ -285,9 +255,9 @@ kept_but_steps m v =
       prepares = λ s q st g h. (o.prepares s q st g h.0, by_if (λ r. Unused m v r.1) (has_no_volume (in_progress st)) _ _ h.1 (begun_unused m v true _ st g.quiet h.1));
       snapshots = λ q st g h. (o.snapshots q st g h.0, by_if (λ r. Unused m v r.1) (has_no_volume (in_progress st)) _ _ h.1 (begun_unused m v true _ st g.quiet h.1));
       completes = λ q st g h. (o.completes q st g h.0, begun_unused m v true _ st g.quiet h.1);
-      clears = λ s u b st h. (o.clears s u b st h.0, with_volumes m v _ st (fewer-gone m _ _ st.volumes v) h.1);
-      deletes_set = λ n st h. (o.deletes_set n st h.0, with_volumes m v _ st (fewer-map m (dropped n) (fewer_dropped m n) st.volumes v) h.1);
-      deletes_image = λ n u st h. (o.deletes_image n u st h.0, with_volumes m v _ st (fewer-change_at m (dropped n) (fewer_dropped m n) u st.volumes v) h.1);
+      clears = λ s u b st h. (o.clears s u b st h.0, with_volumes m v _ st (each_gone (Fewer m) (fewer_same m) _ (fewer_after m _) _ st.volumes v) h.1);
+      deletes_set = λ n st h. (o.deletes_set n st h.0, with_volumes m v _ st (each_map (Fewer m) (fewer_same m) (dropped n) (fewer_dropped m n) st.volumes v) h.1);
+      deletes_image = λ n u st h. (o.deletes_image n u st h.0, with_volumes m v _ st (each_change (Fewer m) (fewer_same m) (dropped n) (fewer_dropped m n) u st.volumes v) h.1);
       names = λ q explicit st g h. (o.names q explicit st g h.0, h.1);
       disables = λ w q st g h. (o.disables w q st g h.0, h.1);
       starts = λ q st g e h. (o.starts q st g e h.0, on_starts m v q st g.quiet h.0 h.1);
@@ -298,12 +268,12 @@ kept_but_steps m v =
 -- ## writes
 
 on_other : (m : Bool) (v u : ℕ) (f : History → History) (x : State) → (u == v) ≡ false → Unused m v x → Unused m v (record x { volumes = change_at u f x.volumes })
-on_other m v u f x e h = subst (λ o. SetUnused m v x.course.agenda (in_progress x) (history_in o)) (sym (other_same f u x.volumes v e)) h
+on_other m v u f x e h = subst (SetUnused m v x.course.agenda (in_progress x)) (sym (change_other f u x.volumes v e)) h
 
 on_put : (m : Bool) (v u : ℕ) (w : Write) (st x : State) → is_held st v ≡ m → is_held st u ≡ false → Unused m v x → Unused m v (record x { volumes = change_at u (written w) x.volumes })
 on_put true v u w st x e free h = on_other true v u (written w) x (apart (is_held st) u v free e) h
 on_put false v u w st x e free h =
-    with_volumes false v _ x (fewer-change_at false (written w) (λ y. record { writes = λ f. absurd cc; images = λ n p f. f }) u x.volumes v) h
+    with_volumes false v _ x (each_change (Fewer false) (fewer_same false) (written w) (λ y. record { writes = λ f. absurd cc; images = λ n p f. f }) u x.volumes v) h
 
 on_puts : (m : Bool) (v u : ℕ) (w : Write) (mark : Mark) (st x : State) → is_held st v ≡ m → is_held st u ≡ false → Unused m v x → Unused m v (put u w mark x)
 on_puts m v u w mark st x e free h = grind (arith, on_put)
@@ -314,7 +284,7 @@ on_reverted m v u f st less e h = by_cases (u == v) refl
     by_cases : (b : Bool) → (u == v) ≡ b → Unused m v (record st { volumes = change_at u f st.volumes })
     by_cases true g =
         no_image_any m v st.course.agenda (in_progress st) _
-        (no_image_fewer false (in_progress st) (history_of st v) _ (fewer-change_at false f less u st.volumes v)
+        (no_image_fewer false (in_progress st) (history_of st v) _ (each_change (Fewer false) (fewer_same false) f less u st.volumes v)
         (outside_no_image m v st.course.agenda (in_progress st) (history_of st v) (subst (λ x. is_in_set x (in_progress st) ≡ false) (eqb-true u v g) e) h))
     by_cases false g = on_other m v u f st g h
 

@@ -1,162 +1,51 @@
--- The effective writes of a volume of the set in progress do not change while it is held.
-use Rattle.std.proofs.Common.{◌≡◌, ℕ, ◌+◌, ◌==◌, zero, suc, List, [], ◌∷◌, Option, Some, refl, Bool, true, false, map, ◌∙◌, arith}
-use Rattle.std.specs.Prelude.{if◌then◌else◌, slice_get}
-use Rattle.vss_names.specs.declared.context.Context.{Context}
-use Rattle.vss_names.specs.declared.vss_result.VssResult.{VssResult}
-use Rattle.vss_names.specs.declared.vss_result.VssResult.TheVariants.{AsyncCancelled}
-use Rattle.writer_state.specs.declared.said.Said.{Said}
+-- The effective writes of a volume change by writes and reverts of it alone; so those of a volume of the set in progress do not
+-- change while it is held.
+use Rattle.std.proofs.Common.{◌≡◌, ◌∙◌, ℕ, ◌==◌, List, Some, refl, Bool, true, false, ap, arith}
 use Rattle.write_history.specs.declared.mark.Mark.{Mark}
-use Rattle.write_history.specs.History.{Write, History, dropped, after_set}
-use Rattle.write_history.specs.Slots.{Placed, gone_up_to}
-use Rattle.set_agenda.specs.declared.group.Group.{Group}
-use Rattle.set_agenda.specs.Agenda.{is_among, open_group}
-use Rattle.set_agenda.specs.Course.{Course, change_at, released}
-use Rattle.requestor.specs.Session.{Session}
+use Rattle.write_history.specs.History.{History, written, dropped, reverted, reverted_in_part}
+use Rattle.set_agenda.specs.Agenda.{is_among}
 use Rattle.scenario.specs.Plan.{Plan}
-use Rattle.vss_model.specs.State.{State, SetRow, Kept, in_progress, history_in, history_of, left_now, is_held}
-use Rattle.vss_model.specs.Ending.{Ending, ending, images_dropped, concluded, followed, runs, failed_in, failed}
-use Rattle.vss_model.specs.Images.{put, reverted_as}
-use Rattle.vss_model.specs.Sessions.{begin_in, has_no_volume, images_released, closed}
-use Rattle.vss_model.specs.Steps.{answered, cut_if, cut_each, cut_set, step_made, is_flush, is_failed_step, stepped_as, stepped, ticked, later}
+use Rattle.vss_model.specs.declared.event.Event.{Event}
+use Rattle.vss_model.specs.State.{State, SetRow, in_progress, history_of, is_held}
+use Rattle.vss_model.specs.Images.{is_in_set}
 use Rattle.vss_model.specs.Acts.{Act, after, state}
-use Rattle.vss_model.specs.Laws.{IsKeptByChanges, IsKeptByWrites}
-use Rattle.vss_model.proofs.Rule.{on_after}
-use Rattle.vss_model.proofs.ByEvent.{by_if}
+use Rattle.vss_model.specs.Changes.{Change, Writes, Cuts, Reverts, RevertsPart, DropsSet, Drops, Evicts, apply}
+use Rattle.vss_model.proofs.Changes.{Comes, by_changes}
+use Rattle.vss_model.proofs.Volumes.{at, each_map, each_change, each_gone, each_cut, change_other}
 
--- the effective writes of volume v
-abbrev writes_in : List History → ℕ → List Write
-writes_in hs v = (history_in (slice_get hs v)).writes
+abbrev SameWrites : History → History → Type 0
+SameWrites h k = k.writes ≡ h.writes
 
--- ## changes of images
+-- a change writes to volume v, or reverts it
+abbrev pub rewrites : ℕ → Change → Bool
+rewrites v (Writes u w) = u == v
+rewrites v (Reverts u n p) = u == v
+rewrites v (RevertsPart u blocks n p k) = u == v
+rewrites v _ = false
 
-writes-map : (f : History → History) → ((h : History) → (f h).writes ≡ h.writes) → (hs : List History) (v : ℕ) → writes_in (map f hs) v ≡ writes_in hs v
-writes-map f same [] zero = refl
-writes-map f same [] (suc v) = refl
-writes-map f same (x ∷ hs) zero = same x
-writes-map f same (x ∷ hs) (suc v) = writes-map f same hs v
-
-writes-change_at : (f : History → History) → ((h : History) → (f h).writes ≡ h.writes) → (at : ℕ) (hs : List History) (v : ℕ) → writes_in (change_at at f hs) v ≡ writes_in hs v
-writes-change_at f same at [] v = refl
-writes-change_at f same zero (x ∷ hs) zero = same x
-writes-change_at f same zero (x ∷ hs) (suc v) = refl
-writes-change_at f same (suc at) (x ∷ hs) zero = refl
-writes-change_at f same (suc at) (x ∷ hs) (suc v) = writes-change_at f same at hs v
-
--- another volume changes
-writes-other : (f : History → History) (at : ℕ) (hs : List History) (v : ℕ) → (at == v) ≡ false → writes_in (change_at at f hs) v ≡ writes_in hs v
-writes-other f at [] v e = refl
-writes-other f zero (x ∷ hs) zero e = absurd cc
-writes-other f zero (x ∷ hs) (suc v) e = refl
-writes-other f (suc at) (x ∷ hs) zero e = refl
-writes-other f (suc at) (x ∷ hs) (suc v) e = writes-other f at hs v (one_less at v e)
-  where
-    one_less : (a b : ℕ) → (suc a == suc b) ≡ false → (a == b) ≡ false
-    one_less a b e = grind arith
-
-gone_if : (b : Bool) (m : ℕ) (x : History) → (if b then record { writes = x.writes; images = after_set m x.images } else x).writes ≡ x.writes
-gone_if b m x = grind arith
-
-writes-gone : (m : ℕ) (ps : List Placed) (hs : List History) (v : ℕ) → writes_in (gone_up_to m ps hs) v ≡ writes_in hs v
-writes-gone m [] hs v = refl
-writes-gone m (p ∷ ps) [] v = refl
-writes-gone m (p ∷ ps) (x ∷ hs) zero = gone_if p.within m x
-writes-gone m (p ∷ ps) (x ∷ hs) (suc v) = writes-gone m ps hs v
-
-cut-writes : (b : Bool) (n : ℕ) (x : History) → (cut_if b n x).writes ≡ x.writes
-cut-writes b n x = grind arith
-
-writes-cut_each : (n : ℕ) (vs : List ℕ) (u : ℕ) (hs : List History) (v : ℕ) → writes_in (cut_each n vs u hs) v ≡ writes_in hs v
-writes-cut_each n vs u [] v = refl
-writes-cut_each n vs u (x ∷ hs) zero = cut-writes (is_among u vs) n x
-writes-cut_each n vs u (x ∷ hs) (suc v) = writes-cut_each n vs (u + 1) hs v
-
-writes-images_dropped : (o : Option SetRow) (hs : List History) (v : ℕ) → writes_in (images_dropped o hs) v ≡ writes_in hs v
-writes-images_dropped o hs v = grind (arith, writes-map)
-
-writes-concluded : (e : Ending) (st : State) (v : ℕ) → writes_in (concluded e st).volumes v ≡ writes_in st.volumes v
-writes-concluded e st v = grind (arith, writes-images_dropped)
-
-writes-followed : (ran : Bool) (c : Course) (st : State) (v : ℕ) → writes_in (followed ran c st).volumes v ≡ writes_in st.volumes v
-unfolding followed
-writes-followed ran c st v = writes-concluded (ending st.course.outcome c.outcome ran c.agenda) (record st { course = c }) v
-
-writes-cut_set : (o : Option SetRow) (st : State) (v : ℕ) → writes_in (cut_set o st).volumes v ≡ writes_in st.volumes v
-writes-cut_set o st v = grind (arith, writes-cut_each)
-
-writes-step_made : (g : Option Group) (st : State) (v : ℕ) → writes_in (step_made g st).volumes v ≡ writes_in st.volumes v
-writes-step_made g st v = grind (arith, writes-cut_set)
-
-writes-stepped_as : (fails : Bool) (g : Option Group) (st : State) (v : ℕ) → writes_in (stepped_as fails g st).volumes v ≡ writes_in st.volumes v
-writes-stepped_as fails g st v = grind (arith, writes-followed, writes-step_made)
-
-writes-stepped : (mark : Mark) (st : State) (v : ℕ) → writes_in (stepped mark st).volumes v ≡ writes_in st.volumes v
-unfolding stepped
-writes-stepped mark st v = writes-stepped_as (is_failed_step (is_flush (open_group (left_now st))) mark) (open_group (left_now st)) st v
-
-writes-answered : (w : ℕ) (said : Said) (st : State) (v : ℕ) → writes_in (answered w said st).volumes v ≡ writes_in st.volumes v
-unfolding answered
-writes-answered w said st v = writes-followed (runs st) _ st v
-
-writes-ticked : (n : ℕ) (st : State) (v : ℕ) → writes_in (ticked n st).volumes v ≡ writes_in st.volumes v
-unfolding ticked
-writes-ticked n st v = writes-followed (runs st) _ (later n st) v
-
-writes-failed_in : (o : Option SetRow) (why : VssResult) (st : State) (v : ℕ) → writes_in (failed_in o why st).volumes v ≡ writes_in st.volumes v
-writes-failed_in o why st v = grind (arith, writes-images_dropped)
-
-writes-released : (c : Context) (set : Option ℕ) (hs : List History) (v : ℕ) → writes_in (images_released c set hs) v ≡ writes_in hs v
-writes-released c set hs v = grind (arith, writes-map)
-
-writes-closed : (q : Session) (st : State) (v : ℕ) → writes_in (closed q st).volumes v ≡ writes_in st.volumes v
-unfolding closed released
-writes-closed q st v = writes-released q.context q.set st.volumes v
-
-writes-begun : (lane : ℕ) (all : Bool) (c : Option Context) (st : State) (v : ℕ) → writes_in (begin_in lane all c st).1.volumes v ≡ writes_in st.volumes v
-writes-begun lane all c st v = grind arith
-
--- ## the fact
-
--- volume v has these writes
-abbrev HasWrites : ℕ → List Write → State → Type 0
-HasWrites v ws st = writes_in st.volumes v ≡ ws
-
-kept_by_changes : (v : ℕ) (ws : List Write) → IsKeptByChanges (HasWrites v ws)
-kept_by_changes v ws = record {
-  answers = λ w said st e h. writes-answered w said st v ∙ h;
-  steps = λ mark st e h. writes-stepped mark st v ∙ h;
-  ticks = λ n st h. writes-ticked n st v ∙ h;
-  fails = λ why st h. writes-failed_in (in_progress st) why st v ∙ h;
-  gathers = λ s q st g h. writes-followed true _ st v ∙ h;
-  prepares = λ s q st g h. by_if (λ r. HasWrites v ws r.1) (has_no_volume (in_progress st)) _ _ h (writes-followed true _ st v ∙ h);
-  snapshots = λ q st g h. by_if (λ r. HasWrites v ws r.1) (has_no_volume (in_progress st)) _ _ h (writes-followed true _ st v ∙ h);
-  completes = λ q st g h. writes-followed true _ st v ∙ h;
-  clears = λ s u b st h. writes-gone _ _ st.volumes v ∙ h;
-  deletes_set = λ n st h. writes-map (dropped n) (λ x. refl) st.volumes v ∙ h;
-  deletes_image = λ n u st h. writes-change_at (dropped n) (λ x. refl) u st.volumes v ∙ h;
-  begins = λ lane all c st e h. writes-begun lane all c st v ∙ h;
-  names = λ q explicit st g h. h;
-  disables = λ w q st g h. h;
-  starts = λ q st g e h. h;
-  adds = λ u r q st g e f h. h;
-  ends = λ q st e h. writes-closed q (failed AsyncCancelled st) v ∙ writes-failed_in (in_progress st) AsyncCancelled st v ∙ h;
-}
-
-on_puts : (v : ℕ) (ws : List Write) (u : ℕ) (w : Write) (mark : Mark) (x : State) → (u == v) ≡ false → HasWrites v ws x → HasWrites v ws (put u w mark x)
-on_puts v ws u w mark x e h = grind (arith, writes-other)
-
-on_reverts : (v : ℕ) (ws : List Write) (s : Plan) (u : ℕ) (k : Kept) (mark : Mark) (st : State) → (u == v) ≡ false → HasWrites v ws st → HasWrites v ws (reverted_as s u k mark st).1
-on_reverts v ws s u k mark st e h = grind (arith, writes-other)
+pub same_writes : (v : ℕ) (c : Change) (x : State) → rewrites v c ≡ false → (at (apply x c).volumes v).writes ≡ (at x.volumes v).writes
+same_writes v (Writes u w) x e = ap (λ (h : History). h.writes) (change_other (written w) u x.volumes v e)
+same_writes v (Reverts u n p) x e = ap (λ (h : History). h.writes) (change_other (reverted n p) u x.volumes v e)
+same_writes v (RevertsPart u blocks n p k) x e = ap (λ (h : History). h.writes) (change_other (reverted_in_part blocks n p k) u x.volumes v e)
+same_writes v (Cuts n vs) x e = each_cut SameWrites (λ h. refl) n (λ h. refl) vs 0 x.volumes v
+same_writes v (DropsSet n) x e = each_map SameWrites (λ h. refl) (dropped n) (λ h. refl) x.volumes v
+same_writes v (Drops n u) x e = each_change SameWrites (λ h. refl) (dropped n) (λ h. refl) u x.volumes v
+same_writes v (Evicts n group) x e = each_gone SameWrites (λ h. refl) n (λ h. refl) group x.volumes v
+same_writes v _ x e = refl
 
 -- what holds of one number and not of another tells them apart
 pub apart : (test : ℕ → Bool) (u v : ℕ) → test u ≡ false → test v ≡ true → (u == v) ≡ false
 apart test u v e f = grind arith
 
-kept_by_writes : (v : ℕ) (ws : List Write) (st : State) (r : SetRow) → in_progress st ≡ Some r → is_among v r.volumes ≡ true → is_held st v ≡ true → IsKeptByWrites (HasWrites v ws) st
-kept_by_writes v ws st r e f g = grind (arith, on_puts, apart, on_reverts)
+held_elsewhere : (s : Plan) (e : Event) (m : Mark) (st x : State) (v : ℕ) → is_in_set v (in_progress st) ≡ true → is_held st v ≡ true → (c : Change) → Comes s e m st x c → rewrites v c ≡ false
+held_elsewhere s e m st x v f g (Writes u w) i = apart (is_held st) u v i.free g
+held_elsewhere s e m st x v f g (Reverts u n p) i = apart (λ y. is_in_set y (in_progress st)) u v i.0.free f
+held_elsewhere s e m st x v f g (RevertsPart u blocks n p k) i = apart (λ y. is_in_set y (in_progress st)) u v i.0.free f
+held_elsewhere s e m st x v f g _ i = refl
 
 pub held_keeps : (s : Plan) (acts : List Act) (act : Act) (r : SetRow) (v : ℕ) → in_progress (state s acts) ≡ Some r → is_among v r.volumes ≡ true → is_held (state s acts) v ≡ true
     → (history_of (after s (state s acts) act) v).writes ≡ (history_of (state s acts) v).writes
 held_keeps s acts act r v e f g =
     let st = state s acts in
-    let ws = (history_of st v).writes in
-    on_after (HasWrites v ws) (kept_by_changes v ws) s st act (kept_by_writes v ws st r e f g) refl
+    by_changes (λ x. (history_of x v).writes ≡ (history_of st v).writes) s st act
+    (λ c x i h. same_writes v c x (held_elsewhere s act.event act.mark st x v (ap (is_in_set v) e ∙ f) g c i) ∙ h) refl

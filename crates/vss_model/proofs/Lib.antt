@@ -4,6 +4,8 @@ pub mod ByEvent
 pub mod Rule
 pub mod HeldOfSet
 pub mod Orderly
+pub mod Changes
+pub mod CourseFacts
 pub mod OrderlyActs
 pub mod Failures
 pub mod CourseCalls

@@ -5,38 +5,32 @@ use Rattle.std.specs.Prelude.{option_map, ◌&&◌, if◌then◌else◌, nat_le}
 use Rattle.std.proofs.lemmas.List.{append_assoc, length-append}
 use Rattle.std.proofs.lemmas.List.Folds.{list_any-append}
 use Rattle.std.proofs.lemmas.Bool.{eq-eqb, eqb-true}
-use Rattle.vss_names.specs.declared.context.Context.{Context}
 use Rattle.vss_names.specs.declared.set_outcome.SetOutcome.{SetOutcome}
 use Rattle.vss_names.specs.declared.vss_result.VssResult.{VssResult}
-use Rattle.vss_names.specs.declared.vss_result.VssResult.TheVariants.{AsyncCancelled}
-use Rattle.writer_state.specs.declared.said.Said.{Said}
 use Rattle.write_history.specs.declared.mark.Mark.{Mark}
-use Rattle.write_history.specs.declared.mark.Mark.TheVariants.{Clean, Fault, FaultAfter}
-use Rattle.write_history.specs.History.{Write, History, dropped, reverted, reverted_in_part}
-use Rattle.set_agenda.specs.declared.group.Group.{Group}
+use Rattle.write_history.specs.History.{History}
 use Rattle.set_agenda.specs.Agenda.{open_group, is_among}
-use Rattle.set_agenda.specs.Course.{Course, failed as course_failed, stepped as course_stepped, released}
-use Rattle.requestor.specs.Session.{Session}
-use Rattle.scenario.specs.Plan.{Plan, blocks_of}
-use Rattle.vss_model.specs.State.{State, SetRow, Kept, is_running, in_progress, left_now, history_of}
-use Rattle.vss_model.specs.Ending.{Ending, NothingEnds, AgendaEnds, SetFails, ending, row_settled, concluded, followed, runs, failed_in, failed}
-use Rattle.vss_model.specs.Images.{put, reverted_as}
-use Rattle.vss_model.specs.Sessions.{most_images, begin_in, has_no_volume, new_set, new_number, with_volume, change_set, add_refusal, closed}
-use Rattle.vss_model.specs.Steps.{answered, cut_if as image_cut_if, cut_each, row_cut, cut_set, is_flush, is_failed_step, stepped_as, stepped, ticked, later}
+use Rattle.set_agenda.specs.Course.{Course, stepped as course_stepped}
+use Rattle.scenario.specs.Plan.{Plan}
+use Rattle.vss_model.specs.State.{State, SetRow, is_running, in_progress, left_now, history_of}
+use Rattle.vss_model.specs.Ending.{Ending, NothingEnds, AgendaEnds, SetFails, ending, row_settled, concluded, followed, runs}
+use Rattle.vss_model.specs.Sessions.{most_images, with_volume, change_set, add_refusal}
+use Rattle.vss_model.specs.Steps.{cut_if as image_cut_if, cut_each, row_cut, cut_set}
 use Rattle.vss_model.specs.Acts.{Act, after, state}
-use Rattle.vss_model.specs.Laws.{IsKeptByWrites}
+use Rattle.vss_model.specs.declared.event.Event.{Event}
 use Rattle.vss_model.specs.Cut.{is_provider, is_cut_group, is_set, is_cut_of, cut_if, cut}
 use Rattle.vss_model.proofs.Appending.{state-append}
-use Rattle.vss_model.proofs.Rule.{IsKeptButSteps, on_after_steps}
+use Rattle.vss_model.specs.Changes as change
+use Rattle.vss_model.specs.Changes.{Change, apply}
+use Rattle.vss_model.proofs.Changes.{IsAdd, Comes, by_changes}
 use Rattle.vss_model.proofs.Orderly.{find-map, find-settled_over, find-settled_running}
 use Rattle.vss_model.proofs.HeldOfSet.{find-row_cut, volumes-row_cut_if}
 use Rattle.vss_model.proofs.AtCut.{cuts}
-use Rattle.vss_model.proofs.CutStep.{second_not, both, step_made_same, after_cut, has_set}
+use Rattle.vss_model.proofs.CutStep.{both, after_cut, has_set}
 use Rattle.vss_model.proofs.CutAppend.{or_cut, append_nothing, cut-append}
 use Rattle.vss_model.proofs.OneCut.{changed_result, not_cut_yet, all_three}
-use Rattle.vss_model.proofs.Volumes.{at, FewerIn, fewer_in_map, fewer_in_change, fewer_in_gone, fewer_dropped, fewer_written, fewer_reverted, fewer_in_part}
-use Rattle.vss_model.proofs.FewerImages.{fewer_images_dropped, fewer_released}
-use Rattle.vss_model.proofs.ByEvent.{by_if}
+use Rattle.vss_model.proofs.Volumes.{at, FewerIn}
+use Rattle.vss_model.proofs.FewerImages.{is_cut, no_cut, fewer_apply, fewer_images_dropped}
 
 -- where each set was cut
 abbrev Cuts : Type 0
@@ -109,70 +103,27 @@ module _ (k : Cuts) where
   unfolding followed
   on_followed ran c st h = on_concluded (ending st.course.outcome c.outcome ran c.agenda) (record st { course = c }) h
 
-  on_answers : (w : ℕ) (said : Said) (st : State) → HasRoom k st → HasRoom k (answered w said st)
-  unfolding answered
-  on_answers w said st h = on_followed (runs st) _ st h
+  added_room : (v : ℕ) (r : SetRow) (st : State) → in_progress st ≡ Some r → add_refusal v r st ≡ None → HasRoom k st → HasRoom k (change_set r.number (with_volume v) st)
+  added_room v r st e f h = grind (arith, fewer_than, room_if, find-map, changed_result, roomy_added)
 
-  on_ticks : (n : ℕ) (st : State) → HasRoom k st → HasRoom k (ticked n st)
-  unfolding ticked
-  on_ticks n st h = on_followed (runs st) _ (later n st) h
+  on_add : (st x : State) (n v : ℕ) → IsAdd st x n v → HasRoom k x → HasRoom k (apply x (change.AddsVolume n v))
+  on_add st x n v i h =
+      subst (λ y. HasRoom k (apply y (change.AddsVolume n v))) (sym i.first)
+      (subst (λ m. HasRoom k (apply st (change.AddsVolume m v))) (sym i.number) (added_room v i.row st i.found i.allowed (subst (HasRoom k) i.first h)))
 
-  on_fails : (o : Option SetRow) (why : VssResult) (st : State) → HasRoom k st → HasRoom k (failed_in o why st)
-  on_fails None why st h = h
-  on_fails (Some r) why st h = on_concluded (SetFails why) (record st { course = course_failed why st.course }) h
+  on_fewer : (c : Change) (x : State) → is_cut c ≡ false → Roomy k x.volumes (in_progress x) → Roomy k (apply x c).volumes (in_progress x)
+  on_fewer c x e h = roomy_fewer k x.volumes (apply x c).volumes (in_progress x) (fewer_apply c x e) h
 
-  on_stepped_as : (fails : Bool) (g : Option Group) (st : State) → is_cut_group g ≡ false → HasRoom k st → HasRoom k (stepped_as fails g st)
-  on_stepped_as fails g st e h = grind (arith, on_followed, step_made_same)
-
-  on_steps : (mark : Mark) (st : State) → is_cut_group (open_group (left_now st)) ≡ false → HasRoom k st → HasRoom k (stepped mark st)
-  unfolding stepped
-  on_steps mark st e h = on_stepped_as (is_failed_step (is_flush (open_group (left_now st))) mark) (open_group (left_now st)) st e h
-
-  on_begin : (lane : ℕ) (all : Bool) (c : Option Context) (st : State) → HasRoom k st → HasRoom k (begin_in lane all c st).1
-  on_begin lane all c st h = grind arith
-
-  on_closed : (q : Session) (st : State) → HasRoom k st → HasRoom k (closed q st)
-  unfolding closed released
-  on_closed q st h = roomy_fewer k st.volumes _ (in_progress st) (fewer_released q.context q.set st.volumes) h
-
-  on_add : (v : ℕ) (r : SetRow) (st : State) → in_progress st ≡ Some r → add_refusal v r st ≡ None → HasRoom k st → HasRoom k (change_set r.number (with_volume v) st)
-  on_add v r st e f h = grind (arith, fewer_than, room_if, find-map, changed_result, roomy_added)
-
-  fewer : (st : State) (ks : List History) → FewerIn st.volumes ks → HasRoom k st → HasRoom k (record st { volumes = ks })
-  fewer st ks f h = roomy_fewer k st.volumes ks (in_progress st) f h
-
-  kept_but_steps : IsKeptButSteps (HasRoom k)
-  kept_but_steps = record {
-    answers = λ w said st e h. on_answers w said st h;
-    ticks = on_ticks;
-    fails = λ why st h. on_fails (in_progress st) why st h;
-    gathers = λ s q st g h. on_followed true _ st h;
-    prepares = λ s q st g h. by_if (λ r. HasRoom k r.1) (has_no_volume (in_progress st)) _ _ h (on_followed true _ st h);
-    snapshots = λ q st g h. by_if (λ r. HasRoom k r.1) (has_no_volume (in_progress st)) _ _ h (on_followed true _ st h);
-    completes = λ q st g h. on_followed true _ st h;
-    clears = λ s v b st h. fewer st _ (fewer_in_gone _ _ st.volumes) h;
-    deletes_set = λ n st h. fewer st _ (fewer_in_map (dropped n) (fewer_dropped n) st.volumes) h;
-    deletes_image = λ n v st h. fewer st _ (fewer_in_change (dropped n) (fewer_dropped n) v st.volumes) h;
-    names = λ q explicit st g h. h;
-    disables = λ w q st g h. h;
-    starts = λ q st g e h. roomy_append k st.volumes st.sets (new_set (new_number st) q.context) refl h;
-    adds = λ v r q st g e f h. on_add v r st e f h;
-    ends = λ q st e h. on_closed q (failed AsyncCancelled st) (on_fails (in_progress st) AsyncCancelled st h);
-  }
-
-  on_puts : (v : ℕ) (w : Write) (mark : Mark) (x : State) → HasRoom k x → HasRoom k (put v w mark x)
-  on_puts v w mark x h = grind (arith, fewer, fewer_in_change, fewer_written)
-
-  on_reverts : (s : Plan) (v : ℕ) (x : Kept) (mark : Mark) (st : State) → HasRoom k st → HasRoom k (reverted_as s v x mark st).1
-  on_reverts s v x Clean st h = fewer st _ (fewer_in_change (reverted x.row.number x.point) (fewer_reverted x.row.number x.point) v st.volumes) h
-  on_reverts s v x Fault st h = h
-  on_reverts s v x (FaultAfter n) st h = fewer st _ (fewer_in_change (reverted_in_part (blocks_of s v) x.row.number x.point n) (fewer_in_part (blocks_of s v) x.row.number x.point n) v st.volumes) h
-
-  kept_by_writes : (st : State) → IsKeptByWrites (HasRoom k) st
-  kept_by_writes st = grind (arith, on_puts, on_reverts)
+  on_change : (s : Plan) (e : Event) (m : Mark) (st : State) (c : Change) (x : State) → is_cut c ≡ false → Comes s e m st x c → HasRoom k x → HasRoom k (apply x c)
+  on_change s e m st (change.StartsSet r) x f i h = roomy_append k x.volumes x.sets r (ap (λ (q : SetRow). q.volumes) i.row) h
+  on_change s e m st (change.AddsVolume n v) x f i h = on_add st x n v i h
+  on_change s e m st (change.IsCutAt n now) x f i h = absurd cc
+  on_change s e m st (change.Settles o) x f i h = roomy_settled k x.volumes o x.sets h
+  on_change s e m st (change.Cuts n vs) x f i h = absurd cc
+  on_change s e m st c x f i h = on_fewer c x f h
 
   on_after : (s : Plan) (st : State) (act : Act) → (is_provider act.event && is_cut_group (open_group (left_now st))) ≡ false → HasRoom k st → HasRoom k (after s st act)
-  on_after s st act e h = grind (arith, on_after_steps, kept_but_steps, kept_by_writes, on_steps, second_not, on_begin)
+  on_after s st act e h = by_changes (HasRoom k) s st act (λ c x i g. on_change s act.event act.mark st c x (no_cut s act.event act.mark st x c e i) i g) h
 
 -- ## every act
 

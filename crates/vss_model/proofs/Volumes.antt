@@ -1,11 +1,12 @@
 -- What a change of the volumes does to the history at each place, and that most changes leave fewer images.
 use Rattle.std.proofs.Common.{◌≡◌, ℕ, ◌+◌, ◌==◌, ◌≤◌, zero, suc, List, [], ◌∷◌, Some, refl, Bool, true, false, map, filter, length, ap, ◌∙◌, arith}
 use Rattle.std.specs.Prelude.{is_some, not, if◌then◌else◌, nat_lt, slice_get}
-use Rattle.write_history.specs.History.{Write, Image, History, fresh, point_in, dropped, written, reverted, reverted_in_part, after_set}
+use Rattle.write_history.specs.History.{Write, Image, History, fresh, point_in, dropped, written, reverted, reverted_in_part, after_set, cut as history_cut}
 use Rattle.write_history.specs.Slots.{Placed, gone_up_to}
+use Rattle.set_agenda.specs.Agenda.{is_among}
 use Rattle.set_agenda.specs.Course.{change_at}
 use Rattle.vss_model.specs.State.{history_in, has_image}
-use Rattle.vss_model.specs.Steps.{cut_each}
+use Rattle.vss_model.specs.Steps.{cut_if, cut_each}
 
 -- ## at each place
 
@@ -37,6 +38,14 @@ module _ (R : History → History → Type 0) (same : (h : History) → R h h) w
   each_gone m g (p ∷ ps) [] v = same (at [] v)
   each_gone m g (p ∷ ps) (x ∷ hs) zero = gone_here p.within m x (g x)
   each_gone m g (p ∷ ps) (x ∷ hs) (suc v) = each_gone m g ps hs v
+
+  cut_here : (b : Bool) (n : ℕ) (x : History) → R x (history_cut n x) → R x (cut_if b n x)
+  cut_here b n x h = grind arith
+
+  pub each_cut : (n : ℕ) → ((h : History) → R h (history_cut n h)) → (vs : List ℕ) (u : ℕ) (hs : List History) → Each R hs (cut_each n vs u hs)
+  each_cut n g vs u [] v = same (at [] v)
+  each_cut n g vs u (x ∷ hs) zero = cut_here (is_among u vs) n x (g x)
+  each_cut n g vs u (x ∷ hs) (suc v) = each_cut n g vs (u + 1) hs v
 
 -- a change at another place
 pub change_other : (f : History → History) (u : ℕ) (hs : List History) (v : ℕ) → (u == v) ≡ false → at (change_at u f hs) v ≡ at hs v

@@ -1,14 +1,10 @@
 -- A running agenda waits for somebody: for the provider's step, or for a writer's answer; and where it waits for an answer
 -- a limit runs, which an idle stretch spends.
-use Rattle.std.proofs.Common.{◌≡◌, ℕ, ◌+◌, ◌-◌, List, [], ◌∷◌, Option, Some, None, refl, Bool, true, false, sym, subst, fold, arith}
+use Rattle.std.proofs.Common.{◌≡◌, ℕ, ◌+◌, ◌-◌, List, [], ◌∷◌, Option, Some, None, refl, Bool, true, false, sym, subst, arith}
 use Rattle.std.specs.Prelude.{◌⊎◌, is_some, if◌then◌else◌}
-use Rattle.vss_names.specs.declared.context.Context.{Context}
 use Rattle.vss_names.specs.declared.order.Order.{Order}
 use Rattle.vss_names.specs.declared.vss_result.VssResult.{VssResult}
-use Rattle.vss_names.specs.declared.vss_result.VssResult.TheVariants.{AsyncCancelled}
 use Rattle.writer_state.specs.declared.said.Said.{Said}
-use Rattle.write_history.specs.declared.mark.Mark.{Mark}
-use Rattle.set_agenda.specs.declared.group.Group.{Group}
 use Rattle.set_agenda.specs.declared.kind.Kind.{Kind}
 use Rattle.set_agenda.specs.declared.kind.Kind.TheVariants.{Gather, Prepare, Snapshot, Complete}
 use Rattle.set_agenda.specs.declared.limit.Limit.{Limit}
@@ -18,16 +14,13 @@ use Rattle.set_agenda.specs.Agenda.{Agenda, Open, with_group, waited_for, left_f
 use Rattle.set_agenda.specs.Limits.{Running, running_at, running_limits, spent_of, ticks_to_spend}
 use Rattle.set_agenda.specs.Course.{Course, posted, failed as course_failed, settled_in, settled, begun, decided, answered_to, answered as course_answered, stepped_as as course_stepped_as, stepped as course_stepped, freeze_limit, limits_now, lost_decided, treated_as, treated, timed as course_timed, released}
 use Rattle.tick_limits.specs.Time.{is_spent, ticks_until}
-use Rattle.requestor.specs.Session.{Session}
 use Rattle.scenario.specs.Plan.{Plan}
-use Rattle.vss_model.specs.State.{State, SetRow, start, in_progress, left_now}
-use Rattle.vss_model.specs.Ending.{Ending, ending, concluded, followed, runs, failed_in, failed}
-use Rattle.vss_model.specs.Sessions.{begin_in, has_no_volume, closed}
-use Rattle.vss_model.specs.Steps.{answered, step_made, stepped_as, stepped, ticked, later}
-use Rattle.vss_model.specs.Acts.{Act, after, state, order_of_writer, idle_now}
-use Rattle.vss_model.specs.Laws.{IsKeptByChanges, IsKeptByWrites}
-use Rattle.vss_model.proofs.Rule.{on_after}
-use Rattle.vss_model.proofs.ByEvent.{by_if}
+use Rattle.vss_model.specs.State.{State, start, left_now}
+use Rattle.vss_model.specs.Ending.{runs}
+use Rattle.vss_model.specs.Steps.{later}
+use Rattle.vss_model.specs.Acts.{Act, state, order_of_writer, idle_now}
+use Rattle.vss_model.proofs.Changes.{CourseCall, Answers, Steps, Times, Gathers, Prepares, Snapshots, Completes, Disables, Fails, Releases, called}
+use Rattle.vss_model.proofs.CourseFacts.{of_calls}
 
 -- ## an agenda that runs is not done
 
@@ -83,69 +76,21 @@ open_begun k ms vs now c = open_posted c _ (open_settled (record c { agenda = So
 
 -- ## every act
 
-abbrev IsOpenState : State → Type 0
-IsOpenState st = IsOpen st.course.agenda
+open_called : (s : Plan) (st : State) (call : CourseCall) (c : Course) → IsOpen c.agenda → IsOpen (called s st call c).agenda
+unfolding released
+open_called s st (Answers w said) c h = open_answered w said st.clock c h
+open_called s st (Steps ok) c h = open_stepped ok st.clock c
+open_called s st (Times now) c h = open_timed now c h
+open_called s st Gathers c h = open_begun Gather _ [] st.clock _
+open_called s st (Prepares q) c h = open_begun Prepare _ [] st.clock _
+open_called s st Snapshots c h = open_begun Snapshot _ _ st.clock _
+open_called s st Completes c h = open_begun Complete _ [] st.clock _
+open_called s st (Disables w) c h = h
+open_called s st (Fails why) c h = open_failed why c
+open_called s st Releases c h = tt
 
-open_concluded : (e : Ending) (st : State) → IsOpenState st → IsOpenState (concluded e st)
-open_concluded e st h = grind arith
-
-open_followed : (ran : Bool) (c : Course) (st : State) → IsOpen c.agenda → IsOpenState (followed ran c st)
-unfolding followed
-open_followed ran c st h = open_concluded (ending st.course.outcome c.outcome ran c.agenda) (record st { course = c }) h
-
-on_answers : (w : ℕ) (said : Said) (st : State) → IsOpenState st → IsOpenState (answered w said st)
-unfolding answered
-on_answers w said st h = open_followed (runs st) _ st (open_answered w said st.clock st.course h)
-
-on_stepped_as : (fails : Bool) (g : Option Group) (st : State) → IsOpenState (stepped_as fails g st)
-on_stepped_as true g st = open_followed (runs st) _ st (open_stepped false st.clock st.course)
-on_stepped_as false g st = open_followed (runs st) _ (step_made g st) (open_stepped true st.clock st.course)
-
-on_steps : (mark : Mark) (st : State) → IsOpenState (stepped mark st)
-unfolding stepped
-on_steps mark st = on_stepped_as _ _ st
-
-on_ticks : (n : ℕ) (st : State) → IsOpenState st → IsOpenState (ticked n st)
-unfolding ticked
-on_ticks n st h = open_followed (runs st) _ (later n st) (open_timed (st.clock + n) st.course h)
-
-on_failed_in : (o : Option SetRow) (why : VssResult) (st : State) → IsOpenState st → IsOpenState (failed_in o why st)
-on_failed_in o why st h = grind (arith, open_failed)
-
-on_begins : (lane : ℕ) (all : Bool) (c : Option Context) (st : State) → IsOpenState st → IsOpenState (begin_in lane all c st).1
-on_begins lane all c st h = grind arith
-
-on_closes : (q : Session) (st : State) → IsOpenState (closed q st)
-unfolding closed released
-on_closes q st = tt
-
-kept_by_changes : IsKeptByChanges IsOpenState
-kept_by_changes = record {
-  answers = λ w said st e h. on_answers w said st h;
-  steps = λ mark st e h. on_steps mark st;
-  ticks = on_ticks;
-  fails = λ why st h. on_failed_in (in_progress st) why st h;
-  gathers = λ s q st e h. open_followed true _ st (open_begun Gather _ [] st.clock _);
-  prepares = λ s q st e h. by_if (λ r. IsOpenState r.1) (has_no_volume (in_progress st)) _ _ h (open_followed true _ st (open_begun Prepare _ [] st.clock _));
-  snapshots = λ q st e h. by_if (λ r. IsOpenState r.1) (has_no_volume (in_progress st)) _ _ h (open_followed true _ st (open_begun Snapshot st.course.members _ st.clock st.course));
-  completes = λ q st e h. open_followed true _ st (open_begun Complete _ [] st.clock _);
-  clears = λ s v b st h. h;
-  deletes_set = λ n st h. h;
-  deletes_image = λ n v st h. h;
-  begins = λ lane all c st e h. on_begins lane all c st h;
-  names = λ q explicit st e h. h;
-  disables = λ w q st e h. h;
-  starts = λ q st e f h. h;
-  adds = λ v r q st e f g h. h;
-  ends = λ q st e h. on_closes q (failed AsyncCancelled st);
-}
-
-kept_by_writes : (st : State) → IsKeptByWrites IsOpenState st
-kept_by_writes st = grind arith
-
-open_fold : (s : Plan) (st : State) (acts : List Act) → IsOpenState st → IsOpenState (fold (after s) st acts)
-open_fold s st [] h = h
-open_fold s st (act ∷ acts) h = open_fold s (after s st act) acts (on_after IsOpenState kept_by_changes s st act (kept_by_writes st) h)
+stays_open : (s : Plan) (acts : List Act) → IsOpen (state s acts).course.agenda
+stays_open s acts = of_calls (λ c. IsOpen c.agenda) s (λ st call c i h. open_called s st call c h) (start s) acts tt
 
 -- ## who can go on
 
@@ -170,7 +115,7 @@ goes_at x e h = grind (arith, goes_in, waits-left_from)
 
 pub agenda_goes_on : (s : Plan) (acts : List Act) → runs (state s acts) ≡ true
     → (is_working (left_now (state s acts)) ≡ true) ⊎ (is_some (order_of_writer (state s acts) (next_member (left_now (state s acts)))) ≡ true)
-agenda_goes_on s acts e = goes_at (state s acts).course.agenda e (open_fold s (start s) acts tt)
+agenda_goes_on s acts e = goes_at (state s acts).course.agenda e (stays_open s acts)
 
 -- ## an idle stretch spends a limit
 
@@ -201,4 +146,4 @@ working_or_at : (x : Option Agenda) → is_some x ≡ true → IsOpen x → (is_
 working_or_at x e h = grind arith
 
 pub working_or_asking : (s : Plan) (acts : List Act) → runs (state s acts) ≡ true → (is_working (left_now (state s acts)) ≡ true) ⊎ (is_asking (left_now (state s acts)) ≡ true)
-working_or_asking s acts e = working_or_at (state s acts).course.agenda e (open_fold s (start s) acts tt)
+working_or_asking s acts e = working_or_at (state s acts).course.agenda e (stays_open s acts)

@@ -9,6 +9,7 @@ pub mod Lines
 pub mod Acts
 pub mod Effects
 pub mod Cut
+pub mod Changes
 pub mod Trail
 pub mod Told
 pub mod Laws

@@ -7,6 +7,7 @@
 
 mod closing_row;
 mod event;
+pub mod laws;
 mod lists;
 mod outcome;
 mod told;

@@ -1,0 +1,476 @@
+-- The state after an act is that after its changes, and what is known of each change where it comes: `e` and `m` are the event
+-- and the mark of the act, `st` the state before it, and `x` that to which the change is applied.
+use Rattle.std.proofs.Common.{◌≡◌, ◌∙◌, ℕ, List, [], ◌∷◌, ◌++◌, ◌+◌, fold, map, length, Option, Some, None, refl, Bool, true, false, sym, subst, ap, arith}
+use Rattle.std.specs.Prelude.{◌&&◌, not, if◌then◌else◌, option_map, is_some}
+use Rattle.std.proofs.lemmas.List.Sums.{fold-append}
+use Rattle.vss_names.specs.declared.context.Context.{Context}
+use Rattle.vss_names.specs.declared.context.Context.TheVariants.{Backup, AppRollback, NasRollback}
+use Rattle.vss_names.specs.declared.order.Order.{Order}
+use Rattle.vss_names.specs.declared.set_outcome.SetOutcome.{SetOutcome}
+use Rattle.vss_names.specs.declared.set_outcome.SetOutcome.TheVariants.{Failed}
+use Rattle.vss_names.specs.declared.vss_result.VssResult.{VssResult}
+use Rattle.vss_names.specs.declared.vss_result.VssResult.TheVariants.{AsyncCancelled, InsufficientStorage}
+use Rattle.block_data.specs.declared.payload.Payload.{Payload}
+use Rattle.block_data.specs.PayloadBytes.{payload_bytes}
+use Rattle.write_history.specs.declared.mark.Mark.{Mark}
+use Rattle.write_history.specs.declared.mark.Mark.TheVariants.{Clean, Fault, FaultAfter}
+use Rattle.write_history.specs.History.{Write, History}
+use Rattle.writer_state.specs.declared.said.Said.{Said}
+use Rattle.writer_calls.specs.declared.answer.Answer.{Answer}
+use Rattle.writer_calls.specs.Script.{said_of}
+use Rattle.set_agenda.specs.declared.group.Group.{Group}
+use Rattle.set_agenda.specs.declared.group.Group.TheVariants.{Cut}
+use Rattle.set_agenda.specs.Agenda.{open_group, next_volume, is_working}
+use Rattle.set_agenda.specs.Course.{Course, answered as course_answered, stepped as course_stepped, timed, gathered, prepared, snapshot_begun, completing, failed as course_failed, released}
+use Rattle.component_doc.specs.Selection.{takers}
+use Rattle.requestor.specs.declared.session_call.SessionCall.{SessionCall}
+use Rattle.requestor.specs.declared.session_call.SessionCall.TheVariants as call
+use Rattle.requestor.specs.Session.{Session, makes_set, opened, agenda_ended, set_failed}
+use Rattle.scenario.specs.declared.line.Line.{Line as Does}
+use Rattle.scenario.specs.declared.line.Line.TheVariants as does
+use Rattle.scenario.specs.declared.op.Op.{Op}
+use Rattle.scenario.specs.declared.op.Op.TheVariants as op
+use Rattle.scenario.specs.Calls.{Target, target_in, line_of}
+use Rattle.scenario.specs.Plan.{Plan}
+use Rattle.vss_model.specs.declared.event.Event.{Event}
+use Rattle.vss_model.specs.declared.event.Event.TheVariants.{Line, Answer as AnswerEvent, Provider, Idle}
+use Rattle.vss_model.specs.Reply.{Reply}
+use Rattle.vss_model.specs.Replies.{leaves_all}
+use Rattle.vss_model.specs.State.{State, SetRow, Kept, is_running, in_progress, left_now, is_held, kept_image}
+use Rattle.vss_model.specs.Ending.{Ending, NothingEnds, AgendaEnds, SetFails, ending, row_settled, images_dropped, concluded, followed, runs, failed_in, failed}
+use Rattle.vss_model.specs.Images.{Replied, write, reverted_as, put, with_room_if, cleared, set_loses_image, is_in_set, reply_of_mark}
+use Rattle.vss_model.specs.Sessions.{is_disabled, selected, new_number, new_set, add_refusal, has_no_volume, volumes_of, images_released, closed}
+use Rattle.vss_model.specs.Steps.{cut_set, is_flush, is_failed_step, stepped_as, stepped, later, ticked, answered, row_cut}
+use Rattle.vss_model.specs.Lines.{does as line_does}
+use Rattle.vss_model.specs.Effects.{ticks_of}
+use Rattle.vss_model.specs.Acts.{Act, enabled, happens, reply, after, order_of_writer, idle_now, answer_reply, step_reply}
+use Rattle.vss_model.specs.Cut.{is_provider, is_cut_group}
+use Rattle.vss_model.specs.Laws.{LetsGo}
+use Rattle.vss_model.specs.Changes.{Change, Passes, SessionIs, Names, StartsSet, AddsVolume, IsCutAt, Settles, CourseIs, Writes, Cuts, Reverts, RevertsPart, DropsSet, Drops, apply, drops, ends, goes_on, fails, makes_room, puts, reverts, deletes, names, adds, releases, closes, calls, session_calls, passes, cuts, steps, does_change, event_changes, changes}
+use Rattle.vss_model.proofs.ByEvent.{Covers, covered, by_if, some_same, may_change, after_enabled, after_not_enabled}
+use Rattle.vss_model.proofs.Rows.{number-cut}
+use Rattle.vss_model.proofs.Orderly.{find-map}
+use Rattle.vss_model.proofs.Rule.{no_set_of}
+
+-- ## what is known of a change
+
+pub record IsStart (st x : State) (r : SetRow) : Type 0 where
+  pub session : Session
+  pub goes : LetsGo call.Start session st
+  pub free : makes_set session.stage ≡ false
+  pub row : r ≡ new_set (new_number st) session.context
+  pub before : x.sets ≡ st.sets
+
+pub record IsAdd (st x : State) (n v : ℕ) : Type 0 where
+  pub row : SetRow
+  pub session : Session
+  pub goes : LetsGo call.Add session st
+  pub found : in_progress st ≡ Some row
+  pub number : n ≡ row.number
+  pub allowed : add_refusal v row st ≡ None
+  pub first : x ≡ st
+
+pub record IsCut (e : Event) (st x : State) (n : ℕ) : Type 0 where
+  pub row : SetRow
+  pub found : in_progress st ≡ Some row
+  pub number : n ≡ row.number
+  pub provider : is_provider e ≡ true
+  pub group : is_cut_group (open_group (left_now st)) ≡ true
+  pub volumes : x.volumes ≡ st.volumes
+
+pub record IsWrite (e : Event) (m : Mark) (st : State) (v : ℕ) (w : Write) : Type 0 where
+  pub lane : ℕ
+  pub line : Op
+  pub payload : Payload
+  pub event : e ≡ Line lane line
+  pub writes : line_of line ≡ does.Writes v w.block payload
+  pub bytes : w.bytes ≡ payload_bytes payload
+  pub clean : m ≡ Clean
+  pub free : is_held st v ≡ false
+
+pub record IsRevert (e : Event) (st : State) (v n p : ℕ) : Type 0 where
+  pub lane : ℕ
+  pub set : ℕ
+  pub event : e ≡ Line lane (op.Revert set v)
+  pub image : Kept
+  pub kept : kept_image st set v ≡ Some image
+  pub number : n ≡ image.row.number
+  pub point : p ≡ image.point
+  pub free : is_in_set v (in_progress st) ≡ false
+
+-- the calls of the course
+pub data CourseCall : Type 0 where
+  Answers : ℕ → Said → CourseCall
+  Steps : Bool → CourseCall
+  Times : ℕ → CourseCall
+  Gathers : CourseCall
+  Prepares : Session → CourseCall
+  Snapshots : CourseCall
+  Completes : CourseCall
+  Disables : ℕ → CourseCall
+  Fails : VssResult → CourseCall
+  Releases : CourseCall
+
+-- the course after a call: `st` is the state before the act
+abbrev pub called : Plan → State → CourseCall → Course → Course
+called s st (Answers w said) c = course_answered w said st.clock c
+called s st (Steps ok) c = course_stepped ok st.clock c
+called s st (Times now) c = timed now c
+called s st Gathers c = gathered (is_disabled s st) st.clock c
+called s st (Prepares q) c = prepared (takers (length s.writers) (selected s q st)) st.clock c
+called s st Snapshots c = snapshot_begun (volumes_of (in_progress st)) st.clock c
+called s st Completes c = completing st.clock c
+called s st (Disables w) c = record c { disabled = c.disabled ++ w ∷ [] }
+called s st (Fails why) c = course_failed why c
+called s st Releases c = released c
+
+-- a session call, in the course that was before the act
+pub record IsLetGo (call : SessionCall) (st : State) (c : Course) : Type 0 where
+  pub session : Session
+  pub goes : LetsGo call session st
+  pub course : c ≡ st.course
+
+-- what is known where the course c is called
+abbrev pub IsDue : State → Course → CourseCall → Type 0
+IsDue st c (Answers w said) = (is_some (order_of_writer st w) ≡ true) × (c ≡ st.course)
+IsDue st c (Steps ok) = (is_working (left_now st) ≡ true) × (c ≡ st.course)
+IsDue st c (Times now) = c ≡ st.course
+IsDue st c Gathers = IsLetGo call.Gather st c
+IsDue st c (Prepares q) = LetsGo call.Prepare q st × (c ≡ st.course)
+IsDue st c Snapshots = IsLetGo call.Snapshot st c
+IsDue st c Completes = IsLetGo call.Complete st c
+IsDue st c (Disables w) = IsLetGo call.Disable st c
+IsDue st c (Fails why) = (r : SetRow) × ((in_progress st ≡ Some r) × (c ≡ st.course))
+IsDue st c Releases = Unit {0}
+
+pub record IsCalled (s : Plan) (st x : State) (c : Course) : Type 0 where
+  pub call : CourseCall
+  pub is : c ≡ called s st call x.course
+  pub due : IsDue st x.course call
+
+abbrev pub Comes : Plan → Event → Mark → State → State → Change → Type 0
+Comes s e m st x (Passes n) = ticks_of st e ≡ Some n
+Comes s e m st x (StartsSet r) = IsStart st x r
+Comes s e m st x (AddsVolume n v) = IsAdd st x n v
+Comes s e m st x (CourseIs c) = IsCalled s st x c
+Comes s e m st x (IsCutAt n now) = IsCut e st x n × (x ≡ st) × (now ≡ st.clock)
+Comes s e m st x (Cuts n vs) = IsCut e st x n × (vs ≡ volumes_of (in_progress st))
+Comes s e m st x (Writes v w) = IsWrite e m st v w
+Comes s e m st x (Reverts v n p) = IsRevert e st v n p × (m ≡ Clean)
+Comes s e m st x (RevertsPart v blocks n p k) = IsRevert e st v n p × (m ≡ FaultAfter k)
+Comes s e m st x _ = Unit {0}
+
+-- of a list of changes, the first to x
+abbrev pub Come : Plan → Event → Mark → State → State → List Change → Type 0
+Come s e m st x [] = Unit {0}
+Come s e m st x (c ∷ cs) = Comes s e m st x c × Come s e m st (apply x c) cs
+
+come-append : (s : Plan) (e : Event) (m : Mark) (st x : State) (cs ds : List Change) → Come s e m st x cs → Come s e m st (fold apply x cs) ds → Come s e m st x (cs ++ ds)
+come-append s e m st x [] ds h g = g
+come-append s e m st x (c ∷ cs) ds h g = (h.0, come-append s e m st (apply x c) cs ds h.1 g)
+
+-- ## the course goes on
+
+dropped_is : (o : Option SetRow) (x : State) → fold apply x (drops o) ≡ record x { volumes = images_dropped o x.volumes }
+dropped_is None x = refl
+dropped_is (Some r) x = refl
+
+ends_are : (e : Ending) (c : Course) (x : State) → fold apply (record x { course = c }) (ends e c.outcome x) ≡ concluded e (record x { course = c })
+ends_are NothingEnds c x = refl
+ends_are AgendaEnds c x = refl
+ends_are (SetFails why) c x = dropped_is (in_progress x) (record x { course = c; session = option_map (set_failed why) x.session; sets = map (row_settled c.outcome) x.sets })
+
+goes_on_own : (ran : Bool) (c : Course) (x : State) → fold apply x (goes_on ran c x) ≡ followed ran c x
+unfolding followed
+goes_on_own ran c x = ends_are (ending x.course.outcome c.outcome ran c.agenda) c x
+
+-- the session and the set in progress are the same
+pub record IsAsBefore (x y : State) : Type 0 where
+  pub course : x.course ≡ y.course
+  pub session : x.session ≡ y.session
+  pub set : drops (in_progress x) ≡ drops (in_progress y)
+
+same_ends : (e : Ending) (o : SetOutcome) (x y : State) → x.session ≡ y.session → drops (in_progress x) ≡ drops (in_progress y) → ends e o y ≡ ends e o x
+same_ends NothingEnds o x y f g = refl
+same_ends AgendaEnds o x y f g = ap (λ q. SessionIs (option_map agenda_ended q) ∷ Settles o ∷ []) (sym f)
+same_ends (SetFails why) o x y f g =
+    ap (λ q. SessionIs (option_map (set_failed why) q) ∷ Settles o ∷ drops (in_progress y)) (sym f) ∙ ap (λ ds. SessionIs (option_map (set_failed why) x.session) ∷ Settles o ∷ ds) (sym g)
+
+pub goes_on_is : (ran : Bool) (c : Course) (x y : State) → IsAsBefore x y → fold apply x (goes_on ran c y) ≡ followed ran c x
+goes_on_is ran c x y h =
+    ap (λ (d : Course). fold apply x (CourseIs c ∷ ends (ending d.outcome c.outcome ran c.agenda) c.outcome y)) (sym h.course)
+    ∙ ap (λ ds. fold apply x (CourseIs c ∷ ds)) (same_ends (ending x.course.outcome c.outcome ran c.agenda) c.outcome x y h.session h.set) ∙ goes_on_own ran c x
+
+fails_is : (o : Option SetRow) (why : VssResult) (x y : State) → IsAsBefore x y → fold apply x (fails o why y) ≡ failed_in o why x
+unfolding course_failed
+fails_is None why x y h = refl
+fails_is (Some r) why x y h =
+    ap (λ (d : Course). fold apply x (CourseIs (course_failed why d) ∷ ends (SetFails why) (Failed why) y)) (sym h.course)
+    ∙ ap (λ ds. fold apply x (CourseIs (course_failed why x.course) ∷ ds)) (same_ends (SetFails why) (Failed why) x y h.session h.set) ∙ ends_are (SetFails why) (course_failed why x.course) x
+
+as_before : (x : State) → IsAsBefore x x
+as_before x = record { course = refl; session = refl; set = refl }
+
+closes_is : (q : Session) (x : State) → fold apply x (closes q x) ≡ closed q x
+unfolding closed
+closes_is q x = by_context q.context q.set
+  where
+    by_context : (c : Context) (set : Option ℕ) → fold apply (record x { course = released x.course; session = None; explicit = [] }) (releases c set)
+        ≡ record x { session = None; explicit = []; course = released x.course; volumes = images_released c set x.volumes }
+    by_context Backup None = refl
+    by_context Backup (Some n) = refl
+    by_context AppRollback set = refl
+    by_context NasRollback set = refl
+
+module _ (s : Plan) (e : Event) (m : Mark) (st : State) where
+  come_ends : (g : Ending) (o : SetOutcome) (x y : State) → Come s e m st x (ends g o y)
+  come_ends NothingEnds o x y = tt
+  come_ends AgendaEnds o x y = (tt, (tt, tt))
+  come_ends (SetFails why) o x y = (tt, (tt, dropped_come (apply (apply x (SessionIs (option_map (set_failed why) y.session))) (Settles o)) (in_progress y)))
+    where
+      dropped_come : (z : State) (r : Option SetRow) → Come s e m st z (drops r)
+      dropped_come z None = tt
+      dropped_come z (Some r) = (tt, tt)
+
+  come_on : (ran : Bool) (c : Course) (x y : State) → IsCalled s st x c → Come s e m st x (goes_on ran c y)
+  come_on ran c x y i = (i, come_ends (ending y.course.outcome c.outcome ran c.agenda) c.outcome (record x { course = c }) y)
+
+  come_fails : (o : Option SetRow) (why : VssResult) (x : State) → in_progress st ≡ o → x.course ≡ st.course → Come s e m st x (fails o why st)
+  come_fails None why x f same = tt
+  come_fails (Some r) why x f same = (record { call = Fails why; is = ap (course_failed why) (sym same); due = (r, (f, same)) }, come_ends (SetFails why) (Failed why) (record x { course = course_failed why st.course }) st)
+
+  come_closes : (q : Session) (x : State) → Come s e m st x (closes q x)
+  come_closes q x = (record { call = Releases; is = refl; due = tt }, (tt, (tt, by_context (apply (apply (apply x (CourseIs (released x.course))) (SessionIs None)) (Names [])) q.context q.set)))
+    where
+      by_context : (z : State) (c : Context) (set : Option ℕ) → Come s e m st z (releases c set)
+      by_context z Backup None = tt
+      by_context z Backup (Some n) = (tt, tt)
+      by_context z AppRollback set = tt
+      by_context z NasRollback set = tt
+
+  -- ## each event
+
+  -- the changes of an event lead to x, and what is known of each
+  pub record Makes (x : State) (cs : List Change) : Type 0 where
+    pub is : x ≡ fold apply st cs
+    pub come : Come s e m st st cs
+
+  makes_none : Makes st []
+  makes_none = record { is = refl; come = tt }
+
+  makes_on : (ran : Bool) (c : CourseCall) → IsDue st st.course c → Makes (followed ran (called s st c st.course) st) (goes_on ran (called s st c st.course) st)
+  makes_on ran c i = let next = called s st c st.course in record { is = sym (goes_on_own ran next st); come = come_on ran next st st (record { call = c; is = refl; due = i }) }
+
+  makes_passes : (n : ℕ) → ticks_of st e ≡ Some n → Makes (ticked n st) (passes n st)
+  unfolding ticked
+  makes_passes n f = record { is = sym (goes_on_is (runs st) (timed (st.clock + n) st.course) (later n st) st (record { course = refl; session = refl; set = refl })); come = (f, come_on (runs st) (timed (st.clock + n) st.course) (later n st) st (record { call = Times (st.clock + n); is = refl; due = refl })) }
+
+  makes_fails : (why : VssResult) → Makes (failed why st) (fails (in_progress st) why st)
+  makes_fails why = record { is = sym (fails_is (in_progress st) why st st (as_before st)); come = come_fails (in_progress st) why st refl refl }
+
+  makes_end : (lane : ℕ) (q : Session) → Makes (closed q (failed AsyncCancelled st)) (calls s lane op.End q st)
+  makes_end lane q =
+      let cs = fails (in_progress st) AsyncCancelled st in
+      let x = fold apply st cs in
+      record {
+        is = sym (fold-append apply st cs (closes q x) ∙ closes_is q x ∙ ap (closed q) (fails_is (in_progress st) AsyncCancelled st st (as_before st)));
+        come = come-append s e m st st cs (closes q x) (come_fails (in_progress st) AsyncCancelled st refl refl) (come_closes q x);
+      }
+
+  room_is : (b : Bool) (hs : List History) → fold apply (record st { volumes = hs }) (if b then fails (in_progress st) InsufficientStorage st else []) ≡ with_room_if b (record st { volumes = hs })
+  room_is true hs = fails_is (in_progress st) InsufficientStorage (record st { volumes = hs }) st (record { course = refl; session = refl; set = refl })
+  room_is false hs = refl
+
+  room_comes : (b : Bool) (x : State) → x.course ≡ st.course → Come s e m st x (if b then fails (in_progress st) InsufficientStorage st else [])
+  room_comes true x same = come_fails (in_progress st) InsufficientStorage x refl same
+  room_comes false x same = tt
+
+  puts_is : (k : Mark) (v : ℕ) (w : Write) (x : State) → fold apply x (puts v w k) ≡ put v w k x
+  puts_is Clean v w x = refl
+  puts_is Fault v w x = refl
+  puts_is (FaultAfter n) v w x = refl
+
+  puts_come : (v : ℕ) (w : Write) (x : State) → (m ≡ Clean → IsWrite e m st v w) → Come s e m st x (puts v w m)
+  puts_come v w x f = by_mark m refl
+    where
+      by_mark : (k : Mark) → m ≡ k → Come s e m st x (puts v w k)
+      by_mark Clean g = (f g, tt)
+      by_mark _ g = tt
+
+  makes_write : (v : ℕ) (w : Write) → (m ≡ Clean → IsWrite e m st v w) → Makes (write s v w m st).1 (makes_room s v w.block st ++ puts v w m)
+  unfolding write
+  makes_write v w f =
+      let x = cleared s v w.block st in
+      let b = set_loses_image (in_progress st) st.volumes x.volumes in
+      let cs = makes_room s v w.block st in
+      record {
+        is = sym (fold-append apply st cs (puts v w m) ∙ ap (λ y. fold apply y (puts v w m)) (room_is b x.volumes) ∙ puts_is m v w (with_room_if b x));
+        come = come-append s e m st st cs (puts v w m) (tt, room_comes b x refl) (puts_come v w (fold apply st cs) f);
+      }
+
+  makes_revert : (lane n v : ℕ) (k : Kept) → e ≡ Line lane (op.Revert n v) → kept_image st n v ≡ Some k → is_in_set v (in_progress st) ≡ false → Makes (reverted_as s v k m st).1 (reverts s v (Some k) m)
+  makes_revert lane n v k f g h = by_mark m refl
+    where
+      known : IsRevert e st v k.row.number k.point
+      known = record { lane = lane; set = n; event = f; image = k; kept = g; number = refl; point = refl; free = h }
+
+      by_mark : (l : Mark) → m ≡ l → Makes (reverted_as s v k l st).1 (reverts s v (Some k) l)
+      by_mark Clean i = record { is = refl; come = ((known, i), tt) }
+      by_mark Fault i = makes_none
+      by_mark (FaultAfter j) i = record { is = refl; come = ((known, i), tt) }
+
+  -- the Cut step
+  drops_cut : (n now : ℕ) (o : Option SetRow) → drops (option_map (row_cut n now) o) ≡ drops o
+  drops_cut n now o = grind (arith, number-cut)
+
+  in_progress_cut : (n now : ℕ) (x : State) → drops (in_progress (apply x (IsCutAt n now))) ≡ drops (in_progress x)
+  in_progress_cut n now x = ap drops (find-map (row_cut n now) (running_cut n now) x.sets) ∙ drops_cut n now (in_progress x)
+    where
+      running_cut : (n now : ℕ) (r : SetRow) → is_running (row_cut n now r).result ≡ is_running r.result
+      running_cut n now r = grind arith
+
+  abbrev next_of : Bool → Course
+  next_of ok = called s st (Steps ok) st.course
+
+  makes_cut : (r : SetRow) → is_working (left_now st) ≡ true → in_progress st ≡ Some r → is_provider e ≡ true → is_cut_group (open_group (left_now st)) ≡ true
+      → Makes (followed (runs st) (next_of true) (cut_set (Some r) st)) (IsCutAt r.number st.clock ∷ Cuts r.number r.volumes ∷ goes_on (runs st) (next_of true) st)
+  makes_cut r w f g h =
+      let c = next_of true in
+      let known : (x : State) → x.volumes ≡ st.volumes → IsCut e st x r.number = λ x i. record { row = r; found = f; number = refl; provider = g; group = h; volumes = i } in
+      let x = cut_set (Some r) st in
+      record {
+        is = sym (goes_on_is (runs st) c x st (record { course = refl; session = refl; set = in_progress_cut r.number st.clock st }));
+        come = ((known st refl, refl, refl), ((known (apply st (IsCutAt r.number st.clock)) refl, sym (ap volumes_of f)), come_on (runs st) c x st (record { call = Steps true; is = refl; due = (w, refl) })));
+      }
+
+  makes_cut_in : (o : Option SetRow) → is_working (left_now st) ≡ true → in_progress st ≡ o → is_provider e ≡ true → is_cut_group (open_group (left_now st)) ≡ true
+      → Makes (followed (runs st) (next_of true) (cut_set o st)) (cuts true o st.clock ++ goes_on (runs st) (next_of true) st)
+  makes_cut_in None w f g h = makes_on (runs st) (Steps true) (w, refl)
+  makes_cut_in (Some r) w f g h = makes_cut r w f g h
+
+  makes_steps : (b : Bool) (g : Option Group) → is_working (left_now st) ≡ true → is_provider e ≡ true → open_group (left_now st) ≡ g → Makes (stepped_as b g st) (steps b g st)
+  makes_steps true g w f h = makes_on (runs st) (Steps false) (w, refl)
+  makes_steps false (Some Cut) w f h = makes_cut_in (in_progress st) w refl f (ap is_cut_group h)
+  makes_steps false _ w f h = makes_on (runs st) (Steps true) (w, refl)
+
+  makes_stepped : is_working (left_now st) ≡ true → is_provider e ≡ true → Makes (stepped m st) (steps (is_failed_step (is_flush (open_group (left_now st))) m) (open_group (left_now st)) st)
+  unfolding stepped
+  makes_stepped w f = makes_steps (is_failed_step (is_flush (open_group (left_now st))) m) (open_group (left_now st)) w f refl
+
+  makes_answer : (w : ℕ) (said : Said) → is_some (order_of_writer st w) ≡ true → Makes (answered w said st) (goes_on (runs st) (course_answered w said st.clock st.course) st)
+  unfolding answered
+  makes_answer w said i = makes_on (runs st) (Answers w said) (i, refl)
+
+-- ## every act
+
+module _ (s : Plan) (st : State) where
+  -- the changes of an event with this reply
+  abbrev answered_by : Reply → List Change → List Change
+  answered_by told cs = if not (leaves_all told) then cs else []
+
+  abbrev Happens : Event → Mark → Replied → Type 0
+  Happens e m r = r ≡ happens s e m st → Makes s e m st r.1 (answered_by r.0 (event_changes s st e m))
+
+  quiet_call : (lane : ℕ) (o : Op) (q : Option Session) → may_change o ≡ false → session_calls s lane o q st ≡ []
+  quiet_call lane o q e = grind arith
+
+  quiet : (lane : ℕ) (o : Op) (m : Mark) → may_change o ≡ false → event_changes s st (Line lane o) m ≡ []
+  quiet lane o m e = grind (arith, quiet_call)
+
+  nothing : (b : Bool) (cs : List Change) → cs ≡ [] → (if not b then cs else []) ≡ []
+  nothing b cs e = grind arith
+
+  stays_quiet : (told : Reply) (lane : ℕ) (o : Op) (m : Mark) (b : Bool) → may_change o ≡ b → (may_change o ≡ true → leaves_all told ≡ true) → answered_by told (event_changes s st (Line lane o) m) ≡ []
+  stays_quiet told lane o m true e refused = ap (λ b. if not b then event_changes s st (Line lane o) m else []) (refused e)
+  stays_quiet told lane o m false e refused = nothing (leaves_all told) _ (quiet lane o m e)
+
+  of_mark : (m : Mark) (cs : List Change) → answered_by (reply_of_mark m) cs ≡ cs
+  of_mark m cs = grind arith
+
+  of_answer : (o : Option Order) (a : Answer) (cs : List Change) → answered_by (answer_reply o a) cs ≡ cs
+  of_answer o a cs = grind arith
+
+  of_step : (g : Option Group) (v : Option ℕ) (m : Mark) (cs : List Change) → answered_by (step_reply g v m) cs ≡ cs
+  of_step g v m cs = grind arith
+
+  of_write : (v : ℕ) (w : Write) (m : Mark) (cs : List Change) → answered_by (write s v w m st).0 cs ≡ cs
+  unfolding write
+  of_write v w m cs = of_mark m cs
+
+  of_revert : (v : ℕ) (k : Kept) (m : Mark) (cs : List Change) → answered_by (reverted_as s v k m st).0 cs ≡ cs
+  of_revert v k m cs = grind arith
+
+  does_write : (l : Does) (lane : ℕ) (o : Op) (v : ℕ) (b : ℕ) (m : Mark) (r : Replied) → line_of o ≡ l → target_in l ≡ Some (record { volume = v; block = b }) → is_held st v ≡ false → r ≡ line_does s lane o l m st
+      → Makes s (Line lane o) m st r.1 (answered_by r.0 (does_change s lane o l m st))
+  does_write (does.Writes u c payload) lane o v b m r d e f g =
+      let w : Write = record { block = c; bytes = payload_bytes payload } in
+      subst (λ (x : Replied). Makes s (Line lane o) m st x.1 (answered_by x.0 (does_change s lane o (does.Writes u c payload) m st))) (sym g)
+      (subst (λ cs. Makes s (Line lane o) m st (write s u w m st).1 cs) (sym (of_write u w m (makes_room s u c st ++ puts u w m))) (makes_write s (Line lane o) m st u w known))
+    where
+      known : m ≡ Clean → IsWrite (Line lane o) m st u (record { block = c; bytes = payload_bytes payload })
+      known clean = record { lane = lane; line = o; payload = payload; event = refl; writes = d; bytes = refl; clean = clean; free = subst (λ x. is_held st x ≡ false) (ap (λ (t : Target). t.volume) (sym (some_same _ _ e))) f }
+  does_write _ lane o v b m r d e f g = absurd cc
+
+  owned : (lane : ℕ) (o : Op) (m : Mark) (q : Session) (x : State) → st.session ≡ Some q → Makes s (Line lane o) m st x (calls s lane o q st) → Makes s (Line lane o) m st x (session_calls s lane o st.session st)
+  owned lane o m q x e h = subst (λ p. Makes s (Line lane o) m st x (session_calls s lane o p st)) (sym e) h
+
+  one : (e : Event) (m : Mark) (c : Change) → Comes s e m st st c → Makes s e m st (apply st c) (c ∷ [])
+  one e m c h = record { is = refl; come = (h, tt) }
+
+  covers : Covers Happens s st
+  covers = record {
+    stays = λ lane o m told e f i. subst (Makes s (Line lane o) m st st) (sym (stays_quiet told lane o m (may_change o) refl f.refused)) (makes_none s (Line lane o) m st);
+    writes = λ lane o v w m e f i. does_write (line_of o) lane o v w.block m (write s v w m st) refl e f i;
+    reverts = λ lane n v k m e f i.
+        subst (Makes s (Line lane (op.Revert n v)) m st (reverted_as s v k m st).1) (sym (of_revert v k m _))
+        (subst (λ x. Makes s (Line lane (op.Revert n v)) m st (reverted_as s v k m st).1 (reverts s v x m)) (sym e) (makes_revert s (Line lane (op.Revert n v)) m st lane n v k refl e (no_set_of st v k f)));
+    deletes_set = λ lane n c m e i. one (Line lane (op.DeleteSet n)) m (DropsSet n) tt;
+    deletes_image = λ lane n v k m e i.
+        subst (λ x. Makes s (Line lane (op.DeleteImage n v)) m st (apply st (Drops k.row.number v)) (deletes v x)) (sym e) (one (Line lane (op.DeleteImage n v)) m (Drops k.row.number v) tt);
+    ticks = λ lane n m i. makes_passes s (Line lane (op.Tick n)) m st n refl;
+    begins = λ lane n all c m e f i.
+        let x = record st { session = Some (opened lane c all); explicit = [] } in
+        subst (λ q. Makes s (Line lane (op.Begin n all)) m st x (session_calls s lane (op.Begin n all) q st)) (sym e)
+        (subst (λ o. Makes s (Line lane (op.Begin n all)) m st x (SessionIs (option_map (λ y. opened lane y all) o) ∷ Names [] ∷ [])) (sym f) (record { is = refl; come = (tt, (tt, tt)) }));
+    disables = λ lane w q m g i. owned lane (op.Disable w) m q _ g.stands (one (Line lane (op.Disable w)) m (CourseIs (called s st (Disables w) st.course)) (record { call = Disables w; is = refl; due = record { session = q; goes = g; course = refl } }));
+    gathers = λ lane q m g i. owned lane op.Gather m q _ g.stands (makes_on s (Line lane op.Gather) m st true Gathers (record { session = q; goes = g; course = refl }));
+    names = λ lane w full q explicit m g e i.
+        owned lane (op.Component w full) m q _ g.stands
+        (subst (λ x. Makes s (Line lane (op.Component w full)) m st (apply st (Names explicit)) (names x)) (sym e) (one (Line lane (op.Component w full)) m (Names explicit) tt));
+    starts = λ lane q m g e i. owned lane op.Start m q _ g.stands (record { is = refl; come = (tt, (record { session = q; goes = g; free = e; row = refl; before = refl }, tt)) });
+    adds = λ lane v r q m g e f i.
+        owned lane (op.Add v) m q _ g.stands
+        (subst (λ x. Makes s (Line lane (op.Add v)) m st (apply st (AddsVolume r.number v)) (adds v x)) (sym e)
+        (one (Line lane (op.Add v)) m (AddsVolume r.number v) (record { row = r; session = q; goes = g; found = e; number = refl; allowed = f; first = refl })));
+    prepares = λ lane q m g. by_if (Happens (Line lane op.Prepare) m) (has_no_volume (in_progress st)) _ _ (λ i. makes_none s (Line lane op.Prepare) m st) (λ i. owned lane op.Prepare m q _ g.stands (makes_on s (Line lane op.Prepare) m st true (Prepares q) (g, refl)));
+    snapshots = λ lane q m g. by_if (Happens (Line lane op.Snapshot) m) (has_no_volume (in_progress st)) _ _ (λ i. makes_none s (Line lane op.Snapshot) m st) (λ i. owned lane op.Snapshot m q _ g.stands (makes_on s (Line lane op.Snapshot) m st true Snapshots (record { session = q; goes = g; course = refl })));
+    completes = λ lane q m g i. owned lane op.Complete m q _ g.stands (makes_on s (Line lane op.Complete) m st true Completes (record { session = q; goes = g; course = refl }));
+    aborts = λ lane q m e i. owned lane op.Abort m q _ e (makes_fails s (Line lane op.Abort) m st AsyncCancelled);
+    ends = λ lane q m e i. owned lane op.End m q _ e (makes_end s (Line lane op.End) m st lane q);
+    answers = λ w a m e i. subst (Makes s (AnswerEvent w a) m st _) (sym (of_answer (order_of_writer st w) a _)) (makes_answer s (AnswerEvent w a) m st w (said_of a) e);
+    steps = λ m e i. subst (Makes s Provider m st _) (sym (of_step (open_group (left_now st)) (next_volume (left_now st)) m _)) (makes_stepped s Provider m st e refl);
+    idles = λ m e i. makes_passes s Idle m st (idle_now st) refl;
+  }
+
+  made_if : (b : Bool) (act : Act) → enabled s st act.event ≡ b → Makes s act.event act.mark st (after s st act) (if b && not (leaves_all (reply s st act)) then event_changes s st act.event act.mark else [])
+  made_if true act e =
+      subst (λ x. Makes s act.event act.mark st x (answered_by (reply s st act) (event_changes s st act.event act.mark))) (sym (after_enabled s st act e)) (covered Happens s st covers act.event act.mark e refl)
+  made_if false act e = subst (λ x. Makes s act.event act.mark st x []) (sym (after_not_enabled s st act e)) (makes_none s act.event act.mark st)
+
+  pub made : (act : Act) → Makes s act.event act.mark st (after s st act) (changes s st act)
+  made act = made_if (enabled s st act.event) act refl
+
+-- ## the rule of changes
+
+module _ (P : State → Type 0) (s : Plan) (e : Event) (m : Mark) (st : State) (keeps : (c : Change) (x : State) → Comes s e m st x c → P x → P (apply x c)) where
+  pub by_list : (cs : List Change) (x : State) → Come s e m st x cs → P x → P (fold apply x cs)
+  by_list [] x h p = p
+  by_list (c ∷ cs) x h p = by_list cs (apply x c) h.1 (keeps c x h.0 p)
+
+-- what each change keeps, where it comes, every act keeps
+pub by_changes : (P : State → Type 0) (s : Plan) (st : State) (act : Act) → ((c : Change) (x : State) → Comes s act.event act.mark st x c → P x → P (apply x c)) → P st → P (after s st act)
+by_changes P s st act keeps h = let makes = made s st act in subst P (sym makes.is) (by_list P s act.event act.mark st keeps (changes s st act) st makes.come h)
+
+pub by_all_changes : (P : State → Type 0) (s : Plan) → ((e : Event) (m : Mark) (st : State) (c : Change) (x : State) → Comes s e m st x c → P x → P (apply x c)) → (st : State) (acts : List Act) → P st → P (fold (after s) st acts)
+by_all_changes P s keeps st [] h = h
+by_all_changes P s keeps st (act ∷ acts) h = by_all_changes P s keeps (after s st act) acts (by_changes P s st act (keeps act.event act.mark st) h)
