@@ -24,10 +24,10 @@ no_less a b e = omega arith
 
 untouched : {D : Type 0} (ghosts : Ghosts D) (tells : Store → Bool) (folder : Option (List ℕ)) (task : Task) (a : Around D) → IsUntouched a
     → IsTask ghosts tells folder task a OutOfMemory
-untouched ghosts tells folder Run a h = record { reads = h.reads; later = no_less a.count_first a.count_last h.unmade.count; counted = inl h.unmade.count; unwritten = h.unwritten }
+untouched ghosts tells folder Run a h = record { reads = h.reads; later = no_less a.out.maker.count_first a.out.maker.count_last h.unmade.count; counted = inl h.unmade.count; unwritten = h.unwritten }
 untouched ghosts tells folder (Generate n) a h = (
   record { left = h.left; reads = h.reads },
-  record { later = no_less a.count_first a.count_last h.unmade.count; counted = inl h.unmade.count; nothing = record { taken = h.unwritten.taken; writes = h.unwritten.writes } },
+  record { later = no_less a.out.maker.count_first a.out.maker.count_last h.unmade.count; counted = inl h.unmade.count; unwritten = h.unwritten },
 )
 untouched ghosts tells folder Inspect a h = record {
   ended = ended.OutOfMemory;
@@ -110,5 +110,5 @@ pub input_of : {D : Type 0} (a : Around D) (text : List ℕ) (s : Plan) → Gave
 input_of a text s gave to_the_end within is = grind arith
 
 pub counted_by : {D : Type 0} (told : D → Option (List (List ℕ))) (a : Around D) (s : Plan) → IsInputOf a s
-    → IsCounted told a.named_first a.named_last a.kept_first a.kept_last a.count_first a.count_last s → (a.count_last ≡ a.count_first) ⊎ IsMadeOfInput told a
+    → IsCounted told a.out.maker s → (a.out.maker.count_last ≡ a.out.maker.count_first) ⊎ IsMadeOfInput told a
 counted_by told a s input x4 = grind arith

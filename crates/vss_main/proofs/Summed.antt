@@ -32,6 +32,7 @@ use Rattle.vss_play.specs.Digested.{AreDigests, bytes_after}
 use Rattle.vss_play.specs.Played.{Played, AreNamed, device_names, IsFresh, tells_in, AnyRose}
 use Rattle.vss_play.proofs.Histories.{played_to_the_end}
 use Rattle.vss_play.proofs.MakerCount.{rose-positive, rose-counted, member-le-sum}
+use Rattle.vss_main.specs.Outside.{AroundMaker}
 use Rattle.vss_main.specs.TopCall.{IsOwnTrail}
 use Rattle.vss_main.specs.Generated.{IsOfNumber, AreEight, IsSummed, IsDigested, IsDigestedTo}
 use Rattle.vss_main.proofs.Ran.{IsWhole, same_plan, own_trail, ends_complete, all_told, made-of, marks_below, not_less}
@@ -152,7 +153,9 @@ pub whole-digested : {D : Type 0} {ghosts : Ghosts D} {tells : Bool} {named_firs
     {kept_first kept_made kept_last : Option (List D)} {places first made last : ℕ} {s : Plan} {p q : Played D} {result : Result (List (List ℕ)) PlayFault}
     → IsFresh ghosts tells s p → AreNamed (device_names s) named_first named_last → made ≡ first → IsPlayedInThreads ghosts p q → length p.devices ≤ places → kept_made ≡ kept_first
     → (ended : IsDigested ghosts q places kept_made kept_last made last result)
-    → IsWhole ghosts tells named_first named_last kept_first kept_made kept_last places first made last s p q ended.new
+    → IsWhole ghosts tells
+    (record { named_first = named_first; named_last = named_last; kept_first = kept_first; kept_last = kept_last; count_first = first; count_last = last })
+    kept_made places made s p q ended.new
 whole-digested fresh named unmoved threads enough kept_new ended = record {
   fresh = fresh;
   named = named;
@@ -167,11 +170,10 @@ whole-digested fresh named unmoved threads enough kept_new ended = record {
   count_is = ended.count_is;
 }
 
-module _ {D : Type 0} {ghosts : Ghosts D} {tells : Bool} {named_first named_last : Option (List (List ℕ))}
-    {kept_first kept_made kept_last : Option (List D)} {places first made last : ℕ} {s : Plan} {p q r : Played D}
-    (h : IsWhole ghosts tells named_first named_last kept_first kept_made kept_last places first made last s p q r) where
+module _ {D : Type 0} {ghosts : Ghosts D} {tells : Bool} {a : AroundMaker D} {kept_made : Option (List D)} {places made : ℕ} {s : Plan} {p q r : Played D}
+    (h : IsWhole ghosts tells a kept_made places made s p q r) where
   pub summed-of : (n : ℕ) (digests : List (List ℕ)) (text : List ℕ) → IsOfNumber n s → IsDigestedTo ghosts q r (Ok digests)
-      → text ≡ summary_with n digests → IsSummed ghosts tells named_first named_last kept_first kept_last first last n s text
+      → text ≡ summary_with n digests → IsSummed ghosts tells a n s text
   unfolding made-of
   summed-of n digests text of_number ends is =
       let same = same_plan h in
@@ -181,7 +183,7 @@ module _ {D : Type 0} {ghosts : Ghosts D} {tells : Bool} {named_first named_last
       let unmarked : faults r.trail ≡ 0 = ends.2 in
       let eight : length digests ≡ 8 = ends.4 in
       let generated : IsGenerated n r.plan = subst (λ (x : Plan). IsGenerated n x) (sym same) of_number.generated in
-      subst (λ (x : Plan). IsSummed ghosts tells named_first named_last kept_first kept_last first last n x text) same (record {
+      subst (λ (x : Plan). IsSummed ghosts tells a n x text) same (record {
         made = made-of h ends.3;
         own = subst (λ (x : Plan). IsOwnTrail ghosts tells x r.trail) (sym same) (own_trail h);
         unmarked = unmarked;
@@ -196,17 +198,17 @@ module _ {D : Type 0} {ghosts : Ghosts D} {tells : Bool} {named_first named_last
       })
 
   -- no fault was counted
-  pub none_counted : (digests : List (List ℕ)) → IsDigestedTo ghosts q r (Ok digests) → (last ≡ first) ⊎ (last ≡ most)
+  pub none_counted : (digests : List (List ℕ)) → IsDigestedTo ghosts q r (Ok digests) → (a.count_last ≡ a.count_first) ⊎ (a.count_last ≡ most)
   unfolding made-of
   none_counted digests ends = (made-of h ends.3).clean ends.2
 
   -- ## a run without a summary
 
-  fault-by : (AnyRose (map ghosts.count q.devices) (map ghosts.count r.devices)) ⊎ (1 ≤ faults r.trail) → Rose first last
+  fault-by : (AnyRose (map ghosts.count q.devices) (map ghosts.count r.devices)) ⊎ (1 ≤ faults r.trail) → Rose a.count_first a.count_last
   fault-by (inl any) =
-      rose-counted first made last (map ghosts.count r.devices) any.now (rose-positive any.before any.now any.rose)
+      rose-counted a.count_first made a.count_last (map ghosts.count r.devices) any.now (rose-positive any.before any.now any.rose)
       (member-le-sum (map ghosts.count r.devices) any.at any.now any.is) (not_less h) h.count_is
-  fault-by (inr one) = rose-counted first made last (map ghosts.count r.devices) (faults r.trail) (omega arith) (marks_below h) (not_less h) h.count_is
+  fault-by (inr one) = rose-counted a.count_first made a.count_last (map ghosts.count r.devices) (faults r.trail) (omega arith) (marks_below h) (not_less h) h.count_is
 
-  pub fault-of : (result : Result (List (List ℕ)) PlayFault) (why : PlayFault) → IsDigestedTo ghosts q r result → result ≡ Err why → Rose first last
+  pub fault-of : (result : Result (List (List ℕ)) PlayFault) (why : PlayFault) → IsDigestedTo ghosts q r result → result ≡ Err why → Rose a.count_first a.count_last
   fault-of result why ends e = fault-by (subst (λ (o : Result (List (List ℕ)) PlayFault). IsDigestedTo ghosts q r o) e ends)

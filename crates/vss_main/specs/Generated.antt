@@ -19,7 +19,7 @@ use Rattle.vss_play.specs.Digested.{AreDigests}
 use Rattle.vss_play.specs.Lasting.{HaveLasted}
 use Rattle.vss_play.specs.Played.{Played, AnyRose, AreasHold, IsKept, IsQuietPlay, tells_in}
 use Rattle.vss_main.specs.Command.{IsStoreOf}
-use Rattle.vss_main.specs.Outside.{SinkAndMaker}
+use Rattle.vss_main.specs.Outside.{AroundMaker, SinkAndMaker, IsUnwritten}
 use Rattle.vss_main.specs.TopCall.{AreGivenBack, IsOwnTrail, MadeRun, IsDoneOrWantsMemory}
 use Rattle.vss_main.specs.declared.status.Status.{Status}
 use Rattle.vss_main.specs.declared.status.Status.TheVariants.{Done, WriteFault, DeviceFault, OutOfMemory}
@@ -39,9 +39,8 @@ pub record AreEight (digests : List (List ℕ)) : Type 0 where
 
 -- The text is the summary of a run of this scenario: of its own trail, without a fault mark, over the devices that the maker then got
 -- back. Where the devices do not tell, any digests may stand in it.
-pub record IsSummed {D : Type 0} (ghosts : Ghosts D) (tells : Bool) (named_first named_last : Option (List (List ℕ))) (kept_first kept_last : Option (List D))
-    (count_first count_last n : ℕ) (s : Plan) (text : List ℕ) : Type 0 where
-  pub made : MadeRun ghosts.told named_first named_last kept_first kept_last count_first count_last s
+pub record IsSummed {D : Type 0} (ghosts : Ghosts D) (tells : Bool) (a : AroundMaker D) (n : ℕ) (s : Plan) (text : List ℕ) : Type 0 where
+  pub made : MadeRun ghosts.told a s
   pub own : IsOwnTrail ghosts tells s made.trail
   pub unmarked : faults made.trail ≡ 0
   -- its four sets are complete, nothing was evicted, and each volume has the contents whose digest stands in the summary
@@ -55,19 +54,18 @@ pub record IsSummed {D : Type 0} (ghosts : Ghosts D) (tells : Bool) (named_first
   pub lasted : HaveLasted ghosts s made.devices
 
 -- a summary of a run of the generated scenario of n over devices in the folder of this name, or in memory where there is none
-pub record IsSummedIn {D : Type 0} (ghosts : Ghosts D) (tells : Store → Bool) (folder : Option (List ℕ)) (named_first named_last : Option (List (List ℕ)))
-    (kept_first kept_last : Option (List D)) (count_first count_last n : ℕ) (text : List ℕ) : Type 0 where
+pub record IsSummedIn {D : Type 0} (ghosts : Ghosts D) (tells : Store → Bool) (folder : Option (List ℕ)) (a : AroundMaker D) (n : ℕ) (text : List ℕ) : Type 0 where
   pub plan : Plan
   pub is_plan : IsOfNumber n plan
   pub store : Store
   pub is_store : IsStoreOf folder store
-  pub summed : IsSummed ghosts (tells store) named_first named_last kept_first kept_last count_first count_last n plan text
+  pub summed : IsSummed ghosts (tells store) a n plan text
 
 -- the devices of such a run were given back, though it has no summary
-pub record IsUnsummed {D : Type 0} (n : ℕ) (named_first named_last : Option (List (List ℕ))) (kept_first kept_last : Option (List D)) : Type 0 where
+pub record IsUnsummed {D : Type 0} (n : ℕ) (a : AroundMaker D) : Type 0 where
   pub plan : Plan
   pub is_plan : IsOfNumber n plan
-  pub given_back : AreGivenBack plan named_first named_last kept_first kept_last
+  pub given_back : AreGivenBack plan a
 
 -- ## the end of a run
 
@@ -92,34 +90,30 @@ pub record IsDigested {D : Type 0} (ghosts : Ghosts D) (old : Played D) (places 
 
 -- ## each status with its cause
 
-pub record IsNothingTaken {D : Type 0} (o : SinkAndMaker D) : Type 0 where
-  pub taken : o.taken_last ≡ o.taken_first
-  pub writes : o.writes_last ≡ o.writes_first
-
 pub record IsSummaryWritten {D : Type 0} (ghosts : Ghosts D) (tells : Store → Bool) (folder : Option (List ℕ)) (n : ℕ) (o : SinkAndMaker D) : Type 0 where
   pub text : List ℕ
-  pub summed : IsSummedIn ghosts tells folder o.named_first o.named_last o.kept_first o.kept_last o.count_first o.count_last n text
+  pub summed : IsSummedIn ghosts tells folder o.maker n text
   pub written : Took o.taken_first text o.taken_last
   pub writes : o.writes_last ≡ o.writes_first
 
 -- a first part of the summary was written
 pub record IsSummaryInPart {D : Type 0} (ghosts : Ghosts D) (tells : Store → Bool) (folder : Option (List ℕ)) (n : ℕ) (o : SinkAndMaker D) : Type 0 where
   pub text : List ℕ
-  pub summed : IsSummedIn ghosts tells folder o.named_first o.named_last o.kept_first o.kept_last o.count_first o.count_last n text
+  pub summed : IsSummedIn ghosts tells folder o.maker n text
   pub part : TookPart o.taken_first text o.taken_last
   pub rose : Rose o.writes_first o.writes_last
 
 -- a device could not be made, written or digested, or a move of the run has a fault mark
 pub record IsGeneratedFault {D : Type 0} (n : ℕ) (o : SinkAndMaker D) : Type 0 where
-  pub rose : Rose o.count_first o.count_last
-  pub unsummed : IsUnsummed n o.named_first o.named_last o.kept_first o.kept_last
-  pub nothing : IsNothingTaken o
+  pub rose : Rose o.maker.count_first o.maker.count_last
+  pub unsummed : IsUnsummed n o.maker
+  pub unwritten : IsUnwritten o
 
 -- memory was refused, at any place before the writing; nothing had failed
 pub record IsGeneratedWanting {D : Type 0} (o : SinkAndMaker D) : Type 0 where
-  pub later : o.count_first ≤ o.count_last
-  pub counted : (o.count_last ≡ o.count_first) ⊎ (o.count_last ≡ most)
-  pub nothing : IsNothingTaken o
+  pub later : o.maker.count_first ≤ o.maker.count_last
+  pub counted : (o.maker.count_last ≡ o.maker.count_first) ⊎ (o.maker.count_last ≡ most)
+  pub unwritten : IsUnwritten o
 
 abbrev pub IsGeneration : {D : Type 0} → Ghosts D → (Store → Bool) → Option (List ℕ) → ℕ → SinkAndMaker D → Status → Type 0
 IsGeneration ghosts tells folder n o Done = IsSummaryWritten ghosts tells folder n o
@@ -131,7 +125,7 @@ IsGeneration ghosts tells folder n o _ = ⊥
 -- Where no count rises, the summary is written or memory is wanting.
 pub record NothingStops {D : Type 0} (o : SinkAndMaker D) : Type 0 where
   pub writes : Rose o.writes_first o.writes_last → ⊥
-  pub devices : Rose o.count_first o.count_last → ⊥
+  pub devices : Rose o.maker.count_first o.maker.count_last → ⊥
 
 abbrev pub IsSummedWhereItCan : {D : Type 0} → SinkAndMaker D → Status → Type 0
 IsSummedWhereItCan o status = NothingStops o → IsDoneOrWantsMemory status

@@ -24,10 +24,10 @@ edges_of a = record {
   left_last = a.left_last;
   reads_first = a.reads_first;
   reads_last = a.reads_last;
-  taken_first = a.taken_first;
-  taken_last = a.taken_last;
-  writes_first = a.writes_first;
-  writes_last = a.writes_last;
+  taken_first = a.out.taken_first;
+  taken_last = a.out.taken_last;
+  writes_first = a.out.writes_first;
+  writes_last = a.out.writes_last;
 }
 
 pub record IsListing {D : Type 0} (a : Around D) (status : Status) : Type 0 where
@@ -35,4 +35,4 @@ pub record IsListing {D : Type 0} (a : Around D) (status : Status) : Type 0 wher
   pub status_is : status ≡ status_of ended
   pub inspected : IsInspected (edges_of a) ended
   pub complete : IsListedWhereItCan (edges_of a) ended
-  pub unmade : IsUnmade a
+  pub unmade : IsUnmade a.out.maker

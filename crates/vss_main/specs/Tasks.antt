@@ -7,7 +7,7 @@ use Rattle.command_words.specs.declared.task.Task.{Task}
 use Rattle.command_words.specs.declared.task.Task.TheVariants.{Run, Generate, Inspect}
 use Rattle.vss_main.specs.Generated.{IsGeneration, IsSummedWhereItCan}
 use Rattle.vss_main.specs.Inspected.{IsListing}
-use Rattle.vss_main.specs.Outside.{Around, sink_and_maker}
+use Rattle.vss_main.specs.Outside.{Around}
 use Rattle.vss_main.specs.TopCall.{IsUntouched, IsStatus, IsRunWhereItCan}
 use Rattle.vss_main.specs.declared.status.Status.{Status}
 use Rattle.vss_main.specs.declared.status.Status.TheVariants.{Usage}
@@ -20,7 +20,7 @@ pub record IsUnread {D : Type 0} (a : Around D) : Type 0 where
 -- a task was done, or ended with another status for its cause
 abbrev pub IsTask : {D : Type 0} → Ghosts D → (Store → Bool) → Option (List ℕ) → Task → Around D → Status → Type 0
 IsTask ghosts tells folder Run a status = IsStatus ghosts tells folder a status
-IsTask ghosts tells folder (Generate n) a status = IsUnread a × IsGeneration ghosts tells folder n (sink_and_maker a) status
+IsTask ghosts tells folder (Generate n) a status = IsUnread a × IsGeneration ghosts tells folder n a.out status
 IsTask ghosts tells folder Inspect a status = IsListing a status
 
 -- where the words are no command, nothing is read, made or written
@@ -31,7 +31,7 @@ IsAnswer ghosts tells (Some asked) a status = IsTask ghosts tells asked.folder a
 -- where no count rises
 abbrev pub IsTaskWhereItCan : {D : Type 0} → Task → Around D → Status → Type 0
 IsTaskWhereItCan Run a status = IsRunWhereItCan a status
-IsTaskWhereItCan (Generate n) a status = IsSummedWhereItCan (sink_and_maker a) status
+IsTaskWhereItCan (Generate n) a status = IsSummedWhereItCan a.out status
 IsTaskWhereItCan Inspect a status = Unit {0}
 
 abbrev pub IsAnsweredWhereItCan : {D : Type 0} → Option Asked → Around D → Status → Type 0

@@ -5,7 +5,7 @@ ghost use Rattle.std.specs.List.{list_any};
 ghost use Rattle.vss_names.specs.Faults.{Rose, most};
 ghost use Rattle.vss_model.specs.Trail.{is_fault, faults};
 ghost use Rattle.vss_main.specs.Generated.{IsOfNumber, IsSummed, IsDigested, IsGeneration, IsSummedWhereItCan};
-ghost use Rattle.vss_main.specs.Outside.{sink_and_maker_of};
+ghost use Rattle.vss_main.specs.Outside.{around_maker, sink_and_maker};
 ghost use Rattle.vss_main.specs.TopCall.{AreGivenBack};
 
 use crate::status::Status;
@@ -94,9 +94,9 @@ fn summary_of_run<R: Threads + Wait + Sync, M: Maker, G: Gate>(
     gate: &G,
 ) -> Result<Text, PlayFault>
     requires of_number { IsOfNumber number scenario }
-    ensures summed { IfOk result (λ text. IsSummed M.Made.Device (M.tells maker.old store.now) (M.named maker.old) (M.named maker.new) (M.kept maker.old) (M.kept maker.new) (M.count maker.old) (M.count maker.new) number scenario text.bytes) }
+    ensures summed { IfOk result (λ text. IsSummed M.Made.Device (M.tells maker.old store.now) (around_maker M.Maker maker.old maker.new) number scenario text.bytes) }
     ensures later { M.count maker.old ≤ M.count maker.new }
-    ensures given_back { IsErrOf result PlayFault.Failed → AreGivenBack scenario (M.named maker.old) (M.named maker.new) (M.kept maker.old) (M.kept maker.new) }
+    ensures given_back { IsErrOf result PlayFault.Failed → AreGivenBack scenario (around_maker M.Maker maker.old maker.new) }
     ensures rose { IsErrOf result PlayFault.Failed → Rose (M.count maker.old) (M.count maker.new) }
     ensures counted { IsErrOf result PlayFault.OutOfMemory → (M.count maker.new ≡ M.count maker.old) ⊎ (M.count maker.new ≡ most) }
 {
@@ -121,8 +121,8 @@ pub fn run_generated<R: Threads + Wait + Sync, K: Sink, M: Maker, G: Gate>(
     maker: &mut M,
     gate: &G,
 ) -> Status
-    ensures status { IsGeneration M.Made.Device (λ store. M.tells maker.old store) (option_map (λ s. s.now) folder.entry) number (sink_and_maker_of K.Sink M.Maker sink.old sink.new maker.old maker.new) result }
-    ensures answered { IsSummedWhereItCan (sink_and_maker_of K.Sink M.Maker sink.old sink.new maker.old maker.new) result }
+    ensures status { IsGeneration M.Made.Device (λ store. M.tells maker.old store) (option_map (λ s. s.now) folder.entry) number (sink_and_maker K.Sink M.Maker sink.old sink.new maker.old maker.new) result }
+    ensures answered { IsSummedWhereItCan (sink_and_maker K.Sink M.Maker sink.old sink.new maker.old maker.new) result }
 {
     let scenario = match scenario_of(alloc, number) {
         Ok(scenario) => scenario,

@@ -4,7 +4,7 @@ ghost use Rattle.std.specs.Prelude.{◌≡◌, ◌<◌, ◌≤◌, ◌↔◌, If
 ghost use Rattle.vss_names.specs.Faults.{Rose};
 ghost use Rattle.io_edge.specs.Streams.{IfGave};
 ghost use Rattle.vss_main.specs.Command.{most_bytes};
-ghost use Rattle.vss_main.specs.Outside.{around};
+ghost use Rattle.vss_main.specs.Outside.{around, around_maker};
 ghost use Rattle.vss_main.specs.TopCall.{Ran, IsCounted, AreGivenBack, IsStatus, IsRunWhereItCan};
 
 use crate::status::Status;
@@ -30,11 +30,11 @@ fn report_of<R: Threads + Wait + Sync, M: Maker, G: Gate>(
     maker: &mut M,
     gate: &G,
 ) -> Result<Text, PlayFault>
-    ensures ran { IfOk result (λ report. Ran M.Made.Device (M.tells maker.old store.now) (M.named maker.old) (M.named maker.new) (M.kept maker.old) (M.kept maker.new) (M.count maker.old) (M.count maker.new) scenario report.bytes) }
+    ensures ran { IfOk result (λ report. Ran M.Made.Device (M.tells maker.old store.now) (around_maker M.Maker maker.old maker.new) scenario report.bytes) }
     ensures later { M.count maker.old ≤ M.count maker.new }
-    ensures given_back { IsErrOf result PlayFault.Failed → AreGivenBack scenario (M.named maker.old) (M.named maker.new) (M.kept maker.old) (M.kept maker.new) }
+    ensures given_back { IsErrOf result PlayFault.Failed → AreGivenBack scenario (around_maker M.Maker maker.old maker.new) }
     ensures rose { IsErrOf result PlayFault.Failed → Rose (M.count maker.old) (M.count maker.new) }
-    ensures counted { IsErrOf result PlayFault.OutOfMemory → IsCounted M.Made.told (M.named maker.old) (M.named maker.new) (M.kept maker.old) (M.kept maker.new) (M.count maker.old) (M.count maker.new) scenario }
+    ensures counted { IsErrOf result PlayFault.OutOfMemory → IsCounted M.Made.told (around_maker M.Maker maker.old maker.new) scenario }
 {
     let _facts = scenario.volumes();
     let play = Play::new(alloc, scenario, store, maker)?;

@@ -1,6 +1,6 @@
 //! What the words of a line may be: a fixed word, a number, digits, a name of the scenario, a name of a table.
 
-ghost use Rattle.std.specs.Prelude.{◌≡◌, ◌+◌, ◌≤◌, ◌<◌, length, is_some, IfSome};
+ghost use Rattle.std.specs.Prelude.{◌≡◌, ◌<◌, length, is_some, IfSome};
 ghost use Rattle.std.specs.List.{list_all};
 ghost use Rattle.std.specs.Str.{bytes_eq};
 ghost use Rattle.scenario.specs.Numbers as numbers;
@@ -8,6 +8,7 @@ ghost use Rattle.vss_report.specs.Shapes as shapes;
 
 use crate::names::{lane_name, volume_name, writer_name};
 use scenario::Scenario;
+use scenario::numbers::number_in;
 use vss_names::{Order, VssResult, WriterError};
 
 /// Whether a word is this one.
@@ -40,40 +41,14 @@ pub fn is_number(word: &[u8]) -> bool
     begins_number(word) && are_digits(word)
 }
 
-/// A value, or the least that is past the bound.
-fn capped(value: u64, most: u32) -> u64
-    ensures value { result ≡ numbers.capped most value }
-    ensures most { result ≤ most + 1 }
-{
-    let most = u64::from(most);
-    if most < value { most + 1 } else { value }
-}
-
-/// The number that these digits are, where it is not above the bound.
-fn value_of(digits: &[u8], most: u32) -> Option<u32>
-    ensures { result ≡ shapes.up_to most (numbers.value_from 0 digits.now) }
-{
-    let mut value = 0u64;
-    for byte in digits {
-        if !byte.is_ascii_digit() {
-            return None;
-        }
-        value = capped(value * 10 + u64::from(*byte - b'0'), most);
-    }
-    if value > u64::from(most) {
-        return None;
-    }
-    Some(value as u32)
-}
-
 /// The number that a word is, where it is one that is not above the bound.
 pub fn number_up_to(word: &[u8], most: u32) -> Option<u32>
     ensures { result ≡ shapes.number_up_to most word.now }
 {
-    if !begins_number(word) {
-        return None;
+    match number_in(word, 0, u64::from(most)) {
+        Ok(number) => Some(number as u32),
+        Err(_) => None,
     }
-    value_of(word, most)
 }
 
 fn is_hex_digit(byte: u8) -> bool
