@@ -1,4 +1,6 @@
 -- Whoever has an order to answer is one whom it is for.
+use Rattle.writer_meta.proofs.Laws.{and_right}
+use Rattle.set_agenda.proofs.Closings.{unless}
 use Rattle.promises.proofs.Words.{list_any, Order, Identify, row_gathered, Group, Orders}
 use Rattle.promises.proofs.Words.{Kind, Member, Place, Session, Plan, class_of, State, start}
 use Rattle.promises.proofs.Words.{IsAgendaOf, Act, state, orderly, IsFor, AsksItsOwn, choosing}
@@ -12,7 +14,6 @@ use Rattle.vss_model.specs.Sessions.{is_disabled}
 use Rattle.vss_model.proofs.HeldOfSet.{Follows, goes_answered, goes_stepped, goes_timed}
 use Rattle.vss_model.proofs.Changes.{CourseCall, Answers, Steps, Times, Gathers, Prepares, Snapshots, Completes, Disables, Fails, Releases, called, IsDue}
 use Rattle.vss_model.proofs.CourseFacts.{of_calls}
-use Rattle.promises.proofs.Truth.{not_true, second_both}
 use Rattle.promises.proofs.OpenGroup.{every, in_kind}
 use Rattle.promises.proofs.Participants.{ChosenIn, StandsChosen, follows_all}
 use Rattle.promises.proofs.SameChoice.{SameCourse, mode_in, on_course_answered, on_course_stepped, on_course_timed}
@@ -75,7 +76,7 @@ module _ (s : Plan) where
   asks_called st (Times now) c i h = asks_on s c _ c.agenda _ (goes_timed now c) (on_course_timed now c) h
   asks_called st Gathers c i h =
       subst (λ d. Asks s (called s st Gathers d).agenda (called s st Gathers d)) (sym i.course)
-      (asks_begun kind.Gather _ [] st.clock (record st.course { rows = map row_gathered st.course.rows }) (λ w e. not_true (is_disabled s st w) (member_passes (λ x. not (is_disabled s st x)) 0 _ w e)))
+      (asks_begun kind.Gather _ [] st.clock (record st.course { rows = map row_gathered st.course.rows }) (λ w e. unless (is_disabled s st w) (member_passes (λ x. not (is_disabled s st x)) 0 _ w e)))
   asks_called st (Prepares q) c i h = asks_begun kind.Prepare _ [] st.clock _ (λ w e. e)
   asks_called st Snapshots c i h = asks_begun kind.Snapshot c.members _ st.clock c (λ w e. e)
   asks_called st Completes c i h = asks_begun kind.Complete _ [] st.clock c (λ w e. filter_member (λ (m : Member). not (has_row_failed c.rows m.writer)) c.members w e)
@@ -132,7 +133,7 @@ module _ (s : Plan) (so_far : List Act) (w : ℕ) (order : Order) where
 
   module _ (a : Agenda) (o : Open) (os : List Open) (runs_is : st.course.agenda ≡ Some a) (open_is : groups_left a ≡ o ∷ os) (order_is : order_of o.place.group ≡ Some order) where
     others : (k : Kind) → a.kind ≡ k → every (λ q. not (is_identify q.group)) (places k) ≡ true → is_member st.course.members w ≡ true → IsFor s so_far w order
-    others k e f m = for_other order (λ i. no_identify o.place.group (not_true (is_identify o.place.group) (in_kind (λ q. not (is_identify q.group)) k a o os e f open_is)) (order_is ∙ ap Some i)) m
+    others k e f m = for_other order (λ i. no_identify o.place.group (unless (is_identify o.place.group) (in_kind (λ q. not (is_identify q.group)) k a o os e f open_is)) (order_is ∙ ap Some i)) m
 
     by_kind : (k : Kind) → a.kind ≡ k → IsOfKind s k st.course w → IsFor s so_far w order
     by_kind kind.Gather e m =
@@ -146,7 +147,7 @@ module _ (s : Plan) (so_far : List Act) (w : ℕ) (order : Order) where
   asked_now a [] e f h g = absurd cc
   asked_now a (o ∷ os) e f h g =
       let open_now = now_open (is_orders o.place.group && is_among w o.waits) (order_of o.place.group) g in
-      let waits = subst (λ ws. is_among w ws ≡ true) (waits_are a (places a.kind) o os f) (second_both (is_orders o.place.group) (is_among w o.waits) open_now.0) in
+      let waits = subst (λ ws. is_among w ws ≡ true) (waits_are a (places a.kind) o os f) (and_right (is_orders o.place.group) (is_among w o.waits) open_now.0) in
       by_kind a o os e f open_now.1 a.kind refl (h w (asked_in a o.place.group o.place.level waits open_now.1))
 
   asked_by : (x : Option Agenda) → st.course.agenda ≡ x → Asks s x st.course → open_order (left x) w ≡ Some order → IsFor s so_far w order

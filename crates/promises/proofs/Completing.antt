@@ -1,4 +1,6 @@
 -- BackupComplete goes to no writer that has failed.
+use Rattle.scenario.proofs.Places.{number_is}
+use Rattle.vss_model.proofs.Spoken.{among_filter}
 use Rattle.promises.proofs.Words.{Order, BackupComplete, VssResult, WriterState}
 use Rattle.promises.proofs.Words.{Said, Ok, WriterRow, is_failed, row_after, Kind, Gather, Prepare, Snapshot, Complete, Member, Agenda}
 use Rattle.promises.proofs.Words.{places, has_said, waited_for, with_group, groups_left, left, is_asked, is_among, order_now, open_order, next_member, all_say, writers_at, IsKeptInCourse}
@@ -8,8 +10,7 @@ use Rattle.std.proofs.Common.{◌≡◌, ◌∙◌, ℕ, ◌+◌, ◌==◌, zero
 use Rattle.std.specs.Prelude.{◌||◌, not, option_map, if◌then◌else◌, slice_get}
 use Rattle.set_agenda.specs.Course.{Course, posted, failed as course_failed, rows_where, row_if, has_row_failed, row_failed, begun, told, worked, released}
 use Rattle.vss_model.specs.Ending.{failed}
-use Rattle.promises.proofs.Truth.{equal}
-use Rattle.promises.proofs.LastOrder.{is_last_order, among_all, last_place, not_in_kind, still_open}
+use Rattle.promises.proofs.LastOrder.{is_last_order, last_place, not_in_kind, still_open}
 use Rattle.promises.proofs.OpenGroup.{every}
 use Rattle.promises.proofs.Members.{one_on}
 use Rattle.vss_model.proofs.Changes.{CourseCall, Answers, Steps, Times, Gathers, Prepares, Snapshots, Completes, Disables, Fails, Releases, called}
@@ -81,7 +82,7 @@ unfailed_member rows w (m ∷ ms) e = by_test (has_row_failed rows m.writer) ref
   where
     by_head : (c : Bool) → (m.writer == w) ≡ c → has_row_failed rows m.writer ≡ false → (c || is_among w (writers_at (filter (λ (x : Member). not (has_row_failed rows x.writer)) ms) None)) ≡ true
         → (is_among w (writers_at (filter (λ (x : Member). not (has_row_failed rows x.writer)) ms) None) ≡ true → has_row_failed rows w ≡ false) → has_row_failed rows w ≡ false
-    by_head true f g e ih = subst (λ x. has_row_failed rows x ≡ false) (equal m.writer w f) g
+    by_head true f g e ih = subst (λ x. has_row_failed rows x ≡ false) (number_is m.writer w f) g
     by_head false f g e ih = ih e
 
     by_test : (b : Bool) → has_row_failed rows m.writer ≡ b → is_among w (writers_at (if not b then m ∷ filter (λ (x : Member). not (has_row_failed rows x.writer)) ms else filter (λ (x : Member). not (has_row_failed rows x.writer)) ms) None) ≡ true
@@ -98,7 +99,7 @@ well_completing ms now c =
     well_begun_as Complete asked [] now c
     (λ w e.
     unfailed_member c.rows w ms
-    (among_all (λ who. not (has_said [] last_place who)) w (writers_at (filter (λ (m : Member). not (has_row_failed c.rows m.writer)) ms) None)
+    (among_filter (λ who. not (has_said [] last_place who)) w (writers_at (filter (λ (m : Member). not (has_row_failed c.rows m.writer)) ms) None)
     (waiting_there (waited_for (unspoken Complete (filter (λ (m : Member). not (has_row_failed c.rows m.writer)) ms) [] now) last_place) w
     (asked_if (is_asked w (groups_left (unspoken Complete (filter (λ (m : Member). not (has_row_failed c.rows m.writer)) ms) [] now))) (order_now (groups_left (unspoken Complete (filter (λ (m : Member). not (has_row_failed c.rows m.writer)) ms) [] now))) BackupComplete e))))
 

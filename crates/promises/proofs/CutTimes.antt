@@ -1,4 +1,6 @@
 -- The row of a set that was cut has the clock at its cut: only the Cut step writes it, and it comes once.
+use Rattle.scenario.proofs.Places.{number_is}
+use Rattle.vss_model.proofs.Orderly.{true_not_false}
 use Rattle.promises.proofs.Words.{SetOutcome, Mark}
 use Rattle.promises.proofs.Words.{open_group, Plan, Event, State, SetRow, in_progress, row_changed, left_now, Act, after, state, state-append, cuts}
 use Rattle.promises.proofs.Words.{or_cut, cut-append, append_nothing, both, after_cut, not_cut_yet, orderly, row_running}
@@ -9,7 +11,6 @@ use Rattle.vss_model.specs.Ending.{Ending, ending, row_settled, concluded, follo
 use Rattle.vss_model.specs.Sessions.{with_volume}
 use Rattle.vss_model.specs.Steps.{with_cut, row_cut, cut_set}
 use Rattle.vss_model.specs.Cut.{is_provider, is_cut_group, is_set, is_cut_of, cut_if, cut}
-use Rattle.promises.proofs.Truth.{equal, not_both}
 use Rattle.promises.proofs.Contexts.{settled_number, changed_number}
 use Rattle.vss_model.specs.Changes.{Change, StartsSet, AddsVolume, IsCutAt, Settles, apply}
 use Rattle.vss_model.proofs.Changes.{IsCut, Comes, by_changes}
@@ -56,7 +57,7 @@ time_more (q ∷ rows) r n t e = by_head (q.number == n) e (time_more rows r n t
 
 -- the cut of another set
 time_cut_other : (m now n : ℕ) (rows : List SetRow) → (m == n) ≡ false → time_in (map (row_cut m now) rows) n ≡ time_in rows n
-time_cut_other m now n rows e = grind (arith, time_map, changed_number, equal, not_both)
+time_cut_other m now n rows e = grind (arith, time_map, changed_number, number_is, true_not_false)
 
 -- its own
 time_cut_own : (n now : ℕ) (rows : List SetRow) (q : SetRow) → find (λ (r : SetRow). r.number == n) rows ≡ Some q → time_in (map (row_cut n now) rows) n ≡ Some (Some now)
@@ -121,12 +122,12 @@ module _ (s : Plan) (so_far : List Act) (act : Act) (n : ℕ) where
       ap (λ (x : State). time_in x.sets n) (after_cut s st act h g)
       ∙ times_followed (runs st) (course_stepped true st.clock st.course) (cut_set (in_progress st) st) n
       ∙ ap (λ o. time_in (cut_set o st).sets n) e
-      ∙ subst (λ m. time_in (map (row_cut m st.clock) st.sets) n ≡ Some (Some st.clock)) (sym (equal r.number n f))
-      (time_cut_own n st.clock st.sets r (subst (λ m. find (λ (x : SetRow). x.number == m) st.sets ≡ Some r) (equal r.number n f) (row_running 1 st.sets r (orderly s so_far).numbered e)))
+      ∙ subst (λ m. time_in (map (row_cut m st.clock) st.sets) n ≡ Some (Some st.clock)) (sym (number_is r.number n f))
+      (time_cut_own n st.clock st.sets r (subst (λ m. find (λ (x : SetRow). x.number == m) st.sets ≡ Some r) (number_is r.number n f) (row_running 1 st.sets r (orderly s so_far).numbered e)))
 
   -- it comes once
   pub cut_before : (o : Option SetRow) (before : List Act) → in_progress st ≡ o → is_set n o ≡ true → is_cut_group (open_group (left_now st)) ≡ true → cut s n so_far ≡ Some before → ⊥
-  cut_before o before e f g h = grind (arith, equal, not_cut_yet, cuts)
+  cut_before o before e f g h = grind (arith, number_is, not_cut_yet, cuts)
 
   time_next : (o : Option (List Act)) (b : Bool) (before : List Act) → cut s n so_far ≡ o → is_cut_of n st act ≡ b → or_cut o (cut_if b so_far None) ≡ Some before
       → ((past : List Act) → cut s n so_far ≡ Some past → time_in st.sets n ≡ Some (Some (state s past).clock)) → time_in (after s st act).sets n ≡ Some (Some (state s before).clock)

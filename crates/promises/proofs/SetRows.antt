@@ -1,4 +1,6 @@
 -- The rows of sets go on: no act loses one, and one that is over stays as it is.
+use Rattle.scenario.proofs.Places.{number_is}
+use Rattle.std.proofs.lemmas.Bool.{or_left}
 use Rattle.promises.proofs.Words.{append_assoc, list_any-append, SetOutcome, Mark}
 use Rattle.promises.proofs.Words.{Plan, Event, State, SetRow, is_running, in_progress, row_changed, NumberedFrom, Act}
 use Rattle.promises.proofs.Words.{after, state, state-append, orderly, found_above, IsLaterRow, HasLaterRow, KeepsRows, some_same}
@@ -8,7 +10,6 @@ use Rattle.std.specs.Prelude.{if◌then◌else◌}
 use Rattle.vss_model.specs.Ending.{row_settled}
 use Rattle.vss_model.specs.Sessions.{with_volume}
 use Rattle.vss_model.specs.Steps.{with_cut, later}
-use Rattle.promises.proofs.Truth.{equal, left_part}
 use Rattle.promises.proofs.Members.{still_less}
 use Rattle.vss_model.specs.Changes.{Change, StartsSet, AddsVolume, IsCutAt, Settles, apply}
 use Rattle.vss_model.proofs.Changes.{Comes, by_changes}
@@ -25,7 +26,7 @@ settled_row : (p : SetOutcome) (r : SetRow) → IsLaterRow r (row_settled p r)
 settled_row p r = grind arith
 
 more_volumes : (v : ℕ) (r : SetRow) → is_running r.result ≡ true → IsLaterRow r (with_volume v r)
-more_volumes v r e = grind (arith, list_any-append, left_part)
+more_volumes v r e = grind (arith, list_any-append, or_left)
 
 row_with_cut : (now : ℕ) (r : SetRow) → is_running r.result ≡ true → IsLaterRow r (with_cut now r)
 row_with_cut now r e = record { number = refl; context = refl; volumes = λ v f. f; over = λ f. absurd cc }
@@ -133,7 +134,7 @@ own_number [] n r e = absurd cc
 own_number (q ∷ rows) n r e = by_head (q.number == n) refl e (own_number rows n r)
   where
     by_head : (b : Bool) → (q.number == n) ≡ b → (if b then Some q else find (λ (x : SetRow). x.number == n) rows) ≡ Some r → (find (λ (x : SetRow). x.number == n) rows ≡ Some r → r.number ≡ n) → r.number ≡ n
-    by_head true f e ih = subst (λ (x : SetRow). x.number ≡ n) (some_same q r e) (equal q.number n f)
+    by_head true f e ih = subst (λ (x : SetRow). x.number ≡ n) (some_same q r e) (number_is q.number n f)
     by_head false f e ih = ih e
 
 pub later_row : (rows : List SetRow) (st : State) (n : ℕ) (r : SetRow) → GoOn rows st.sets → find (λ (x : SetRow). x.number == n) rows ≡ Some r → HasLaterRow st r
