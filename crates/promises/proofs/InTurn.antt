@@ -11,7 +11,8 @@ use Rattle.promises.specs.InTurn.{StepsInTurn, is_before}
 use Rattle.promises.proofs.Along.{IsKeptAlong, Tells, along}
 use Rattle.promises.proofs.Heard.{said_deed}
 use Rattle.promises.proofs.Speaks.{deed_at, deed_in}
-use Rattle.promises.proofs.Truth.{equal, same_number}
+use Rattle.promises.proofs.Truth.{same_number}
+use Rattle.scenario.proofs.Places.{number_is}
 
 -- ## the first that is waited for
 
@@ -29,7 +30,7 @@ before_first said (x ∷ xs) rest u v e b = by_head (said x) (x == v) (x == u) r
     by_head false false d f g h e b ih =
         let same : x ≡ v = same_head x v (filter (λ y. not (said y)) xs) rest e in
         let twice : true ≡ false = sym (same_number v) ∙ ap (λ y. y == v) (sym same) ∙ g in absurd cc
-    by_head true false true f g h e b ih = subst (λ y. said y ≡ true) (equal x u h) f
+    by_head true false true f g h e b ih = subst (λ y. said y ≡ true) (number_is x u h) f
     by_head true false false f g h e b ih = ih e b
 
 -- ## the groups that are left
