@@ -1,8 +1,8 @@
 -- Who makes the next step of a group is the first of its volumes that has not made it.
 use Rattle.promises.proofs.Words.{Group, Orders, Flush, Hold, Commit, Release, Kind, Gather, Prepare, Snapshot, Complete, Identify, PrepareBackup, BackupComplete, Place, Said, Mark, Member, Level}
-use Rattle.promises.proofs.Words.{Agenda, Open, Plan, Provider, Reply, Stepped, State, SetRow, in_progress, left_now, Act, reply, happens, step_reply, state, Deed, Tied, IsOf, tied, true_not_false, some_same, way, made, is_made}
-use Rattle.promises.proofs.Words.{is_over_volumes, volume_if, waited_for, with_group, left_from, left, groups_left, places, plain, open_group, next_volume, has_said}
-use Rattle.std.proofs.Common.{◌≡◌, ◌∙◌, ℕ, ◌==◌, List, [], ◌∷◌, Option, Some, None, refl, Bool, true, false, ap, sym, subst, map, filter, arith}
+use Rattle.promises.proofs.Words.{Agenda, Plan, Stepped, SetRow, left_now, Act, happens, step_reply, state, Deed, Tied, IsOf, tied, true_not_false, some_same, way, made, is_made}
+use Rattle.promises.proofs.Words.{is_over_volumes, volume_if, waited_for, with_group, left_from, left, places, plain, open_group, next_volume, has_said}
+use Rattle.std.proofs.Common.{◌≡◌, ◌∙◌, ℕ, ◌==◌, List, [], ◌∷◌, Option, Some, None, refl, Bool, true, false, ap, sym, subst, map, filter}
 use Rattle.std.specs.Prelude.{◌||◌, not, if◌then◌else◌}
 use Rattle.set_agenda.specs.Agenda.{members_of}
 use Rattle.vss_model.specs.declared.event.Event.{Event}
