@@ -26,8 +26,8 @@ use Rattle.generated.specs.Spots.{Spot, Free, Stands, Waits, stage_next, volumes
 use Rattle.generated.proofs.CutRows.{HasCuts}
 use Rattle.generated.proofs.Standing.{session_at, IsPlace, IsAt}
 use Rattle.generated.proofs.Courses.{sound_prepared, sound_snapshot, sound_completing, sound_released}
-use Rattle.generated.proofs.Cuts.{cuts_followed, said_begun}
-use Rattle.generated.proofs.Known.{IsKnown, LeadsTo, goes, none_in, now_none, now_found, cut_row, quiet_said, running_found, of_session, found_in}
+use Rattle.generated.proofs.Cuts.{cuts_followed, said_begun, now_is}
+use Rattle.generated.proofs.Known.{IsKnown, LeadsTo, goes, none_in, now_none, now_found, quiet_said, running_found, of_session, found_in}
 use Rattle.generated.proofs.Steps.{goes_on, followed_volumes}
 
 -- where a set has a volume
@@ -52,7 +52,7 @@ prepares s n more k vs op mark st e on leads most h known =
       at = subst (IsAt s (Waits Started) k vs) (sym is)
           (goes_on s Started k vs c st (sound_prepared _ (takers (length s.writers) (selected s q st)) st.clock st.course h.sound) h.sets h.fine h.place.stage h.place.volumes (subst IsOrderly is known.next_orderly));
       same = ap (λ (x : State). x.volumes) is ∙ followed_volumes _ c st (sound_prepared _ (takers (length s.writers) (selected s q st)) st.clock st.course h.sound);
-      cuts = λ x. let found = found_in Started st refl h.place.stage known.orderly in let runs_now = running_found q st.course.outcome (in_progress st) found.row found.is (of_session st Started h.place.stage known.orderly) in subst (HasCuts s) (sym is) (cuts_followed s _ c st (sound_prepared _ (takers (length s.writers) (selected s q st)) st.clock st.course h.sound) known.orderly.newest x.count x.done (now_found (in_progress st) found.row c found.is (cut_row (in_progress st) found.row st.course found.is x.now ∙ quiet_said st.course.agenda st.course.outcome h.place.is_busy runs_now ∙ sym (said_begun kind.Prepare _ [] st.clock _ runs_now))));
+      cuts = λ x. let found = found_in Started st refl h.place.stage known.orderly in let runs_now = running_found q st.course.outcome (in_progress st) found.row found.is (of_session st Started h.place.stage known.orderly) in subst (HasCuts s) (sym is) (cuts_followed s _ c st (sound_prepared _ (takers (length s.writers) (selected s q st)) st.clock st.course h.sound) known.orderly.newest x.count x.done (now_found (in_progress st) found.row c found.is (now_is (in_progress st) found.row st.course found.is x.now ∙ quiet_said st.course.agenda st.course.outcome h.place.is_busy runs_now ∙ sym (said_begun kind.Prepare _ [] st.clock _ runs_now))));
     }
 
 pub snapshots : (s : Plan) (n : ℕ) (more : List Asked) (k : ℕ) (vs : List ℕ) (op : Op) (mark : Mark) (st : State) → IsAsked s Snapshots op → line_enabled s st 0 op ≡ true → completes_sets (length s.volumes) n more (spot_after (Stands Prepared) k vs Snapshots) ≡ true → k ≤ n → IsAt s (Stands Prepared) k vs st → IsKnown n k st (line s 0 op mark st).1 → LeadsTo s n more st (line s 0 op mark st).1
@@ -69,7 +69,7 @@ snapshots s n more k vs op mark st e on leads most h known =
       at = subst (IsAt s (Waits Prepared) k vs) (sym is)
           (goes_on s Prepared k vs c st (sound_snapshot _ (volumes_of (in_progress st)) st.clock st.course h.sound) h.sets h.fine h.place.stage h.place.volumes (subst IsOrderly is known.next_orderly));
       same = ap (λ (x : State). x.volumes) is ∙ followed_volumes _ c st (sound_snapshot _ (volumes_of (in_progress st)) st.clock st.course h.sound);
-      cuts = λ x. let found = found_in Prepared st refl h.place.stage known.orderly in let runs_now = running_found q st.course.outcome (in_progress st) found.row found.is (of_session st Prepared h.place.stage known.orderly) in subst (HasCuts s) (sym is) (cuts_followed s _ c st (sound_snapshot _ (volumes_of (in_progress st)) st.clock st.course h.sound) known.orderly.newest x.count x.done (now_found (in_progress st) found.row c found.is (cut_row (in_progress st) found.row st.course found.is x.now ∙ quiet_said st.course.agenda st.course.outcome h.place.is_busy runs_now ∙ sym (said_begun kind.Snapshot st.course.members (volumes_of (in_progress st)) st.clock st.course runs_now))));
+      cuts = λ x. let found = found_in Prepared st refl h.place.stage known.orderly in let runs_now = running_found q st.course.outcome (in_progress st) found.row found.is (of_session st Prepared h.place.stage known.orderly) in subst (HasCuts s) (sym is) (cuts_followed s _ c st (sound_snapshot _ (volumes_of (in_progress st)) st.clock st.course h.sound) known.orderly.newest x.count x.done (now_found (in_progress st) found.row c found.is (now_is (in_progress st) found.row st.course found.is x.now ∙ quiet_said st.course.agenda st.course.outcome h.place.is_busy runs_now ∙ sym (said_begun kind.Snapshot st.course.members (volumes_of (in_progress st)) st.clock st.course runs_now))));
     }
 
 pub completes : (s : Plan) (n : ℕ) (more : List Asked) (k : ℕ) (vs : List ℕ) (op : Op) (mark : Mark) (st : State) → IsAsked s Completes op → line_enabled s st 0 op ≡ true → completes_sets (length s.volumes) n more (spot_after (Stands Done) k vs Completes) ≡ true → k ≤ n → IsAt s (Stands Done) k vs st → IsKnown n k st (line s 0 op mark st).1 → LeadsTo s n more st (line s 0 op mark st).1

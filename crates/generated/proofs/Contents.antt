@@ -21,10 +21,12 @@ use Rattle.vss_model.proofs.Orderly.{true_not_false}
 use Rattle.generated.specs.Smooth.{IsSmooth}
 use Rattle.generated.proofs.Standing.{IsOnWay}
 use Rattle.generated.proofs.Puts.{puts_to, puts_of, puts_in}
-use Rattle.generated.proofs.Courses.{and_first, and_second, length_map}
+use Rattle.generated.proofs.Courses.{length_map}
 use Rattle.generated.proofs.Moves.{IsReached, IsBefore, on_move}
 use Rattle.generated.proofs.Runs.{clean_first, way_after, at_start}
 use Rattle.generated.proofs.Volumes.{IsGrownIf, move_grown}
+use Rattle.writer_meta.proofs.Laws.{and_left, and_right}
+use Rattle.vss_model.proofs.OneCut.{all_taken}
 
 -- ## nothing is evicted
 
@@ -44,10 +46,10 @@ none_evicted s n r (m ∷ ms) smooth way legal clean =
     let reached : IsReached s r.state = record { so_far = way.so_far; is = way.reached } in
     let before : IsBefore s n r = record { smooth = smooth; reached = reached; way = way } in
     let marks = clean_first m ms clean in
-    let may = and_first (may_move s r m.actor) (allows s r (event_of s r m.actor) m.mark) (and_first (is_legal_move s r m) (is_legal_from s (moved s r m) ms) legal) in
+    let may = and_left (may_move s r m.actor) (allows s r (event_of s r m.actor) m.mark) (and_left (is_legal_move s r m) (is_legal_from s (moved s r m) ms) legal) in
     evict_more s r m ms (event_of s r m.actor) (move_grown s n r m m.actor before refl marks.first may)
     (none_evicted s n (moved s r m) ms smooth (way_after s n r m (event_of s r m.actor) reached (on_move s n r m m.actor before refl marks.first may))
-    (and_second (is_legal_move s r m) (is_legal_from s (moved s r m) ms) legal) marks.rest)
+    (and_right (is_legal_move s r m) (is_legal_from s (moved s r m) ms) legal) marks.rest)
 
 evict_at : (s : Plan) (st : State) (so_far rest : List Act) (act : Act) → EvictNone s st (so_far ++ act ∷ rest) → evicted s (fold (after s) st so_far) act.event ≡ []
 evict_at s st [] rest act h = h.0
@@ -81,13 +83,13 @@ filter-append p (x ∷ xs) ys = by_test (p x) (filter-append p xs ys)
 
 filter_all : (p : Write → Bool) (xs : List Write) → list_all p xs ≡ true → filter p xs ≡ xs
 filter_all p [] h = refl
-filter_all p (x ∷ xs) h = ap (λ (b : Bool). if b then x ∷ filter p xs else filter p xs) (and_first (p x) (list_all p xs) h) ∙ ap (λ zs. x ∷ zs) (filter_all p xs (and_second (p x) (list_all p xs) h))
+filter_all p (x ∷ xs) h = ap (λ (b : Bool). if b then x ∷ filter p xs else filter p xs) (and_left (p x) (list_all p xs) h) ∙ ap (λ zs. x ∷ zs) (filter_all p xs (and_right (p x) (list_all p xs) h))
 
 filter_other : (owner : ℕ → ℕ) (i j : ℕ) (xs : List Write) → (j == i) ≡ false → list_all (is_of owner j) xs ≡ true → filter (is_of owner i) xs ≡ []
 filter_other owner i j [] e h = refl
 filter_other owner i j (x ∷ xs) e h =
-    ap (λ (b : Bool). if b then x ∷ filter (is_of owner i) xs else filter (is_of owner i) xs) (other (owner x.block) i j e (and_first (is_of owner j x) (list_all (is_of owner j) xs) h))
-    ∙ filter_other owner i j xs e (and_second (is_of owner j x) (list_all (is_of owner j) xs) h)
+    ap (λ (b : Bool). if b then x ∷ filter (is_of owner i) xs else filter (is_of owner i) xs) (other (owner x.block) i j e (and_left (is_of owner j x) (list_all (is_of owner j) xs) h))
+    ∙ filter_other owner i j xs e (and_right (is_of owner j x) (list_all (is_of owner j) xs) h)
   where
     other : (a i j : ℕ) → (j == i) ≡ false → (a == j) ≡ true → (a == i) ≡ false
     other a i j e f = grind arith
@@ -174,10 +176,10 @@ all_hold owner s n r (m ∷ ms) apart smooth way h legal clean =
     let reached : IsReached s r.state = record { so_far = way.so_far; is = way.reached } in
     let before : IsBefore s n r = record { smooth = smooth; reached = reached; way = way } in
     let marks = clean_first m ms clean in
-    let may = and_first (may_move s r m.actor) (allows s r (event_of s r m.actor) m.mark) (and_first (is_legal_move s r m) (is_legal_from s (moved s r m) ms) legal) in
+    let may = and_left (may_move s r m.actor) (allows s r (event_of s r m.actor) m.mark) (and_left (is_legal_move s r m) (is_legal_from s (moved s r m) ms) legal) in
     all_hold owner s n (moved s r m) ms apart smooth (way_after s n r m (event_of s r m.actor) reached (on_move s n r m m.actor before refl marks.first may))
     (holds_more owner s r m (event_of s r m.actor) (move_grown s n r m m.actor before refl marks.first may) (move_adds owner s r m m.actor apart refl) h)
-    (and_second (is_legal_move s r m) (is_legal_from s (moved s r m) ms) legal) marks.rest
+    (and_right (is_legal_move s r m) (is_legal_from s (moved s r m) ms) legal) marks.rest
 
 fresh_writes : (X : Type 0) (rows : List X) (v : ℕ) → (Rattle.vss_model.specs.State.history_in (slice_get (map (λ _. Rattle.write_history.specs.History.fresh) rows) v)).writes ≡ []
 fresh_writes X [] zero = refl
@@ -215,9 +217,5 @@ last_of_owner owner b before (w ∷ ws) = by_test (w.block == b) (is_of owner (o
     by_test false true e f ih = ih before ∙ ap (λ (t : Bool). last_bytes b (if t then w.bytes else before) (filter (is_of owner (owner b)) ws)) (sym e)
     by_test false false e f ih = ih before
 
-take_all : (ws : List Write) → take (length ws) ws ≡ ws
-take_all [] = refl
-take_all (w ∷ ws) = ap (λ xs. w ∷ xs) (take_all ws)
-
 pub content_of_owner : (owner : ℕ → ℕ) (b : ℕ) (ws : List Write) → content ws (length ws) b ≡ last_bytes b zeros (filter (is_of owner (owner b)) ws)
-content_of_owner owner b ws = ap (last_bytes b zeros) (take_all ws) ∙ last_of_owner owner b zeros ws
+content_of_owner owner b ws = ap (last_bytes b zeros) (all_taken ws) ∙ last_of_owner owner b zeros ws

@@ -3,6 +3,7 @@ use Rattle.std.proofs.Common.{◌≡◌, ℕ, ◌+◌, ◌<◌, List, [], ◌∷
 use Rattle.std.specs.Prelude.{map, filter, option_map, is_some, nat_lt, ◌&&◌, ◌||◌, not, if◌then◌else◌}
 use Rattle.std.specs.List.{list_all}
 use Rattle.std.proofs.lemmas.Bool.Decides.{nat_tests}
+use Rattle.std.proofs.lemmas.Bool.{and_from}
 use Rattle.vss_names.specs.declared.level.Level.{Level}
 use Rattle.vss_names.specs.declared.order.Order.{Order}
 use Rattle.writer_state.specs.declared.said.Said.{Said}
@@ -15,19 +16,13 @@ use Rattle.set_agenda.specs.declared.group.Group.{Group}
 use Rattle.set_agenda.specs.declared.place.Place.{Place}
 use Rattle.set_agenda.specs.declared.member.Member.{Member}
 use Rattle.set_agenda.specs.Agenda.{Agenda, Open, is_orders, has_said, writers_at, members_of, waited_for, with_group, left_from, left, is_among, is_asked, order_if, open_order, all_say}
-use Rattle.set_agenda.specs.Course.{Course, posted, rows_where, member_if, members_from, settled_in, settled, begun, gathered, prepared, snapshot_begun, completing, has_row_failed, is_decisive, told, decided, answered_to, answered, worked, stepped, released}
+use Rattle.set_agenda.specs.Course.{Course, posted, member_if, members_from, settled_in, settled, begun, gathered, prepared, snapshot_begun, completing, has_row_failed, is_decisive, told, decided, answered_to, answered, worked, stepped, released}
 use Rattle.generated.proofs.Sound.{are_below, AgendaBelow, IsSound}
+use Rattle.writer_meta.proofs.Laws.{and_left, and_right}
+use Rattle.vss_model.proofs.CourseCalls.{not_ok_of_ok}
+use Rattle.vss_model.proofs.FewTurns.{length-rows_where}
 
 -- ## who may be asked
-
-pub and_first : (a b : Bool) → (a && b) ≡ true → a ≡ true
-and_first a b e = grind arith
-
-pub and_second : (a b : Bool) → (a && b) ≡ true → b ≡ true
-and_second a b e = grind arith
-
-pub and_both : (a b : Bool) → a ≡ true → b ≡ true → (a && b) ≡ true
-and_both a b e f = grind arith
 
 -- ## lists
 
@@ -35,19 +30,15 @@ pub length_map : {X Y : Type 0} (f : X → Y) (xs : List X) → length (map f xs
 length_map f [] = refl
 length_map f (x ∷ xs) = let h = length_map f xs in omega (arith, h)
 
-rows_length : (f : WriterRow → WriterRow) (test : ℕ → Bool) (w : ℕ) (rows : List WriterRow) → length (rows_where f test w rows) ≡ length rows
-rows_length f test w [] = refl
-rows_length f test w (r ∷ rows) = let h = rows_length f test (w + 1) rows in omega (arith, h)
-
 below_filter : {X : Type 0} (p q : X → Bool) (xs : List X) → list_all p xs ≡ true → list_all p (filter q xs) ≡ true
 below_filter p q [] h = refl
-below_filter p q (x ∷ xs) h = by_test (q x) (below_filter p q xs (and_second (p x) (list_all p xs) h))
+below_filter p q (x ∷ xs) h = by_test (q x) (below_filter p q xs (and_right (p x) (list_all p xs) h))
   where
     by_test : (t : Bool) → list_all p (filter q xs) ≡ true → list_all p (if t then x ∷ filter q xs else filter q xs) ≡ true
-    by_test true g = and_both (p x) (list_all p (filter q xs)) (and_first (p x) (list_all p xs) h) g
+    by_test true g = and_from (p x) (list_all p (filter q xs)) (and_left (p x) (list_all p xs) h) g
     by_test false g = g
 
-less_is : (a k : ℕ) → a < k → nat_lt a k ≡ true
+pub less_is : (a k : ℕ) → a < k → nat_lt a k ≡ true
 less_is a k l = grind (arith, nat_tests)
 
 below_members : (k : ℕ) (test : ℕ → Bool) (w : ℕ) (rows : List WriterRow) → w + length rows ≡ k → are_below k (members_from test w rows) ≡ true
@@ -55,7 +46,7 @@ below_members k test w [] e = refl
 below_members k test w (r ∷ rows) e = by_test (test w) (below_members k test (w + 1) rows (omega (arith, e)))
   where
     by_test : (t : Bool) → are_below k (members_from test (w + 1) rows) ≡ true → are_below k (member_if t w r ++ members_from test (w + 1) rows) ≡ true
-    by_test true g = and_both (nat_lt w k) _ (less_is w k (omega (arith, e))) g
+    by_test true g = and_from (nat_lt w k) _ (less_is w k (omega (arith, e))) g
     by_test false g = g
 
 -- ## calls
@@ -76,10 +67,7 @@ below_said k said now ws a h = grind arith
 
 sound_told : (k : ℕ) (o : Order) (said : Said) (now : ℕ) (ws : List ℕ) (c : Course) → IsSound k c → IsSound k (told o said now ws c)
 unfolding told
-sound_told k o said now ws c h = grind (arith, rows_length, below_said)
-
-no_veto : (b : Bool) → (b && not true) ≡ false
-no_veto b = grind arith
+sound_told k o said now ws c h = grind (arith, length-rows_where, below_said)
 
 sound_decided : (k : ℕ) (b : Bool) (c : Course) → b ≡ false → IsSound k c → IsSound k (decided b Ok c)
 sound_decided k true c e h = absurd cc
@@ -87,7 +75,7 @@ sound_decided k false c e h = sound_settled k c h
 
 sound_answered_to : (k : ℕ) (o : Option Order) (w now : ℕ) (c : Course) → IsSound k c → IsSound k (answered_to o w Ok now c)
 sound_answered_to k None w now c h = h
-sound_answered_to k (Some o) w now c h = sound_decided k (is_decisive o && not true) (told o Ok now (w ∷ []) c) (no_veto (is_decisive o)) (sound_told k o Ok now (w ∷ []) c h)
+sound_answered_to k (Some o) w now c h = sound_decided k (is_decisive o && not true) (told o Ok now (w ∷ []) c) (not_ok_of_ok (is_decisive o)) (sound_told k o Ok now (w ∷ []) c h)
 
 pub sound_answered : (k w now : ℕ) (c : Course) → IsSound k c → IsSound k (answered w Ok now c)
 sound_answered k w now c h = sound_posted k c _ (sound_answered_to k (open_order (left c.agenda) w) w now c h)
@@ -130,7 +118,7 @@ below k ws = list_all (λ w. nat_lt w k) ws
 
 below_mapped : (k : ℕ) (ms : List Member) → are_below k ms ≡ true → below k (map (λ (m : Member). m.writer) ms) ≡ true
 below_mapped k [] h = refl
-below_mapped k (m ∷ ms) h = and_both (nat_lt m.writer k) _ (and_first (nat_lt m.writer k) (are_below k ms) h) (below_mapped k ms (and_second (nat_lt m.writer k) (are_below k ms) h))
+below_mapped k (m ∷ ms) h = and_from (nat_lt m.writer k) _ (and_left (nat_lt m.writer k) (are_below k ms) h) (below_mapped k ms (and_right (nat_lt m.writer k) (are_below k ms) h))
 
 below_writers : (k : ℕ) (ms : List Member) (l : Option Level) → are_below k ms ≡ true → below k (writers_at ms l) ≡ true
 below_writers k ms l h = grind (arith, below_mapped, below_filter)
@@ -157,19 +145,19 @@ asked_left k a h = grind (arith, asked_from)
 
 among_below : (k w : ℕ) (ws : List ℕ) → is_among w ws ≡ true → below k ws ≡ true → nat_lt w k ≡ true
 among_below k w [] e h = absurd cc
-among_below k w (x ∷ ws) e h = by_test (x == w) refl e (λ g. among_below k w ws g (and_second (nat_lt x k) (below k ws) h))
+among_below k w (x ∷ ws) e h = by_test (x == w) refl e (λ g. among_below k w ws g (and_right (nat_lt x k) (below k ws) h))
   where
     same : (a b : ℕ) → (a == b) ≡ true → a ≡ b
     same a b f = grind arith
 
     by_test : (t : Bool) → (x == w) ≡ t → (t || is_among w ws) ≡ true → (is_among w ws ≡ true → nat_lt w k ≡ true) → nat_lt w k ≡ true
-    by_test true f g later = subst (λ y. nat_lt y k ≡ true) (same x w f) (and_first (nat_lt x k) (below k ws) h)
+    by_test true f g later = subst (λ y. nat_lt y k ≡ true) (same x w f) (and_left (nat_lt x k) (below k ws) h)
     by_test false f g later = later g
 
 asked_below_at : (k w : ℕ) (os : List Open) → AskedBelow k os → is_asked w os ≡ true → nat_lt w k ≡ true
-asked_below_at k w os h e = grind (arith, among_below, and_second, and_first)
+asked_below_at k w os h e = grind (arith, among_below, and_right, and_left)
 
-asked_of_order : (b : Bool) (x : Option Order) → is_some (order_if b x) ≡ true → b ≡ true
+pub asked_of_order : (b : Bool) (x : Option Order) → is_some (order_if b x) ≡ true → b ≡ true
 asked_of_order b x e = grind arith
 
 -- a writer that has an open order is one of these

@@ -1,8 +1,9 @@
 -- What courses say of the Cut step, and what of it an ending agenda leaves.
 use Rattle.std.proofs.Common.{◌≡◌, ℕ, ◌<◌, List, [], ◌∷◌, Option, Some, None, refl, Bool, true, false, ap, sym, ◌∙◌, length, arith, find, map}
-use Rattle.std.specs.Prelude.{option_map, is_some, cond, ◌&&◌, ◌||◌, not, if◌then◌else◌}
+use Rattle.std.specs.Prelude.{option_map, is_some, cond, ◌&&◌, ◌||◌, if◌then◌else◌}
 use Rattle.std.specs.List.{list_all}
 use Rattle.std.proofs.lemmas.List.Folds.{list_any-append}
+use Rattle.std.proofs.lemmas.Bool.{and_from, or_right}
 use Rattle.vss_names.specs.declared.order.Order.{Order}
 use Rattle.vss_names.specs.declared.set_outcome.SetOutcome.{SetOutcome}
 use Rattle.vss_names.specs.declared.set_outcome.SetOutcome.TheVariants.{Running}
@@ -10,7 +11,7 @@ use Rattle.writer_state.specs.declared.said.Said.TheVariants.{Ok}
 use Rattle.set_agenda.specs.declared.kind.Kind.{Kind}
 use Rattle.set_agenda.specs.declared.group.Group.TheVariants.{Cut}
 use Rattle.set_agenda.specs.declared.member.Member.{Member}
-use Rattle.set_agenda.specs.Agenda.{Agenda, Open, plain, same_place, has_said, groups_left, left, open_place, open_order, next_member, is_asked, order_if, all_say, is_snapshot}
+use Rattle.set_agenda.specs.Agenda.{Agenda, Open, plain, same_place, has_said, groups_left, left, open_place, open_order, next_member, is_asked, all_say, is_snapshot}
 use Rattle.set_agenda.specs.Course.{Course, posted, settled_in, settled, begun, told, answered_to, answered, worked, stepped}
 use Rattle.scenario.specs.Plan.{Plan}
 use Rattle.vss_model.specs.State.{State, SetRow, is_running, is_complete, in_progress, history_of}
@@ -19,8 +20,10 @@ use Rattle.vss_model.specs.Facts.{OverButNewest, has_failed}
 use Rattle.vss_model.proofs.Orderly.{find-settled_over, find-settled_running, true_not_false}
 use Rattle.generated.proofs.Sound.{IsSound}
 use Rattle.generated.proofs.CutRows.{is_cut, cuts_made, is_cut_or_open, said_by, IsNow, HasCuts}
-use Rattle.generated.proofs.Courses.{and_first, and_second, and_both}
 use Rattle.generated.proofs.Steps.{ending_ends, ending_runs}
+use Rattle.writer_meta.proofs.Laws.{and_left, and_right}
+use Rattle.vss_model.proofs.CourseCalls.{not_ok_of_ok}
+use Rattle.generated.proofs.Courses.{asked_of_order}
 
 -- ## rows that settle
 
@@ -43,11 +46,11 @@ found_now b r x e = grind arith
 done_settled : (o : SetOutcome) (rows : List SetRow) → OverButNewest rows → ((r : SetRow) → find (λ x. is_running x.result) rows ≡ Some r → is_cut r ≡ is_complete o) → list_all is_cut_or_open rows ≡ true → list_all is_cut_or_open (map (row_settled o) rows) ≡ true
 done_settled o [] over e h = refl
 done_settled o (r ∷ []) over e h =
-    and_both (is_cut_or_open (row_settled o r)) true (done_if (is_running r.result) o r (and_first (is_cut_or_open r) true h) (λ f. e r (found_now (is_running r.result) r None f))) refl
+    and_from (is_cut_or_open (row_settled o r)) true (done_if (is_running r.result) o r (and_left (is_cut_or_open r) true h) (λ f. e r (found_now (is_running r.result) r None f))) refl
 done_settled o (r ∷ q ∷ rows) over e h =
-    and_both (is_cut_or_open (row_settled o r)) _
-    (done_if (is_running r.result) o r (and_first (is_cut_or_open r) (list_all is_cut_or_open (q ∷ rows)) h) (λ f. absurd (true_not_false (is_running r.result) f over.0)))
-    (done_settled o (q ∷ rows) over.1 (λ x f. e x (found_later (is_running r.result) r _ over.0 ∙ f)) (and_second (is_cut_or_open r) (list_all is_cut_or_open (q ∷ rows)) h))
+    and_from (is_cut_or_open (row_settled o r)) _
+    (done_if (is_running r.result) o r (and_left (is_cut_or_open r) (list_all is_cut_or_open (q ∷ rows)) h) (λ f. absurd (true_not_false (is_running r.result) f over.0)))
+    (done_settled o (q ∷ rows) over.1 (λ x f. e x (found_later (is_running r.result) r _ over.0 ∙ f)) (and_right (is_cut_or_open r) (list_all is_cut_or_open (q ∷ rows)) h))
 
 -- ## an agenda that runs or begins goes on, or ends well
 
@@ -57,7 +60,7 @@ now_running x c h = grind arith
 now_settled : (o : SetOutcome) (rows : List SetRow) (c : Course) → has_failed o ≡ false → IsNow (find (λ r. is_running r.result) rows) c → IsNow (find (λ r. is_running r.result) (map (row_settled o) rows)) c
 now_settled o rows c e h = grind (arith, find-settled_running, now_running, find-settled_over)
 
-now_is : (x : Option SetRow) (r : SetRow) (c : Course) → x ≡ Some r → IsNow x c → is_cut r ≡ said_by c.agenda c.outcome
+pub now_is : (x : Option SetRow) (r : SetRow) (c : Course) → x ≡ Some r → IsNow x c → is_cut r ≡ said_by c.agenda c.outcome
 now_is x r c e h = grind arith
 
 cuts_at : (s : Plan) (k : ℕ) (c : Course) (st : State) (a : Option Agenda) → IsSound k c → OverButNewest st.sets → ((v : ℕ) → v < length s.volumes → length (history_of st v).images ≡ cuts_made st.sets) → list_all is_cut_or_open st.sets ≡ true
@@ -94,9 +97,6 @@ said_begun x ms vs now c e =
 or_none : (a b : Bool) → b ≡ false → (a || b) ≡ a
 or_none a b e = grind arith
 
-or_right : (a b : Bool) → b ≡ true → (a || b) ≡ true
-or_right a b e = grind arith
-
 pub said_elsewhere : (a : Agenda) (now w : ℕ) → same_place (open_place (groups_left a)) (plain Cut) ≡ false → has_said (all_say Ok now (w ∷ []) a).log (plain Cut) 0 ≡ has_said a.log (plain Cut) 0
 said_elsewhere a now w e = grind (arith, list_any-append, or_none)
 
@@ -107,12 +107,6 @@ said_cut a now w e f = grind (arith, list_any-append, or_right)
 asked_place : (w : ℕ) (os : List Open) → is_asked w os ≡ true → same_place (open_place os) (plain Cut) ≡ false
 asked_place w os e = grind arith
 
-asked_of : (b : Bool) (x : Option Order) → is_some (order_if b x) ≡ true → b ≡ true
-asked_of b x e = grind arith
-
-no_veto : (b : Bool) → (b && not true) ≡ false
-no_veto b = grind arith
-
 said_told : (o : Order) (w now : ℕ) (c : Course) (a : Agenda) → c.agenda ≡ Some a → c.outcome ≡ Running → same_place (open_place (groups_left a)) (plain Cut) ≡ false
     → said_by (settled (told o Ok now (w ∷ []) c)).agenda (settled (told o Ok now (w ∷ []) c)).outcome ≡ said_by c.agenda c.outcome
 unfolding told
@@ -122,13 +116,13 @@ said_told o w now c a e f g =
 
 said_answered_to : (x : Option Order) (w now : ℕ) (c : Course) (a : Agenda) → c.agenda ≡ Some a → c.outcome ≡ Running → is_some x ≡ true → same_place (open_place (groups_left a)) (plain Cut) ≡ false
     → said_by (answered_to x w Ok now c).agenda (answered_to x w Ok now c).outcome ≡ said_by c.agenda c.outcome
-said_answered_to x w now c a e f h g = grind (arith, no_veto, said_told)
+said_answered_to x w now c a e f h g = grind (arith, not_ok_of_ok, said_told)
 
 -- an answer says nothing of the Cut step
 pub said_answered : (w now : ℕ) (c : Course) (a : Agenda) → c.agenda ≡ Some a → c.outcome ≡ Running → is_some (open_order (left c.agenda) w) ≡ true
     → said_by (answered w Ok now c).agenda (answered w Ok now c).outcome ≡ said_by c.agenda c.outcome
 unfolding posted
-said_answered w now c a e f h = grind (arith, said_answered_to, asked_place, asked_of)
+said_answered w now c a e f h = grind (arith, said_answered_to, asked_place, asked_of_order)
 
 -- a step says what its place is
 pub said_stepped : (now : ℕ) (c : Course) (a : Agenda) → c.agenda ≡ Some a → c.outcome ≡ Running

@@ -14,7 +14,8 @@ use Rattle.generator_text.specs.Draws.{drawn, volume_at, block_at}
 use Rattle.generated.specs.Scenario.{Shape, shape_of, own_shape, IsGenerated}
 use Rattle.generated.specs.Spots.{Free, completes_sets}
 use Rattle.generated.specs.Smooth.{is_write, AreAlone, IsSmooth}
-use Rattle.generated.proofs.Courses.{and_first, and_second, length_map}
+use Rattle.generated.proofs.Courses.{length_map}
+use Rattle.writer_meta.proofs.Laws.{and_left, and_right}
 
 -- ## volumes
 
@@ -54,7 +55,7 @@ room_from g (suc k) [] e i x l = absurd cc
 room_from g (suc k) (r ∷ rows) e zero x l = let p = parts r rows g k e in let b = p.own.blocks in let d = p.own.slots in omega (arith, b, d)
 room_from g (suc k) (r ∷ rows) e (suc i) x l = room_from (g + 1) k rows (parts r rows g k e).rest i x (omega (arith, l))
 
-blocks_from : (g k v : ℕ) (rows : List VolumeRow) → map shape_of rows ≡ map own_shape (range_with_len g k) → v < k → blocks_in (slice_get rows v) ≡ 256
+pub blocks_from : (g k v : ℕ) (rows : List VolumeRow) → map shape_of rows ≡ map own_shape (range_with_len g k) → v < k → blocks_in (slice_get rows v) ≡ 256
 blocks_from g zero v rows e l = absurd (omega (arith, l))
 blocks_from g (suc k) v [] e l = absurd cc
 blocks_from g (suc k) zero (r ∷ rows) e l = (parts r rows g k e).own.blocks
@@ -74,8 +75,8 @@ empty_is (x ∷ xs) e = absurd cc
 no_script : (ws : List WriterPlan) (w : ℕ) → list_all is_empty (map (λ (x : WriterPlan). x.script) ws) ≡ true → script_in (slice_get ws w) ≡ []
 no_script [] zero e = refl
 no_script [] (suc w) e = refl
-no_script (x ∷ ws) zero e = empty_is x.script (and_first (is_empty x.script) _ e)
-no_script (x ∷ ws) (suc w) e = no_script ws w (and_second (is_empty x.script) (list_all is_empty (map (λ (y : WriterPlan). y.script) ws)) e)
+no_script (x ∷ ws) zero e = empty_is x.script (and_left (is_empty x.script) _ e)
+no_script (x ∷ ws) (suc w) e = no_script ws w (and_right (is_empty x.script) (list_all is_empty (map (λ (y : WriterPlan). y.script) ws)) e)
 
 none_scripted : list_all is_empty ([] ∷ [] ∷ [] ∷ []) ≡ true
 unfolding is_empty
@@ -83,11 +84,11 @@ none_scripted = refl
 
 -- ## writes
 
-volume_below : (n i k : ℕ) → volume_at n i k < 8
+pub volume_below : (n i k : ℕ) → volume_at n i k < 8
 unfolding volume_at
 volume_below n i k = mod-lt (drawn n i k) (omega arith)
 
-block_below : (n i k : ℕ) → i < 16 → block_at n i k < 256
+pub block_below : (n i k : ℕ) → i < 16 → block_at n i k < 256
 unfolding block_at
 block_below n i k l = let h : (drawn n i k / 8) % 16 < 16 = mod-lt (drawn n i k / 8) (omega arith) in omega (arith, l, h)
 

@@ -1,9 +1,9 @@
 -- Each move keeps the invariant of images.
-use Rattle.std.proofs.Common.{◌≡◌, ℕ, zero, suc, ◌+◌, ◌<◌, ◌≤◌, List, [], ◌∷◌, ◌++◌, Option, Some, None, refl, Bool, true, false, ap, sym, ◌∙◌, ◌==◌, subst, length, arith, inl, inr, find, map}
+use Rattle.std.proofs.Common.{◌≡◌, ℕ, zero, suc, ◌+◌, ◌<◌, List, [], ◌∷◌, ◌++◌, Option, Some, None, refl, Bool, true, false, ap, sym, ◌∙◌, ◌==◌, subst, length, arith, inl, inr, find, map}
 use Rattle.std.specs.Prelude.{option_map, is_some, cond, slice_get, nat_lt, ◌&&◌, ◌||◌, not, if◌then◌else◌}
 use Rattle.std.specs.List.{list_all, range_with_len}
 use Rattle.std.proofs.lemmas.Bool.Decides.{nat_tests}
-use Rattle.vss_names.specs.declared.set_outcome.SetOutcome.{SetOutcome}
+use Rattle.std.proofs.lemmas.Bool.{and_from}
 use Rattle.vss_names.specs.declared.set_outcome.SetOutcome.TheVariants.{Running}
 use Rattle.writer_state.specs.declared.said.Said.TheVariants.{Ok as SaidOk}
 use Rattle.write_history.specs.declared.mark.Mark.{Mark}
@@ -16,7 +16,6 @@ use Rattle.set_agenda.specs.Agenda.{Agenda, Open, plain, places, same_place, is_
 use Rattle.set_agenda.specs.Course.{Course, answered as course_answered, stepped as course_stepped}
 use Rattle.requestor.specs.declared.stage.Stage.{Stage}
 use Rattle.requestor.specs.declared.stage.Stage.TheVariants.{Prepared}
-use Rattle.requestor.specs.Session.{Session}
 use Rattle.scenario.specs.Plan.{Plan}
 use Rattle.vss_model.specs.State.{State, SetRow, is_running, is_complete, in_progress, history_in, history_of, left_now}
 use Rattle.vss_model.specs.Ending.{followed, runs}
@@ -34,13 +33,16 @@ use Rattle.generated.specs.Spots.{Place, Free, Stands, Waits, is_full}
 use Rattle.generated.proofs.Sound.{IsSound}
 use Rattle.generated.proofs.Standing.{IsStage, IsPlace, IsAt}
 use Rattle.generated.proofs.CutRows.{is_cut, cuts_made, is_cut_or_open, said_by, IsNow, HasCuts}
-use Rattle.generated.proofs.Courses.{and_first, and_second, and_both, sound_answered, sound_stepped}
-use Rattle.generated.proofs.Cuts.{cuts_followed, said_answered, said_stepped, said_elsewhere, said_cut}
-use Rattle.generated.proofs.Known.{now_found, cut_row}
+use Rattle.generated.proofs.Courses.{sound_answered, sound_stepped}
+use Rattle.generated.proofs.Cuts.{cuts_followed, said_answered, said_stepped, said_elsewhere, said_cut, now_is}
+use Rattle.generated.proofs.Known.{now_found}
 use Rattle.generated.proofs.Moves.{IsReached, orderly_now, below_range}
 use Rattle.generated.proofs.Room.{no_set_loses}
 use Rattle.generated.proofs.Volumes.{images_change}
 use Rattle.generated.proofs.Ways.{runs_of_order, runs_of_step}
+use Rattle.writer_meta.proofs.Laws.{and_left, and_right}
+use Rattle.vss_model.proofs.Rows.{apart, found_above, apart_back}
+use Rattle.vss_model.proofs.FlushFails.{outcome_in}
 
 -- ## writes of other lanes
 
@@ -69,14 +71,11 @@ record HasAgenda (st : State) : Type 0 where
 has_agenda : (a : Option Agenda) (st : State) → st.course.agenda ≡ a → is_some a ≡ true → HasAgenda st
 has_agenda a st e f = grind arith
 
-running_now : (q : Option Session) (o : SetOutcome) (r : SetRow) → IsOfSession q o (Some r) → o ≡ Running
-running_now q o r h = grind arith
-
 now_by : (x : Option SetRow) (c : Course) → ((r : SetRow) → x ≡ Some r → is_cut r ≡ said_by c.agenda c.outcome) → IsNow x c
 now_by x c h = grind arith
 
 outcome_of : (st : State) (r : SetRow) → IsOrderly st → in_progress st ≡ Some r → st.course.outcome ≡ Running
-outcome_of st r o e = running_now st.session st.course.outcome r (subst (IsOfSession st.session st.course.outcome) e o.session)
+outcome_of st r o e = outcome_in st.session st.course.outcome r (subst (IsOfSession st.session st.course.outcome) e o.session)
 
 pub cuts_answer : (s : Plan) (k w : ℕ) (st : State) → is_some (order_of_writer st w) ≡ true → IsSound k st.course → IsOrderly st → HasCuts s st → HasCuts s (answered w SaidOk st)
 unfolding answered
@@ -86,7 +85,7 @@ cuts_answer s k w st e sound o h =
     let c = course_answered w SaidOk st.clock st.course in
     subst (λ b. HasCuts s (followed b c st)) (sym ran)
     (cuts_followed s k c st (sound_answered k w st.clock st.course sound) o.newest h.count h.done
-    (now_by (in_progress st) c (λ r f. cut_row (in_progress st) r st.course f h.now ∙ sym (said_answered w st.clock st.course a.agenda a.is (outcome_of st r o f) e))))
+    (now_by (in_progress st) c (λ r f. now_is (in_progress st) r st.course f h.now ∙ sym (said_answered w st.clock st.course a.agenda a.is (outcome_of st r o f) e))))
 
 -- ## steps but the Cut step
 
@@ -105,7 +104,7 @@ other_step s k st e f sound o h =
     (subst (λ b. HasCuts s (followed b c st)) (sym ran)
     (cuts_followed s k c st (sound_stepped k st.clock st.course sound) o.newest h.count h.done
     (now_by (in_progress st) c (λ r g.
-    cut_row (in_progress st) r st.course g h.now ∙ ap (λ x. said_by x st.course.outcome) a.is
+    now_is (in_progress st) r st.course g h.now ∙ ap (λ x. said_by x st.course.outcome) a.is
     ∙ ap (λ b. is_snapshot a.agenda.kind && b) (sym (said_elsewhere a.agenda st.clock (next_member (groups_left a.agenda)) place))
     ∙ sym (said_stepped st.clock st.course a.agenda a.is (outcome_of st r o g))))))
 
@@ -136,26 +135,12 @@ row_other n now r b e = grind arith
 row_own : (n now : ℕ) (r : SetRow) (b : Bool) → b ≡ true → is_cut (if b then with_cut now r else r) ≡ true
 row_own n now r b e = grind arith
 
-not_same : (a b : ℕ) → a < b → (b == a) ≡ false
-not_same a b l = grind (arith, nat_tests)
-
-not_same_too : (a b : ℕ) → a < b → (a == b) ≡ false
-not_same_too a b l = grind (arith, nat_tests)
-
 cuts_above : (j n now : ℕ) (rows : List SetRow) → n < j → NumberedFrom j rows → cuts_made (map (row_cut n now) rows) ≡ cuts_made rows
 cuts_above j n now [] l h = refl
 cuts_above j n now (r ∷ rows) l h =
     let later = cuts_above (j + 1) n now rows (omega (arith, l)) h.1 in
-    let e : cond (is_cut (row_cut n now r)) 1 0 ≡ cond (is_cut r) 1 0 = ap {B = ℕ} (λ b. cond b 1 0) (row_other n now r (r.number == n) (ap (λ x. x == n) h.0 ∙ not_same n j l)) in
+    let e : cond (is_cut (row_cut n now r)) 1 0 ≡ cond (is_cut r) 1 0 = ap {B = ℕ} (λ b. cond b 1 0) (row_other n now r (r.number == n) (ap (λ x. x == n) h.0 ∙ apart_back n j l)) in
     omega (arith, later, e)
-
-found_above : (j : ℕ) (rows : List SetRow) (r : SetRow) → NumberedFrom j rows → find (λ x. is_running x.result) rows ≡ Some r → j ≤ r.number
-found_above j [] r h e = absurd cc
-found_above j (x ∷ rows) r h e = by_test (is_running x.result) e (λ f. found_above (j + 1) rows r h.1 f)
-  where
-    by_test : (b : Bool) → (if b then Some x else find (λ y. is_running y.result) rows) ≡ Some r → (find (λ y. is_running y.result) rows ≡ Some r → j + 1 ≤ r.number) → j ≤ r.number
-    by_test true e later = let same : x ≡ r = cc in let own = ap (λ (y : SetRow). y.number) same in let d = h.0 in omega (arith, own, d)
-    by_test false e later = let l = later e in omega (arith, l)
 
 cuts_more : (j n now : ℕ) (rows : List SetRow) (r : SetRow) → NumberedFrom j rows → find (λ x. is_running x.result) rows ≡ Some r → n ≡ r.number → is_cut r ≡ false → cuts_made (map (row_cut n now) rows) ≡ suc (cuts_made rows)
 cuts_more j n now [] r h e f g = absurd cc
@@ -176,13 +161,13 @@ cuts_more j n now (x ∷ rows) r h e f g = by_test (is_running x.result) e (λ d
     by_test false e later =
         let l = found_above (j + 1) rows r h.1 e in
         let d = h.0 in
-        let head : cond (is_cut (row_cut n now x)) 1 0 ≡ cond (is_cut x) 1 0 = ap {B = ℕ} (λ b. cond b 1 0) (row_other n now x (x.number == n) (not_same_too x.number n (omega (arith, d, l, f)))) in
+        let head : cond (is_cut (row_cut n now x)) 1 0 ≡ cond (is_cut x) 1 0 = ap {B = ℕ} (λ b. cond b 1 0) (row_other n now x (x.number == n) (apart x.number n (omega (arith, d, l, f)))) in
         let rest = later e in
         omega (arith, head, rest)
 
 done_cut : (n now : ℕ) (rows : List SetRow) → list_all is_cut_or_open rows ≡ true → list_all is_cut_or_open (map (row_cut n now) rows) ≡ true
 done_cut n now [] h = refl
-done_cut n now (r ∷ rows) h = and_both _ _ (own (r.number == n) (and_first (is_cut_or_open r) (list_all is_cut_or_open rows) h)) (done_cut n now rows (and_second (is_cut_or_open r) (list_all is_cut_or_open rows) h))
+done_cut n now (r ∷ rows) h = and_from _ _ (own (r.number == n) (and_left (is_cut_or_open r) (list_all is_cut_or_open rows) h)) (done_cut n now rows (and_right (is_cut_or_open r) (list_all is_cut_or_open rows) h))
   where
     or_true : (a : Bool) → (a || true) ≡ true
     or_true true = refl
@@ -229,7 +214,7 @@ cut_step s k p sets vs st reached e f sound at full count h =
     let c = course_stepped true st.clock st.course in
     let opens : groups_left a ≡ cut_group ∷ left_from a later_places = ap (λ x. left_from a (places x)) now.kind ∙ cut_is_open a now.at in
     let outcome = outcome_of st r o set.is in
-    let uncut : is_cut r ≡ false = cut_row (in_progress st) r st.course set.is h.now ∙ ap (λ x. said_by x st.course.outcome) now.runs ∙ ap (λ b. is_snapshot a.kind && b) now.at.cut ∙ and_none (is_snapshot a.kind) in
+    let uncut : is_cut r ≡ false = now_is (in_progress st) r st.course set.is h.now ∙ ap (λ x. said_by x st.course.outcome) now.runs ∙ ap (λ b. is_snapshot a.kind && b) now.at.cut ∙ and_none (is_snapshot a.kind) in
     let said : said_by c.agenda c.outcome ≡ true
     = said_stepped st.clock st.course a now.runs outcome
     ∙ ap (λ b. is_snapshot a.kind && b) (said_cut a st.clock (next_member (groups_left a)) (ap (λ os. same_place (open_place os) (plain Cut)) opens) (ap next_member opens))

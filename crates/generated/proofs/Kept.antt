@@ -35,14 +35,16 @@ use Rattle.generated.specs.Spots.{Spot, spot_after, completes_sets, is_full}
 use Rattle.generated.specs.Smooth.{IsSmooth, writes, is_write}
 use Rattle.generated.proofs.Standing.{IsAt, IsOnWay}
 use Rattle.generated.proofs.CutRows.{is_cut, cuts_made, is_cut_or_open, HasCuts}
-use Rattle.generated.proofs.Courses.{and_first, and_second, length_map}
+use Rattle.generated.proofs.Courses.{length_map}
 use Rattle.generated.proofs.Images.{cuts_write, cuts_answer, cuts_step}
 use Rattle.generated.proofs.Known.{IsKnown}
 use Rattle.generated.proofs.Moves.{drop_at, all_at, after_enabled, IsReached, orderly_now, orderly_next, IsBefore, on_move, spot_few, spot_full, no_idle}
 use Rattle.generated.proofs.Requests.{requests}
-use Rattle.generated.proofs.Room.{few_images, live_at, live_within}
+use Rattle.generated.proofs.Room.{few_images, live_within}
 use Rattle.generated.proofs.Runs.{clean_first, way_after, at_start, smooth_runs}
 use Rattle.generated.proofs.Volumes.{IsGrownIf, move_grown, cleared_same}
+use Rattle.writer_meta.proofs.Laws.{and_left, and_right}
+use Rattle.vss_model.proofs.Failures.{live_at}
 
 -- ## every move keeps it
 
@@ -62,7 +64,7 @@ own_cuts s n r m l (a ∷ more) before left spot leads at on h =
       images = subst (λ st. (v : ℕ) → length (history_of st v).images ≤ length st.sets) (sym before.reached.is) (few_images s before.reached.so_far);
     } in
     (requests s n more spot.place spot.sets spot.volumes a l.op m.mark r.state left.0 on
-    (and_second (nat_le spot.sets n && is_full (length s.volumes) spot.place spot.volumes) (completes_sets (length s.volumes) n more (spot_after spot.place spot.sets spot.volumes a)) leads) (spot_few (length s.volumes) n (a ∷ more) spot leads) at known).cuts h
+    (and_right (nat_le spot.sets n && is_full (length s.volumes) spot.place spot.volumes) (completes_sets (length s.volumes) n more (spot_after spot.place spot.sets spot.volumes a)) leads) (spot_few (length s.volumes) n (a ∷ more) spot leads) at known).cuts h
 
 HasCutsIf : Plan → Run → Move → Option Event → Type 0
 HasCutsIf s r m None = ⊥
@@ -98,7 +100,7 @@ move_cuts s n r m Advance before e f may count h =
     (subst (λ mark. HasCuts s (happens s Provider mark r.state).1) (sym f)
     (cuts_step s _ spot.place spot.sets spot.volumes r.state before.reached may before.way.at.sound before.way.at (spot_full (length s.volumes) n before.way.asked spot before.way.leads) count h))
 move_cuts s n r m Idle before e f may count h =
-    absurd (no_idle s n r before.smooth before.reached before.way.at.sound (and_first (is_asking (left_now r.state)) (none_can_act s r) may) (and_second (is_asking (left_now r.state)) (none_can_act s r) may))
+    absurd (no_idle s n r before.smooth before.reached before.way.at.sound (and_left (is_asking (left_now r.state)) (none_can_act s r) may) (and_right (is_asking (left_now r.state)) (none_can_act s r) may))
 
 -- ## all moves
 
@@ -116,10 +118,10 @@ all_images s n r (m ∷ ms) smooth way h legal clean =
     let reached : IsReached s r.state = record { so_far = way.so_far; is = way.reached } in
     let before : IsBefore s n r = record { smooth = smooth; reached = reached; way = way } in
     let marks = clean_first m ms clean in
-    let may = and_first (may_move s r m.actor) (allows s r (event_of s r m.actor) m.mark) (and_first (is_legal_move s r m) (is_legal_from s (moved s r m) ms) legal) in
+    let may = and_left (may_move s r m.actor) (allows s r (event_of s r m.actor) m.mark) (and_left (is_legal_move s r m) (is_legal_from s (moved s r m) ms) legal) in
     all_images s n (moved s r m) ms smooth (way_after s n r m (event_of s r m.actor) reached (on_move s n r m m.actor before refl marks.first may))
     (images_more s r m (event_of s r m.actor) (move_grown s n r m m.actor before refl marks.first may) (move_cuts s n r m m.actor before refl marks.first may h.count h.cuts) h)
-    (and_second (is_legal_move s r m) (is_legal_from s (moved s r m) ms) legal) marks.rest
+    (and_right (is_legal_move s r m) (is_legal_from s (moved s r m) ms) legal) marks.rest
 
 fresh_images : {X : Type 0} (rows : List X) (v : ℕ) → length (history_in (slice_get (map (λ _. fresh) rows) v)).images ≡ 0
 fresh_images [] zero = refl
@@ -137,8 +139,8 @@ run_images s n trail smooth legal clean =
 all_cut : (rows : List SetRow) → list_all is_cut_or_open rows ≡ true → list_all (λ r. is_complete r.result) rows ≡ true → cuts_made rows ≡ length rows
 all_cut [] h e = refl
 all_cut (r ∷ rows) h e =
-    let later = all_cut rows (and_second (is_cut_or_open r) (list_all is_cut_or_open rows) h) (and_second (is_complete r.result) _ e) in
-    let own : cond (is_cut r) 1 0 ≡ 1 = ap {B = ℕ} (λ b. cond b 1 0) (cut_now (is_complete r.result) (is_cut r) (and_first (is_cut_or_open r) (list_all is_cut_or_open rows) h) (and_first (is_complete r.result) _ e)) in
+    let later = all_cut rows (and_right (is_cut_or_open r) (list_all is_cut_or_open rows) h) (and_right (is_complete r.result) _ e) in
+    let own : cond (is_cut r) 1 0 ≡ 1 = ap {B = ℕ} (λ b. cond b 1 0) (cut_now (is_complete r.result) (is_cut r) (and_left (is_cut_or_open r) (list_all is_cut_or_open rows) h) (and_left (is_complete r.result) _ e)) in
     omega (arith, later, own)
   where
     cut_now : (a b : Bool) → (not a || b) ≡ true → a ≡ true → b ≡ true
@@ -169,7 +171,7 @@ just_these rows writes k (i ∷ images) numbered live time e low =
 
 kept_one : (rows : List SetRow) (n : ℕ) → list_all (λ r. is_complete r.result) rows ≡ true → is_live rows n ≡ true → list_any (λ r. (r.number == n) && is_complete r.result) rows ≡ true
 kept_one [] n e h = absurd cc
-kept_one (r ∷ rows) n e h = by_test (r.number == n) (not (has_failed r.result)) (is_complete r.result) (and_first (is_complete r.result) _ e) h (λ g. kept_one rows n (and_second (is_complete r.result) _ e) g)
+kept_one (r ∷ rows) n e h = by_test (r.number == n) (not (has_failed r.result)) (is_complete r.result) (and_left (is_complete r.result) _ e) h (λ g. kept_one rows n (and_right (is_complete r.result) _ e) g)
   where
     or_right : (a b : Bool) → b ≡ true → (a || b) ≡ true
     or_right true b e = refl

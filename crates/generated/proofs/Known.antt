@@ -2,6 +2,7 @@
 use Rattle.std.proofs.Common.{◌≡◌, ℕ, ◌+◌, ◌<◌, ◌≤◌, List, [], ◌∷◌, ◌++◌, Option, Some, None, refl, Bool, true, false, ap, sym, ◌∙◌, subst, length, arith, map}
 use Rattle.std.specs.Prelude.{option_map, is_some, cond, ◌&&◌}
 use Rattle.std.specs.List.{list_all}
+use Rattle.std.proofs.lemmas.Bool.{and_from}
 use Rattle.vss_names.specs.declared.set_outcome.SetOutcome.{SetOutcome}
 use Rattle.vss_names.specs.declared.set_outcome.SetOutcome.TheVariants.{Running}
 use Rattle.write_history.specs.declared.mark.Mark.{Mark}
@@ -23,7 +24,7 @@ use Rattle.generated.specs.Asked.{Asked}
 use Rattle.generated.specs.Spots.{Spot, completes_sets}
 use Rattle.generated.proofs.CutRows.{is_cut, cuts_made, is_cut_or_open, said_by, IsNow, HasCuts}
 use Rattle.generated.proofs.Standing.{session_at, IsIn, IsAt}
-use Rattle.generated.proofs.Courses.{and_first, and_second, and_both}
+use Rattle.writer_meta.proofs.Laws.{and_left, and_right}
 
 -- what is known of a state and the one after it
 pub record IsKnown (n k : ℕ) (st next : State) : Type 0 where
@@ -58,9 +59,6 @@ now_none o c e = grind arith
 pub now_found : (o : Option SetRow) (r : SetRow) (c : Course) → o ≡ Some r → is_cut r ≡ said_by c.agenda c.outcome → IsNow o c
 now_found o r c e f = grind arith
 
-pub cut_row : (o : Option SetRow) (r : SetRow) (c : Course) → o ≡ Some r → IsNow o c → is_cut r ≡ said_by c.agenda c.outcome
-cut_row o r c e h = grind arith
-
 pub quiet_said : (a : Option Agenda) (o : SetOutcome) → is_some a ≡ false → o ≡ Running → said_by a o ≡ false
 quiet_said a o e f = grind arith
 
@@ -78,8 +76,8 @@ cuts_snoc [] r e = ap {B = ℕ} (λ b. cond b 1 0 + 0) e
 cuts_snoc (q ∷ rows) r e = ap (λ m. cond (is_cut q) 1 0 + m) (cuts_snoc rows r e)
 
 pub done_snoc : (rows : List SetRow) (r : SetRow) → is_cut_or_open r ≡ true → list_all is_cut_or_open rows ≡ true → list_all is_cut_or_open (rows ++ r ∷ []) ≡ true
-done_snoc [] r e h = and_both (is_cut_or_open r) true e refl
-done_snoc (q ∷ rows) r e h = and_both (is_cut_or_open q) _ (and_first (is_cut_or_open q) (list_all is_cut_or_open rows) h) (done_snoc rows r e (and_second (is_cut_or_open q) (list_all is_cut_or_open rows) h))
+done_snoc [] r e h = and_from (is_cut_or_open r) true e refl
+done_snoc (q ∷ rows) r e h = and_from (is_cut_or_open q) _ (and_left (is_cut_or_open q) (list_all is_cut_or_open rows) h) (done_snoc rows r e (and_right (is_cut_or_open q) (list_all is_cut_or_open rows) h))
 
 pub cuts_mapped : (f : SetRow → SetRow) → ((r : SetRow) → is_cut (f r) ≡ is_cut r) → (rows : List SetRow) → cuts_made (map f rows) ≡ cuts_made rows
 cuts_mapped f same [] = refl

@@ -2,7 +2,6 @@
 use Rattle.std.proofs.Common.{◌≡◌, ◌∙◌, ℕ, suc, ◌+◌, ◌<◌, ◌≤◌, Bool, true, false, List, [], ◌∷◌, length, map, Some, refl, ap, ap₂, sym, subst, arith}
 use Rattle.std.specs.Prelude.{◌==◌, ◌&&◌, ◌||◌, not, cond, nat_lt, if◌then◌else◌, Result, Ok, Err}
 use Rattle.std.specs.List.{list_all}
-use Rattle.std.proofs.lemmas.Bool.Decides.{nat_tests}
 use Rattle.scenario.specs.declared.op.Op.{Op}
 use Rattle.scenario.specs.declared.reason.Reason.{Reason}
 use Rattle.scenario.specs.declared.reason.Reason.TheVariants.{Misplaced, TooMany}
@@ -17,7 +16,9 @@ use Rattle.scenario.specs.Entries.{may_stand, has_line_room, line_of, row_of, pl
 use Rattle.vss_report.proofs.Joined.{first_of_both, second_of_both}
 use Rattle.generated.proofs.Words.{are_words, spans_at}
 use Rattle.generated.proofs.Reader.{Says, end_of, Then, line_then, then_line}
-use Rattle.generated.proofs.Meant.{Declared, IsDeclared, Meaning, IsMeant, begins, begins_as, LaneMeant, lines_more, lanes_count, lanes_with, count_with, agendas_with, Run, IsSaid, still_declared, with_meant, with_nothing, begins_cons, with_first}
+use Rattle.generated.proofs.Meant.{Declared, IsDeclared, Meaning, IsMeant, begins, begins_as, LaneMeant, lines_more, lanes_count, lanes_with, agendas_with, Run, IsSaid, still_declared, with_meant, with_nothing, begins_cons, with_first}
+use Rattle.scenario.proofs.Changes.{lines_more as count_with}
+use Rattle.generated.proofs.Courses.{less_is}
 
 -- ## words and fields, which the reader's crate keeps to itself
 
@@ -52,9 +53,6 @@ pub record HasSpace (k : ℕ) (run : Run) : Type 0 where
   pub lines : run.lines + k ≤ 100000
   pub agendas : run.agendas + k ≤ 2000
 
-less : (a b : ℕ) → a < b → nat_lt a b ≡ true
-less a b l = grind (arith, nat_tests)
-
 has_room : (lines agendas : ℕ) (begun : Bool) → lines < 100000 → agendas < 2000 → (nat_lt lines 100000 && (not begun || nat_lt agendas 2000)) ≡ true
 has_room lines agendas begun l k = grind arith
 
@@ -86,7 +84,7 @@ lane_line text rest m run c cs ws w x words first word is space makes i =
         record {
           said = saying.Line line;
           is = ap (λ o. placed_row_of text d number (end_of at ws) o (spans_at at ws)) word
-              ∙ ap₂ (λ a b. if may_stand a b w then row_of text d number w fields else Err Misplaced) h.declared.opened (less 0 (length d.lanes) some)
+              ∙ ap₂ (λ a b. if may_stand a b w then row_of text d number w fields else Err Misplaced) h.declared.opened (less_is 0 (length d.lanes) some)
               ∙ ap (λ b. if b then row_of text d number w fields else Err Misplaced) is.stands
               ∙ is.row text d number fields
               ∙ ap (λ (r : Result Op Reason). r >>= (λ op. if has_line_room (line_count d.lanes) (agenda_count d.lanes) op then Ok (saying.Line (record { number = number; op = op })) else Err TooMany)) made.is

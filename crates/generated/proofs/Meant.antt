@@ -2,7 +2,6 @@
 use Rattle.std.proofs.Common.{◌≡◌, ◌∙◌, ℕ, zero, suc, ◌+◌, ◌*◌, Bool, true, false, List, [], ◌∷◌, ◌++◌, length, map, Option, Some, None, refl, ap, ap₂, arith, append_assoc, append-nil, codes, ◌<◌}
 use Rattle.std.specs.Prelude.{◌&&◌, ◌||◌, not, cond, count_by, slice_get}
 use Rattle.std.specs.List.{range_with_len, list_any}
-use Rattle.std.proofs.lemmas.List.{length_push}
 use Rattle.std.proofs.lemmas.List.Sums.{sum_by-cons, sum_by_push}
 use Rattle.writer_calls.specs.declared.scripted.Scripted.{Scripted}
 use Rattle.writer_meta.specs.Metadata.{Meta}
@@ -15,6 +14,7 @@ use Rattle.scenario.specs.Bounds.{begins_agenda, agenda_lines, is_begin, is_end,
 use Rattle.scenario.specs.Names.{volume_names, writer_names, lane_names}
 use Rattle.scenario.specs.SoFar.{SoFar, with_line, line_count, agenda_count, closed, closed_lane, implied_end}
 use Rattle.generated.specs.Scenario.{shape_of, own_shape}
+use Rattle.scenario.proofs.Changes.{lines_cons, agendas_cons}
 
 -- ## what is declared
 
@@ -187,25 +187,6 @@ lane_lines text (m ∷ ms) (l ∷ ls) (suc i) h e = lane_lines text ms ls i h.1 
 
 -- ## counts
 
-count_cons : (l : LanePlan) (lanes : List LanePlan) → line_count (l ∷ lanes) ≡ length l.lines + line_count lanes
-count_cons l lanes = sum_by-cons (λ (n : ℕ). n) (length l.lines) (map (λ (m : LanePlan). length m.lines) lanes)
-
-agendas_cons : (l : LanePlan) (lanes : List LanePlan) → agenda_count (l ∷ lanes) ≡ agenda_lines l.lines + agenda_count lanes
-agendas_cons l lanes = sum_by-cons (λ (n : ℕ). n) (agenda_lines l.lines) (map (λ (m : LanePlan). agenda_lines m.lines) lanes)
-
-pub count_with : (x : LaneLine) (lanes : List LanePlan) → 0 < length lanes → line_count (with_line x lanes) ≡ line_count lanes + 1
-count_with x [] e = absurd (omega (arith, e))
-count_with x (l ∷ []) e =
-    let more = count_cons (record l { lines = l.lines ++ x ∷ [] }) [] in
-    let before = count_cons l [] in
-    let one = length_push l.lines x in
-    omega (arith, more, before, one)
-count_with x (l ∷ next ∷ lanes) e =
-    let more = count_cons l (with_line x (next ∷ lanes)) in
-    let before = count_cons l (next ∷ lanes) in
-    let rest = count_with x (next ∷ lanes) (omega arith) in
-    omega (arith, more, before, rest)
-
 agenda_snoc : (xs : List LaneLine) (x : LaneLine) → agenda_lines (xs ++ x ∷ []) ≡ agenda_lines xs + cond (begins_agenda x.op) 1 0
 agenda_snoc xs x = sum_by_push (λ (l : LaneLine). cond (begins_agenda l.op) 1 0) xs x
 
@@ -225,11 +206,11 @@ agendas_with x (l ∷ next ∷ lanes) e =
 pub count_new : (l : LanePlan) (lanes : List LanePlan) → l.lines ≡ [] → line_count (lanes ++ l ∷ []) ≡ line_count lanes
 count_new l [] e =
     let none : length l.lines ≡ 0 = ap length e in
-    let only = count_cons l [] in
+    let only = lines_cons l [] in
     omega (arith, none, only)
 count_new l (m ∷ lanes) e =
-    let more = count_cons m (lanes ++ l ∷ []) in
-    let before = count_cons m lanes in
+    let more = lines_cons m (lanes ++ l ∷ []) in
+    let before = lines_cons m lanes in
     let rest = count_new l lanes e in
     omega (arith, more, before, rest)
 

@@ -38,11 +38,12 @@ use Rattle.generated.specs.Spots.{Spot, Place, spot_after, completes_sets, is_fu
 use Rattle.generated.specs.Smooth.{IsSmooth, writes, is_write}
 use Rattle.generated.proofs.Sound.{IsSound}
 use Rattle.generated.proofs.Standing.{IsAt, IsOnWay}
-use Rattle.generated.proofs.Courses.{and_first, and_second, asked_is_below}
+use Rattle.generated.proofs.Courses.{asked_is_below}
 use Rattle.generated.proofs.Known.{IsKnown}
 use Rattle.generated.proofs.Requests.{requests}
 use Rattle.generated.proofs.Room.{few_images, none_cleared}
 use Rattle.generated.proofs.Ways.{write_at, answer_at, step_at, runs_of_asking}
+use Rattle.writer_meta.proofs.Laws.{and_left, and_right}
 
 -- ## lists
 
@@ -66,11 +67,11 @@ all_at P (x ∷ lines) (suc n) l h e = all_at P lines n l (λ j d g. h (suc j) d
 
 pub in_range : (p : ℕ → Bool) (a n k : ℕ) → k < n → list_all p (range_with_len a n) ≡ true → p (a + k) ≡ true
 in_range p a zero k l h = absurd (omega (arith, l))
-in_range p a (suc n) zero l h = subst (λ i. p i ≡ true) (none a) (and_first (p a) (list_all p (range_with_len (a + 1) n)) h)
+in_range p a (suc n) zero l h = subst (λ i. p i ≡ true) (none a) (and_left (p a) (list_all p (range_with_len (a + 1) n)) h)
   where
     none : (a : ℕ) → a ≡ a + 0
     none a = omega arith
-in_range p a (suc n) (suc k) l h = subst (λ i. p i ≡ true) (shift a k) (in_range p (a + 1) n k (omega (arith, l)) (and_second (p a) (list_all p (range_with_len (a + 1) n)) h))
+in_range p a (suc n) (suc k) l h = subst (λ i. p i ≡ true) (shift a k) (in_range p (a + 1) n k (omega (arith, l)) (and_right (p a) (list_all p (range_with_len (a + 1) n)) h))
   where
     shift : (a k : ℕ) → a + 1 + k ≡ a + suc k
     shift a k = omega arith
@@ -133,12 +134,12 @@ no_writer s r = list_all (λ w. not (can_act s r (Writer w))) (range_with_len 0 
 
 pub somebody : (s : Plan) (n : ℕ) (r : Run) → IsSmooth n s → IsSound (length s.writers) r.state.course → none_can_act s r ≡ true
     → (is_working (left_now r.state) ≡ true) ⊎ (is_some (order_of_writer r.state (next_member (left_now r.state))) ≡ true) → ⊥
-somebody s n r smooth sound none (inl works) = not_both (can_act s r Advance) works (and_second (no_lane s r && no_writer s r) (not (can_act s r Advance)) none)
+somebody s n r smooth sound none (inl works) = not_both (can_act s r Advance) works (and_right (no_lane s r && no_writer s r) (not (can_act s r Advance)) none)
 somebody s n r smooth sound none (inr order) =
     let w = next_member (left_now r.state) in
     not_both (can_act s r (Writer w)) (writer_can s r w (smooth.scripts w) order)
     (below_range (λ x. not (can_act s r (Writer x))) (length s.writers) w (asked_is_below (length s.writers) w r.state.course sound order)
-    (and_second (no_lane s r) (no_writer s r) (and_first (no_lane s r && no_writer s r) (not (can_act s r Advance)) none)))
+    (and_right (no_lane s r) (no_writer s r) (and_left (no_lane s r && no_writer s r) (not (can_act s r Advance)) none)))
 
 pub no_idle : (s : Plan) (n : ℕ) (r : Run) → IsSmooth n s → IsReached s r.state → IsSound (length s.writers) r.state.course → is_asking (left_now r.state) ≡ true → none_can_act s r ≡ true → ⊥
 no_idle s n r smooth reached sound asks none =
@@ -184,7 +185,7 @@ own_line s n r m l (a ∷ more) before left spot leads at e on =
       images = subst (λ st. (v : ℕ) → length (history_of st v).images ≤ length st.sets) (sym before.reached.is) (few_images s before.reached.so_far);
     } in
     let to = requests s n more spot.place spot.sets spot.volumes a l.op m.mark r.state left.0 on
-    (and_second (nat_le spot.sets n && is_full (length s.volumes) spot.place spot.volumes) (completes_sets (length s.volumes) n more (spot_after spot.place spot.sets spot.volumes a)) leads) (spot_few (length s.volumes) n (a ∷ more) spot leads) at known in
+    (and_right (nat_le spot.sets n && is_full (length s.volumes) spot.place spot.volumes) (completes_sets (length s.volumes) n more (spot_after spot.place spot.sets spot.volumes a)) leads) (spot_few (length s.volumes) n (a ∷ more) spot leads) at known in
     record {
       asked = more;
       left = subst (λ k. AreAsked s more (drop k (lines_of s 0))) (sym (cursor_more r.moves m 0 e)) left.1;
@@ -236,4 +237,4 @@ on_move s n r m Advance before e f may =
     (others_left s n r m _ before.way (ap (is_lane 0) e)
     (step_at s spot.place spot.sets spot.volumes r.state may before.way.at (orderly_next s r.state Provider Clean before.reached may))))
 on_move s n r m Idle before e f may =
-    absurd (no_idle s n r before.smooth before.reached before.way.at.sound (and_first (is_asking (left_now r.state)) (none_can_act s r) may) (and_second (is_asking (left_now r.state)) (none_can_act s r) may))
+    absurd (no_idle s n r before.smooth before.reached before.way.at.sound (and_left (is_asking (left_now r.state)) (none_can_act s r) may) (and_right (is_asking (left_now r.state)) (none_can_act s r) may))

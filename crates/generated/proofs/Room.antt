@@ -15,6 +15,9 @@ use Rattle.vss_model.specs.Facts.{NumberedFrom, AreLive, AllLive, is_live, has_f
 use Rattle.vss_model.proofs.OneCut.{images_in_time}
 use Rattle.vss_model.proofs.OrderlyActs.{orderly}
 use Rattle.generated.specs.Smooth.{AreAlone}
+use Rattle.set_agenda.proofs.Closings.{unless}
+use Rattle.vss_model.proofs.Rows.{apart}
+use Rattle.vss_model.proofs.Failures.{live_at}
 
 -- ## few images
 
@@ -47,12 +50,6 @@ few_in rows writes (i ∷ images) numbered live time =
     let w = live_within 1 i.set rows numbered live.0 in
     let a = w.above in
     omega (arith, h, a)
-
-pub live_at : (rows : List SetRow) (hs : List History) (v : ℕ) → AllLive rows hs → AreLive rows (history_in (slice_get hs v)).images
-live_at rows [] zero h = tt
-live_at rows [] (suc v) h = tt
-live_at rows (x ∷ hs) zero h = h.0
-live_at rows (x ∷ hs) (suc v) h = live_at rows hs v h.1
 
 -- a volume has at most as many images as sets were started
 pub few_images : (s : Plan) (so_far : List Act) (v : ℕ) → length (history_of (state s so_far) v).images ≤ length (state s so_far).sets
@@ -90,21 +87,12 @@ all_of : ℕ → List Image → ℕ
 all_of n [] = 0
 all_of n (i ∷ images) = n + all_of n images
 
-used_most : (n : ℕ) (ws : List Write) (images : List Image) → used n ws images ≤ all_of n images
-unfolding all_of
-used_most n ws [] = omega arith
-used_most n ws (i ∷ newer) = let a = filter_most (names (writes_since ws i.point newer)) 0 n in let b = used_most n ws newer in omega (arith, a, b)
-
-not_false : (t : Bool) → not t ≡ true → t ≡ false
-not_false true e = absurd cc
-not_false false e = refl
-
 used_less : (n b : ℕ) (ws : List Write) (images : List Image) → b < n → needs_slot ws images b ≡ true → used n ws images < all_of n images
 unfolding all_of
 used_less n b ws [] l e = absurd cc
 used_less n b ws (i ∷ []) l e =
     let zero_more : 0 + b ≡ b = omega arith in
-    let fewer = filter_few (names (writes_since ws i.point [])) 0 n b l (ap (names (writes_since ws i.point [])) zero_more ∙ not_false _ e) in
+    let fewer = filter_few (names (writes_since ws i.point [])) 0 n b l (ap (names (writes_since ws i.point [])) zero_more ∙ unless _ e) in
     omega (arith, fewer)
 used_less n b ws (i ∷ j ∷ newer) l e =
     let a = filter_most (names (writes_since ws i.point (j ∷ newer))) 0 n in
@@ -128,9 +116,6 @@ fits n b k slots ws images l few enough e =
     omega (arith, less, times, turned, most, enough)
 
 -- ## a volume alone in its group
-
-not_equal : (a b : ℕ) → a < b → (a == b) ≡ false
-not_equal a b l = grind (arith, nat_tests)
 
 own_number : (a : ℕ) → (a == a) ≡ true
 own_number a = grind arith
@@ -163,7 +148,7 @@ own_used j zero (q ∷ rows) (x ∷ hs) r h alone e f =
     let is : used q.blocks x.writes x.images ≡ used r.blocks h.writes h.images = ap (λ (y : VolumeRow). used y.blocks x.writes x.images) same ∙ ap (λ (y : History). used r.blocks y.writes y.images) own in
     omega (arith, head, later, is)
 own_used j (suc v) (q ∷ rows) (x ∷ hs) r h alone e f =
-    let other : (q.group == j + suc v) ≡ false = ap (λ y. y == j + suc v) alone.0 ∙ not_equal j (j + suc v) (omega arith) in
+    let other : (q.group == j + suc v) ≡ false = ap (λ y. y == j + suc v) alone.0 ∙ apart j (j + suc v) (omega arith) in
     let head = ap (λ (t : Bool). if t then used q.blocks x.writes x.images else 0) other in
     let shift : j + suc v ≡ suc j + v = omega arith in
     let later = ap (λ g. group_used (map (placed g) rows) hs) shift ∙ own_used (suc j) v rows hs r h alone.1 e f in
@@ -202,7 +187,7 @@ found_first zero f h = refl
 found_first (suc sets) f h = ap (λ (t : Bool). unwrap_or (if t then Some 0 else find f (range_with_len (0 + 1) sets)) (suc sets)) h
 
 and_less : (a : Bool) (x y : ℕ) → (a ≡ true → x < y) → (a && (x == y)) ≡ false
-and_less true x y l = not_equal x y (l refl)
+and_less true x y l = apart x y (l refl)
 and_less false x y l = refl
 
 no_lack_at : (rows : List VolumeRow) (hs : List History) (v b k : ℕ) (r : VolumeRow) (o : Option History) → AreAlone 0 rows → slice_get rows v ≡ Some r → slice_get hs v ≡ o → b < r.blocks → k * r.blocks ≤ r.slots

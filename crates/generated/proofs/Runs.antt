@@ -3,6 +3,7 @@ use Rattle.std.proofs.Common.{◌≡◌, ℕ, zero, suc, ◌+◌, List, [], ◌�
 use Rattle.std.specs.Prelude.{is_none, cond, slice_get, not, if◌then◌else◌}
 use Rattle.std.specs.List.{list_all, range_with_len}
 use Rattle.std.proofs.lemmas.List.Sums.{sum_by-cons}
+use Rattle.std.proofs.lemmas.Bool.{and_from}
 use Rattle.vss_names.specs.declared.set_outcome.SetOutcome.{SetOutcome}
 use Rattle.write_history.specs.declared.mark.Mark.{Mark}
 use Rattle.write_history.specs.declared.mark.Mark.TheVariants.{Clean}
@@ -19,8 +20,10 @@ use Rattle.generated.specs.Asked.{Asked, AreAsked}
 use Rattle.generated.specs.Spots.{Place, Free, is_at_end, is_free, completes_sets}
 use Rattle.generated.specs.Smooth.{IsSmooth}
 use Rattle.generated.proofs.Standing.{none_failed, IsAt, IsOnWay}
-use Rattle.generated.proofs.Courses.{and_first, and_second, and_both, length_map}
+use Rattle.generated.proofs.Courses.{length_map}
 use Rattle.generated.proofs.Moves.{drop_none, IsReached, orderly_now, IsBefore, IsNextIf, on_move}
+use Rattle.writer_meta.proofs.Laws.{and_left, and_right}
+use Rattle.scenario.proofs.Places.{number_is}
 
 -- ## all moves
 
@@ -57,10 +60,10 @@ all_on_way s n r (m ∷ ms) smooth way legal clean =
     let reached : IsReached s r.state = record { so_far = way.so_far; is = way.reached } in
     let before : IsBefore s n r = record { smooth = smooth; reached = reached; way = way } in
     let marks = clean_first m ms clean in
-    let move = and_first (is_legal_move s r m) (is_legal_from s (moved s r m) ms) legal in
-    let may = and_first (may_move s r m.actor) (allows s r (event_of s r m.actor) m.mark) move in
+    let move = and_left (is_legal_move s r m) (is_legal_from s (moved s r m) ms) legal in
+    let may = and_left (may_move s r m.actor) (allows s r (event_of s r m.actor) m.mark) move in
     all_on_way s n (moved s r m) ms smooth (way_after s n r m (event_of s r m.actor) reached (on_move s n r m m.actor before refl marks.first may))
-    (and_second (is_legal_move s r m) (is_legal_from s (moved s r m) ms) legal) marks.rest
+    (and_right (is_legal_move s r m) (is_legal_from s (moved s r m) ms) legal) marks.rest
 
 pub at_start : (s : Plan) (n : ℕ) → IsSmooth n s → IsOnWay s n (begin s)
 at_start s n smooth = record {
@@ -95,7 +98,7 @@ used_up s r h = by_lanes s.lanes refl h
 
     by_lanes : (lanes : List LanePlan) → s.lanes ≡ lanes → list_all (is_used_up s r) (range_with_len 0 (length lanes)) ≡ true → next_line s r 0 ≡ None
     by_lanes [] e h = ap (λ (ls : List LanePlan). slice_get (lines_in (slice_get ls 0)) (cursor r.moves 0)) e ∙ no_line (cursor r.moves 0)
-    by_lanes (p ∷ ps) e h = is_none_of (next_line s r 0) (and_first (is_used_up s r 0) _ h)
+    by_lanes (p ∷ ps) e h = is_none_of (next_line s r 0) (and_left (is_used_up s r 0) _ h)
 
 pub none_running : (o : SetOutcome) (found : Option SetRow) → IsOfNone o found → found ≡ None
 none_running o found h = grind arith
@@ -106,9 +109,9 @@ complete_if b o e f h = grind arith
 pub all_complete : (rows : List SetRow) → find (λ r. is_running r.result) rows ≡ None → none_failed rows ≡ true → list_all (λ r. is_complete r.result) rows ≡ true
 all_complete [] e h = refl
 all_complete (r ∷ rows) e h =
-    and_both (is_complete r.result) _
-    (complete_if (is_running r.result) r.result refl (none_head (is_running r.result) _ e) (and_first (not (has_failed r.result)) (none_failed rows) h))
-    (all_complete rows (none_tail (is_running r.result) (find (λ x. is_running x.result) rows) e) (and_second (not (has_failed r.result)) (none_failed rows) h))
+    and_from (is_complete r.result) _
+    (complete_if (is_running r.result) r.result refl (none_head (is_running r.result) _ e) (and_left (not (has_failed r.result)) (none_failed rows) h))
+    (all_complete rows (none_tail (is_running r.result) (find (λ x. is_running x.result) rows) e) (and_right (not (has_failed r.result)) (none_failed rows) h))
   where
     none_head : (b : Bool) (other : Option SetRow) → (if b then Some r else other) ≡ None → b ≡ false
     none_head true other e = absurd cc
@@ -122,18 +125,15 @@ pub record AreDone (n : ℕ) (st : State) : Type 0 where
   pub count : length st.sets ≡ n
   pub complete : list_all (λ r. is_complete r.result) st.sets ≡ true
 
-pub same_count : (a b : ℕ) → (a == b) ≡ true → a ≡ b
-same_count a b e = grind arith
-
 pub at_end : (s : Plan) (n : ℕ) (p : Place) (k : ℕ) (vs : List ℕ) (st : State) → is_free p ≡ true → k ≡ n → IsAt s p k vs st → IsOrderly st → AreDone n st
 at_end s n p k vs st e f h o = grind (arith, all_complete, none_running)
 
 pub over : (s : Plan) (n : ℕ) (r : Run) → IsOnWay s n r → is_over s r ≡ true → AreDone n r.state
 over s n r way e =
-    let used = used_up s r (and_first (list_all (is_used_up s r) (range_with_len 0 (length s.lanes))) (not (runs r.state)) e) in
+    let used = used_up s r (and_left (list_all (is_used_up s r) (range_with_len 0 (length s.lanes))) (not (runs r.state)) e) in
     let none = none_asked s way.asked (subst (AreAsked s way.asked) (drop_none (lines_of s 0) (cursor r.moves 0) used) way.left) in
     let is : is_at_end n way.spot ≡ true = subst (λ asked. completes_sets (length s.volumes) n asked (Some way.spot) ≡ true) none way.leads in
-    at_end s n way.spot.place way.spot.sets way.spot.volumes r.state (and_first (is_free way.spot.place) (way.spot.sets == n) is) (same_count way.spot.sets n (and_second (is_free way.spot.place) (way.spot.sets == n) is)) way.at
+    at_end s n way.spot.place way.spot.sets way.spot.volumes r.state (and_left (is_free way.spot.place) (way.spot.sets == n) is) (number_is way.spot.sets n (and_right (is_free way.spot.place) (way.spot.sets == n) is)) way.at
     (orderly_now s r.state (record { so_far = way.so_far; is = way.reached }))
 
 pub smooth_runs : (n : ℕ) (s : Plan) (trail : List Move) → IsSmooth n s → is_legal s trail ≡ true → is_complete_trail s trail ≡ true → faults trail ≡ 0 → AreDone n (state s (acts s trail))

@@ -1,7 +1,8 @@
 -- The lines that begin a session and put a set together each lead a state from spot to spot.
-use Rattle.std.proofs.Common.{◌≡◌, ℕ, ◌+◌, ◌<◌, ◌≤◌, List, [], ◌∷◌, ◌++◌, Some, None, refl, Bool, true, false, ap, sym, ◌∙◌, ◌==◌, subst, length, arith, map}
+use Rattle.std.proofs.Common.{◌≡◌, ℕ, ◌+◌, ◌≤◌, List, [], ◌∷◌, ◌++◌, Some, None, refl, Bool, true, false, ap, sym, ◌∙◌, ◌==◌, subst, length, arith, map}
 use Rattle.std.specs.Prelude.{option_map, nat_lt, nat_le, ◌&&◌, not, if◌then◌else◌}
 use Rattle.std.proofs.lemmas.Bool.Decides.{nat_tests}
+use Rattle.std.proofs.lemmas.Bool.{and_from}
 use Rattle.vss_names.specs.declared.context.Context.TheVariants.{AppRollback}
 use Rattle.vss_names.specs.Context.{context_of_number}
 use Rattle.vss_names.specs.declared.set_outcome.SetOutcome.{SetOutcome}
@@ -27,10 +28,11 @@ use Rattle.generated.specs.Asked.{Asked, Begins, Gathers, Names, Starts, Adds, I
 use Rattle.generated.specs.Spots.{Free, Stands, Waits, spot_after, completes_sets, added}
 use Rattle.generated.proofs.CutRows.{is_cut, is_cut_or_open, IsNow, HasCuts}
 use Rattle.generated.proofs.Standing.{session_at, none_failed, IsAt}
-use Rattle.generated.proofs.Courses.{and_first, and_second, and_both, length_map, sound_gathered}
+use Rattle.generated.proofs.Courses.{length_map, sound_gathered, less_is}
 use Rattle.generated.proofs.Cuts.{cuts_followed}
 use Rattle.generated.proofs.Known.{IsKnown, LeadsTo, goes, as_line, none_in, now_none, now_found, quiet_said, running_early, of_session, cuts_snoc, done_snoc, cuts_mapped, done_mapped, now_mapped, found_in}
 use Rattle.generated.proofs.Steps.{goes_on, followed_volumes}
+use Rattle.writer_meta.proofs.Laws.{and_left, and_right}
 
 -- ## the lines
 
@@ -93,8 +95,8 @@ length_snoc [] x = refl
 length_snoc (y ∷ xs) x = let h = length_snoc xs x in omega (arith, h)
 
 fine_snoc : (rows : List SetRow) (r : SetRow) → none_failed rows ≡ true → not (has_failed r.result) ≡ true → none_failed (rows ++ r ∷ []) ≡ true
-fine_snoc [] r h e = and_both _ _ e refl
-fine_snoc (q ∷ rows) r h e = and_both _ _ (and_first (not (has_failed q.result)) (none_failed rows) h) (fine_snoc rows r (and_second (not (has_failed q.result)) (none_failed rows) h) e)
+fine_snoc [] r h e = and_from _ _ e refl
+fine_snoc (q ∷ rows) r h e = and_from _ _ (and_left (not (has_failed q.result)) (none_failed rows) h) (fine_snoc rows r (and_right (not (has_failed q.result)) (none_failed rows) h) e)
 
 pub starts : (s : Plan) (n : ℕ) (more : List Asked) (k : ℕ) (vs : List ℕ) (op : Op) (mark : Mark) (st : State) → IsAsked s Starts op → line_enabled s st 0 op ≡ true → completes_sets (length s.volumes) n more (spot_after (Stands Gathered) k vs Starts) ≡ true → k ≤ n → IsAt s (Stands Gathered) k vs st → IsKnown n k st (line s 0 op mark st).1 → LeadsTo s n more st (line s 0 op mark st).1
 starts s n more k vs op mark st e on leads most h known =
@@ -126,9 +128,6 @@ no_refusal a b c x y z e f g = grind arith
 
 not_le : (a b : ℕ) → nat_lt b a ≡ true → nat_le a b ≡ false
 not_le a b l = grind (arith, nat_tests)
-
-lt_is : (a b : ℕ) → a < b → nat_lt a b ≡ true
-lt_is a b l = grind (arith, nat_tests)
 
 record AddsTo (v : ℕ) (c n : ℕ) (more : List Asked) (k : ℕ) (vs : List ℕ) : Type 0 where
   new : is_among v vs ≡ false
@@ -163,7 +162,7 @@ adds s n more v k vs op mark st e on leads most h known =
     let sets = h.sets in
     let free : add_refusal v r st ≡ None
     = no_refusal _ _ _ _ _ _ (ap (is_among v) own ∙ to.new) (not_le 64 (length r.volumes) (ap (λ (us : List ℕ). nat_lt (length us) 64) own ∙ to.few))
-    (not_le 512 (length (history_of st v).images) (lt_is (length (history_of st v).images) 512 (omega (arith, less, few, sets, most)))) in
+    (not_le 512 (length (history_of st v).images) (less_is (length (history_of st v).images) 512 (omega (arith, less, few, sets, most)))) in
     let is : (line s 0 op mark st).1 ≡ change_set r.number (with_volume v) st
     = ap (λ x. (line s 0 x mark st).1) e ∙ ap (λ y. y.1) (goes call.Add s (Add v) st q false h.place.stage.is h.place.is_busy refl)
     ∙ ap (λ x. (add v x st).1) found.is ∙ ap (λ x. (add_to v r x st).1) free in

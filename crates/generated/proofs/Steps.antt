@@ -1,6 +1,7 @@
 -- What each change leaves of where a state stands.
 use Rattle.std.proofs.Common.{◌≡◌, ℕ, List, [], ◌∷◌, Option, Some, None, refl, Bool, true, false, ap, sym, ◌∙◌, subst, length, inl, inr, find, map, arith}
 use Rattle.std.specs.Prelude.{option_map, is_some, not, if◌then◌else◌}
+use Rattle.std.proofs.lemmas.Bool.{and_from}
 use Rattle.vss_names.specs.declared.set_outcome.SetOutcome.{SetOutcome}
 use Rattle.vss_names.specs.declared.set_outcome.SetOutcome.TheVariants.{Running}
 use Rattle.vss_names.specs.declared.vss_result.VssResult.{VssResult}
@@ -18,7 +19,8 @@ use Rattle.vss_model.proofs.Orderly.{find-settled_running}
 use Rattle.generated.specs.Spots.{Waits, stage_next, volumes_next}
 use Rattle.generated.proofs.Sound.{IsSound}
 use Rattle.generated.proofs.Standing.{session_at, IsIn, HasVolumes, none_failed, IsAt}
-use Rattle.generated.proofs.Courses.{and_first, and_second, and_both, length_map}
+use Rattle.generated.proofs.Courses.{length_map}
+use Rattle.writer_meta.proofs.Laws.{and_left, and_right}
 
 -- ## endings
 
@@ -37,8 +39,8 @@ fine_if b o r e h = grind arith
 fine_settled : (o : SetOutcome) (rows : List SetRow) → has_failed o ≡ false → none_failed rows ≡ true → none_failed (map (row_settled o) rows) ≡ true
 fine_settled o [] e h = refl
 fine_settled o (r ∷ rows) e h =
-    and_both _ _ (fine_if (is_running r.result) o r e (and_first (not (has_failed r.result)) (none_failed rows) h))
-    (fine_settled o rows e (and_second (not (has_failed r.result)) (none_failed rows) h))
+    and_from _ _ (fine_if (is_running r.result) o r e (and_left (not (has_failed r.result)) (none_failed rows) h))
+    (fine_settled o rows e (and_right (not (has_failed r.result)) (none_failed rows) h))
 
 abbrev with_running : SetRow → SetRow
 with_running r = record r { result = Running }

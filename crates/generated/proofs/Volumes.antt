@@ -42,13 +42,16 @@ use Rattle.generated.specs.Smooth.{IsSmooth, is_write}
 use Rattle.generated.proofs.Sound.{IsSound}
 use Rattle.generated.proofs.Standing.{IsAt}
 use Rattle.generated.proofs.Puts.{put_if, puts_to, puts_of}
-use Rattle.generated.proofs.Courses.{and_first, and_second, sound_answered, sound_stepped}
+use Rattle.generated.proofs.Courses.{sound_answered, sound_stepped}
 use Rattle.generated.proofs.Known.{IsKnown}
 use Rattle.generated.proofs.Moves.{drop_at, all_at, after_enabled, IsReached, orderly_now, orderly_next, IsBefore, spot_few, no_idle}
 use Rattle.generated.proofs.Requests.{requests}
 use Rattle.generated.proofs.Room.{few_images, none_cleared, no_set_loses}
 use Rattle.generated.proofs.Steps.{followed_volumes}
 use Rattle.generated.proofs.Ways.{runs_of_order, runs_of_step}
+use Rattle.writer_meta.proofs.Laws.{and_left, and_right}
+use Rattle.vss_model.proofs.CutHistory.{append_none}
+use Rattle.vss_model.proofs.Volumes.{as_many_change, as_many_cut}
 
 -- what an event does to the images of a state before its course goes on
 abbrev pub made_by : State → Event → State
@@ -86,24 +89,14 @@ none_for s st v b e = none_of_rows (filter (λ (r : SetRow). is_complete r.resul
 equal_suc : (a b : ℕ) → (suc a == suc b) ≡ (a == b)
 equal_suc a b = grind arith
 
-length_change : (f : History → History) (u : ℕ) (hs : List History) → length (change_at u f hs) ≡ length hs
-length_change f zero [] = refl
-length_change f (suc u) [] = refl
-length_change f zero (h ∷ hs) = refl
-length_change f (suc u) (h ∷ hs) = let e = length_change f u hs in omega (arith, e)
-
-none_added : (ws : List Write) → ws ≡ ws ++ []
-none_added [] = refl
-none_added (w ∷ ws) = ap (λ xs. w ∷ xs) (none_added ws)
-
 writes_change : (w : Write) (u v : ℕ) (hs : List History) → v < length hs → (history_in (slice_get (change_at u (with_write w) hs) v)).writes ≡ (history_in (slice_get hs v)).writes ++ put_if (u == v) w
 writes_change w u v [] l = absurd (omega (arith, l))
 writes_change w zero zero (h ∷ hs) l = refl
-writes_change w zero (suc v) (h ∷ hs) l = none_added (history_in (slice_get hs v)).writes ∙ ap (λ b. (history_in (slice_get hs v)).writes ++ put_if b w) (sym (differs v))
+writes_change w zero (suc v) (h ∷ hs) l = append_none (history_in (slice_get hs v)).writes ∙ ap (λ b. (history_in (slice_get hs v)).writes ++ put_if b w) (sym (differs v))
   where
     differs : (v : ℕ) → (zero == suc v) ≡ false
     differs v = grind arith
-writes_change w (suc u) zero (h ∷ hs) l = none_added h.writes ∙ ap (λ b. h.writes ++ put_if b w) (sym (differs u))
+writes_change w (suc u) zero (h ∷ hs) l = append_none h.writes ∙ ap (λ b. h.writes ++ put_if b w) (sym (differs u))
   where
     differs : (u : ℕ) → (suc u == zero) ≡ false
     differs u = grind arith
@@ -125,10 +118,10 @@ unfolding write
 write_volumes s v w mark st e same = grind (arith, room_volumes, no_set_loses)
 
 grown_by : (s : Plan) (st next : State) (lane u : ℕ) (op : Op) (w : Write) → next.volumes ≡ change_at u (with_write w) st.volumes → ((v : ℕ) → puts_to v op ≡ put_if (u == v) w) → evicted s st (Line lane op) ≡ [] → IsGrown s st next (Line lane op)
-grown_by s st next lane u op w e puts none = grind (arith, length_change, writes_change, images_change)
+grown_by s st next lane u op w e puts none = grind (arith, as_many_change, writes_change, images_change)
 
 same_grown : (s : Plan) (st next : State) (event : Event) → next.volumes ≡ st.volumes → ((v : ℕ) → puts_of v event ≡ []) → ((v : ℕ) → (history_of st v).images ≡ (history_of (made_by st event) v).images) → evicted s st event ≡ [] → IsGrown s st next event
-same_grown s st next event e none made no_eviction = grind (arith, none_added)
+same_grown s st next event e none made no_eviction = grind (arith, append_none)
 
 pub cleared_same : (s : Plan) (n v b k : ℕ) (st : State) → IsSmooth n s → IsReached s st → b < blocks_of s v → k ≤ n → length st.sets ≡ k → (cleared s v b st).volumes ≡ st.volumes
 cleared_same s n v b k st smooth reached l most sets =
@@ -164,7 +157,7 @@ own_grown s n r m l (a ∷ more) before left spot leads at on =
       images = subst (λ st. (v : ℕ) → length (history_of st v).images ≤ length st.sets) (sym before.reached.is) (few_images s before.reached.so_far);
     } in
     let to = requests s n more spot.place spot.sets spot.volumes a l.op m.mark r.state left.0 on
-    (and_second (nat_le spot.sets n && is_full (length s.volumes) spot.place spot.volumes) (completes_sets (length s.volumes) n more (spot_after spot.place spot.sets spot.volumes a)) leads) (spot_few (length s.volumes) n (a ∷ more) spot leads) at known in
+    (and_right (nat_le spot.sets n && is_full (length s.volumes) spot.place spot.volumes) (completes_sets (length s.volumes) n more (spot_after spot.place spot.sets spot.volumes a)) leads) (spot_few (length s.volumes) n (a ∷ more) spot leads) at known in
     let none = writes_none s r.state a l.op left.0 in
     same_grown s r.state _ (Line 0 l.op) to.same none.puts (λ v. refl) none.evicts
 
@@ -182,10 +175,6 @@ step_volumes k st e sound =
     let c = course_stepped true st.clock st.course in
     ap (λ b. (followed b c (step_made (open_group (left_now st)) st)).volumes) (runs_of_step st.course.agenda e) ∙ followed_volumes k c (step_made (open_group (left_now st)) st) (sound_stepped k st.clock st.course sound)
 
-length_cut : (n : ℕ) (vs : List ℕ) (v : ℕ) (hs : List History) → length (cut_each n vs v hs) ≡ length hs
-length_cut n vs v [] = refl
-length_cut n vs v (h ∷ hs) = let e = length_cut n vs (v + 1) hs in omega (arith, e)
-
 writes_cut : (n : ℕ) (vs : List ℕ) (u v : ℕ) (hs : List History) → (history_in (slice_get (cut_each n vs u hs) v)).writes ≡ (history_in (slice_get hs v)).writes
 writes_cut n vs u zero [] = refl
 writes_cut n vs u (suc v) [] = refl
@@ -201,7 +190,7 @@ record KeepsWrites (st made : State) : Type 0 where
   writes : (v : ℕ) → (history_of made v).writes ≡ (history_of st v).writes
 
 cut_keeps : (o : Option SetRow) (st : State) → KeepsWrites st (cut_set o st)
-cut_keeps o st = grind (arith, length_cut, writes_cut)
+cut_keeps o st = grind (arith, as_many_cut, writes_cut)
 
 made_keeps : (g : Option Group) (st : State) → KeepsWrites st (step_made g st)
 made_keeps (Some Cut) st = cut_keeps (in_progress st) st
@@ -213,7 +202,7 @@ step_grown s k st e sound =
     let keeps = made_keeps (open_group (left_now st)) st in
     record {
       count = ap length same ∙ keeps.count;
-      writes = λ v l. ap (λ (hs : List History). (history_in (slice_get hs v)).writes) same ∙ keeps.writes v ∙ none_added (history_of st v).writes;
+      writes = λ v l. ap (λ (hs : List History). (history_in (slice_get hs v)).writes) same ∙ keeps.writes v ∙ append_none (history_of st v).writes;
       images = λ v. ap (λ (hs : List History). (history_in (slice_get hs v)).images) same;
       no_eviction = refl;
     }
@@ -253,4 +242,4 @@ move_grown s n r m Advance before e f may =
     by_after s r m Provider may
     (subst (λ mark. IsGrown s r.state (happens s Provider mark r.state).1 Provider) (sym f) (step_grown s _ r.state may before.way.at.sound))
 move_grown s n r m Idle before e f may =
-    absurd (no_idle s n r before.smooth before.reached before.way.at.sound (and_first (is_asking (left_now r.state)) (none_can_act s r) may) (and_second (is_asking (left_now r.state)) (none_can_act s r) may))
+    absurd (no_idle s n r before.smooth before.reached before.way.at.sound (and_left (is_asking (left_now r.state)) (none_can_act s r) may) (and_right (is_asking (left_now r.state)) (none_can_act s r) may))

@@ -1,15 +1,13 @@
 -- The lanes that write: each line is read as the write that it is, whatever the number of the scenario.
-use Rattle.std.proofs.Common.{◌≡◌, ◌∙◌, ℕ, zero, suc, ◌+◌, ◌-◌, ◌/◌, ◌%◌, ◌<◌, ◌≤◌, Bool, true, List, [], ◌∷◌, ◌++◌, map, refl, ap, ap₂, sym, arith, codes, append_assoc}
-use Rattle.std.specs.Prelude.{◌&&◌, nat_lt, nat_le, slice_get, count_by, Ok}
+use Rattle.std.proofs.Common.{◌≡◌, ◌∙◌, ℕ, ◌+◌, ◌-◌, ◌<◌, ◌≤◌, Bool, true, List, [], ◌∷◌, ◌++◌, map, refl, ap, ap₂, sym, arith, codes, append_assoc}
+use Rattle.std.specs.Prelude.{◌&&◌, nat_lt, nat_le, count_by, Ok}
 use Rattle.std.specs.List.{list_all, range_with_len, flat_map}
 use Rattle.std.specs.Fmt.{decimal}
-use Rattle.std.proofs.Math.Nat.{mod-lt}
 use Rattle.std.proofs.lemmas.Fmt.{decimal_digit}
 use Rattle.std.proofs.lemmas.Bool.Decides.{nat_tests}
 use Rattle.scenario.specs.declared.op.Op.{Op}
 use Rattle.scenario.specs.declared.op.Op.TheVariants.{WriteStamp}
-use Rattle.scenario.specs.declared.volume_row.VolumeRow.{VolumeRow}
-use Rattle.scenario.specs.Plan.{LaneLine, blocks_in}
+use Rattle.scenario.specs.Plan.{LaneLine}
 use Rattle.scenario.specs.Lines.{span_from}
 use Rattle.scenario.specs.Fields.{bytes_of, text_field, fields_of}
 use Rattle.scenario.specs.Numbers.{number_in}
@@ -17,16 +15,16 @@ use Rattle.scenario.specs.Words.{word_of}
 use Rattle.scenario.specs.Ops.{number_field, volume_field, block_at as block_value, payload_of, write_of, op_of}
 use Rattle.scenario.specs.SoFar.{SoFar}
 use Rattle.scenario.specs.Entries.{row_of}
-use Rattle.generator_text.specs.Draws.{drawn, volume_at, block_at, stamp_at}
+use Rattle.generator_text.specs.Draws.{volume_at, block_at, stamp_at}
 use Rattle.generator_text.specs.ScenarioText.{drawn_text, writes_text}
 use Rattle.generated.specs.Writes.{write_at}
-use Rattle.generated.specs.Scenario.{Shape, shape_of, own_shape}
 use Rattle.vss_report.proofs.Joined.{both}
 use Rattle.generated.proofs.Words.{are_words, spans_at, number_word, number_reads}
 use Rattle.generated.proofs.Reader.{head_is, tail_is, Then, line_then, same_rest}
 use Rattle.generated.proofs.Meant.{IsDeclared, Meaning, Does, AreMeant, begins, all_end, Run, IsSaid, with_meant}
 use Rattle.generated.proofs.LaneLines.{Makes, HasSpace, lane_line, lines_then, many_lines}
 use Rattle.generated.proofs.SetTexts.{all_declared, volume_is}
+use Rattle.generated.proofs.Generated.{blocks_from, volume_below, block_below}
 
 -- ## a write
 
@@ -47,13 +45,6 @@ known v l = grind (arith, nat_tests)
 
 write_are_words : (v b s : ℕ) → IsWrite v b s → are_words (write_words v b s) ≡ true
 write_are_words v b s w = grind (arith, both, number_word)
-
--- each volume has 256 blocks
-blocks_from : (g k v : ℕ) (rows : List VolumeRow) → map shape_of rows ≡ map own_shape (range_with_len g k) → v < k → blocks_in (slice_get rows v) ≡ 256
-blocks_from g zero v rows e l = absurd (omega (arith, l))
-blocks_from g (suc k) v [] e l = absurd cc
-blocks_from g (suc k) zero (r ∷ rows) e l = let first : shape_of r ≡ own_shape g = cc in ap (λ (x : Shape). x.blocks) first
-blocks_from g (suc k) (suc v) (r ∷ rows) e l = let rest : map shape_of rows ≡ map own_shape (range_with_len (g + 1) k) = cc in blocks_from (g + 1) k v rows rest (omega (arith, l))
 
 volume_reads : (text : List ℕ) (d : SoFar) (v start end : ℕ) → IsDeclared text all_declared d → v < 8 → bytes_of text (span_from start end) ≡ 118 ∷ decimal v → volume_field text d.volumes (span_from start end) ≡ Ok v
 unfolding volume_field
@@ -84,14 +75,6 @@ write_line text more run v b s w space =
     (record { stands = refl; row = λ t d n f. refl }) space (λ d h at parts. write_makes text d v b s at h w parts)
 
 -- ## the writes of a lane
-
-volume_below : (n i k : ℕ) → volume_at n i k < 8
-unfolding volume_at
-volume_below n i k = mod-lt (drawn n i k) (omega arith)
-
-block_below : (n i k : ℕ) → i < 16 → block_at n i k < 256
-unfolding block_at
-block_below n i k l = let h : (drawn n i k / 8) % 16 < 16 = mod-lt (drawn n i k / 8) (omega arith) in omega (arith, l, h)
 
 stamp_below : (i k : ℕ) → i < 16 → k < 200 → stamp_at i k ≤ 18446744073709551615
 unfolding stamp_at

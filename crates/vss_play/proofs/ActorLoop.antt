@@ -1,5 +1,5 @@
 -- What the entries of one actor's loop come to.
-use Rattle.std.proofs.Common.{◌≡◌, ℕ, ◌+◌, List, [], ◌∷◌, ◌++◌, append_assoc, refl, ap, sym, ◌∙◌, inl, inr, subst}
+use Rattle.std.proofs.Common.{◌≡◌, ℕ, ◌+◌, List, [], ◌∷◌, ◌++◌, append_assoc, refl, ap, sym, ◌∙◌, inl, inr, subst, arith}
 use Rattle.std.specs.Prelude.{Ok, IsErr}
 use Rattle.std.specs.List.{All}
 use Rattle.std.proofs.lemmas.List.{append-nil, length-append}
@@ -13,7 +13,7 @@ one_more : {X : Type 0} (P : X → Type 0) (xs : List X) (x : X) → All P xs �
 one_more P xs x h p = All-append P xs (x ∷ []) h (All-cons P x [] p (All-nil P))
 
 pub begins : (actor : Actor) (old : List Turn) → IsLooping actor old old 0
-begins actor old = record { more = []; is = sym (append-nil old); of = All-nil _; ends = record { before = []; last = []; is = refl; many = refl; blocked = All-nil _ } }
+begins actor old = grind (arith, append-nil)
 
 grown : (old now new more : List Turn) (e : Turn) → now ≡ old ++ more → new ≡ now ++ e ∷ [] → new ≡ old ++ (more ++ e ∷ [])
 grown old now new more e is one = one ∙ ap (λ es. es ++ e ∷ []) is ∙ append_assoc old more (e ∷ [])

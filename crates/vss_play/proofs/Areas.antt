@@ -1,18 +1,15 @@
 -- Each group's area is written to its device, and stays so through the calls that follow.
-use Rattle.std.proofs.Common.{◌≡◌, ℕ, zero, suc, ◌+◌, ◌-◌, ◌<◌, ◌≤◌, List, [], ◌∷◌, length, refl, ap, sym, ◌∙◌, arith, Option, Some, None, subst, inl, inr}
-use Rattle.std.specs.Prelude.{◌⊎◌, slice_get, map, is_some}
+use Rattle.std.proofs.Common.{◌≡◌, ℕ, zero, suc, ◌+◌, ◌-◌, ◌<◌, ◌≤◌, List, [], ◌∷◌, length, refl, ap, sym, ◌∙◌, arith, Option, subst, inl, inr, Some, None}
+use Rattle.std.specs.Prelude.{◌⊎◌, slice_get, map}
 use Rattle.std.proofs.lemmas.Option.{slice_get_past}
 use Rattle.volume_device.specs.declared.device.Device.{Ghosts}
 use Rattle.write_history.specs.History.{History}
-use Rattle.write_history.specs.Slots.{copies}
 use Rattle.write_history.specs.declared.move_item.Move.{Move}
 use Rattle.scenario.specs.declared.volume_row.VolumeRow.{VolumeRow}
 use Rattle.scenario.specs.Plan.{Plan}
-use Rattle.diff_area.specs.Copies.{AreStored}
-use Rattle.cow_volume.specs.GroupValue.{placed}
 use Rattle.vss_model.specs.Acts.{state}
 use Rattle.vss_model.specs.Trail.{acts}
-use Rattle.scenario.specs.Places.{of_group, blocks_in_group}
+use Rattle.scenario.specs.Places.{blocks_in_group}
 use Rattle.provider.specs.Devices.{first_place, area_place}
 use Rattle.vss_world.specs.Devices.{told_of, told_by, AreaHolds}
 use Rattle.vss_world.specs.Stands.{WorldValue, IsOf}
@@ -25,25 +22,18 @@ use Rattle.vss_play.proofs.OneMove.{IsShortLaw, few_of}
 
 -- ## calls that are no moves
 
-pub stands_by : {D : Type 0} (told : D → Option (List (List ℕ))) (s : Plan) (w : WorldValue D) (cursors : List ℕ) (trail : List Move) (text : List ℕ) → IsShortLaw → IsPlay told s w cursors trail text → StandsAfter told w s trail
+pub stands_by : {D : Type 0} (told : D → Option (List (List ℕ))) (s : Plan) (w : WorldValue D) (cursors : List ℕ) (trail : List Move) (text : List ℕ)
+    → IsShortLaw → IsPlay told s w cursors trail text → StandsAfter told w s trail
 stands_by told s w cursors trail text short kept = record { of = kept.of; few = few_of told s w cursors trail text short kept; stands = kept.stands }
 
 pub ending_same : {D : Type 0} (ghosts : Ghosts D) (w : WorldValue D) (s : Plan) → IsOf w s → IsEnding ghosts w w s
 ending_same ghosts w s of = record { stands_for = λ xs h. h; is_of = of; tells = refl; later = later-refl (map ghosts.count w.devices) }
 
-pub ending_quiet : {D : Type 0} (ghosts : Ghosts D) (old new : WorldValue D) (s : Plan) → IsQuiet ghosts old new s → IsEnding ghosts old new s
-ending_quiet ghosts old new s q = record { stands_for = q.stands_for; is_of = q.is_of; tells = q.tells; later = q.later }
-
 pub ending_synced : {D : Type 0} (ghosts : Ghosts D) (old new : WorldValue D) (s : Plan) (g : ℕ) → IsSynced ghosts old new s g → IsEnding ghosts old new s
 ending_synced ghosts old new s g q = record { stands_for = q.stands_for; is_of = q.is_of; tells = q.tells; later = q.later }
 
 pub ending_trans : {D : Type 0} (ghosts : Ghosts D) (u v w : WorldValue D) (s : Plan) → IsEnding ghosts u v s → IsEnding ghosts v w s → IsEnding ghosts u w s
-ending_trans ghosts u v w s a b = record {
-  stands_for = λ xs h. b.stands_for xs (a.stands_for xs h);
-  is_of = b.is_of;
-  tells = b.tells ∙ a.tells;
-  later = later-trans (map ghosts.count u.devices) (map ghosts.count v.devices) (map ghosts.count w.devices) a.later b.later;
-}
+ending_trans ghosts u v w s a b = grind (arith, later-trans)
 
 pub still_ending : {D : Type 0} (ghosts : Ghosts D) (old new : WorldValue D) (s : Plan) (trail : List Move) → StandsAfter ghosts.told old s trail
     → IsEnding ghosts old new s → StandsAfter ghosts.told new s trail
@@ -68,11 +58,10 @@ before_area a b p rows l m e = let up = first_up (suc a) b rows (omega arith) in
 -- ## areas
 
 -- what was written to an area's device stays where the devices of its group tell what they told
-area_as : {D : Type 0} (told : D → Option (List (List ℕ))) (s : Plan) (hs : List History) (old new : List D) (g : ℕ) → ((u : ℕ) → u ≤ length (blocks_in_group g s.volumes) → told_by told new (first_place g s.volumes + u) ≡ told_by told old (first_place g s.volumes + u))
+area_as : {D : Type 0} (told : D → Option (List (List ℕ))) (s : Plan) (hs : List History) (old new : List D) (g : ℕ)
+    → ((u : ℕ) → u ≤ length (blocks_in_group g s.volumes) → told_by told new (first_place g s.volumes + u) ≡ told_by told old (first_place g s.volumes + u))
     → AreaHolds told s hs old g → AreaHolds told s hs new g
-area_as told s hs old new g same holds = λ tell.
-    subst (λ (o : Option (List (List ℕ))). AreStored o (copies (placed (blocks_in_group g s.volumes)) (of_group g s.volumes hs))) (sym (same (length (blocks_in_group g s.volumes)) (omega arith)))
-    (holds (λ u l. ap (λ (o : Option (List (List ℕ))). is_some o) (sym (same u (omega arith))) ∙ tell u l))
+area_as told s hs old new g same holds = grind arith
 
 joined : Option (Option (List (List ℕ))) → Option (List (List ℕ))
 joined None = None
@@ -95,14 +84,7 @@ pub none_hold : {D : Type 0} (told : D → Option (List (List ℕ))) (s : Plan) 
 none_hold told s trail devices = λ g l. absurd (omega arith)
 
 pub below_or_at : (g k : ℕ) → g < k + 1 → (g < k) ⊎ (g ≡ k)
-below_or_at zero zero l = inr refl
-below_or_at zero (suc k) l = inl (omega arith)
-below_or_at (suc g) zero l = absurd (omega arith)
-below_or_at (suc g) (suc k) l = up (below_or_at g k (omega arith))
-  where
-    up : (g < k) ⊎ (g ≡ k) → (suc g < suc k) ⊎ (suc g ≡ suc k)
-    up (inl h) = inl (omega arith)
-    up (inr h) = inr (ap suc h)
+below_or_at g k l = grind arith
 
 pub one_holds : {D : Type 0} (ghosts : Ghosts D) (old new : WorldValue D) (s : Plan) (trail : List Move) (k : ℕ) → StandsAfter ghosts.told old s trail
     → IsSynced ghosts old new s k → IsAreaHeld ghosts.told new s k
@@ -117,7 +99,8 @@ one_holds {D = D} ghosts old new s trail k stands synced held first g l = by_pla
         subst (λ n. AreaHolds ghosts.told s (state s (acts s trail)).volumes new.devices n) (sym h)
         (held (acts s trail) (synced.stands_for (acts s trail) stands.stands))
 
-pub all_hold : {D : Type 0} (told : D → Option (List (List ℕ))) (s : Plan) (trail : List Move) (devices : List D) (k many : ℕ) → many ≡ length s.groups → many ≤ k → FirstHold told s trail devices k → AreasHold told s trail devices
+pub all_hold : {D : Type 0} (told : D → Option (List (List ℕ))) (s : Plan) (trail : List Move) (devices : List D) (k many : ℕ) → many ≡ length s.groups
+    → many ≤ k → FirstHold told s trail devices k → AreasHold told s trail devices
 all_hold told s trail devices k many e l h = λ g m. h g (omega arith)
 
 pub areas_quiet : {D : Type 0} (ghosts : Ghosts D) (old new : WorldValue D) (s : Plan) (trail : List Move) → IsQuiet ghosts old new s

@@ -1,16 +1,15 @@
 -- The volume of the provider's next step, and the writers that are asked, are of the scenario: an agenda is of its volumes and of its
 -- writers.
-use Rattle.std.proofs.Common.{◌≡◌, ℕ, ◌<◌, ◌≤◌, List, [], ◌∷◌, length, Option, Some, None, refl, true, arith}
+use Rattle.std.proofs.Common.{◌≡◌, ℕ, ◌<◌, ◌≤◌, List, [], ◌∷◌, length, Option, Some, None, true, arith}
 use Rattle.std.specs.Prelude.{map, filter, not, All}
 use Rattle.std.proofs.lemmas.List.Elements.{All-cons}
 use Rattle.vss_names.specs.declared.order.Order.{Order}
-use Rattle.vss_names.specs.declared.order.Order.TheVariants.{Identify, PrepareBackup, PrepareSnapshot, Freeze, Thaw, PostSnapshot, BackupComplete}
 use Rattle.vss_names.specs.declared.level.Level.{Level}
 use Rattle.set_agenda.specs.declared.group.Group.{Group}
-use Rattle.set_agenda.specs.declared.group.Group.TheVariants.{Orders, PreCommit, Flush, Hold, Cut, Commit, Release, PostCommit}
 use Rattle.set_agenda.specs.declared.place.Place.{Place}
 use Rattle.set_agenda.specs.declared.member.Member.{Member}
-use Rattle.set_agenda.specs.Agenda.{Agenda, Open, places, is_orders, is_at, has_said, has_failed, writers_at, members_of, waited_for, with_group, left_from, left, is_asking, is_asked, is_among, waits_now, order_now, order_of, open_order, next_volume}
+use Rattle.set_agenda.specs.Agenda.{Agenda, Open, places, is_orders, is_at, has_said, writers_at, members_of, waited_for, with_group, left_from, left}
+use Rattle.set_agenda.specs.Agenda.{is_asking, is_asked, waits_now, order_now, order_of, open_order, next_volume}
 use Rattle.scenario.specs.Plan.{Plan}
 use Rattle.vss_world.specs.Stands.{AreBelow, MembersBelow, IsAgendaIn}
 use Rattle.diff_area.proofs.Valid.{and_left as first_of, and_right as second_of}
@@ -34,20 +33,7 @@ writers_below : (n : ℕ) (ms : List Member) (l : Option Level) → MembersBelow
 writers_below n ms l h = numbers_below n (filter (λ (m : Member). is_at l m.level) ms) (members_filter (λ (m : Member). is_at l m.level) n ms h)
 
 asked_below : (n : ℕ) (a : Agenda) (g : Group) (l : Option Level) → MembersBelow n a.members → is_orders g ≡ true → AreBelow n (members_of a g l)
-asked_below n a (Orders Identify) l h e = writers_below n a.members l h
-asked_below n a (Orders PrepareBackup) l h e = writers_below n a.members l h
-asked_below n a (Orders PrepareSnapshot) l h e = writers_below n a.members l h
-asked_below n a (Orders Freeze) l h e = writers_below n a.members l h
-asked_below n a (Orders Thaw) l h e = writers_below n a.members l h
-asked_below n a (Orders PostSnapshot) l h e = below_filter (λ w. not (has_failed a.log w)) n (writers_at a.members l) (writers_below n a.members l h)
-asked_below n a (Orders BackupComplete) l h e = writers_below n a.members l h
-asked_below n a PreCommit l h e = absurd cc
-asked_below n a Flush l h e = absurd cc
-asked_below n a Hold l h e = absurd cc
-asked_below n a Cut l h e = absurd cc
-asked_below n a Commit l h e = absurd cc
-asked_below n a Release l h e = absurd cc
-asked_below n a PostCommit l h e = absurd cc
+asked_below n a g l h e = grind (arith, writers_below, below_filter)
 
 -- ## the volume of the next step
 
@@ -61,9 +47,9 @@ next_below s (Some a) h = next_below_from (length s.volumes) a (places a.kind) h
 
 -- ## who is asked
 
-waits_below_with : (n : ℕ) (p : Place) (ws : List ℕ) (later : List Open) → (is_orders p.group ≡ true → AreBelow n ws) → (is_asking later ≡ true → AreBelow n (waits_now later)) → is_asking (with_group p ws later) ≡ true → AreBelow n (waits_now (with_group p ws later))
-waits_below_with n p [] later here h e = h e
-waits_below_with n p (w ∷ ws) later here h e = here e
+waits_below_with : (n : ℕ) (p : Place) (ws : List ℕ) (later : List Open) → (is_orders p.group ≡ true → AreBelow n ws)
+    → (is_asking later ≡ true → AreBelow n (waits_now later)) → is_asking (with_group p ws later) ≡ true → AreBelow n (waits_now (with_group p ws later))
+waits_below_with n p ws later here h e = grind arith
 
 waits_below_from : (n : ℕ) (a : Agenda) (ps : List Place) → MembersBelow n a.members → is_asking (left_from a ps) ≡ true → AreBelow n (waits_now (left_from a ps))
 waits_below_from n a [] h e = absurd cc
@@ -77,23 +63,14 @@ waits_below s None h e = absurd cc
 waits_below s (Some a) h e = waits_below_from (length s.writers) a (places a.kind) h.1 e
 
 orders_of : (g : Group) (o : Order) → order_of g ≡ Some o → is_orders g ≡ true
-orders_of (Orders p) o e = refl
-orders_of PreCommit o e = absurd cc
-orders_of Flush o e = absurd cc
-orders_of Hold o e = absurd cc
-orders_of Cut o e = absurd cc
-orders_of Commit o e = absurd cc
-orders_of Release o e = absurd cc
-orders_of PostCommit o e = absurd cc
+orders_of g o e = grind arith
 
 -- an order is open just where writers are asked
 pub asks_order : (os : List Open) (o : Order) → order_now os ≡ Some o → is_asking os ≡ true
-asks_order [] o e = absurd cc
-asks_order (p ∷ os) o e = orders_of p.place.group o e
+asks_order os o e = grind (arith, orders_of)
 
 asked_in : (n w : ℕ) (os : List Open) → (is_asking os ≡ true → AreBelow n (waits_now os)) → is_asked w os ≡ true → w < n
-asked_in n w [] h e = absurd cc
-asked_in n w (o ∷ os) h e = among_below n w o.waits (h (first_of (is_orders o.place.group) (is_among w o.waits) e)) (second_of (is_orders o.place.group) (is_among w o.waits) e)
+asked_in n w os h e = grind (arith, among_below, first_of, second_of)
 
 -- a writer that has an order open is one of the scenario
 pub asked_in_plan : (s : Plan) (a : Option Agenda) (w : ℕ) (o : Order) → IsAgendaIn s a → open_order (left a) w ≡ Some o → w < length s.writers
@@ -101,8 +78,4 @@ asked_in_plan s a w o h e = asked_in (length s.writers) w (left a) (waits_below 
 
 -- and a writer that there is not has none
 pub none_asked : (s : Plan) (a : Option Agenda) (w : ℕ) → IsAgendaIn s a → length s.writers ≤ w → open_order (left a) w ≡ None
-none_asked s a w h l = by_order (open_order (left a) w) refl
-  where
-    by_order : (o : Option Order) → open_order (left a) w ≡ o → o ≡ None
-    by_order None e = refl
-    by_order (Some o) e = let below = asked_in_plan s a w o h e in absurd (omega arith)
+none_asked s a w h l = grind (arith, asked_in_plan)

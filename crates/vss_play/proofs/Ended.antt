@@ -1,5 +1,5 @@
 -- A run that is closed in its own report, and whose devices were given back.
-use Rattle.std.proofs.Common.{◌≡◌, ℕ, ◌≤◌, List, ◌++◌, length, refl, ap, sym, ◌∙◌, Bool, Option, subst}
+use Rattle.std.proofs.Common.{◌≡◌, ℕ, ◌≤◌, List, ◌++◌, length, refl, ap, sym, ◌∙◌, Bool, Option, subst, arith}
 use Rattle.std.specs.Prelude.{map, option_map, Result, Ok, Err}
 use Rattle.vss_names.specs.Faults.{all_counted}
 use Rattle.vss_names.specs.TextValue.{TextValue}
@@ -63,5 +63,4 @@ pub unreported : {D : Type 0} (ghosts : Ghosts D) (s : Plan) (trail : List Move)
     → (fault ≡ OutOfMemory → map ghosts.count new ≡ map ghosts.count old) → (fault ≡ Failed → AnyRose (map ghosts.count old) (map ghosts.count new))
     → IsEnd ghosts (record { plan = s; trail = trail; devices = old; lines = text }) (record { plan = s; trail = trail; devices = new; lines = text })
     (Err fault)
-unreported ghosts s trail old new text Failed wanting rose = rose refl
-unreported ghosts s trail old new text OutOfMemory wanting rose = wanting refl
+unreported ghosts s trail old new text fault wanting rose = grind arith

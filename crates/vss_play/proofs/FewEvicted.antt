@@ -1,14 +1,14 @@
 -- An event evicts no more images than there is room for in its lines: a write at most 512 of each volume, another event none.
-use Rattle.std.proofs.Common.{◌≡◌, ℕ, zero, suc, ◌+◌, ◌*◌, ◌≤◌, ◌&&◌, List, [], ◌∷◌, ◌++◌, length, refl, ap, ◌∙◌, subst, arith, Bool, true, false, Option, Some, None, is_some, slice_get}
+use Rattle.std.proofs.Common.{◌≡◌, ℕ, zero, suc, ◌+◌, ◌*◌, ◌≤◌, ◌&&◌, List, [], ◌∷◌, length, refl, ap, ◌∙◌, subst, arith, Bool, true, false, Option, Some, None, is_some, slice_get}
 use Rattle.std.proofs.Common.{if◌then◌else◌, Result, Ok, Err, OnOk, is_err}
-use Rattle.std.specs.List.{flat_map, range_with_len}
+use Rattle.std.specs.List.{flat_map}
 use Rattle.std.proofs.lemmas.List.{length-map}
 use Rattle.std.proofs.lemmas.List.Sums.{length-filter, count_by-le-length}
 use Rattle.std.proofs.lemmas.Option.{slice_get_within}
 use Rattle.volume_device.specs.declared.device.Device.{Ghosts}
 use Rattle.write_history.specs.declared.evicted.Evicted.{Evicted}
 use Rattle.write_history.specs.History.{History, Image, sets_of}
-use Rattle.write_history.specs.Slots.{Placed, evicted_of}
+use Rattle.write_history.specs.Slots.{Placed}
 use Rattle.scenario.specs.Plan.{Plan, group_of}
 use Rattle.scenario.specs.Calls.{Target, target_of}
 use Rattle.vss_model.specs.declared.event.Event.{Event}
@@ -55,12 +55,10 @@ holders_are n v (p ∷ ps) (h ∷ hs) =
     here false = refl
 
 all_same : (f g : ℕ → List Evicted) (ns : List ℕ) → ((n : ℕ) → f n ≡ g n) → flat_map f ns ≡ flat_map g ns
-all_same f g [] same = refl
-all_same f g (n ∷ ns) same = ap (λ (xs : List Evicted). xs ++ flat_map f ns) (same n) ∙ ap (λ (xs : List Evicted). g n ++ xs) (all_same f g ns same)
+all_same f g ns same = grind arith
 
 going_are : (up_to : ℕ) (ps : List Placed) (hs : List History) → images_going up_to ps hs ≡ group_images up_to (sets_within ps hs)
-going_are up_to ps hs =
-    all_same (λ n. evicted_of n (holders n 0 ps hs)) (λ n. evicted_of n (group_holders n 0 (sets_within ps hs))) (range_with_len 1 up_to) (λ n. ap (evicted_of n) (holders_are n 0 ps hs))
+going_are up_to ps hs = grind (arith, all_same, holders_are)
 
 -- ## how many they are
 

@@ -16,8 +16,7 @@ use Rattle.vss_play.proofs.OneMove.{IsCalled, lane_turn_of}
 -- ## none is left
 
 none_if : (o : Option LaneLine) (n : ℕ) → (if is_some o then 1 else 0) + n ≡ 0 → (o ≡ None) × (n ≡ 0)
-none_if None n e = (refl, omega arith)
-none_if (Some l) n e = absurd (omega arith)
+none_if o n e = grind arith
 
 none_left : (s : Plan) (i : ℕ) (cursors : List ℕ) → going_from s i cursors ≡ 0 → (k : ℕ) → k < length cursors → slice_get (lines_of s (i + k)) (slice_index cursors k) ≡ None
 none_left s i [] e k l = absurd (omega arith)
@@ -26,7 +25,8 @@ none_left s i (c ∷ cursors) e zero l =
     subst (λ (n : ℕ). slice_get (lines_of s n) c ≡ None) at (none_if (slice_get (lines_of s i) c) (going_from s (i + 1) cursors) e).0
 none_left s i (c ∷ cursors) e (suc k) l =
     let at : i + 1 + k ≡ i + suc k = omega arith in
-    subst (λ (n : ℕ). slice_get (lines_of s n) (slice_index cursors k) ≡ None) at (none_left s (i + 1) cursors (none_if (slice_get (lines_of s i) c) (going_from s (i + 1) cursors) e).1 k (omega arith))
+    subst (λ (n : ℕ). slice_get (lines_of s n) (slice_index cursors k)
+    ≡ None) at (none_left s (i + 1) cursors (none_if (slice_get (lines_of s i) c) (going_from s (i + 1) cursors) e).1 k (omega arith))
 
 -- ## one is left
 
@@ -39,7 +39,8 @@ some_left : (s : Plan) (i : ℕ) (cursors : List ℕ) → 0 < going_from s i cur
 some_left s i [] l = absurd (omega arith)
 some_left s i (c ∷ cursors) l = by_line (slice_get (lines_of s i) c) refl l (some_left s (i + 1) cursors)
   where
-    by_line : (o : Option LaneLine) → slice_get (lines_of s i) c ≡ o → 0 < (if is_some o then 1 else 0) + going_from s (i + 1) cursors → (0 < going_from s (i + 1) cursors → HasLeft s (i + 1) cursors) → HasLeft s i (c ∷ cursors)
+    by_line : (o : Option LaneLine) → slice_get (lines_of s i) c ≡ o → 0 < (if is_some o then 1 else 0) + going_from s (i + 1) cursors
+        → (0 < going_from s (i + 1) cursors → HasLeft s (i + 1) cursors) → HasLeft s i (c ∷ cursors)
     by_line (Some line) e m others =
         let at : i ≡ i + 0 = omega arith in
         record { lane = 0; within = omega arith; left = subst (λ (n : ℕ). is_some (slice_get (lines_of s n) c) ≡ true) at (ap (λ (o : Option LaneLine). is_some o) e) }
@@ -64,8 +65,7 @@ used_up s cursors going false many count is =
 -- ## one more line is made
 
 made_one : (a b : Bool) (n m : ℕ) → a ≡ true → (if a then 1 else 0) + n ≡ (if b then 1 else 0) + n + (if b then 0 else 1)
-made_one a true n m e = ap (λ (x : Bool). (if x then 1 else 0) + n) e ∙ omega arith
-made_one a false n m e = ap (λ (x : Bool). (if x then 1 else 0) + n) e ∙ omega arith
+made_one a b n m e = grind arith
 
 one_less : (s : Plan) (i : ℕ) (cursors : List ℕ) (k c : ℕ) → k < length cursors → is_some (slice_get (lines_of s (i + k)) (slice_index cursors k)) ≡ true
     → going_from s i cursors ≡ going_from s i (slice_set cursors k c) + (if is_some (slice_get (lines_of s (i + k)) c) then 0 else 1)
@@ -82,12 +82,10 @@ one_less s i (d ∷ cursors) (suc k) c l on =
     subst (λ (n : ℕ). going_from s (i + 1) cursors ≡ going_from s (i + 1) (slice_set cursors k c) + (if is_some (slice_get (lines_of s n) c) then 0 else 1)) (sym at) rest in
     omega arith
 
-pub goes_on : (s : Plan) (cursors : List ℕ) (k c going : ℕ) (o : Option LaneLine) → k < length cursors → is_some (slice_get (lines_of s k) (slice_index cursors k)) ≡ true → going ≡ going_from s 0 cursors → o ≡ slice_get (lines_of s k) c
+pub goes_on : (s : Plan) (cursors : List ℕ) (k c going : ℕ) (o : Option LaneLine) → k < length cursors
+    → is_some (slice_get (lines_of s k) (slice_index cursors k)) ≡ true → going ≡ going_from s 0 cursors → o ≡ slice_get (lines_of s k) c
     → going ≡ going_from s 0 (slice_set cursors k c) + (if is_some o then 0 else 1)
-goes_on s cursors k c going o l on count is =
-    let at : 0 + k ≡ k = omega arith in
-    count ∙ one_less s 0 cursors k c l (subst (λ (n : ℕ). is_some (slice_get (lines_of s n) (slice_index cursors k)) ≡ true) (sym at) on)
-    ∙ ap (λ (p : Option LaneLine). going_from s 0 (slice_set cursors k c) + (if is_some p then 0 else 1)) (ap (λ (n : ℕ). slice_get (lines_of s n) c) at ∙ sym is)
+goes_on s cursors k c going o l on count is = grind (arith, one_less)
 
 pub stays_on : (o : Option LaneLine) (b : Bool) (going n : ℕ) → b ≡ is_some o → b ≡ true → going ≡ n + (if is_some o then 0 else 1) → going ≡ n
 stays_on o b going n e t h = let is : going ≡ n + 0 = h ∙ ap (λ (x : Bool). n + (if x then 0 else 1)) (sym e ∙ t) in omega arith
@@ -111,16 +109,16 @@ one_lane_more s n o is =
     ap (λ (k : ℕ). going_from s 0 (replicate k 0)) (add-one n) ∙ first_more s 0 n
     ∙ ap (λ (p : Option LaneLine). going_from s 0 (replicate n 0) + (if is_some p then 1 else 0)) (ap (λ (k : ℕ). slice_get (lines_of s k) 0) at ∙ sym is)
 
-pub first_going : (s : Plan) (cursors : List ℕ) (lanes going : ℕ) → lanes ≡ length s.lanes → cursors ≡ replicate {A = ℕ} lanes 0 → going ≡ going_from s 0 (replicate (length s.lanes) 0) → going ≡ going_from s 0 cursors
-first_going s cursors lanes going many first is = is ∙ ap (λ (k : ℕ). going_from s 0 (replicate k 0)) (sym many) ∙ ap (λ (cs : List ℕ). going_from s 0 cs) (sym first)
+pub first_going : (s : Plan) (cursors : List ℕ) (lanes going : ℕ) → lanes ≡ length s.lanes → cursors ≡ replicate {A = ℕ} lanes 0
+    → going ≡ going_from s 0 (replicate (length s.lanes) 0) → going ≡ going_from s 0 cursors
+first_going s cursors lanes going many first is = grind arith
 
-pub with_lane : (s : Plan) (n : ℕ) (o : Option LaneLine) (b : Bool) (going now : ℕ) → o ≡ slice_get (lines_of s n) 0 → is_some o ≡ b → going ≡ going_from s 0 (replicate n 0) → now ≡ going + (if b then 1 else 0) → now ≡ going_from s 0 (replicate (n + 1) 0)
-with_lane s n o b going now is e so_far more =
-    more ∙ ap (λ (k : ℕ). k + (if b then 1 else 0)) so_far ∙ ap (λ (x : Bool). going_from s 0 (replicate n 0) + (if x then 1 else 0)) (sym e) ∙ sym (one_lane_more s n o is)
+pub with_lane : (s : Plan) (n : ℕ) (o : Option LaneLine) (b : Bool) (going now : ℕ) → o ≡ slice_get (lines_of s n) 0 → is_some o ≡ b
+    → going ≡ going_from s 0 (replicate n 0) → now ≡ going + (if b then 1 else 0) → now ≡ going_from s 0 (replicate (n + 1) 0)
+with_lane s n o b going now is e so_far more = grind (arith, one_lane_more)
 
 at_most_one : (b : Bool) → (if b then 1 else 0) ≤ 1
-at_most_one true = omega arith
-at_most_one false = omega arith
+at_most_one b = grind arith
 
 at_most_all : (s : Plan) (i : ℕ) (cursors : List ℕ) → going_from s i cursors ≤ length cursors
 at_most_all s i [] = omega arith
@@ -151,4 +149,4 @@ going_by s trail cursors many Idle event e at = tt
 
 pub going_actor : {D : Type 0} (told : D → Option (List (List ℕ))) (s : Plan) (w : WorldValue D) (cursors : List ℕ) (trail : List Move) (text : List ℕ) (actor : Actor) (line : ℕ) (event : Event)
     → IsCalled told s w cursors trail text actor line event → IsGoing s cursors actor
-going_actor told s w cursors trail text actor line event c = going_by s trail cursors c.kept.lanes actor event c.event_is (λ i l. cursor_is trail cursors i l c.kept.made)
+going_actor told s w cursors trail text actor line event c = grind (arith, going_by, cursor_is)

@@ -1,5 +1,5 @@
 -- What a history of a run's entries comes to.
-use Rattle.std.proofs.Common.{◌≡◌, ℕ, ◌+◌, List, [], ◌∷◌, ◌++◌, append_assoc, refl, ap, sym, ◌∙◌, subst, arith, Bool, true, false, cond}
+use Rattle.std.proofs.Common.{◌≡◌, ℕ, ◌+◌, List, [], ◌∷◌, ◌++◌, append_assoc, refl, ap, sym, ◌∙◌, subst, arith, Bool, false, cond}
 use Rattle.std.specs.Prelude.{Result, Ok, Err, MatchResult, IfOk, map}
 use Rattle.std.proofs.lemmas.List.{map-append}
 use Rattle.std.proofs.lemmas.List.Sums.{sum_by-append}
@@ -19,15 +19,13 @@ use Rattle.vss_play.proofs.FaultMarks.{later-trans, counted_one, counted_then}
 
 -- where none of these moves has a fault mark, the counts are as they were
 clean_both : (one two : List Move) (xs ys zs : List ℕ) → (faults one ≡ 0 → ys ≡ xs) → (faults two ≡ 0 → zs ≡ ys) → faults (one ++ two) ≡ 0 → zs ≡ xs
-clean_both one two xs ys zs before now e = let all = sum_by-append (λ (m : Move). cond (is_fault m.mark) 1 0) one two in now (omega arith) ∙ before (omega arith)
+clean_both one two xs ys zs before now e = grind (arith, sum_by-append)
 
 counted_both : (one two : List Move) (xs ys zs : List ℕ) → AreLater ys zs → AreCounted (faults one) xs ys → AreCounted (faults two) ys zs → AreCounted (faults (one ++ two)) xs zs
-counted_both one two xs ys zs later before now =
-    subst (λ n. AreCounted n xs zs) (sym (sum_by-append (λ (m : Move). cond (is_fault m.mark) 1 0) one two)) (counted_then (faults one) (faults two) xs ys zs later before now)
+counted_both one two xs ys zs later before now = grind (arith, sum_by-append, counted_then)
 
 unmarked : (b : Bool) → 0 + cond b 1 0 ≡ 0 → b ≡ false
-unmarked true e = absurd (omega arith)
-unmarked false e = refl
+unmarked b e = grind arith
 
 clean_one : (m : Move) (xs ys : List ℕ) → (is_fault m.mark ≡ false → ys ≡ xs) → faults (m ∷ []) ≡ 0 → ys ≡ xs
 clean_one m xs ys now e = now (unmarked (is_fault m.mark) e)
@@ -52,7 +50,8 @@ led_on : {D : Type 0} (ghosts : Ghosts D) (p q r : Played D) (xs ys : List Actor
 unfolding onward_on
 led_on ghosts p q r xs ys one two = record {
   onward = onward_on ghosts p q r one.onward two.onward;
-  by = map-append (λ (m : Move). m.actor) one.onward.rest two.onward.rest ∙ ap (λ (zs : List Actor). zs ++ map (λ (m : Move). m.actor) two.onward.rest) one.by ∙ ap (λ (zs : List Actor). xs ++ zs) two.by;
+  by = map-append (λ (m : Move). m.actor) one.onward.rest two.onward.rest ∙ ap (λ (zs : List Actor). zs ++ map (λ (m : Move). m.actor) two.onward.rest) one.by
+      ∙ ap (λ (zs : List Actor). xs ++ zs) two.by;
 }
 
 led_none : {D : Type 0} (ghosts : Ghosts D) (p q : Played D) → q ≡ p → IsLedBy ghosts p [] q

@@ -1,6 +1,6 @@
 -- What the history of a run in threads has of each actor.
-use Rattle.std.proofs.Common.{◌≡◌, ℕ, zero, suc, ◌<◌, List, [], ◌∷◌, ◌++◌, length, map, take, refl, ap, sym, ◌∙◌, subst, Option, Some, arith, ◌⊎◌, inl, inr}
-use Rattle.std.specs.Prelude.{slice_get, slice_index_or, Result, Ok, Err, OnOk, OnErr, IfOk}
+use Rattle.std.proofs.Common.{◌≡◌, ℕ, zero, suc, ◌<◌, List, [], ◌∷◌, ◌++◌, length, map, take, refl, ap, sym, ◌∙◌, subst, Option, Some, arith}
+use Rattle.std.specs.Prelude.{slice_get, slice_index_or, Result, Ok, Err, IfOk}
 use Rattle.std.specs.List.{All}
 use Rattle.std.proofs.lemmas.List.{length-map}
 use Rattle.std.proofs.Math.Seq.{take-append_seam}
@@ -14,22 +14,13 @@ use Rattle.turn_cell.specs.Steps.{newcomer}
 use Rattle.turn_cell.specs.TurnEnd.{Stands}
 use Rattle.vss_play.specs.declared.moved.Moved.{Moved}
 use Rattle.vss_play.specs.Played.{Played, IsKept, IsPlayedInTurn}
-use Rattle.vss_play.specs.Acting.{Turn, HasTurns, HasLeft, HasWanted, HasPlayed, HasActed, IsPlayedInThreads, actors_in_threads}
+use Rattle.vss_play.specs.Acting.{Turn, HasPlayed, HasActed, IsPlayedInThreads, actors_in_threads}
 use Rattle.vss_play.proofs.Histories.{steps_of}
 
--- an actor left, by either answer of its loop
-pub left_or : {T E A B : Type 0} (r : Result T E) → OnOk r A → OnErr r B → A ⊎ B
-left_or (Ok done) a b = inl a
-left_or (Err e) a b = inr b
-
 -- what a newcomer made is what its actor played
-played_by : (actor : Actor) (i : ℕ) (old new : Known Actor Moved) (history : List Turn) → old ≡ newcomer i → HasActed (Some actor) old new → Stands history new → HasPlayed actor (entries_of i history)
-played_by actor i old new history first acted stands =
-    let none : old.mine ≡ [] = ap (λ k. k.mine) first in
-    let is : entries_of i history ≡ new.mine = ap (λ (n : ℕ). entries_of n history) (sym (acted.0 ∙ ap (λ k. k.number) first)) ∙ stands.1 in
-    let turns = subst (λ (es : List Turn). HasTurns actor es new.mine) none acted.1 in
-    let why = subst (λ (es : List Turn). HasLeft es new.mine ⊎ HasWanted es new.mine) none acted.2 in
-    subst (λ (es : List Turn). HasPlayed actor es) (sym is) (record { of = subst (λ (es : List Turn). All (λ e. e.call ≡ actor) es) (sym turns.is) turns.of; why = why })
+played_by : (actor : Actor) (i : ℕ) (old new : Known Actor Moved) (history : List Turn) → old ≡ newcomer i → HasActed (Some actor) old new
+    → Stands history new → HasPlayed actor (entries_of i history)
+played_by actor i old new history first acted stands = grind arith
 
 at_map : {X Y : Type 0} (f : X → Y) (xs : List X) (i : ℕ) (d : X) (e : Y) → i < length xs → slice_index_or (map f xs) i e ≡ f (slice_index_or xs i d)
 at_map f [] i d e l = absurd (omega arith)

@@ -1,16 +1,17 @@
 -- The groups of a scenario, opened over the devices that were made for it.
-use Rattle.std.proofs.Common.{◌≡◌, ℕ, zero, suc, ◌+◌, ◌==◌, ◌<◌, ◌≤◌, List, [], ◌∷◌, ◌++◌, length, take, refl, ap, sym, ◌∙◌, arith, Bool, true, false, Option, Some, None, subst, append_assoc, inl, inr, length-append}
+use Rattle.std.proofs.Common.{◌≡◌, ℕ, zero, suc, ◌+◌, ◌==◌, ◌<◌, ◌≤◌, List, [], ◌∷◌, ◌++◌, length, take, refl, ap, sym, ◌∙◌, arith, Bool, true, false, Option}
+use Rattle.std.proofs.Common.{Some, None, subst, append_assoc, length-append}
 use Rattle.std.specs.Prelude.{◌⊎◌, slice_get, map, All, IsSome, is_some, nat_lt, option_map, if◌then◌else◌}
 use Rattle.std.specs.List.{range_with_len}
 use Rattle.std.proofs.lemmas.Bool.Decides.{nat_tests}
 use Rattle.std.proofs.lemmas.List.{length-map}
-use Rattle.std.proofs.lemmas.List.Elements.{All-append, All-cons, All-head, All-tail, All-nil, All-weaker}
+use Rattle.std.proofs.lemmas.List.Elements.{All-append, All-head, All-tail, All-nil, All-weaker}
 use Rattle.std.proofs.lemmas.Option.{slice_get_past, slice_get-map}
 use Rattle.volume_device.specs.declared.device.Device.{Ghosts}
 use Rattle.write_history.specs.declared.move_item.Move.{Move}
 use Rattle.scenario.specs.declared.volume_row.VolumeRow.{VolumeRow}
 use Rattle.scenario.specs.Plan.{Plan, GroupPlan}
-use Rattle.scenario.specs.Bounds.{IsPlan, IsVolume, IsGroup, IsInGroup, groups_from}
+use Rattle.scenario.specs.Bounds.{IsPlan, IsVolume, IsInGroup, groups_from}
 use Rattle.diff_area.specs.Places.{blocks_for}
 use Rattle.diff_area.specs.Records.{AreVolumes}
 use Rattle.cow_volume.specs.GroupValue.{GroupValue}
@@ -23,10 +24,11 @@ use Rattle.vss_play.specs.Made.{IsZero, IsNewDevice, AreMade, AreSorted, groups_
 use Rattle.vss_play.specs.Played.{IsFresh, device_sizes}
 use Rattle.vss_play.proofs.Areas.{first_up}
 use Rattle.vss_play.proofs.LaneLines.{at_all}
-use Rattle.vss_play.proofs.NewDevices.{take_next, take_all, many_names, many_sizes, made_many, new_counts}
+use Rattle.vss_play.proofs.NewDevices.{take_all, many_names, many_sizes, made_many, new_counts}
 use Rattle.vss_play.proofs.Sorting.{Next, in_group_append, one_of_each, map_in_group, all_in_group, next_at, none_left}
 use Rattle.cow_volume.proofs.Group.{told_in-both as both_tell}
 use Rattle.provider.proofs.Room.{few_within as few_in_group}
+use Rattle.cow_volume.proofs.Reverting.{take_next}
 
 -- ## the blocks of a group
 
@@ -35,28 +37,33 @@ blocks_are g [] = refl
 blocks_are g (r ∷ rows) = by_test (r.group == g) (blocks_are g rows)
   where
     by_test : (b : Bool) → in_group g (map (λ (x : VolumeRow). x.group) rows) (map (λ (x : VolumeRow). x.blocks) rows) ≡ blocks_in_group g rows
-        → (if b then r.blocks ∷ in_group g (map (λ (x : VolumeRow). x.group) rows) (map (λ (x : VolumeRow). x.blocks) rows) else in_group g (map (λ (x : VolumeRow). x.group) rows) (map (λ (x : VolumeRow). x.blocks) rows)) ≡ of_group_if b r.blocks (blocks_in_group g rows)
+        → (if b then r.blocks ∷ in_group g (map (λ (x : VolumeRow). x.group) rows) (map (λ (x : VolumeRow). x.blocks) rows)
+        else in_group g (map (λ (x : VolumeRow). x.group) rows) (map (λ (x : VolumeRow). x.blocks) rows)) ≡ of_group_if b r.blocks (blocks_in_group g rows)
     by_test true e = ap (λ ns. r.blocks ∷ ns) e
     by_test false e = e
 
 -- the devices of a group have its volumes' blocks, and its area's
 pub group_sizes : (s : Plan) (g : ℕ) (p : GroupPlan) → slice_get s.groups g ≡ Some p → in_group g (groups_of_devices s) (device_sizes s) ≡ blocks_in_group g s.volumes ++ blocks_for p.slots ∷ []
 group_sizes s g p e =
-    let area : slice_get (map (λ (x : GroupPlan). blocks_for x.slots) s.groups) g ≡ Some (blocks_for p.slots) = slice_get-map (λ (x : GroupPlan). blocks_for x.slots) s.groups g ∙ ap (option_map (λ (x : GroupPlan). blocks_for x.slots)) e in
+    let area : slice_get (map (λ (x : GroupPlan). blocks_for x.slots) s.groups) g
+    ≡ Some (blocks_for p.slots) = slice_get-map (λ (x : GroupPlan). blocks_for x.slots) s.groups g
+    ∙ ap (option_map (λ (x : GroupPlan). blocks_for x.slots)) e in
     let at : 0 + g ≡ g = omega arith in
-    in_group_append g (map (λ (r : VolumeRow). r.group) s.volumes) (range_with_len 0 (length s.groups)) (map (λ (r : VolumeRow). r.blocks) s.volumes) (map (λ (x : GroupPlan). blocks_for x.slots) s.groups)
+    in_group_append g (map (λ (r : VolumeRow). r.group) s.volumes) (range_with_len 0 (length s.groups)) (map (λ (r : VolumeRow). r.blocks) s.volumes)
+    (map (λ (x : GroupPlan). blocks_for x.slots) s.groups)
     (length-map s.volumes (λ (r : VolumeRow). r.group) ∙ sym (length-map s.volumes (λ (r : VolumeRow). r.blocks)))
     ∙ ap (λ ns. ns ++ in_group g (range_with_len 0 (length s.groups)) (map (λ (x : GroupPlan). blocks_for x.slots) s.groups)) (blocks_are g s.volumes)
     ∙ ap (λ ns. blocks_in_group g s.volumes ++ ns)
     (ap (λ n. in_group n (range_with_len 0 (length s.groups)) (map (λ (x : GroupPlan). blocks_for x.slots) s.groups)) (sym at)
     ∙ one_of_each 0 (length s.groups) g (map (λ (x : GroupPlan). blocks_for x.slots) s.groups) (blocks_for p.slots) (length-map s.groups (λ (x : GroupPlan). blocks_for x.slots)) area)
 
-sizes_by : (s : Plan) (g slots : ℕ) (o : Option GroupPlan) → slice_get s.groups g ≡ o → option_map (λ (p : GroupPlan). p.slots) o ≡ Some slots → in_group g (groups_of_devices s) (device_sizes s) ≡ blocks_in_group g s.volumes ++ blocks_for slots ∷ []
-sizes_by s g slots None at e = absurd cc
-sizes_by s g slots (Some p) at e = let same : p.slots ≡ slots = cc in group_sizes s g p at ∙ ap (λ n. blocks_in_group g s.volumes ++ blocks_for n ∷ []) same
+sizes_by : (s : Plan) (g slots : ℕ) (o : Option GroupPlan) → slice_get s.groups g ≡ o → option_map (λ (p : GroupPlan). p.slots) o ≡ Some slots
+    → in_group g (groups_of_devices s) (device_sizes s) ≡ blocks_in_group g s.volumes ++ blocks_for slots ∷ []
+sizes_by s g slots o at e = grind (arith, group_sizes)
 
 -- the same, by what the scenario tells of the group
-pub sizes_of_group : (s : Plan) (g slots : ℕ) (blocks : List ℕ) → option_map (λ (p : GroupPlan). p.slots) (slice_get s.groups g) ≡ Some slots → blocks ≡ blocks_in_group g s.volumes → in_group g (groups_of_devices s) (device_sizes s) ≡ blocks ++ blocks_for slots ∷ []
+pub sizes_of_group : (s : Plan) (g slots : ℕ) (blocks : List ℕ) → option_map (λ (p : GroupPlan). p.slots) (slice_get s.groups g) ≡ Some slots
+    → blocks ≡ blocks_in_group g s.volumes → in_group g (groups_of_devices s) (device_sizes s) ≡ blocks ++ blocks_for slots ∷ []
 sizes_of_group s g slots blocks e same = sizes_by s g slots (slice_get s.groups g) refl e ∙ ap (λ ns. ns ++ blocks_for slots ∷ []) (sym same)
 
 blocks_last : (g : ℕ) (rows : List VolumeRow) (r : VolumeRow) → blocks_in_group g (rows ++ r ∷ []) ≡ blocks_in_group g rows ++ (if r.group == g then r.blocks ∷ [] else [])
@@ -73,54 +80,44 @@ blocks_last g (x ∷ rows) r = by_test (x.group == g) (blocks_last g rows r)
     by_test false e = e
 
 -- one more volume was looked at
-pub blocks_more : (g : ℕ) (rows : List VolumeRow) (k : ℕ) (r : VolumeRow) (b : Bool) (old new : List ℕ) → slice_get rows k ≡ Some r → (r.group == g) ≡ b → old ≡ blocks_in_group g (take k rows) → new ≡ old ++ (if b then r.blocks ∷ [] else []) → new ≡ blocks_in_group g (take (k + 1) rows)
+pub blocks_more : (g : ℕ) (rows : List VolumeRow) (k : ℕ) (r : VolumeRow) (b : Bool) (old new : List ℕ) → slice_get rows k ≡ Some r → (r.group == g) ≡ b
+    → old ≡ blocks_in_group g (take k rows) → new ≡ old ++ (if b then r.blocks ∷ [] else []) → new ≡ blocks_in_group g (take (k + 1) rows)
 blocks_more g rows k r b old new at test is more =
-    more ∙ ap (λ ns. ns ++ (if b then r.blocks ∷ [] else [])) is ∙ ap (λ (t : Bool). blocks_in_group g (take k rows) ++ (if t then r.blocks ∷ [] else [])) (sym test) ∙ sym (blocks_last g (take k rows) r)
+    more ∙ ap (λ ns. ns ++ (if b then r.blocks ∷ [] else [])) is
+    ∙ ap (λ (t : Bool). blocks_in_group g (take k rows) ++ (if t then r.blocks ∷ [] else [])) (sym test) ∙ sym (blocks_last g (take k rows) r)
     ∙ ap (λ (rs : List VolumeRow). blocks_in_group g rs) (sym (take_next rows k r at))
 
 -- ## each group has volumes, and few
 
 has_more : (b : Bool) (n : ℕ) (ns : List ℕ) → 0 < length ns → 0 < length (of_group_if b n ns)
-has_more true n ns l = omega arith
-has_more false n ns l = l
+has_more b n ns l = grind arith
 
 has_here : (b : Bool) (n : ℕ) (ns : List ℕ) → b ≡ true → 0 < length (of_group_if b n ns)
-has_here true n ns e = omega arith
-has_here false n ns e = absurd cc
+has_here b n ns e = grind arith
 
 same_or_later : (n g : ℕ) → n ≤ g → (n ≡ g) ⊎ (n + 1 ≤ g)
-same_or_later zero zero l = inl refl
-same_or_later zero (suc g) l = inr (omega arith)
-same_or_later (suc n) zero l = absurd (omega arith)
-same_or_later (suc n) (suc g) l = up (same_or_later n g (omega arith))
-  where
-    up : (n ≡ g) ⊎ (n + 1 ≤ g) → (suc n ≡ suc g) ⊎ (suc n + 1 ≤ suc g)
-    up (inl h) = inl (ap suc h)
-    up (inr h) = inr (omega arith)
+same_or_later n g l = grind arith
 
-opens : (n m g : ℕ) (r : VolumeRow) (rows : List VolumeRow) (b : Bool) → (r.group == n) ≡ b → n ≤ g → (if b then groups_from (n + 1) rows else None) ≡ Some m → (groups_from (n + 1) rows ≡ Some m → n + 1 ≤ g → 0 < length (blocks_in_group g rows))
+opens : (n m g : ℕ) (r : VolumeRow) (rows : List VolumeRow) (b : Bool) → (r.group == n) ≡ b → n ≤ g → (if b then groups_from (n + 1) rows else None) ≡ Some m
+    → (groups_from (n + 1) rows ≡ Some m → n + 1 ≤ g → 0 < length (blocks_in_group g rows))
     → 0 < length (of_group_if (r.group == g) r.blocks (blocks_in_group g rows))
-opens n m g r rows true t l f later = by_place (same_or_later n g l)
-  where
-    by_place : (n ≡ g) ⊎ (n + 1 ≤ g) → 0 < length (of_group_if (r.group == g) r.blocks (blocks_in_group g rows))
-    by_place (inl same) = has_here (r.group == g) r.blocks (blocks_in_group g rows) (ap (λ x. r.group == x) (sym same) ∙ t)
-    by_place (inr more) = has_more (r.group == g) r.blocks (blocks_in_group g rows) (later f more)
-opens n m g r rows false t l f later = absurd cc
+opens n m g r rows b t l f later = grind (arith, same_or_later, has_here, has_more)
 
-by_first : (n m g : ℕ) (r : VolumeRow) (rows : List VolumeRow) (b : Bool) → n ≤ g → (if b then groups_from n rows else (if r.group == n then groups_from (n + 1) rows else None)) ≡ Some m → (groups_from n rows ≡ Some m → 0 < length (blocks_in_group g rows))
+by_first : (n m g : ℕ) (r : VolumeRow) (rows : List VolumeRow) (b : Bool) → n ≤ g
+    → (if b then groups_from n rows else (if r.group == n then groups_from (n + 1) rows else None)) ≡ Some m
+    → (groups_from n rows ≡ Some m → 0 < length (blocks_in_group g rows))
     → (groups_from (n + 1) rows ≡ Some m → n + 1 ≤ g → 0 < length (blocks_in_group g rows)) → 0 < length (of_group_if (r.group == g) r.blocks (blocks_in_group g rows))
-by_first n m g r rows true l f same later = has_more (r.group == g) r.blocks (blocks_in_group g rows) (same f)
-by_first n m g r rows false l f same later = opens n m g r rows (r.group == n) refl l f later
+by_first n m g r rows b l f same later = grind (arith, has_more, opens)
 
 has_volumes : (n m g : ℕ) (rows : List VolumeRow) → groups_from n rows ≡ Some m → n ≤ g → g < m → 0 < length (blocks_in_group g rows)
 has_volumes n m g [] e l k = let same : n ≡ m = cc in absurd (omega arith)
 has_volumes n m g (r ∷ rows) e l k = by_first n m g r rows (nat_lt r.group n) l e (λ f. has_volumes n m g rows f l k) (λ f more. has_volumes (n + 1) m g rows f more k)
 
 -- there are at most as many groups as volumes
-few_by : (n m : ℕ) (r : VolumeRow) (rows : List VolumeRow) (b c : Bool) → (if b then groups_from n rows else (if c then groups_from (n + 1) rows else None)) ≡ Some m → (groups_from n rows ≡ Some m → m ≤ n + length rows) → (groups_from (n + 1) rows ≡ Some m → m ≤ n + 1 + length rows) → m ≤ n + suc (length rows)
-few_by n m r rows true c e same later = let l = same e in omega arith
-few_by n m r rows false true e same later = let l = later e in omega arith
-few_by n m r rows false false e same later = absurd cc
+few_by : (n m : ℕ) (r : VolumeRow) (rows : List VolumeRow) (b c : Bool)
+    → (if b then groups_from n rows else (if c then groups_from (n + 1) rows else None)) ≡ Some m → (groups_from n rows ≡ Some m → m ≤ n + length rows)
+    → (groups_from (n + 1) rows ≡ Some m → m ≤ n + 1 + length rows) → m ≤ n + suc (length rows)
+few_by n m r rows b c e same later = grind arith
 
 few_groups : (n m : ℕ) (rows : List VolumeRow) → groups_from n rows ≡ Some m → m ≤ n + length rows
 few_groups n m [] e = let same : n ≡ m = cc in omega arith
@@ -130,26 +127,25 @@ pub few_devices : (s : Plan) → IsPlan s → length s.volumes + length s.groups
 few_devices s plan = let groups = few_groups 0 (length s.groups) s.volumes plan.grouped.numbered in let volumes = plan.few_volumes in omega arith
 
 all_if : (P : ℕ → Type 0) (b : Bool) (n : ℕ) (ns : List ℕ) → P n → All P ns → All P (of_group_if b n ns)
-all_if P true n ns h k = All-cons P n ns h k
-all_if P false n ns h k = k
+all_if x0 b n ns h k = grind arith
 
 all_blocks : (P : ℕ → Type 0) (g : ℕ) (rows : List VolumeRow) → All (λ (r : VolumeRow). P r.blocks) rows → All P (blocks_in_group g rows)
 all_blocks P g [] h = All-nil P
-all_blocks P g (r ∷ rows) h = all_if P (r.group == g) r.blocks (blocks_in_group g rows) (All-head (λ (x : VolumeRow). P x.blocks) r rows h) (all_blocks P g rows (All-tail (λ (x : VolumeRow). P x.blocks) r rows h))
+all_blocks P g (r ∷ rows) h = all_if P (r.group == g) r.blocks (blocks_in_group g rows) (All-head (λ (x : VolumeRow). P x.blocks) r rows h)
+    (all_blocks P g rows (All-tail (λ (x : VolumeRow). P x.blocks) r rows h))
 
 pub volumes_in : (s : Plan) (g : ℕ) → IsPlan s → g < length s.groups → AreVolumes (blocks_in_group g s.volumes)
 volumes_in s g plan l = record {
   some = has_volumes 0 (length s.groups) g s.volumes plan.grouped.numbered (omega arith) l;
   few = let most = few_in_group g s.volumes in let few = plan.few_volumes in omega arith;
-  each = all_blocks (λ blocks. (0 < blocks) × (blocks ≤ 65536)) g s.volumes (All-weaker (IsVolume s) (λ (r : VolumeRow). (0 < r.blocks) × (r.blocks ≤ 65536)) (λ r h. (h.some, h.most)) s.volumes plan.volumes);
+  each = all_blocks (λ blocks. (0 < blocks) × (blocks ≤ 65536)) g s.volumes
+      (All-weaker (IsVolume s) (λ (r : VolumeRow). (0 < r.blocks) × (r.blocks ≤ 65536)) (λ r h. (h.some, h.most)) s.volumes plan.volumes);
 }
-
-pub few_slots : (s : Plan) (g : ℕ) (p : GroupPlan) → IsPlan s → slice_get s.groups g ≡ Some p → p.slots ≤ 65536
-few_slots s g p plan e = (at_all (IsGroup s) s.groups g p e plan.groups).few_slots
 
 -- ## the loop
 
-pub opened_more : {D : Type 0} (told : D → Option (List (List ℕ))) (rows : List VolumeRow) (gs : List ℕ) (devices : List D) (g n : ℕ) (ps : List GroupPlan) (xs : List (GroupValue D)) (p : GroupPlan) (x : GroupValue D) → g + length ps ≡ n
+pub opened_more : {D : Type 0} (told : D → Option (List (List ℕ))) (rows : List VolumeRow) (gs : List ℕ) (devices : List D) (g n : ℕ) (ps : List GroupPlan)
+    (xs : List (GroupValue D)) (p : GroupPlan) (x : GroupValue D) → g + length ps ≡ n
     → AreOpened told rows gs devices g ps xs → IsOpened told (blocks_in_group n rows) p.slots (in_group n gs devices) x → AreOpened told rows gs devices g (ps ++ p ∷ []) (xs ++ x ∷ [])
 opened_more told rows gs devices g n [] [] p x e h one = let same : n ≡ g = omega arith in (subst (λ m. IsOpened told (blocks_in_group m rows) p.slots (in_group m gs devices) x) same one, tt)
 opened_more told rows gs devices g n (q ∷ ps) (y ∷ xs) p x e h one = (h.0, opened_more told rows gs devices (suc g) n ps xs p x (omega arith) h.1 one)
@@ -167,15 +163,14 @@ length_taken zero (x ∷ xs) l = refl
 length_taken (suc k) [] l = absurd (omega arith)
 length_taken (suc k) (x ∷ xs) l = ap suc (length_taken k xs (omega arith))
 
-pub none_opened : {D : Type 0} (told : D → Option (List (List ℕ))) (s : Plan) (sorted rest : List (List D)) (groups : List (GroupValue D)) → rest ≡ sorted → groups ≡ [] → IsOpening told s 0 sorted rest groups
-none_opened {D} told s sorted rest groups whole none = record {
-  few = omega arith;
-  rest_is = whole;
-  opened = λ devices each. subst (λ (xs : List (GroupValue D)). AreOpened told s.volumes (groups_of_devices s) devices 0 (take 0 s.groups) xs) (sym none) tt;
-}
+pub none_opened : {D : Type 0} (told : D → Option (List (List ℕ))) (s : Plan) (sorted rest : List (List D)) (groups : List (GroupValue D)) → rest ≡ sorted
+    → groups ≡ [] → IsOpening told s 0 sorted rest groups
+none_opened told s sorted rest groups whole none = grind arith
 
-pub one_opened : {D : Type 0} (told : D → Option (List (List ℕ))) (s : Plan) (g : ℕ) (sorted rest less : List (List D)) (mine : List D) (groups new : List (GroupValue D)) (x : GroupValue D) → length sorted ≡ length s.groups
-    → IsOpening told s g sorted rest groups → rest ≡ mine ∷ less → ((p : GroupPlan) → slice_get s.groups g ≡ Some p → IsOpened told (blocks_in_group g s.volumes) p.slots mine x) → new ≡ groups ++ x ∷ []
+pub one_opened : {D : Type 0} (told : D → Option (List (List ℕ))) (s : Plan) (g : ℕ) (sorted rest less : List (List D)) (mine : List D)
+    (groups new : List (GroupValue D)) (x : GroupValue D) → length sorted ≡ length s.groups
+    → IsOpening told s g sorted rest groups → rest ≡ mine ∷ less
+    → ((p : GroupPlan) → slice_get s.groups g ≡ Some p → IsOpened told (blocks_in_group g s.volumes) p.slots mine x) → new ≡ groups ++ x ∷ []
     → IsOpening told s (g + 1) sorted less new
 one_opened {D} told s g sorted rest less mine groups new x many h first one is =
     let next = next_at sorted g mine less (sym h.rest_is ∙ first) in
@@ -186,25 +181,27 @@ one_opened {D} told s g sorted rest less mine groups new x many h first one is =
       few = omega arith;
       rest_is = sym next.rest_is;
       opened = λ devices each.
-          let opened : IsOpened told (blocks_in_group g s.volumes) p.0.slots (in_group g (groups_of_devices s) devices) x = subst (λ (ds : List D). IsOpened told (blocks_in_group g s.volumes) p.0.slots ds x) (each g mine next.at) (one p.0 p.1) in
+          let opened : IsOpened told (blocks_in_group g s.volumes) p.0.slots (in_group g (groups_of_devices s) devices) x = subst
+          (λ (ds : List D). IsOpened told (blocks_in_group g s.volumes) p.0.slots ds x) (each g mine next.at) (one p.0 p.1) in
           subst (λ (ps : List GroupPlan). AreOpened told s.volumes (groups_of_devices s) devices 0 ps new) (sym (take_next s.groups g p.0 p.1))
           (subst (λ (xs : List (GroupValue D)). AreOpened told s.volumes (groups_of_devices s) devices 0 (take g s.groups ++ p.0 ∷ []) xs) (sym is)
           (opened_more told s.volumes (groups_of_devices s) devices 0 g (take g s.groups) groups p.0 x count (h.opened devices each) opened));
     }
 
-pub all_opened : {D : Type 0} (told : D → Option (List (List ℕ))) (s : Plan) (g : ℕ) (sorted rest : List (List D)) (groups : List (GroupValue D)) → length sorted ≡ length s.groups → IsOpening told s g sorted rest groups → rest ≡ []
+pub all_opened : {D : Type 0} (told : D → Option (List (List ℕ))) (s : Plan) (g : ℕ) (sorted rest : List (List D)) (groups : List (GroupValue D))
+    → length sorted ≡ length s.groups → IsOpening told s g sorted rest groups → rest ≡ []
     → (devices : List D) → AreSorted s sorted devices → AreOpened told s.volumes (groups_of_devices s) devices 0 s.groups groups
-all_opened told s g sorted rest groups many h done devices each =
-    let past = none_left sorted g (sym h.rest_is ∙ done) in
-    subst (λ (ps : List GroupPlan). AreOpened told s.volumes (groups_of_devices s) devices 0 ps groups) (take_all g s.groups (omega arith)) (h.opened devices each)
+all_opened told s g sorted rest groups many h done devices each = grind (arith, none_left, take_all)
 
 -- the list whose turn it is
-pub opening_next : {D : Type 0} (told : D → Option (List (List ℕ))) (s : Plan) (g : ℕ) (sorted rest less : List (List D)) (mine : List D) (groups : List (GroupValue D)) → IsOpening told s g sorted rest groups → rest ≡ mine ∷ less → Next sorted g mine less
+pub opening_next : {D : Type 0} (told : D → Option (List (List ℕ))) (s : Plan) (g : ℕ) (sorted rest less : List (List D)) (mine : List D)
+    (groups : List (GroupValue D)) → IsOpening told s g sorted rest groups → rest ≡ mine ∷ less → Next sorted g mine less
 opening_next told s g sorted rest less mine groups h first = next_at sorted g mine less (sym h.rest_is ∙ first)
 
 -- ## the core's groups
 
-opened_number : {D : Type 0} (told : D → Option (List (List ℕ))) (rows : List VolumeRow) (gs : List ℕ) (devices : List D) (g : ℕ) (ps : List GroupPlan) (xs : List (GroupValue D)) → AreOpened told rows gs devices g ps xs → length xs ≡ length ps
+opened_number : {D : Type 0} (told : D → Option (List (List ℕ))) (rows : List VolumeRow) (gs : List ℕ) (devices : List D) (g : ℕ) (ps : List GroupPlan)
+    (xs : List (GroupValue D)) → AreOpened told rows gs devices g ps xs → length xs ≡ length ps
 opened_number told rows gs devices g [] [] h = refl
 opened_number told rows gs devices g (p ∷ ps) (x ∷ xs) h = ap suc (opened_number told rows gs devices (suc g) ps xs h.1)
 opened_number told rows gs devices g [] (x ∷ xs) h = absurd h
@@ -215,7 +212,8 @@ record OpenedAt {D : Type 0} (told : D → Option (List (List ℕ))) (rows : Lis
   is_plan : slice_get ps k ≡ Some plan
   opened : IsOpened told (blocks_in_group (g + k) rows) plan.slots (in_group (g + k) gs devices) x
 
-opened_at : {D : Type 0} (told : D → Option (List (List ℕ))) (rows : List VolumeRow) (gs : List ℕ) (devices : List D) (g k : ℕ) (ps : List GroupPlan) (xs : List (GroupValue D)) (x : GroupValue D) → AreOpened told rows gs devices g ps xs → slice_get xs k ≡ Some x → OpenedAt told rows gs devices g k ps x
+opened_at : {D : Type 0} (told : D → Option (List (List ℕ))) (rows : List VolumeRow) (gs : List ℕ) (devices : List D) (g k : ℕ) (ps : List GroupPlan)
+    (xs : List (GroupValue D)) (x : GroupValue D) → AreOpened told rows gs devices g ps xs → slice_get xs k ≡ Some x → OpenedAt told rows gs devices g k ps x
 opened_at {D} told rows gs devices g k [] [] x h e = absurd (none (sym (slice_get_past {X = GroupValue D} [] k (omega arith)) ∙ e))
   where
     none : None ≡ Some x → ⊥
@@ -223,7 +221,13 @@ opened_at {D} told rows gs devices g k [] [] x h e = absurd (none (sym (slice_ge
 opened_at {D} told rows gs devices g zero (p ∷ ps) (y ∷ xs) x h e =
     let same : y ≡ x = cc in
     let at : g ≡ g + 0 = omega arith in
-    record { plan = p; is_plan = refl; opened = subst (λ n. IsOpened told (blocks_in_group n rows) p.slots (in_group n gs devices) x) at (subst (λ (z : GroupValue D). IsOpened told (blocks_in_group g rows) p.slots (in_group g gs devices) z) same h.0) }
+    record {
+      plan = p;
+      is_plan = refl;
+      opened = subst
+          (λ n. IsOpened told (blocks_in_group n rows) p.slots (in_group n gs devices) x) at (subst
+          (λ (z : GroupValue D). IsOpened told (blocks_in_group g rows) p.slots (in_group g gs devices) z) same h.0);
+    }
 opened_at told rows gs devices g (suc k) (p ∷ ps) (y ∷ xs) x h e =
     let r = opened_at told rows gs devices (suc g) k ps xs x h.1 e in
     let at : suc g + k ≡ g + suc k = omega arith in
@@ -231,11 +235,14 @@ opened_at told rows gs devices g (suc k) (p ∷ ps) (y ∷ xs) x h e =
 opened_at told rows gs devices g k [] (y ∷ xs) x h e = absurd h
 opened_at told rows gs devices g k (p ∷ ps) [] x h e = absurd h
 
-pub new_groups : {D : Type 0} (told : D → Option (List (List ℕ))) (s : Plan) (devices : List D) (groups : List (GroupValue D)) → AreOpened told s.volumes (groups_of_devices s) devices 0 s.groups groups → AreNew told s groups
+pub new_groups : {D : Type 0} (told : D → Option (List (List ℕ))) (s : Plan) (devices : List D) (groups : List (GroupValue D))
+    → AreOpened told s.volumes (groups_of_devices s) devices 0 s.groups groups → AreNew told s groups
 new_groups {D} told s devices groups h = record {
   number = opened_number told s.volumes (groups_of_devices s) devices 0 s.groups groups h;
-  volumes = λ g x e. let r = opened_at told s.volumes (groups_of_devices s) devices 0 g s.groups groups x h e in let at : 0 + g ≡ g = omega arith in r.opened.volumes ∙ ap (λ n. blocks_in_group n s.volumes) at;
-  slots = λ g x p e f. let r = opened_at told s.volumes (groups_of_devices s) devices 0 g s.groups groups x h e in r.opened.slots_are ∙ ap (λ (q : GroupPlan). q.slots) (one_plan (slice_get s.groups g) r.plan p r.is_plan f);
+  volumes = λ g x e. let r = opened_at told s.volumes (groups_of_devices s) devices 0 g s.groups groups x h e in let at : 0 + g ≡ g = omega arith
+      in r.opened.volumes ∙ ap (λ n. blocks_in_group n s.volumes) at;
+  slots = λ g x p e f. let r = opened_at told s.volumes (groups_of_devices s) devices 0 g s.groups groups x h e in r.opened.slots_are
+      ∙ ap (λ (q : GroupPlan). q.slots) (one_plan (slice_get s.groups g) r.plan p r.is_plan f);
   fresh_are = λ g x e. (opened_at told s.volumes (groups_of_devices s) devices 0 g s.groups groups x h e).opened.fresh_is;
 }
   where
@@ -247,7 +254,8 @@ new_groups {D} told s devices groups h = record {
 devices_cons : {D : Type 0} (x : GroupValue D) (xs : List (GroupValue D)) → devices_of (x ∷ xs) ≡ (x.devices ++ x.area.device ∷ []) ++ devices_of xs
 devices_cons x xs = sym (append_assoc x.devices (x.area.device ∷ []) (devices_of xs))
 
-all_opened_devices : {D : Type 0} (P : D → Type 0) (told : D → Option (List (List ℕ))) (rows : List VolumeRow) (gs : List ℕ) (devices : List D) (g : ℕ) (ps : List GroupPlan) (xs : List (GroupValue D)) → All P devices → AreOpened told rows gs devices g ps xs → All P (devices_of xs)
+all_opened_devices : {D : Type 0} (P : D → Type 0) (told : D → Option (List (List ℕ))) (rows : List VolumeRow) (gs : List ℕ) (devices : List D) (g : ℕ)
+    (ps : List GroupPlan) (xs : List (GroupValue D)) → All P devices → AreOpened told rows gs devices g ps xs → All P (devices_of xs)
 all_opened_devices P told rows gs devices g [] [] all h = All-nil P
 all_opened_devices {D} P told rows gs devices g (p ∷ ps) (x ∷ xs) all h =
     let own : All P (x.devices ++ x.area.device ∷ []) = subst (λ (ds : List D). All P ds) (sym (h.0).devices_are) (all_in_group P g gs devices all) in
@@ -255,7 +263,8 @@ all_opened_devices {D} P told rows gs devices g (p ∷ ps) (x ∷ xs) all h =
 all_opened_devices P told rows gs devices g [] (x ∷ xs) all h = absurd h
 all_opened_devices P told rows gs devices g (p ∷ ps) [] all h = absurd h
 
-count_devices : {D : Type 0} (told : D → Option (List (List ℕ))) (rows : List VolumeRow) (gs : List ℕ) (devices : List D) (g : ℕ) (ps : List GroupPlan) (xs : List (GroupValue D)) → AreOpened told rows gs devices g ps xs → first_place g rows + length (devices_of xs) ≡ first_place (g + length ps) rows
+count_devices : {D : Type 0} (told : D → Option (List (List ℕ))) (rows : List VolumeRow) (gs : List ℕ) (devices : List D) (g : ℕ) (ps : List GroupPlan)
+    (xs : List (GroupValue D)) → AreOpened told rows gs devices g ps xs → first_place g rows + length (devices_of xs) ≡ first_place (g + length ps) rows
 count_devices told rows gs devices g [] [] h = let at : g ≡ g + 0 = omega arith in omega arith ∙ ap (λ n. first_place n rows) at
 count_devices told rows gs devices g (p ∷ ps) (x ∷ xs) h =
     let rest = count_devices told rows gs devices (suc g) ps xs h.1 in
@@ -273,14 +282,10 @@ one_if true = 1
 one_if false = 0
 
 length_if : (b : Bool) (n : ℕ) (ns : List ℕ) → length (of_group_if b n ns) ≡ length ns + one_if b
-length_if true n ns = omega arith
-length_if false n ns = omega arith
+length_if b n ns = grind arith
 
 one_more_below : (a g : ℕ) (b c : Bool) → nat_lt a g ≡ b → (a == g) ≡ c → one_if (nat_lt a (suc g)) ≡ one_if b + one_if c
-one_more_below a g true true e f = absurd (grind (arith, nat_tests))
-one_more_below a g true false e f = let t : nat_lt a (suc g) ≡ true = grind (arith, nat_tests) in ap one_if t
-one_more_below a g false true e f = let t : nat_lt a (suc g) ≡ true = grind (arith, nat_tests) in ap one_if t
-one_more_below a g false false e f = let t : nat_lt a (suc g) ≡ false = grind (arith, nat_tests) in ap one_if t
+one_more_below a g b c e f = grind arith
 
 none_below : (a : ℕ) → nat_lt a 0 ≡ false
 none_below a = grind (arith, nat_tests)
@@ -308,12 +313,9 @@ total_places n (r ∷ rows) h =
 groups_in : (s : Plan) → IsPlan s → All (λ (r : VolumeRow). r.group < length s.groups) s.volumes
 groups_in s plan = All-weaker (IsInGroup s.groups) (λ (r : VolumeRow). r.group < length s.groups) (λ r h. h.in_range) s.volumes plan.grouped.rows
 
-many_opened : {D : Type 0} (told : D → Option (List (List ℕ))) (s : Plan) (devices : List D) (groups : List (GroupValue D)) → AreOpened told s.volumes (groups_of_devices s) devices 0 s.groups groups → length (devices_of groups) ≡ first_place (length s.groups) s.volumes
-many_opened told s devices groups h =
-    let e = count_devices told s.volumes (groups_of_devices s) devices 0 s.groups groups h in
-    let at : 0 + length s.groups ≡ length s.groups = omega arith in
-    let same : first_place (0 + length s.groups) s.volumes ≡ first_place (length s.groups) s.volumes = ap (λ n. first_place n s.volumes) at in
-    omega arith
+many_opened : {D : Type 0} (told : D → Option (List (List ℕ))) (s : Plan) (devices : List D) (groups : List (GroupValue D))
+    → AreOpened told s.volumes (groups_of_devices s) devices 0 s.groups groups → length (devices_of groups) ≡ first_place (length s.groups) s.volumes
+many_opened told s devices groups h = grind (arith, count_devices)
 
 -- ## every volume tells
 
@@ -340,7 +342,9 @@ tells_by told [] p h l = absurd (omega arith)
 tells_by told (d ∷ ds) zero h l = All-head (λ x. IsSome (told x)) d ds h
 tells_by told (d ∷ ds) (suc p) h l = tells_by told ds p (All-tail (λ x. IsSome (told x)) d ds h) (omega arith)
 
-row_tells : {D : Type 0} (told : D → Option (List (List ℕ))) (s : Plan) (ds : List D) (v : ℕ) (o : Option VolumeRow) (r : VolumeRow) → slice_get s.volumes v ≡ o → o ≡ Some r → r.group < length s.groups → length ds ≡ first_place (length s.groups) s.volumes → All (λ d. IsSome (told d)) ds → is_some (told_at told s ds v) ≡ true
+row_tells : {D : Type 0} (told : D → Option (List (List ℕ))) (s : Plan) (ds : List D) (v : ℕ) (o : Option VolumeRow) (r : VolumeRow) → slice_get s.volumes v ≡ o
+    → o ≡ Some r → r.group < length s.groups → length ds ≡ first_place (length s.groups) s.volumes → All (λ d. IsSome (told d)) ds
+    → is_some (told_at told s ds v) ≡ true
 row_tells {D} told s ds v o r e f l many all =
     let up = first_up (suc r.group) (length s.groups) s.volumes (omega arith) in
     let inside = place_below r.group v s.volumes r (e ∙ f) refl in
@@ -354,17 +358,23 @@ row_tells {D} told s ds v o r e f l many all =
     area_is : (p : Option VolumeRow) → p ≡ Some r → volumes_area_in s.volumes p ≡ area_place r.group s.volumes
     area_is p g = ap (volumes_area_in s.volumes) g
 
-rows_tell : {D : Type 0} (told : D → Option (List (List ℕ))) (s : Plan) (ds : List D) (v : ℕ) (rows : List VolumeRow) → ((k : ℕ) (r : VolumeRow) → slice_get rows k ≡ Some r → is_some (told_at told s ds (v + k)) ≡ true) → tells_from told s ds v rows ≡ map (λ (r : VolumeRow). true) rows
+rows_tell : {D : Type 0} (told : D → Option (List (List ℕ))) (s : Plan) (ds : List D) (v : ℕ) (rows : List VolumeRow)
+    → ((k : ℕ) (r : VolumeRow) → slice_get rows k ≡ Some r → is_some (told_at told s ds (v + k)) ≡ true)
+    → tells_from told s ds v rows ≡ map (λ (r : VolumeRow). true) rows
 rows_tell told s ds v [] h = refl
 rows_tell told s ds v (r ∷ rows) h =
     let at : v + 0 ≡ v = omega arith in
     ap (λ b. b ∷ tells_from told s ds (v + 1) rows) (subst (λ n. is_some (told_at told s ds n) ≡ true) at (h 0 r refl))
     ∙ ap (λ bs. true ∷ bs) (rows_tell told s ds (v + 1) rows (λ k q e. let step : v + suc k ≡ v + 1 + k = omega arith in subst (λ n. is_some (told_at told s ds n) ≡ true) step (h (suc k) q e)))
 
-pub all_volumes_tell : {D : Type 0} (told : D → Option (List (List ℕ))) (s : Plan) (ds : List D) → IsPlan s → length ds ≡ first_place (length s.groups) s.volumes → All (λ d. IsSome (told d)) ds → tells_of told s ds ≡ all_tell s
+pub all_volumes_tell : {D : Type 0} (told : D → Option (List (List ℕ))) (s : Plan) (ds : List D) → IsPlan s
+    → length ds ≡ first_place (length s.groups) s.volumes → All (λ d. IsSome (told d)) ds → tells_of told s ds ≡ all_tell s
 all_volumes_tell told s ds plan many all =
     rows_tell told s ds 0 s.volumes
-    (λ k r e. let at : 0 + k ≡ k = omega arith in subst (λ n. is_some (told_at told s ds n) ≡ true) (sym at) (row_tells told s ds k (slice_get s.volumes k) r refl e (at_all (λ (x : VolumeRow). x.group < length s.groups) s.volumes k r e (groups_in s plan)) many all))
+    (λ k r e. let at : 0 + k ≡ k = omega arith
+    in subst (λ n. is_some (told_at told s ds n) ≡ true) (sym at)
+    (row_tells told s ds k (slice_get s.volumes k) r refl e
+    (at_all (λ (x : VolumeRow). x.group < length s.groups) s.volumes k r e (groups_in s plan)) many all))
 
 -- ## the beginning of a run
 
@@ -388,8 +398,9 @@ made_fresh {D} ghosts tells s made ds groups moves text plan none same h opened 
     }
 
 -- the lists of the groups have the sizes and the zeros of the devices
-pub sorted_sizes : {D : Type 0} (size : D → ℕ) (s : Plan) (devices : List D) (sorted : List (List D)) → map size devices ≡ device_sizes s → AreSorted s sorted devices → (g : ℕ) (ds : List D) → slice_get sorted g ≡ Some ds → map size ds ≡ in_group g (groups_of_devices s) (device_sizes s)
-sorted_sizes {D} size s devices sorted sizes each g ds at = ap (map size) (each g ds at) ∙ map_in_group size g (groups_of_devices s) devices ∙ ap (in_group g (groups_of_devices s)) sizes
+pub sorted_sizes : {D : Type 0} (size : D → ℕ) (s : Plan) (devices : List D) (sorted : List (List D)) → map size devices ≡ device_sizes s
+    → AreSorted s sorted devices → (g : ℕ) (ds : List D) → slice_get sorted g ≡ Some ds → map size ds ≡ in_group g (groups_of_devices s) (device_sizes s)
+sorted_sizes size s devices sorted sizes each g ds at = grind (arith, map_in_group)
 
 pub sorted_zeros : {D : Type 0} (ghosts : Ghosts D) (s : Plan) (devices : List D) (sorted : List (List D)) → All (IsZero ghosts) devices
     → AreSorted s sorted devices → (g : ℕ) (ds : List D) → slice_get sorted g ≡ Some ds → All (IsZero ghosts) ds

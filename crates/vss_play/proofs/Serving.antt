@@ -6,7 +6,7 @@ use Rattle.volume_device.specs.declared.device.Device.{Ghosts}
 use Rattle.scenario.specs.Plan.{Plan, LaneLine, lines_of}
 use Rattle.scenario.specs.Bounds.{IsPlan}
 use Rattle.vss_model.specs.declared.event.Event.{Event}
-use Rattle.vss_model.specs.declared.event.Event.TheVariants.{Line, Answer, Provider, Idle}
+use Rattle.vss_model.specs.declared.event.Event.TheVariants.{Line}
 use Rattle.vss_model.specs.declared.outcome.Outcome.{Outcome}
 use Rattle.vss_model.specs.Outcome.{told_act}
 use Rattle.vss_report.specs.ToldLines.{IsActor}
@@ -49,16 +49,12 @@ line_in s i k l plan e = (lane_in s i k l e, line_is_op s i k l plan e)
 
 -- who makes an event is in the scenario
 actor_of : (s : Plan) (event : Event) → IsEvent s event → IsActor s (actor_by event)
-actor_of s (Line lane op) h = h.0
-actor_of s (Answer w answer) h = h
-actor_of s Provider h = tt
-actor_of s Idle h = tt
+actor_of s event h = grind arith
 
 -- the numbers of its outcome are in the scenario's range
 pub numbers_of : {D : Type 0} (ghosts : Ghosts D) (s : Plan) (old new : WorldValue D) (event : Event) (o : Outcome)
     → IsEvent s event → IsStanding ghosts.told old s → IsMoved ghosts old new s event o → AreInPlan s (actor_by event) o new.evicted
-numbers_of ghosts s old new event o is standing moves =
-    numbers_by ghosts s old new standing.acts (actor_by event) event o (actor_of s event is) standing.stands moves
+numbers_of ghosts s old new event o is standing moves = grind (arith, numbers_by, actor_of)
 
 -- a list that was lent whole has as many members as before
 pub given_back : {X : Type 0} (n : ℕ) (new old : List X) → length old ≡ n → length (take n (new ++ drop (length new) old)) ≡ n

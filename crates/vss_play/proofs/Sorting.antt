@@ -1,5 +1,5 @@
 -- Devices are sorted one by one into the lists of their groups.
-use Rattle.std.proofs.Common.{◌≡◌, ℕ, zero, suc, ◌+◌, ◌==◌, ◌<◌, ◌≤◌, List, [], ◌∷◌, ◌++◌, length, take, drop, refl, ap, sym, ◌∙◌, arith, Bool, true, false, Some, None, subst, add-one, replicate, get_or}
+use Rattle.std.proofs.Common.{◌≡◌, ℕ, zero, suc, ◌+◌, ◌==◌, ◌<◌, ◌≤◌, List, [], ◌∷◌, ◌++◌, length, take, drop, refl, ap, sym, ◌∙◌, arith, Bool, true, false, Some, subst, add-one, replicate, get_or}
 use Rattle.std.specs.Prelude.{slice_get, slice_set, map, All, option_map, if◌then◌else◌}
 use Rattle.std.specs.List.{range_with_len}
 use Rattle.std.proofs.lemmas.List.Elements.{All-cons, All-head, All-tail, All-nil}
@@ -11,10 +11,7 @@ use Rattle.cow_volume.proofs.Group.{length-slice_set}
 use Rattle.vss_play.proofs.GivingBack.{append_nil}
 
 pub nothing : {X : Type 0} (k : ℕ) (x : X) → slice_get [] k ≡ Some x → ⊥
-nothing {X} k x e = clash (sym (slice_get_past [] k (omega arith)) ∙ e)
-  where
-    clash : None ≡ Some x → ⊥
-    clash e = cc
+nothing k x e = grind (arith, slice_get_past)
 
 -- ## lists
 
@@ -55,7 +52,8 @@ pub in_group_none : {X : Type 0} (g : ℕ) (hs : List ℕ) → in_group {X = X} 
 in_group_none g [] = refl
 in_group_none g (h ∷ hs) = refl
 
-in_group_suc : {X : Type 0} (g : ℕ) (hs : List ℕ) (xs : List X) (k h : ℕ) (x : X) → slice_get hs k ≡ Some h → slice_get xs k ≡ Some x → in_group g hs (take (suc k) xs) ≡ in_group g hs (take k xs) ++ (if h == g then x ∷ [] else [])
+in_group_suc : {X : Type 0} (g : ℕ) (hs : List ℕ) (xs : List X) (k h : ℕ) (x : X) → slice_get hs k ≡ Some h → slice_get xs k ≡ Some x
+    → in_group g hs (take (suc k) xs) ≡ in_group g hs (take k xs) ++ (if h == g then x ∷ [] else [])
 in_group_suc g [] xs k h x e f = absurd (nothing k h e)
 in_group_suc g (i ∷ hs) [] k h x e f = absurd (nothing k x f)
 in_group_suc {X} g (i ∷ hs) (y ∷ xs) zero h x e f =
@@ -64,11 +62,13 @@ in_group_suc {X} g (i ∷ hs) (y ∷ xs) zero h x e f =
 in_group_suc {X} g (i ∷ hs) (y ∷ xs) (suc k) h x e f = by_test (i == g) (in_group_suc g hs xs k h x e f)
   where
     by_test : (b : Bool) → in_group g hs (take (suc k) xs) ≡ in_group g hs (take k xs) ++ (if h == g then x ∷ [] else [])
-        → (if b then y ∷ in_group g hs (take (suc k) xs) else in_group g hs (take (suc k) xs)) ≡ (if b then y ∷ in_group g hs (take k xs) else in_group g hs (take k xs)) ++ (if h == g then x ∷ [] else [])
+        → (if b then y ∷ in_group g hs (take (suc k) xs) else in_group g hs (take (suc k) xs))
+        ≡ (if b then y ∷ in_group g hs (take k xs) else in_group g hs (take k xs)) ++ (if h == g then x ∷ [] else [])
     by_test true h = ap (λ zs. y ∷ zs) h
     by_test false h = h
 
-in_group_more : {X : Type 0} (g : ℕ) (hs : List ℕ) (xs : List X) (k h : ℕ) (x : X) → slice_get hs k ≡ Some h → slice_get xs k ≡ Some x → in_group g hs (take (k + 1) xs) ≡ in_group g hs (take k xs) ++ (if h == g then x ∷ [] else [])
+in_group_more : {X : Type 0} (g : ℕ) (hs : List ℕ) (xs : List X) (k h : ℕ) (x : X) → slice_get hs k ≡ Some h → slice_get xs k ≡ Some x
+    → in_group g hs (take (k + 1) xs) ≡ in_group g hs (take k xs) ++ (if h == g then x ∷ [] else [])
 in_group_more g hs xs k h x e f = ap (λ n. in_group g hs (take n xs)) (add-one k) ∙ in_group_suc g hs xs k h x e f
 
 pub in_group_append : {X : Type 0} (g : ℕ) (hs ks : List ℕ) (xs ys : List X) → length hs ≡ length xs → in_group g (hs ++ ks) (xs ++ ys) ≡ in_group g hs xs ++ in_group g ks ys
@@ -85,7 +85,9 @@ in_group_append g (h ∷ hs) ks (x ∷ xs) ys e = by_test (h == g) (in_group_app
 later_none : {X : Type 0} (g b n : ℕ) (ys : List X) → g < b → in_group g (range_with_len b n) ys ≡ []
 later_none g b zero ys l = refl
 later_none g b (suc n) [] l = refl
-later_none {X} g b (suc n) (y ∷ ys) l = let other : (b == g) ≡ false = grind arith in ap (λ (t : Bool). if t then y ∷ in_group g (range_with_len (b + 1) n) ys else in_group g (range_with_len (b + 1) n) ys) other ∙ later_none g (b + 1) n ys (omega arith)
+later_none {X} g b (suc n) (y ∷ ys) l = let other : (b == g) ≡ false = grind arith
+    in ap (λ (t : Bool). if t then y ∷ in_group g (range_with_len (b + 1) n) ys else in_group g (range_with_len (b + 1) n) ys) other
+    ∙ later_none g (b + 1) n ys (omega arith)
 
 -- one of each number
 pub one_of_each : {X : Type 0} (a n k : ℕ) (ys : List X) (y : X) → length ys ≡ n → slice_get ys k ≡ Some y → in_group (a + k) (range_with_len a n) ys ≡ y ∷ []
@@ -118,7 +120,8 @@ map_in_group f g [] xs = refl
 map_in_group f g (i ∷ hs) [] = refl
 map_in_group f g (i ∷ hs) (x ∷ xs) = by_test (i == g) (map_in_group f g hs xs)
   where
-    by_test : (b : Bool) → map f (in_group g hs xs) ≡ in_group g hs (map f xs) → map f (if b then x ∷ in_group g hs xs else in_group g hs xs) ≡ (if b then f x ∷ in_group g hs (map f xs) else in_group g hs (map f xs))
+    by_test : (b : Bool) → map f (in_group g hs xs) ≡ in_group g hs (map f xs)
+        → map f (if b then x ∷ in_group g hs xs else in_group g hs xs) ≡ (if b then f x ∷ in_group g hs (map f xs) else in_group g hs (map f xs))
     by_test true e = ap (λ ys. f x ∷ ys) e
     by_test false e = e
 
@@ -133,16 +136,13 @@ length_replicate : {X : Type 0} (n : ℕ) (x : X) → length (replicate n x) ≡
 length_replicate zero x = refl
 length_replicate (suc n) x = ap suc (length_replicate n x)
 
-pub none_sorted : {D : Type 0} (groups : List ℕ) (devices rest : List D) (number : ℕ) (sorted : List (List D)) → rest ≡ devices → sorted ≡ replicate number [] → IsSorting groups devices 0 rest number sorted
-none_sorted {D} groups devices rest number sorted whole e = record {
-  few = omega arith;
-  rest_is = whole;
-  many = ap length e ∙ length_replicate number [];
-  each = λ g ds at. empty_at number g ds (subst (λ (ls : List (List D)). slice_get ls g ≡ Some ds) e at) ∙ sym (in_group_none {X = D} g groups);
-}
+pub none_sorted : {D : Type 0} (groups : List ℕ) (devices rest : List D) (number : ℕ) (sorted : List (List D)) → rest ≡ devices → sorted ≡ replicate number []
+    → IsSorting groups devices 0 rest number sorted
+none_sorted groups devices rest number sorted whole e = grind (arith, length_replicate, empty_at, in_group_none)
 
 pub one_sorted : {D : Type 0} (groups : List ℕ) (devices : List D) (place : ℕ) (rest less : List D) (number : ℕ) (sorted new : List (List D)) (d : D) (group : ℕ) (mine : List D)
-    → IsSorting groups devices place rest number sorted → rest ≡ d ∷ less → slice_get groups place ≡ Some group → slice_get sorted group ≡ Some mine → new ≡ slice_set sorted group (mine ++ d ∷ []) → IsSorting groups devices (place + 1) less number new
+    → IsSorting groups devices place rest number sorted → rest ≡ d ∷ less → slice_get groups place ≡ Some group → slice_get sorted group ≡ Some mine
+    → new ≡ slice_set sorted group (mine ++ d ∷ []) → IsSorting groups devices (place + 1) less number new
 one_sorted {D} groups devices place rest less number sorted new d group mine h first at own is =
     let next = next_at devices place d less (sym h.rest_is ∙ first) in
     let room = slice_get_within sorted group mine own in
@@ -159,21 +159,25 @@ one_sorted {D} groups devices place rest less number sorted new d group mine h f
     clash : false ≡ true → ⊥
     clash e = cc
 
-    by_group : (g : ℕ) (ds : List D) (b : Bool) → (g == group) ≡ b → slice_get (slice_set sorted group (mine ++ d ∷ [])) g ≡ Some ds → Next devices place d less → group < length sorted → ds ≡ in_group g groups (take (place + 1) devices)
+    by_group : (g : ℕ) (ds : List D) (b : Bool) → (g == group) ≡ b → slice_get (slice_set sorted group (mine ++ d ∷ [])) g ≡ Some ds → Next devices place d less
+        → group < length sorted → ds ≡ in_group g groups (take (place + 1) devices)
     by_group g ds true e there next room =
         let same : g ≡ group = grind arith in
         let here : Some ds ≡ Some (mine ++ d ∷ []) = sym there ∙ ap (slice_get (slice_set sorted group (mine ++ d ∷ []))) same ∙ set_here sorted group (mine ++ d ∷ []) room in
         let is_mine : ds ≡ mine ++ d ∷ [] = cc in
         let test : (group == g) ≡ true = grind arith in
-        is_mine ∙ ap (λ zs. zs ++ d ∷ []) (h.each g mine (ap (slice_get sorted) same ∙ own)) ∙ ap (λ (t : Bool). in_group g groups (take place devices) ++ (if t then d ∷ [] else [])) (sym test) ∙ sym (in_group_more g groups devices place group d at next.at)
+        is_mine ∙ ap (λ zs. zs ++ d ∷ []) (h.each g mine (ap (slice_get sorted) same ∙ own))
+        ∙ ap (λ (t : Bool). in_group g groups (take place devices) ++ (if t then d ∷ [] else [])) (sym test)
+        ∙ sym (in_group_more g groups devices place group d at next.at)
     by_group g ds false e there next room =
         let other : g ≡ group → ⊥ = λ same. clash (sym e ∙ ap (λ n. n == group) same ∙ own_number group) in
         let test : (group == g) ≡ false = grind (arith, other) in
         h.each g ds (sym (set_there sorted group g (mine ++ d ∷ []) other) ∙ there) ∙ sym (append_nil (in_group g groups (take place devices)))
         ∙ ap (λ (t : Bool). in_group g groups (take place devices) ++ (if t then d ∷ [] else [])) (sym test) ∙ sym (in_group_more g groups devices place group d at next.at)
 
-pub all_sorted : {D : Type 0} (groups : List ℕ) (devices : List D) (place : ℕ) (rest : List D) (number : ℕ) (sorted : List (List D)) → IsSorting groups devices place rest number sorted → rest ≡ [] → (g : ℕ) (ds : List D) → slice_get sorted g ≡ Some ds → ds ≡ in_group g groups devices
-all_sorted {D} groups devices place rest number sorted h done g ds at = h.each g ds at ∙ ap (λ (xs : List D). in_group g groups xs) (take_all place devices (none_left devices place (sym h.rest_is ∙ done)))
+pub all_sorted : {D : Type 0} (groups : List ℕ) (devices : List D) (place : ℕ) (rest : List D) (number : ℕ) (sorted : List (List D))
+    → IsSorting groups devices place rest number sorted → rest ≡ [] → (g : ℕ) (ds : List D) → slice_get sorted g ≡ Some ds → ds ≡ in_group g groups devices
+all_sorted groups devices place rest number sorted h done g ds at = grind (arith, take_all, none_left)
 
 -- ## lists that are held by vectors
 

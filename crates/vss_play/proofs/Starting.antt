@@ -1,11 +1,10 @@
 -- A run of which nothing has happened.
-use Rattle.std.proofs.Common.{◌≡◌, ℕ, zero, suc, ◌+◌, List, [], length, refl, ap, sym, ◌∙◌, arith, subst, replicate, Option}
+use Rattle.std.proofs.Common.{◌≡◌, ℕ, zero, suc, ◌+◌, List, [], length, refl, ap, arith, replicate, Option}
 use Rattle.write_history.specs.declared.move_item.Move.{Move}
 use Rattle.scenario.specs.Plan.{Plan}
 use Rattle.scenario.specs.Bounds.{IsPlan}
-use Rattle.vss_report.specs.Report.{first_line, IsReportSoFar}
+use Rattle.vss_report.specs.Report.{first_line}
 use Rattle.vss_report.proofs.LinesGrow.{so_far_none}
-use Rattle.vss_world.specs.Devices.{tells_of}
 use Rattle.vss_world.specs.Stands.{WorldValue, Stands, IsOf}
 use Rattle.vss_play.specs.Running.{AreCursors, IsPlay}
 
@@ -19,17 +18,4 @@ length_replicate (suc n) x = ap suc (length_replicate n x)
 
 pub play_fresh : {D : Type 0} (told : D → Option (List (List ℕ))) (s : Plan) (w : WorldValue D) (cursors : List ℕ) (moves : List Move) (text : List ℕ) (lanes : ℕ)
     → IsPlan s → Stands told w s [] → IsOf w s → lanes ≡ length s.lanes → cursors ≡ replicate {A = ℕ} lanes 0 → moves ≡ [] → text ≡ first_line → IsPlay told s w cursors moves text
-play_fresh told s w cursors moves text lanes plan stands of many first none line =
-    subst (λ (ms : List Move). IsPlay told s w cursors ms text) (sym none)
-    (subst (λ (cs : List ℕ). IsPlay told s w cs [] text) (sym first)
-    (record {
-      plan = plan;
-      legal = refl;
-      stands = stands;
-      of = of;
-      lines = subst (λ t. IsReportSoFar s (tells_of told s w.devices) [] t) (sym line) (so_far_none s (tells_of told s w.devices));
-      legible = tt;
-      short = omega arith;
-      made = cursors_first 0 lanes;
-      lanes = length_replicate lanes 0 ∙ many;
-    }))
+play_fresh told s w cursors moves text lanes plan stands of many first none line = grind (arith, so_far_none, cursors_first, length_replicate)

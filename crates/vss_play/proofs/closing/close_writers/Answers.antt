@@ -6,7 +6,8 @@ loop-writer-init g c = (no_writer c.args.scenario.now c.args.trail.now.moves c.a
 
 pub loop-writer-preserved : goal.loop-writer-preserved
 loop-writer-preserved g c = (
-  one_writer c.args.scenario.now c.args.trail.now.moves c.loop-writer.writer c.args.out.now.bytes c.loop-writer.out.bytes c.close_writer.new.out.bytes c.loop-writer.invariant.0 c.in_ok-close_writer.ensures.writer,
+  one_writer c.args.scenario.now c.args.trail.now.moves c.loop-writer.writer c.args.out.now.bytes c.loop-writer.out.bytes c.close_writer.new.out.bytes
+      c.loop-writer.invariant.0 c.in_ok-close_writer.ensures.writer,
   longer_trans c.args.out.now.bytes c.loop-writer.out.bytes c.close_writer.new.out.bytes c.loop-writer.invariant.1 c.in_ok-close_writer.ensures.longer,
 )
 

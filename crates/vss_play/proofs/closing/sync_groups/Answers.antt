@@ -36,7 +36,8 @@ pub returns-in-Err-clause-rose : goal.returns-in-Err-clause-rose
 returns-in-Err-clause-rose g c = λ e. any_earlier _ _ _ c.loop-group.invariant.0.later (rose_at _ _ _ (c.in-Err.ensures.cause refl))
 
 pub returns-clause-areas : goal.returns-clause-areas
-returns-clause-areas g c = all_hold g.D.Device.told c.args.scenario.now c.args.trail.now.moves c.loop-group.world.devices c.loop-group.group c.groups-group-end.result c.groups-group-end.ensures c.loop-group-test.false c.loop-group.invariant.1
+returns-clause-areas g c = all_hold g.D.Device.told c.args.scenario.now c.args.trail.now.moves c.loop-group.world.devices c.loop-group.group
+    c.groups-group-end.result c.groups-group-end.ensures c.loop-group-test.false c.loop-group.invariant.1
 
 pub returns-clause-lasted : goal.returns-clause-lasted
 returns-clause-lasted g c = each_area g.D.Device c.args.scenario.now c.loop-group.world.devices c.loop-group.group

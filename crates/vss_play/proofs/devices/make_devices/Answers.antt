@@ -16,7 +16,9 @@ loop-place-preserved g c =
       c.in-Ok.ensures.kept ∙ c.loop-place.invariant.2,
       c.in-Ok.ensures.unfailed ∙ c.loop-place.invariant.3,
       c.in-Ok.ensures.places c.loop-place.invariant.4,
-      named_step (device_names s) c.loop-place.place _ _ _ (let many = many_names s in let l = c.loop-place-test.true in let a = c.volumes.ensures.count in let b = c.groups.ensures in omega arith) c.loop-place.invariant.5 c.in-Ok.ensures.named,
+      named_step (device_names s) c.loop-place.place _ _ _
+          (let many = many_names s in let l = c.loop-place-test.true in let a = c.volumes.ensures.count in let b = c.groups.ensures in omega arith)
+          c.loop-place.invariant.5 c.in-Ok.ensures.named,
     )
 
 pub overflow_add-place-end : goal.overflow_add-place-end
@@ -25,7 +27,8 @@ overflow_add-place-end g c = let few = few_devices c.args.scenario.now c.volumes
 pub returns-in-Err-clause-undone : goal.returns-in-Err-clause-undone
 returns-in-Err-clause-undone g c =
     undone_made g.M.Made.Device (g.M.Maker.tells c.args.maker.now c.args.store.now) c.args.scenario.now c.loop-place.place c.loop-place.made.items c.make_next.new.made.items _ _ _ _ _ _ _ _
-    (let l = c.loop-place-test.true in let a = c.volumes.ensures.count in let b = c.groups.ensures in omega arith) c.loop-place.invariant.0 c.in-Err.ensures.same c.loop-place.invariant.5 c.in-Err.ensures.unnamed c.give_all.ensures.named c.loop-place.invariant.2 c.in-Err.ensures.kept
+    (let l = c.loop-place-test.true in let a = c.volumes.ensures.count in let b = c.groups.ensures in omega arith) c.loop-place.invariant.0
+    c.in-Err.ensures.same c.loop-place.invariant.5 c.in-Err.ensures.unnamed c.give_all.ensures.named c.loop-place.invariant.2 c.in-Err.ensures.kept
     (c.give_all.ensures.kept (c.in-Err.ensures.places c.loop-place.invariant.4))
 
 pub returns-in-Err-clause-unmade : goal.returns-in-Err-clause-unmade

@@ -10,7 +10,8 @@ returns-clause-areas g c =
     c.in_ok-sync_all.ensures.areas
 
 pub digest_volumes-requires-clause-ready : goal.digest_volumes-requires-clause-ready
-digest_volumes-requires-clause-ready g c = still_ready _ _ c.args.scenario.now c.args.trail.now.moves c.args.ready.now.rows c.args.ready.now.rows c.in_ok-sync_all.ensures.ending.tells refl c.requires.ready
+digest_volumes-requires-clause-ready g c = still_ready _ _ c.args.scenario.now c.args.trail.now.moves c.args.ready.now.rows c.args.ready.now.rows
+    c.in_ok-sync_all.ensures.ending.tells refl c.requires.ready
 
 pub returns-clause-lasted : goal.returns-clause-lasted
 returns-clause-lasted g c = still_lasted g.D.Device c.args.scenario.now c.sync_all.new.world c.digest_volumes.new.world

@@ -16,12 +16,15 @@ pub digest_volume-requires-clause-stands : goal.digest_volume-requires-clause-st
 digest_volume-requires-clause-stands g c = still_stands g.D.Device c.args.world.now c.loop-volume.world c.args.scenario.now c.args.trail.now.moves c.requires.stands c.loop-volume.invariant.0
 
 pub digest_volume-requires-clause-ready : goal.digest_volume-requires-clause-ready
-digest_volume-requires-clause-ready g c = still_ready _ _ c.args.scenario.now c.args.trail.now.moves c.args.ready.now.rows c.loop-volume.ready.rows c.loop-volume.invariant.0.tells c.loop-volume.invariant.3 c.requires.ready
+digest_volume-requires-clause-ready g c = still_ready _ _ c.args.scenario.now c.args.trail.now.moves c.args.ready.now.rows c.loop-volume.ready.rows
+    c.loop-volume.invariant.0.tells c.loop-volume.invariant.3 c.requires.ready
 
 pub loop-volume-preserved : goal.loop-volume-preserved
 loop-volume-preserved g c = (
   quiet_trans g.D.Device c.args.world.now c.loop-volume.world c.digest_volume.new.world c.args.scenario.now c.loop-volume.invariant.0 c.in-Ok.ensures.quiet,
-  one_digest (tells_of g.D.Device.told c.args.scenario.now c.args.world.now.devices) (tells_of g.D.Device.told c.args.scenario.now c.loop-volume.world.devices) c.args.scenario.now c.args.trail.now.moves c.loop-volume.volume c.loop-volume.out c.in-Ok.digest
+  one_digest (tells_of g.D.Device.told c.args.scenario.now c.args.world.now.devices)
+      (tells_of g.D.Device.told c.args.scenario.now c.loop-volume.world.devices) c.args.scenario.now c.args.trail.now.moves c.loop-volume.volume
+      c.loop-volume.out c.in-Ok.digest
       c.loop-volume.invariant.0.tells c.loop-volume.invariant.1 c.in-Ok.ensures.digest,
   c.in-Ok.ensures.same ∙ c.loop-volume.invariant.2,
   c.in-Ok.ensures.rows ∙ c.loop-volume.invariant.3,
@@ -34,4 +37,6 @@ pub returns-in-Err-clause-rose : goal.returns-in-Err-clause-rose
 returns-in-Err-clause-rose g c = λ e. any_earlier _ _ _ c.loop-volume.invariant.0.later (c.in-Err.ensures.rose refl)
 
 pub returns-clause-digests : goal.returns-clause-digests
-returns-clause-digests g c = all_digests (tells_of g.D.Device.told c.args.scenario.now c.args.world.now.devices) c.args.scenario.now c.args.trail.now.moves c.loop-volume.volume c.volumes-volume-end.result c.loop-volume.out c.volumes-volume-end.ensures.count c.loop-volume-test.false c.loop-volume.invariant.1
+returns-clause-digests g c = all_digests
+    (tells_of g.D.Device.told c.args.scenario.now c.args.world.now.devices) c.args.scenario.now c.args.trail.now.moves c.loop-volume.volume
+    c.volumes-volume-end.result c.loop-volume.out c.volumes-volume-end.ensures.count c.loop-volume-test.false c.loop-volume.invariant.1

@@ -6,7 +6,8 @@ use Rattle.vss_play.proofs.end_digests.digest_image.Goals as goal
 
 pub returns-in-Some-clause-digest : goal.returns-in-Some-clause-digest
 returns-in-Some-clause-digest g c =
-    ready_is (tells_of g.D.Device.told c.args.scenario.now c.args.world.now.devices) c.args.scenario.now c.args.trail.now.moves c.args.ready.now.rows.items c.args.volume (Some c.args.set) c.in-Some.digest c.requires.in_range c.requires.ready c.in-Some.ensures.stands
+    ready_is (tells_of g.D.Device.told c.args.scenario.now c.args.world.now.devices) c.args.scenario.now c.args.trail.now.moves c.args.ready.now.rows.items
+    c.args.volume (Some c.args.set) c.in-Some.digest c.requires.in_range c.requires.ready c.in-Some.ensures.stands
 
 pub returns-in-Some-clause-quiet : goal.returns-in-Some-clause-quiet
 returns-in-Some-clause-quiet g c = quiet_same g.D.Device c.args.world.now c.args.scenario.now c.requires.stands.of

@@ -13,5 +13,6 @@ overflow_add-going c =
 pub loop-lane-preserved : goal.loop-lane-preserved
 loop-lane-preserved c = elim c.if-is_some.branch [
   | then-is_some w ↦ with_lane c.args.scenario.now c.loop-lane.lane c.line.result true c.loop-lane.going _ c.line.ensures (sym c.is_some.ensures ∙ w.if-is_some.true) c.loop-lane.invariant w.going-is
-  | else-is_some w ↦ with_lane c.args.scenario.now c.loop-lane.lane c.line.result false c.loop-lane.going _ c.line.ensures (sym c.is_some.ensures ∙ w.if-is_some.false) c.loop-lane.invariant (w.going-is ∙ sym (add-zero c.loop-lane.going))
+  | else-is_some w ↦ with_lane c.args.scenario.now c.loop-lane.lane c.line.result false c.loop-lane.going _ c.line.ensures
+      (sym c.is_some.ensures ∙ w.if-is_some.false) c.loop-lane.invariant (w.going-is ∙ sym (add-zero c.loop-lane.going))
 ]

@@ -5,12 +5,14 @@ use Rattle.vss_play.proofs.play.Play.finish.Goals as goal
 
 pub close_all-requires : goal.close_all-requires
 close_all-requires g c = record {
-  stands = stands_by g.D.Device.told c.self.inside.scenario c.self.inside.world c.self.inside.cursors.items c.self.inside.trail.moves c.self.inside.lines.bytes c.turns_come_to_an_end.ensures.short c.self.invariant.play;
+  stands = stands_by g.D.Device.told c.self.inside.scenario c.self.inside.world c.self.inside.cursors.items c.self.inside.trail.moves c.self.inside.lines.bytes
+      c.turns_come_to_an_end.ensures.short c.self.invariant.play;
   ready = c.ready_digests-ready.ensures;
 }
 
 pub ready_digests-ready-requires-clause-stands : goal.ready_digests-ready-requires-clause-stands
-ready_digests-ready-requires-clause-stands g c = λ κs within. stands_by g.D.Device.told c.self.inside.scenario c.self.inside.world c.self.inside.cursors.items c.self.inside.trail.moves c.self.inside.lines.bytes c.turns_come_to_an_end.ensures.short c.self.invariant.play
+ready_digests-ready-requires-clause-stands g c = λ κs within. stands_by g.D.Device.told c.self.inside.scenario c.self.inside.world c.self.inside.cursors.items
+    c.self.inside.trail.moves c.self.inside.lines.bytes c.turns_come_to_an_end.ensures.short c.self.invariant.play
 
 pub returns-clause-ended : goal.returns-clause-ended
 returns-clause-ended g c =
