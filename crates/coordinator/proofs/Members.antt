@@ -2,6 +2,7 @@
 use Rattle.std.proofs.Common.{◌≡◌, ◌≢◌, ℕ, suc, ◌+◌, ◌<◌, ◌≤◌, List, [], ◌∷◌, ◌++◌, length, refl, Bool, true, false, ap, sym, ◌∙◌, arith, map}
 use Rattle.std.specs.Prelude.{◌==◌, ◌&&◌, ◌||◌}
 use Rattle.std.proofs.lemmas.Bool.Decides.{nat_tests}
+use Rattle.std.proofs.lemmas.Bool.{and_right}
 use Rattle.writer_state.specs.declared.writer_row.WriterRow.{WriterRow}
 use Rattle.set_agenda.specs.Course.{is_member, member_if, members_from, row_if, rows_where}
 use Rattle.coordinator.specs.declared.row_change.RowChange.{RowChange}
@@ -18,14 +19,11 @@ same_from a w e = grind (arith, nat_tests)
 other_from : (a w : ℕ) → (a == w) ≡ false → a ≢ w
 other_from a w e = grind (arith, nat_tests)
 
-and_false : (b c : Bool) → c ≡ false → (b && c) ≡ false
-and_false b c e = grind arith
-
 pub member-below : (t : ℕ → Bool) (i : ℕ) (rs : List WriterRow) (w : ℕ) → w < i → is_member (members_from t i rs) w ≡ false
 member-below t i [] w h = refl
 member-below t i (r ∷ rs) w h =
     let e : (i == w) ≡ false = grind (arith, nat_tests) in
-    member-step t i r rs w ∙ ap (λ b. b || is_member (members_from t (i + 1) rs) w) (and_false (t i) (i == w) e) ∙ member-below t (i + 1) rs w (omega arith)
+    member-step t i r rs w ∙ ap (λ b. b || is_member (members_from t (i + 1) rs) w) (and_right (t i) (i == w) e) ∙ member-below t (i + 1) rs w (omega arith)
 
 here-step : (t : ℕ → Bool) (i w : ℕ) (d c : Bool) → (i == w) ≡ c → ((i == w) ≡ true → d ≡ false) → ((i == w) ≡ false → d ≡ t w) → ((t i && c) || d) ≡ t w
 here-step t i w d c e f g = grind arith
@@ -74,7 +72,7 @@ pub member-above : (t : ℕ → Bool) (i : ℕ) (rs : List WriterRow) (w : ℕ) 
 member-above t i [] w h = refl
 member-above t i (r ∷ rs) w h =
     let e : (i == w) ≡ false = grind (arith, nat_tests) in
-    member-step t i r rs w ∙ ap (λ b. b || is_member (members_from t (i + 1) rs) w) (and_false (t i) (i == w) e) ∙ member-above t (i + 1) rs w (omega arith)
+    member-step t i r rs w ∙ ap (λ b. b || is_member (members_from t (i + 1) rs) w) (and_right (t i) (i == w) e) ∙ member-above t (i + 1) rs w (omega arith)
 
 member_if-out : (b : Bool) (i : ℕ) (r : WriterRow) → b ≡ false → member_if b i r ≡ []
 member_if-out b i r e = grind arith

@@ -3,7 +3,7 @@ use Rattle.std.proofs.Common.{◌≡◌, ◌≢◌, ℕ, ◌+◌, ◌<◌, List,
 use Rattle.std.specs.Prelude.{◌&&◌, not, ◌==◌, count_by}
 use Rattle.std.proofs.lemmas.List.{get_or-set_other, get_or-set_same}
 use Rattle.std.proofs.lemmas.List.Sums.{sum_by-append}
-use Rattle.std.proofs.lemmas.Bool.{and_parts}
+use Rattle.std.proofs.lemmas.Bool.{and_parts, and_right}
 use Rattle.vss_names.specs.declared.order.Order.{Order}
 use Rattle.vss_names.specs.declared.order.Order.TheVariants.{Identify, PrepareBackup, PrepareSnapshot, Freeze, Thaw, PostSnapshot, BackupComplete}
 use Rattle.set_agenda.specs.declared.group.Group.{Group}
@@ -37,9 +37,6 @@ nth-not gs w o p ws e = count-more (λ (g : OrderGroup). same_order g.order p &&
 nth-more : (gs : List OrderGroup) (w : ℕ) (o p : Order) (ws : List ℕ) → (same_order o p && is_among w ws) ≡ true → nth_in (gs ++ record { order = o; members = ws } ∷ []) w p ≡ nth_in gs w p + 1
 nth-more gs w o p ws e = count-more (λ (g : OrderGroup). same_order g.order p && is_among w g.members) gs (record { order = o; members = ws }) true e
 
-and_false : (b c : Bool) → c ≡ false → (b && c) ≡ false
-and_false b c e = grind arith
-
 counts-are : (a b c d e f g : ℕ) (n : OrderCounts) → a ≡ n.identify → b ≡ n.prepare_backup → c ≡ n.prepare_snapshot → d ≡ n.freeze → e ≡ n.thaw → f ≡ n.post_snapshot → g ≡ n.backup_complete
     → record { identify = a; prepare_backup = b; prepare_snapshot = c; freeze = d; thaw = e; post_snapshot = f; backup_complete = g } ≡ n
 counts-are a b c d e f g n ea eb ec ed ee ef eg = rw (ea, eb, ec, ed, ee, ef, eg) refl
@@ -50,13 +47,13 @@ with_more gs o ws = gs ++ record { order = o; members = ws } ∷ []
 -- a group without the writer
 pub counts-not : (gs : List OrderGroup) (w : ℕ) (o : Order) (ws : List ℕ) → is_among w ws ≡ false → counts_in (with_more gs o ws) w ≡ counts_in gs w
 counts-not gs w o ws e = counts-are _ _ _ _ _ _ _ (counts_in gs w)
-    (nth-not gs w o Identify ws (and_false (same_order o Identify) (is_among w ws) e))
-    (nth-not gs w o PrepareBackup ws (and_false (same_order o PrepareBackup) (is_among w ws) e))
-    (nth-not gs w o PrepareSnapshot ws (and_false (same_order o PrepareSnapshot) (is_among w ws) e))
-    (nth-not gs w o Freeze ws (and_false (same_order o Freeze) (is_among w ws) e))
-    (nth-not gs w o Thaw ws (and_false (same_order o Thaw) (is_among w ws) e))
-    (nth-not gs w o PostSnapshot ws (and_false (same_order o PostSnapshot) (is_among w ws) e))
-    (nth-not gs w o BackupComplete ws (and_false (same_order o BackupComplete) (is_among w ws) e))
+    (nth-not gs w o Identify ws (and_right (same_order o Identify) (is_among w ws) e))
+    (nth-not gs w o PrepareBackup ws (and_right (same_order o PrepareBackup) (is_among w ws) e))
+    (nth-not gs w o PrepareSnapshot ws (and_right (same_order o PrepareSnapshot) (is_among w ws) e))
+    (nth-not gs w o Freeze ws (and_right (same_order o Freeze) (is_among w ws) e))
+    (nth-not gs w o Thaw ws (and_right (same_order o Thaw) (is_among w ws) e))
+    (nth-not gs w o PostSnapshot ws (and_right (same_order o PostSnapshot) (is_among w ws) e))
+    (nth-not gs w o BackupComplete ws (and_right (same_order o BackupComplete) (is_among w ws) e))
 
 -- a group with the writer
 pub counts-more : (gs : List OrderGroup) (w : ℕ) (o : Order) (ws : List ℕ) → is_among w ws ≡ true → counts_in (with_more gs o ws) w ≡ one_more o (counts_in gs w)

@@ -2,7 +2,8 @@ use Rattle.std.proofs.Common.{[], ◌∷◌, ap, refl, sym, ◌∙◌}
 use Rattle.std.specs.Prelude.{not}
 use Rattle.set_agenda.specs.Advance.{advance}
 use Rattle.set_agenda.specs.Agenda.{groups_left, is_asked}
-use Rattle.set_agenda.proofs.Held.{asked-waited, one-waited}
+use Rattle.set_agenda.proofs.Held.{asked-waited}
+use Rattle.set_agenda.proofs.CourseRule.{one_alone}
 use Rattle.coordinator.proofs.Fitting.{Keeps, fits-all_say, keeps-entered}
 use Rattle.coordinator.proofs.KeptLimits.{none-after-keeps}
 use Rattle.coordinator.proofs.running_agenda.RunningAgenda.hear.Goals as goal
@@ -15,6 +16,6 @@ returns c =
     c.keep_times.ensures.opened c.keep_times.ensures.freeze_opened c.keep_times.ensures.held c.keep_times.ensures.others in
     record {
       fits = λ a f. fits-all_say c.args.self.now c.keep_times.new.self c.place-place.result (c.args.writer ∷ []) c.args.said c.args.now refl c.place-place.ensures keeps a f
-          (λ v. one-waited c.args.writer v _ (asked-waited c.args.writer (groups_left a) (sym (ap (is_asked c.args.writer) f.left) ∙ c.requires.open)));
+          (λ v. one_alone c.args.writer v _ (asked-waited c.args.writer (groups_left a) (sym (ap (is_asked c.args.writer) f.left) ∙ c.requires.open)));
       times = none-after-keeps c.args.self.now c.keep_times.new.self c.place-place.result (c.args.writer ∷ []) c.args.said c.args.now keeps;
     }

@@ -1,7 +1,8 @@
 use Rattle.std.proofs.Common.{List, [], ◌∷◌, ap, refl, sym, ◌∙◌}
 use Rattle.writer_state.specs.declared.said.Said.TheVariants.{Ok as SaidOk}
 use Rattle.set_agenda.specs.Agenda.{Open, groups_left, is_among, is_working, next_member, waits_now}
-use Rattle.set_agenda.proofs.Held.{next-waited, one-waited}
+use Rattle.set_agenda.proofs.Held.{next-waited}
+use Rattle.set_agenda.proofs.CourseRule.{one_alone}
 use Rattle.coordinator.proofs.Fitting.{Keeps, enters-not, fits-all_say, keeps-timed, no-freeze, no-thaw}
 use Rattle.coordinator.proofs.KeptLimits.{none-after-keeps}
 use Rattle.coordinator.proofs.running_agenda.RunningAgenda.work.Goals as goal
@@ -16,6 +17,6 @@ returns c =
     c.keep_times.ensures.opened c.keep_times.ensures.freeze_opened c.keep_times.ensures.held c.keep_times.ensures.others in
     record {
       fits = λ a f. fits-all_say c.args.self.now c.keep_times.new.self c.place-place.result (next_member c.args.self.now.agenda ∷ []) SaidOk c.args.now refl c.place-place.ensures keeps a f
-          (λ v. one-waited (next_member c.args.self.now.agenda) v _ (ap (λ (os : List Open). is_among (next_member os) (waits_now (groups_left a))) f.left ∙ next-waited a (sym (ap is_working f.left) ∙ c.requires)));
+          (λ v. one_alone (next_member c.args.self.now.agenda) v _ (ap (λ (os : List Open). is_among (next_member os) (waits_now (groups_left a))) f.left ∙ next-waited a (sym (ap is_working f.left) ∙ c.requires)));
       times = none-after-keeps c.args.self.now c.keep_times.new.self c.place-place.result (next_member c.args.self.now.agenda ∷ []) SaidOk c.args.now keeps;
     }
