@@ -4,13 +4,14 @@ ghost use Rattle.image_order.specs.declared.copied.Copied.{Copied as CopiedOf};
 use crate::copied::Copied;
 use vss_names::Text;
 
-/// The passes of an update over a store. What they are of the store as the call began, `first`, is said by relations.
-pub trait Passes<E>: Drop {
+/// The passes of an update over a store, which brings volumes to what the jobs have. What it is of the store as the call began, `first`, is said
+/// by relations.
+pub trait Passes<E, J>: Drop {
     /// The bytes of the head of its state.
     ghost head: { Self → List ℕ };
 
-    /// In memory each image of `first` is as it was, but for those that were evicted.
-    ghost stands: { Self → Self → Type 0 };
+    /// In memory each image of `first` is as it was, but for those that were evicted, and the jobs fit.
+    ghost stands: { J → Self → Self → Type 0 };
 
     /// No block of a volume was written since `first`.
     ghost is_before: { Self → Self → Type 0 };
@@ -22,49 +23,49 @@ pub trait Passes<E>: Drop {
     ghost holds: { Self → Self → List ℕ → Type 0 };
 
     /// It does, and it has a copy of each block that is to be overwritten.
-    ghost covers: { Self → Self → List ℕ → Type 0 };
+    ghost covers: { J → Self → Self → List ℕ → Type 0 };
 
     /// Each block that is to be overwritten has its copies in memory.
-    ghost is_copied: { Self → Type 0 };
+    ghost is_copied: { J → Self → Type 0 };
 
     /// The volumes have what they are brought to, and that lasts.
-    ghost lasts: { Self → Type 0 };
+    ghost lasts: { J → Self → Type 0 };
 
     /// Copies old bytes into slots that no state has in use.
-    fn copy(&mut self) -> Result<Copied, E>
-        ensures done { IfOk result (λ copied. copied ≡ CopiedOf.All → ((first : Self) (h : List ℕ) → holds first self.old h → holds first self.new h) × is_copied self.new) }
+    fn copy(&mut self, jobs: &mut J) -> Result<Copied, E>
+        ensures done { IfOk result (λ copied. copied ≡ CopiedOf.All → ((first : Self) (h : List ℕ) → holds first self.old h → holds first self.new h) × is_copied jobs.new self.new) }
         ensures opens { (first : Self) (h : List ℕ) → holds first self.old h → opens first self.new h }
-        ensures stands { (first : Self) → stands first self.old → stands first self.new }
+        ensures stands { (first : Self) → stands jobs.old first self.old → stands jobs.new first self.new }
         ensures before { (first : Self) → is_before first self.old → is_before first self.new };
 
     /// Says which images went, once that is committed.
-    fn say_gone(&self) -> Result<(), E>;
+    fn say_gone(&self, jobs: &J) -> Result<(), E>;
 
     /// Writes the table of the area, and brings it and all slots to where they last.
-    fn sync(&mut self) -> Result<(), E>
+    fn sync(&mut self, jobs: &J) -> Result<(), E>
         ensures opens { (first : Self) (h : List ℕ) → opens first self.old h → opens first self.new h }
-        ensures holds { OnOk result ((first : Self) → stands first self.old → holds first self.new (head self.new)) }
-        ensures covers { OnOk result ((first : Self) → stands first self.old → is_copied self.old → covers first self.new (head self.new)) }
-        ensures stands { (first : Self) → stands first self.old → stands first self.new }
+        ensures holds { OnOk result ((first : Self) → stands jobs.now first self.old → holds first self.new (head self.new)) }
+        ensures covers { OnOk result ((first : Self) → stands jobs.now first self.old → is_copied jobs.now self.old → covers jobs.now first self.new (head self.new)) }
+        ensures stands { (first : Self) → stands jobs.now first self.old → stands jobs.now first self.new }
         ensures before { (first : Self) → is_before first self.old → is_before first self.new };
 
     /// The head of its state.
-    fn head(&self) -> Result<Text, E>
+    fn head(&self, jobs: &J) -> Result<Text, E>
         ensures { IfOk result (λ text. text.bytes ≡ head self.now) };
 
     /// How many slots the area has.
     fn slots(&self) -> u32;
 
     /// Overwrites the blocks that differ.
-    fn overwrite(&mut self) -> Result<(), E>
-        ensures opens { (first : Self) (h : List ℕ) → covers first self.old h → opens first self.new h };
+    fn overwrite(&mut self, jobs: &mut J) -> Result<(), E>
+        ensures opens { (first : Self) (h : List ℕ) → covers jobs.old first self.old h → opens first self.new h };
 
     /// Brings all volumes to where they last.
-    fn finish(&mut self) -> Result<(), E>
+    fn finish(&mut self, jobs: &J) -> Result<(), E>
         ensures opens { (first : Self) (h : List ℕ) → opens first self.old h → opens first self.new h }
-        ensures lasts { OnOk result (lasts self.new) };
+        ensures lasts { OnOk result (lasts jobs.now self.new) };
 
     ghost held_open: { (first now : Self) (h : List ℕ) → holds first now h → opens first now h };
 
-    ghost covered_open: { (first now : Self) (h : List ℕ) → covers first now h → opens first now h };
+    ghost covered_open: { (jobs : J) (first now : Self) (h : List ℕ) → covers jobs first now h → opens first now h };
 }
