@@ -1,10 +1,10 @@
 -- The members whom an agenda asks, in the order of their writers.
-use Rattle.std.proofs.Common.{◌≡◌, ℕ, zero, suc, ◌+◌, ◌<◌, ◌≤◌, List, [], ◌∷◌, ◌++◌, length, refl, Bool, true, false, cond, ap, sym, ◌∙◌, arith, filter, map, drop, Some, append-nil, append_assoc}
+use Rattle.std.proofs.Common.{◌≡◌, ℕ, zero, suc, ◌+◌, ◌<◌, ◌≤◌, List, [], ◌∷◌, ◌++◌, length, refl, Bool, true, false, cond, ap, sym, ◌∙◌, arith, filter, map, drop, Some, append-nil}
 use Rattle.std.specs.Prelude.{◌==◌, ◌&&◌, ◌||◌, nat_lt, slice_get, All}
 use Rattle.std.specs.List.{flat_map, range_with_len}
-use Rattle.std.proofs.lemmas.Bool.Decides.{nat_tests}
 use Rattle.std.proofs.lemmas.List.Concat.{flat_map-cons}
 use Rattle.std.proofs.lemmas.List.Elements.{All-nil, filter-append}
+use Rattle.std.proofs.lemmas.Grind.{common_steps}
 use Rattle.writer_state.specs.declared.writer_row.WriterRow.{WriterRow}
 use Rattle.set_agenda.specs.declared.member.Member.{Member}
 use Rattle.set_agenda.specs.Agenda.{is_among}
@@ -50,19 +50,14 @@ flat-none f (x ∷ xs) h = flat_map-cons f x xs ∙ ap (λ ms. ms ++ flat_map f 
 
 flat-agree : (f g : ℕ → List Member) (a n : ℕ) → ((i : ℕ) → a ≤ i → f i ≡ g i) → flat_map f (range_with_len a n) ≡ flat_map g (range_with_len a n)
 flat-agree f g a zero h = refl
-flat-agree f g a (suc n) h =
-    flat_map-cons f a (range_with_len (a + 1) n) ∙ ap (λ ms. ms ++ flat_map f (range_with_len (a + 1) n)) (h a (omega arith))
-    ∙ ap (λ ms. g a ++ ms) (flat-agree f g (a + 1) n (λ i l. h i (omega arith))) ∙ sym (flat_map-cons g a (range_with_len (a + 1) n))
+flat-agree f g a (suc n) h = let ih = flat-agree f g (a + 1) n (λ i l. h i (omega arith)) in grind (arith, common_steps, flat_map-cons)
 
 member_if-of : (b : Bool) (i : ℕ) (r : WriterRow) (w : ℕ) (c : Bool) → (i == w) ≡ c → of_writer (member_if b i r) w ≡ cond c (member_if b i r) []
 member_if-of b i r w c e = grind arith
 
 of-below : (t : ℕ → Bool) (i : ℕ) (rs : List WriterRow) (w : ℕ) → w < i → of_writer (members_from t i rs) w ≡ []
 of-below t i [] w h = refl
-of-below t i (r ∷ rs) w h =
-    let e : (i == w) ≡ false = grind (arith, nat_tests) in
-    filter-append (λ (m : Member). m.writer == w) (member_if (t i) i r) (members_from t (i + 1) rs)
-    ∙ ap (λ ms. ms ++ of_writer (members_from t (i + 1) rs) w) (member_if-of (t i) i r w false e) ∙ of-below t (i + 1) rs w (omega arith)
+of-below t i (r ∷ rs) w h = let ih = of-below t (i + 1) rs w (omega arith) in grind (arith, common_steps, filter-append, member_if-of)
 
 of-here : (t : ℕ → Bool) (i : ℕ) (r : WriterRow) (rs : List WriterRow) → of_writer (members_from t i (r ∷ rs)) i ≡ member_if (t i) i r
 of-here t i r rs = grind (arith, filter-append, member_if-of, of-below)
@@ -73,10 +68,7 @@ of-later t i r rs w h = grind arith
 in-order : (t : ℕ → Bool) (i n : ℕ) (rs : List WriterRow) → length rs ≤ n → flat_map (of_writer (members_from t i rs)) (range_with_len i n) ≡ members_from t i rs
 in-order t i n [] h = flat-none (of_writer []) (range_with_len i n) (λ x. refl)
 in-order t i zero (r ∷ rs) h = absurd (omega arith)
-in-order t i (suc n) (r ∷ rs) h =
-    flat_map-cons (of_writer (members_from t i (r ∷ rs))) i (range_with_len (i + 1) n)
-    ∙ ap (λ ms. ms ++ flat_map (of_writer (members_from t i (r ∷ rs))) (range_with_len (i + 1) n)) (of-here t i r rs)
-    ∙ ap (λ ms. member_if (t i) i r ++ ms) (flat-agree (of_writer (members_from t i (r ∷ rs))) (of_writer (members_from t (i + 1) rs)) (i + 1) n (λ w l. of-later t i r rs w l) ∙ in-order t (i + 1) n rs (omega arith))
+in-order t i (suc n) (r ∷ rs) h = let ih = in-order t (i + 1) n rs (omega arith) in grind (arith, common_steps, flat_map-cons, of-here, flat-agree, of-later)
 
 pub members-ordered : (t : ℕ → Bool) (rs : List WriterRow) → length rs ≤ 64 → by_writer (members_from t 0 rs) ≡ members_from t 0 rs
 unfolding by_writer
@@ -89,10 +81,7 @@ filter-if b c i r g e = grind arith
 
 pub filter-members : (t g : ℕ → Bool) (i : ℕ) (rs : List WriterRow) → filter (λ (m : Member). g m.writer) (members_from t i rs) ≡ members_from (λ w. t w && g w) i rs
 filter-members t g i [] = refl
-filter-members t g i (r ∷ rs) =
-    filter-append (λ (m : Member). g m.writer) (member_if (t i) i r) (members_from t (i + 1) rs)
-    ∙ ap (λ ms. ms ++ filter (λ (m : Member). g m.writer) (members_from t (i + 1) rs)) (filter-if (t i) (g i) i r g refl)
-    ∙ ap (λ ms. member_if (t i && g i) i r ++ ms) (filter-members t g (i + 1) rs)
+filter-members t g i (r ∷ rs) = let ih = filter-members t g (i + 1) rs in grind (arith, common_steps, filter-append, filter-if)
 
 -- ## a set of writers that is made one after another
 
@@ -112,16 +101,10 @@ inserted old new writer really e f p h = grind (arith, writers-agree, among-writ
 -- the next row is looked at
 pub members-next : (rows : List WriterRow) (t : ℕ → Bool) (n : ℕ) (r : WriterRow) (xs ys : List Member) → n < length rows → Some r ≡ slice_get rows n → ys ≡ xs ++ member_if (t n) n r
     → ys ++ members_from t (n + 1) (drop (n + 1) rows) ≡ xs ++ members_from t n (drop n rows)
-members-next rows t n r xs ys h g e =
-    ap (λ zs. zs ++ members_from t (n + 1) (drop (n + 1) rows)) e
-    ∙ append_assoc xs (member_if (t n) n r) (members_from t (n + 1) (drop (n + 1) rows))
-    ∙ ap (λ rs. xs ++ members_from t n rs) (sym (drop-at rows n r h g))
+members-next rows t n r xs ys h g e = grind (arith, common_steps, drop-at)
 
 drop-past : (rs : List WriterRow) (n : ℕ) → length rs ≤ n → drop n rs ≡ []
-drop-past [] zero h = refl
-drop-past [] (suc n) h = refl
-drop-past (r ∷ rs) zero h = absurd (omega arith)
-drop-past (r ∷ rs) (suc n) h = drop-past rs n (omega arith)
+drop-past rs n h = grind (arith, common_steps)
 
 -- all rows were looked at
 pub members-end : (rows : List WriterRow) (t : ℕ → Bool) (n : ℕ) (xs ms : List Member) → length rows ≤ n → xs ++ members_from t n (drop n rows) ≡ ms → xs ≡ ms

@@ -3,6 +3,7 @@ use Rattle.std.proofs.Common.{◌≡◌, ℕ, ◌<◌, ◌≤◌, List, [], leng
 use Rattle.std.specs.Prelude.{◌&&◌, not, nat_lt, is_some}
 use Rattle.std.proofs.lemmas.Bool.{eqb-true}
 use Rattle.std.proofs.lemmas.Map.Views.{any-filter_same}
+use Rattle.std.proofs.lemmas.Grind.{common_steps}
 use Rattle.writer_state.specs.declared.writer_row.WriterRow.{WriterRow}
 use Rattle.writer_state.specs.WriterRow.{row_gathered}
 use Rattle.set_agenda.specs.declared.kind.Kind.{Kind}
@@ -69,8 +70,7 @@ enabled-among ws ds ts w = grind (arith, any-filter_same, eqb-true, and-swapped)
 
 begun-at : (kind : Kind) (ws : List Registered) (s : Held) (k : KeptCourse) (ts vs : List ℕ) (now : ℕ) (c : Course) → length ws ≤ 64 → length k.rows ≤ 64 → ts ≡ takers s.writers s.selected → Follows k c
     → begun_as kind ws s vs now c ≡ begun kind (asked_members kind ws k ts c) (volumes_if kind vs) now (ready_for kind (asked_members kind ws k ts c) c)
-begun-at Gather ws s k ts vs now c n f e h = ap (λ ms. begun Gather ms [] now (record c { rows = map row_gathered c.rows }))
-    (members-asked Gather ws k ts c _ f h (λ w l. ap not (sym (disabled-is k c ws w n h))))
+begun-at Gather ws s k ts vs now c n f e h = grind (arith, common_steps, members-asked, disabled-is)
 begun-at Prepare ws s k ts vs now c n f e h = ap (λ ms. begun Prepare ms [] now (record c { members = ms }))
     (members-asked Prepare ws k ts c _ f h (λ w l.
     enabled-among ws c.disabled (takers s.writers s.selected) w

@@ -3,6 +3,7 @@ use Rattle.std.proofs.Common.{◌≡◌, ◌≢◌, ℕ, zero, suc, ◌+◌, ◌
 use Rattle.std.specs.Prelude.{◌==◌, fold, option_map, replicate, slice_get}
 use Rattle.std.specs.Prelude.{Ok as OkResult}
 use Rattle.std.proofs.lemmas.Bool.Decides.{nat_tests}
+use Rattle.std.proofs.lemmas.Grind.{common_steps}
 use Rattle.vss_names.specs.declared.order.Order.{Order}
 use Rattle.vss_names.specs.declared.order.Order.TheVariants.{Identify}
 use Rattle.vss_names.specs.declared.vss_result.VssResult.{VssResult}
@@ -39,8 +40,7 @@ count_of-in gs w Identify = refl
 count_of-in gs w _ = refl
 
 total-with : (gs : List OrderGroup) (w : ℕ) (g : OrderGroup) (b : Bool) → is_among w g.members ≡ b → total (counts_in (gs ++ g ∷ []) w) ≡ cond b (total (counts_in gs w) + 1) (total (counts_in gs w))
-total-with gs w g true e = ap total (counts-more gs w g.order g.members e) ∙ total-one_more g.order (counts_in gs w)
-total-with gs w g false e = ap total (counts-not gs w g.order g.members e)
+total-with gs w g b e = grind (arith, common_steps, counts-more, total-one_more, counts-not)
 
 -- the groups in the order in which they opened, from the first on
 more-from : (gs hs : List OrderGroup) (w : ℕ) → total (counts_in gs w) ≡ number_in gs w → total (counts_in (gs ++ hs) w) ≡ number_in (gs ++ hs) w
@@ -97,13 +97,10 @@ pub ready-answered : (ms ns : List Mailbox) (c : Course) (w : ℕ) (o : Order) �
 ready-answered ms ns c w o n f l said now = λ x m. subst (λ ys. IsReady (mailbox_at ys x) (left c.agenda) (left (answered_to (Some o) w said now c).agenda) c.opened x) (sym n) (ready-at ms c w x o said now (w == x) refl f l m)
 
 room-at : (ms : List Mailbox) (w x : ℕ) (b : Bool) → (w == x) ≡ b → w < length ms → number_of (mailbox_at (with_mailbox w closed ms) x) ≡ number_of (mailbox_at ms x)
-room-at ms w x true e l = let s : w ≡ x = same_from w x e in ap (λ y. number_of (mailbox_at (with_mailbox w closed ms) y)) (sym s) ∙ ap number_of (at-changed w closed ms l) ∙ ap (λ y. number_of (mailbox_at ms y)) s
-room-at ms w x false e l = let s : x ≢ w = λ q. other_from w x e (sym q) in ap number_of (at-other w closed ms x s)
+room-at ms w x b e l = grind (arith, common_steps, same_from, at-changed, other_from, at-other)
 
 fresh-at : (n w : ℕ) → mailbox_at (replicate n empty) w ≡ empty
-fresh-at zero w = refl
-fresh-at (suc n) zero = refl
-fresh-at (suc n) (suc w) = fresh-at n w
+fresh-at n w = grind (arith, common_steps)
 
 pub sent-answered : (ms ns : List Mailbox) (w : ℕ) → ns ≡ with_mailbox w closed ms → w < length ms → (n : ℕ) → SentAtMost n ms → SentAtMost n ns
 sent-answered ms ns w e l n h = λ x m. subst (λ ys. number_of (mailbox_at ys x) ≤ n) (sym e) (subst (λ y. y ≤ n) (sym (room-at ms w x (w == x) refl l)) (h x m))
@@ -133,10 +130,7 @@ follows-boxes k ns c h = grind arith
 
 stands-posted : (k : KeptCourse) (ns : List Mailbox) (c d : Course) → Follows k d → d.opened ≡ c.opened → AreFit ns (left d.agenda) (c.opened ++ opens (left c.agenda) (left d.agenda)) → StandsFor (record k { mailboxes = ns }) (posted c d)
 unfolding posted
-stands-posted k ns c d h e f = record {
-  follows = record { rows = h.rows; members = h.members; participants = h.participants; disabled = h.disabled; outcome = h.outcome; agenda = h.agenda };
-  mailboxes = λ w l. f w l ∙ ap (λ gs. mailbox_in (left d.agenda) (gs ++ opens (left c.agenda) (left d.agenda)) w) (sym e);
-}
+stands-posted k ns c d h e f = grind (arith, common_steps)
 
 pub post-stands : (k : KeptCourse) (ns : List Mailbox) (p : Place) (c d : Course)
     → ((os : List Open) (gs : List OrderGroup) → p ≡ open_place os → AreReady k.mailboxes os (left_now k.running) gs → AreFit ns (left_now k.running) (gs ++ opens os (left_now k.running)))

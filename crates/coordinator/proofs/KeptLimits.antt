@@ -2,13 +2,14 @@
 use Rattle.std.proofs.Common.{◌≡◌, ◌≤◌, ℕ, Bool, List, [], ◌∷◌, ◌++◌, Option, Some, None, cond, refl, ap, sym, ◌∙◌, arith}
 use Rattle.std.specs.Prelude.{IfSome, filter, not, option_map, unwrap_or}
 use Rattle.std.specs.Option.{ForSome}
+use Rattle.std.proofs.lemmas.Grind.{common_steps}
 use Rattle.writer_state.specs.declared.said.Said.{Said}
 use Rattle.set_agenda.specs.declared.group.Group.{Group}
 use Rattle.set_agenda.specs.declared.limit.Limit.{Limit}
 use Rattle.set_agenda.specs.declared.limit.Limit.TheVariants.{Hold as HoldLimit, Freeze as FreezeLimit, Answer as AnswerLimit}
 use Rattle.set_agenda.specs.declared.place.Place.{Place}
 use Rattle.set_agenda.specs.Agenda.{Agenda, Entry, Open, groups_left, open_group, open_place, same_place}
-use Rattle.set_agenda.specs.Limits.{Running, answer_runs, first_hold, freeze_opened_at, freeze_runs, hold_running, hold_runs, is_prepare_snapshot, last_time, opened_at, running_at, running_limits, runs_if, spent_of, ticks_to_spend}
+use Rattle.set_agenda.specs.Limits.{Running, answer_runs, first_hold, freeze_opened_at, freeze_runs, hold_running, hold_runs, last_time, opened_at, running_at, running_limits, runs_if, spent_of, ticks_to_spend}
 use Rattle.tick_limits.specs.Time.{answer_limit, hold_limit}
 use Rattle.coordinator.specs.declared.running_agenda.RunningAgenda.{RunningAgenda}
 use Rattle.coordinator.specs.RunningAgenda.{Fits, held_after, place_opened_at}
@@ -81,11 +82,7 @@ held-before p now held h = grind arith
 
 -- nor after something is said now
 pub none-after-keeps : (r n : RunningAgenda) (p : Place) (whos : List ℕ) (said : Said) (now : ℕ) → Keeps r n p whos said now → NoneAfter now r → NoneAfter now n
-none-after-keeps r n p whos said now k h = record {
-  opened = rw k.opened (if-before (same_place p (open_place n.agenda)) now r.opened now h.opened (grind arith));
-  freeze_opened = rw k.freeze_opened (if-before (is_prepare_snapshot p.group) now now r.freeze_opened (grind arith) h.freeze_opened);
-  held = rw k.held (held-before p now r.held h.held);
-}
+none-after-keeps r n p whos said now k h = grind (arith, common_steps, if-before, held-before)
 
 pub by-later : (now later : ℕ) (r : Option RunningAgenda) → now ≤ later → IsBy now r → IsBy later r
 by-later now later r l h = grind arith

@@ -3,6 +3,7 @@ use Rattle.std.proofs.Common.{◌≡◌, ◌≢◌, ℕ, suc, ◌+◌, ◌<◌, 
 use Rattle.std.specs.Prelude.{◌==◌, ◌&&◌, ◌||◌}
 use Rattle.std.proofs.lemmas.Bool.Decides.{nat_tests}
 use Rattle.std.proofs.lemmas.Bool.{and_right}
+use Rattle.std.proofs.lemmas.Grind.{common_steps}
 use Rattle.writer_state.specs.declared.writer_row.WriterRow.{WriterRow}
 use Rattle.set_agenda.specs.Course.{is_member, member_if, members_from, row_if, rows_where}
 use Rattle.coordinator.specs.declared.row_change.RowChange.{RowChange}
@@ -21,9 +22,7 @@ other_from a w e = grind (arith, nat_tests)
 
 pub member-below : (t : ℕ → Bool) (i : ℕ) (rs : List WriterRow) (w : ℕ) → w < i → is_member (members_from t i rs) w ≡ false
 member-below t i [] w h = refl
-member-below t i (r ∷ rs) w h =
-    let e : (i == w) ≡ false = grind (arith, nat_tests) in
-    member-step t i r rs w ∙ ap (λ b. b || is_member (members_from t (i + 1) rs) w) (and_right (t i) (i == w) e) ∙ member-below t (i + 1) rs w (omega arith)
+member-below t i (r ∷ rs) w h = let ih = member-below t (i + 1) rs w (omega arith) in grind (arith, common_steps, member-step, and_right)
 
 here-step : (t : ℕ → Bool) (i w : ℕ) (d c : Bool) → (i == w) ≡ c → ((i == w) ≡ true → d ≡ false) → ((i == w) ≡ false → d ≡ t w) → ((t i && c) || d) ≡ t w
 here-step t i w d c e f g = grind arith
@@ -51,28 +50,20 @@ changed-level h r = grind arith
 
 pub members-where : (h : RowChange) (t u : ℕ → Bool) (i : ℕ) (rs : List WriterRow) → members_from t i (rows_where (changed h) u i rs) ≡ members_from t i rs
 members-where h t u i [] = refl
-members-where h t u i (r ∷ rs) =
-    ap (λ ms. ms ++ members_from t (i + 1) (rows_where (changed h) u (i + 1) rs)) (member_if-level (t i) i (row_if (u i) (changed h) r) r (row_if-level (u i) (changed h) r (changed-level h r)))
-    ∙ ap (λ ms. member_if (t i) i r ++ ms) (members-where h t u (i + 1) rs)
+members-where h t u i (r ∷ rs) = let ih = members-where h t u (i + 1) rs in grind (arith, common_steps, member_if-level, row_if-level, changed-level)
 
 pub members-map : (h : RowChange) (t : ℕ → Bool) (i : ℕ) (rs : List WriterRow) → members_from t i (map (changed h) rs) ≡ members_from t i rs
 members-map h t i [] = refl
-members-map h t i (r ∷ rs) =
-    ap (λ ms. ms ++ members_from t (i + 1) (map (changed h) rs)) (member_if-level (t i) i (changed h r) r (changed-level h r))
-    ∙ ap (λ ms. member_if (t i) i r ++ ms) (members-map h t (i + 1) rs)
+members-map h t i (r ∷ rs) = let ih = members-map h t (i + 1) rs in grind (arith, common_steps, member_if-level, changed-level)
 
 pub members-agree : (t u : ℕ → Bool) (i : ℕ) (rs : List WriterRow) → ((w : ℕ) → i ≤ w → w < i + length rs → t w ≡ u w) → members_from t i rs ≡ members_from u i rs
 members-agree t u i [] h = refl
-members-agree t u i (r ∷ rs) h =
-    ap (λ b. member_if b i r ++ members_from t (i + 1) rs) (h i (omega arith) (omega arith))
-    ∙ ap (λ ms. member_if (u i) i r ++ ms) (members-agree t u (i + 1) rs (λ w m l. h w (omega arith) (omega arith)))
+members-agree t u i (r ∷ rs) h = let ih = members-agree t u (i + 1) rs (λ w m l. h w (omega arith) (omega arith)) in grind (arith, common_steps)
 
 -- no writer from the rows' end on is a member
 pub member-above : (t : ℕ → Bool) (i : ℕ) (rs : List WriterRow) (w : ℕ) → i + length rs ≤ w → is_member (members_from t i rs) w ≡ false
 member-above t i [] w h = refl
-member-above t i (r ∷ rs) w h =
-    let e : (i == w) ≡ false = grind (arith, nat_tests) in
-    member-step t i r rs w ∙ ap (λ b. b || is_member (members_from t (i + 1) rs) w) (and_right (t i) (i == w) e) ∙ member-above t (i + 1) rs w (omega arith)
+member-above t i (r ∷ rs) w h = let ih = member-above t (i + 1) rs w (omega arith) in grind (arith, common_steps, member-step, and_right)
 
 member_if-out : (b : Bool) (i : ℕ) (r : WriterRow) → b ≡ false → member_if b i r ≡ []
 member_if-out b i r e = grind arith

@@ -4,12 +4,11 @@ use Rattle.std.specs.Prelude.{◌&&◌, not, ◌==◌, count_by}
 use Rattle.std.proofs.lemmas.List.{get_or-set_other, get_or-set_same}
 use Rattle.std.proofs.lemmas.List.Sums.{sum_by-append}
 use Rattle.std.proofs.lemmas.Bool.{and_parts, and_right}
+use Rattle.std.proofs.lemmas.Grind.{common_steps}
 use Rattle.vss_names.specs.declared.order.Order.{Order}
-use Rattle.vss_names.specs.declared.order.Order.TheVariants.{Identify, PrepareBackup, PrepareSnapshot, Freeze, Thaw, PostSnapshot, BackupComplete}
 use Rattle.set_agenda.specs.declared.group.Group.{Group}
-use Rattle.set_agenda.specs.declared.group.Group.TheVariants.{PreCommit}
 use Rattle.set_agenda.specs.declared.place.Place.{Place}
-use Rattle.set_agenda.specs.Agenda.{Open, group_code, is_among, is_asked, level_code, open_order, open_place, order_if, order_now, order_of, plain, same_order, same_place, waits_now}
+use Rattle.set_agenda.specs.Agenda.{Open, group_code, is_among, is_asked, open_order, open_place, order_if, order_now, order_of, same_order, same_place, waits_now}
 use Rattle.set_agenda.specs.Course.{OrderGroup, group_of_orders, opens}
 use Rattle.writer_calls.specs.declared.mailbox.Mailbox.{Mailbox}
 use Rattle.writer_calls.specs.declared.order_counts.OrderCounts.{OrderCounts}
@@ -46,24 +45,11 @@ with_more gs o ws = gs ++ record { order = o; members = ws } ∷ []
 
 -- a group without the writer
 pub counts-not : (gs : List OrderGroup) (w : ℕ) (o : Order) (ws : List ℕ) → is_among w ws ≡ false → counts_in (with_more gs o ws) w ≡ counts_in gs w
-counts-not gs w o ws e = counts-are _ _ _ _ _ _ _ (counts_in gs w)
-    (nth-not gs w o Identify ws (and_right (same_order o Identify) (is_among w ws) e))
-    (nth-not gs w o PrepareBackup ws (and_right (same_order o PrepareBackup) (is_among w ws) e))
-    (nth-not gs w o PrepareSnapshot ws (and_right (same_order o PrepareSnapshot) (is_among w ws) e))
-    (nth-not gs w o Freeze ws (and_right (same_order o Freeze) (is_among w ws) e))
-    (nth-not gs w o Thaw ws (and_right (same_order o Thaw) (is_among w ws) e))
-    (nth-not gs w o PostSnapshot ws (and_right (same_order o PostSnapshot) (is_among w ws) e))
-    (nth-not gs w o BackupComplete ws (and_right (same_order o BackupComplete) (is_among w ws) e))
+counts-not gs w o ws e = grind (arith, common_steps, counts-are, nth-not, and_right)
 
 -- a group with the writer
 pub counts-more : (gs : List OrderGroup) (w : ℕ) (o : Order) (ws : List ℕ) → is_among w ws ≡ true → counts_in (with_more gs o ws) w ≡ one_more o (counts_in gs w)
-counts-more gs w Identify ws e = counts-are _ _ _ _ _ _ _ (one_more Identify (counts_in gs w)) (nth-more gs w Identify Identify ws e) (nth-not gs w Identify PrepareBackup ws refl) (nth-not gs w Identify PrepareSnapshot ws refl) (nth-not gs w Identify Freeze ws refl) (nth-not gs w Identify Thaw ws refl) (nth-not gs w Identify PostSnapshot ws refl) (nth-not gs w Identify BackupComplete ws refl)
-counts-more gs w PrepareBackup ws e = counts-are _ _ _ _ _ _ _ (one_more PrepareBackup (counts_in gs w)) (nth-not gs w PrepareBackup Identify ws refl) (nth-more gs w PrepareBackup PrepareBackup ws e) (nth-not gs w PrepareBackup PrepareSnapshot ws refl) (nth-not gs w PrepareBackup Freeze ws refl) (nth-not gs w PrepareBackup Thaw ws refl) (nth-not gs w PrepareBackup PostSnapshot ws refl) (nth-not gs w PrepareBackup BackupComplete ws refl)
-counts-more gs w PrepareSnapshot ws e = counts-are _ _ _ _ _ _ _ (one_more PrepareSnapshot (counts_in gs w)) (nth-not gs w PrepareSnapshot Identify ws refl) (nth-not gs w PrepareSnapshot PrepareBackup ws refl) (nth-more gs w PrepareSnapshot PrepareSnapshot ws e) (nth-not gs w PrepareSnapshot Freeze ws refl) (nth-not gs w PrepareSnapshot Thaw ws refl) (nth-not gs w PrepareSnapshot PostSnapshot ws refl) (nth-not gs w PrepareSnapshot BackupComplete ws refl)
-counts-more gs w Freeze ws e = counts-are _ _ _ _ _ _ _ (one_more Freeze (counts_in gs w)) (nth-not gs w Freeze Identify ws refl) (nth-not gs w Freeze PrepareBackup ws refl) (nth-not gs w Freeze PrepareSnapshot ws refl) (nth-more gs w Freeze Freeze ws e) (nth-not gs w Freeze Thaw ws refl) (nth-not gs w Freeze PostSnapshot ws refl) (nth-not gs w Freeze BackupComplete ws refl)
-counts-more gs w Thaw ws e = counts-are _ _ _ _ _ _ _ (one_more Thaw (counts_in gs w)) (nth-not gs w Thaw Identify ws refl) (nth-not gs w Thaw PrepareBackup ws refl) (nth-not gs w Thaw PrepareSnapshot ws refl) (nth-not gs w Thaw Freeze ws refl) (nth-more gs w Thaw Thaw ws e) (nth-not gs w Thaw PostSnapshot ws refl) (nth-not gs w Thaw BackupComplete ws refl)
-counts-more gs w PostSnapshot ws e = counts-are _ _ _ _ _ _ _ (one_more PostSnapshot (counts_in gs w)) (nth-not gs w PostSnapshot Identify ws refl) (nth-not gs w PostSnapshot PrepareBackup ws refl) (nth-not gs w PostSnapshot PrepareSnapshot ws refl) (nth-not gs w PostSnapshot Freeze ws refl) (nth-not gs w PostSnapshot Thaw ws refl) (nth-more gs w PostSnapshot PostSnapshot ws e) (nth-not gs w PostSnapshot BackupComplete ws refl)
-counts-more gs w BackupComplete ws e = counts-are _ _ _ _ _ _ _ (one_more BackupComplete (counts_in gs w)) (nth-not gs w BackupComplete Identify ws refl) (nth-not gs w BackupComplete PrepareBackup ws refl) (nth-not gs w BackupComplete PrepareSnapshot ws refl) (nth-not gs w BackupComplete Freeze ws refl) (nth-not gs w BackupComplete Thaw ws refl) (nth-not gs w BackupComplete PostSnapshot ws refl) (nth-more gs w BackupComplete BackupComplete ws e)
+counts-more gs w o ws e = grind (arith, common_steps, counts-are, nth-more, nth-not)
 
 -- ## the group that opens
 
@@ -73,27 +59,11 @@ order-precommit g e = grind arith
 
 -- no group opens where the place is the same
 opens-same : (os ps : List Open) → is_elsewhere (open_place os) ps ≡ false → opens os ps ≡ []
-opens-same os [] e = refl
-opens-same [] (p ∷ ps) e = ap (λ o. group_of_orders o p.waits) (order-precommit p.place.group (and_parts (7 == group_code p.place.group) (0 == level_code p.place.level) (same (same_place (plain PreCommit) p.place) e)).0)
-  where
-    same : (b : Bool) → not b ≡ false → b ≡ true
-    same true e = refl
-    same false e = cc
-opens-same (o ∷ os) (p ∷ ps) e = rw (same (same_place o.place p.place) e) refl
-  where
-    same : (b : Bool) → not b ≡ false → b ≡ true
-    same true e = refl
-    same false e = cc
+opens-same os ps e = grind (arith, common_steps, order-precommit, and_parts)
 
 -- another group opens where the place is another
 opens-elsewhere : (os ps : List Open) → is_elsewhere (open_place os) ps ≡ true → opens os ps ≡ group_of_orders (order_now ps) (waits_now ps)
-opens-elsewhere os [] e = refl
-opens-elsewhere [] (p ∷ ps) e = refl
-opens-elsewhere (o ∷ os) (p ∷ ps) e = rw (other (same_place o.place p.place) e) refl
-  where
-    other : (b : Bool) → not b ≡ true → b ≡ false
-    other true e = cc
-    other false e = refl
+opens-elsewhere os ps e = grind (arith, common_steps)
 
 -- ## a mailbox after an act
 
@@ -112,15 +82,12 @@ mailbox-is m s x e f = rw (sym e, sym f) refl
 
 -- the group with this order, if it has one, was not open before
 counts-opened : (gs : List OrderGroup) (ps : List Open) (w : ℕ) (x : Option Order) → order_now ps ≡ x → open_order ps w ≡ None → counts_in (gs ++ group_of_orders x (waits_now ps)) w ≡ counts_in gs w
-counts-opened gs ps w None e f = ap (λ hs. counts_in hs w) (append-nil gs)
-counts-opened gs ps w (Some o) e f = counts-not gs w o (waits_now ps) (sym (asked-among ps w o e) ∙ unasked-order (is_asked w ps) (order_now ps) o e f)
+counts-opened gs ps w x e f = grind (arith, common_steps, counts-not, asked-among, unasked-order)
 
 posted-none : (m : Mailbox) (os ps : List Open) (gs : List OrderGroup) (w : ℕ) (b : Bool) → is_elsewhere (open_place os) ps ≡ b → open_order ps w ≡ None → m.sent ≡ counts_in gs w
     → closed m ≡ mailbox_in ps (gs ++ opens os ps) w
-posted-none m os ps gs w true e f s = mailbox-is (closed m) (counts_in (gs ++ opens os ps) w) (open_order ps w)
-    (s ∙ sym (counts-opened gs ps w (order_now ps) refl f) ∙ ap (λ hs. counts_in (gs ++ hs) w) (sym (opens-elsewhere os ps e))) (sym f)
-posted-none m os ps gs w false e f s = mailbox-is (closed m) (counts_in (gs ++ opens os ps) w) (open_order ps w)
-    (s ∙ ap (λ hs. counts_in hs w) (sym (append-nil gs)) ∙ ap (λ hs. counts_in (gs ++ hs) w) (sym (opens-same os ps e))) (sym f)
+posted-none m os ps gs w true e f s = grind (arith, common_steps, mailbox-is, counts-opened, opens-elsewhere)
+posted-none m os ps gs w false e f s = grind (arith, common_steps, mailbox-is, opens-same)
 
 posted-new : (m : Mailbox) (os ps : List Open) (gs : List OrderGroup) (w : ℕ) (o : Order) → is_elsewhere (open_place os) ps ≡ true → open_order ps w ≡ Some o → m.sent ≡ counts_in gs w
     → sent_to o (closed m) ≡ mailbox_in ps (gs ++ opens os ps) w

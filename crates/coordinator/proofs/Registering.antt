@@ -3,6 +3,7 @@ use Rattle.std.proofs.Common.{◌≡◌, ℕ, zero, suc, ◌+◌, ◌<◌, ◌�
 use Rattle.std.specs.Prelude.{◌==◌, ◌&&◌, ◌||◌}
 use Rattle.std.specs.List.{list_any}
 use Rattle.std.proofs.lemmas.Bool.Decides.{nat_tests}
+use Rattle.std.proofs.lemmas.Grind.{common_steps}
 use Rattle.vss_names.specs.declared.level.Level.{Level}
 use Rattle.writer_state.specs.declared.writer_row.WriterRow.{WriterRow}
 use Rattle.writer_state.specs.WriterRow.{first_row}
@@ -49,8 +50,7 @@ stands-named k ds c w e h =
 -- tests that agree on the writers' numbers
 any-agree : (p q : ℕ → Bool) (x : ℕ) (cl : Option ℕ) (rs : List Registered) → ((i : ℕ) → x ≤ i → i < x + length rs → p i ≡ q i) → any_class p x cl rs ≡ any_class q x cl rs
 any-agree p q x cl [] h = refl
-any-agree p q x cl (r ∷ rs) h = ap (λ b. (b && are_equal (Some r.class) cl) || any_class p (x + 1) cl rs) (h x (omega arith) (omega arith))
-    ∙ ap (λ b. (q x && are_equal (Some r.class) cl) || b) (any-agree p q (x + 1) cl rs (λ i m l. h i (omega arith) (omega arith)))
+any-agree p q x cl (r ∷ rs) h = let ih = any-agree p q (x + 1) cl rs (λ i m l. h i (omega arith) (omega arith)) in grind (arith, common_steps)
 
 any-nobody : (x : ℕ) (cl : Option ℕ) (rs : List Registered) → any_class (λ w. false) x cl rs ≡ false
 any-nobody x cl [] = refl
@@ -61,9 +61,7 @@ or-four p q a b c = grind arith
 
 any-either : (p q : ℕ → Bool) (x : ℕ) (cl : Option ℕ) (rs : List Registered) → any_class (λ w. p w || q w) x cl rs ≡ (any_class p x cl rs || any_class q x cl rs)
 any-either p q x cl [] = refl
-any-either p q x cl (r ∷ rs) =
-    ap (λ b. ((p x || q x) && are_equal (Some r.class) cl) || b) (any-either p q (x + 1) cl rs)
-    ∙ or-four (p x) (q x) (are_equal (Some r.class) cl) (any_class p (x + 1) cl rs) (any_class q (x + 1) cl rs)
+any-either p q x cl (r ∷ rs) = let ih = any-either p q (x + 1) cl rs in grind (arith, common_steps, or-four)
 
 any-below : (x d : ℕ) (cl : Option ℕ) (rs : List Registered) → d < x → any_class (λ w. d == w) x cl rs ≡ false
 any-below x d cl [] h = refl
@@ -74,10 +72,7 @@ any-one x d cl [] = refl
 any-one x zero cl (r ∷ rs) =
     let e : ((x + 0) == x) ≡ true = grind (arith, nat_tests) in
     rw e (ap (λ b. are_equal (Some r.class) cl || b) (any-below (x + 1) (x + 0) cl rs (omega arith)) ∙ or-false (are_equal (Some r.class) cl))
-any-one x (suc d) cl (r ∷ rs) =
-    let e : ((x + suc d) == x) ≡ false = grind (arith, nat_tests) in
-    let m : (x + 1) + d ≡ x + suc d = omega arith in
-    rw e (ap (λ i. any_class (λ w. i == w) (x + 1) cl rs) (sym m) ∙ any-one (x + 1) d cl rs)
+any-one x (suc d) cl (r ∷ rs) = let ih = any-one (x + 1) d cl rs in grind (arith, common_steps)
 
 -- one of these has the class, looked for among the writers or among these
 any-of : (ds : List ℕ) (cl : Option ℕ) (rs : List Registered) → any_class (λ w. is_among w ds) 0 cl rs ≡ list_any (λ x. are_equal (class_at rs x) cl) ds
@@ -108,8 +103,7 @@ pub class-found : (rs : List Registered) (n b sought : ℕ) (p : ℕ → Bool) (
 class-found rs n b sought p cl h e f = class-next rs n b p cl h e ∙ ap (λ x. (p n && are_equal (Some b) x) || any_class p (n + 1) cl (drop (n + 1) rs)) (sym f)
 
 length-last : {X : Type 0} (xs : List X) (x : X) → length (xs ++ x ∷ []) ≡ suc (length xs)
-length-last [] x = refl
-length-last (y ∷ ys) x = ap suc (length-last ys x)
+length-last xs x = grind (arith, common_steps)
 
 pub length-more : {X : Type 0} (xs ys : List X) (x : X) → ys ≡ xs ++ x ∷ [] → length ys ≡ suc (length xs)
 length-more xs ys x e = ap length e ∙ length-last xs x

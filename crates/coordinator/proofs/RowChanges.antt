@@ -1,7 +1,7 @@
 -- Rows that change one after another, and those of which the first are done.
-use Rattle.std.proofs.Common.{◌≡◌, ℕ, zero, suc, ◌+◌, ◌<◌, ◌≤◌, List, [], ◌∷◌, length, get_or, refl, Bool, true, false, ap, sym, ◌∙◌, subst, arith, set, map}
+use Rattle.std.proofs.Common.{◌≡◌, ℕ, zero, suc, ◌+◌, ◌<◌, ◌≤◌, List, [], ◌∷◌, length, get_or, refl, Bool, true, false, ap, ◌∙◌, subst, arith, set, map}
 use Rattle.std.specs.Prelude.{◌==◌}
-use Rattle.std.proofs.lemmas.Bool.Decides.{nat_tests}
+use Rattle.std.proofs.lemmas.Grind.{common_steps}
 use Rattle.writer_state.specs.declared.writer_row.WriterRow.{WriterRow}
 use Rattle.set_agenda.specs.Course.{row_if, rows_where}
 
@@ -48,13 +48,8 @@ where-none f t n (r ∷ rs) h = ap (λ b. row_if b f r ∷ rows_where f t (n + 1
 -- one passes
 where-one : (f : WriterRow → WriterRow) (n k : ℕ) (rs : List WriterRow) (d x : WriterRow) → k < length rs → x ≡ f (get_or rs k d) → set rs k x ≡ rows_where f (λ w. (n + k) == w) n rs
 where-one f n k [] d x h e = absurd (omega arith)
-where-one f n zero (r ∷ rs) d x h e =
-    let s : ((n + 0) == n) ≡ true = grind (arith, nat_tests) in
-    ap (λ z. z ∷ rs) e ∙ ap (λ zs. f r ∷ zs) (sym (where-none f (λ w. (n + 0) == w) (n + 1) rs (λ i l. grind (arith, nat_tests)))) ∙ ap (λ b. row_if b f r ∷ rows_where f (λ w. (n + 0) == w) (n + 1) rs) (sym s)
-where-one f n (suc k) (r ∷ rs) d x h e =
-    let s : ((n + suc k) == n) ≡ false = grind (arith, nat_tests) in
-    let m : (n + 1) + k ≡ n + suc k = omega arith in
-    ap (λ zs. r ∷ zs) (where-one f (n + 1) k rs d x (omega arith) e ∙ ap (λ i. rows_where f (λ w. i == w) (n + 1) rs) m) ∙ ap (λ b. row_if b f r ∷ rows_where f (λ w. (n + suc k) == w) (n + 1) rs) (sym s)
+where-one f n zero (r ∷ rs) d x h e = grind (arith, common_steps, where-none)
+where-one f n (suc k) (r ∷ rs) d x h e = let ih = where-one f (n + 1) k rs d x (omega arith) e in grind (arith, common_steps)
 
 pub where-at : (f : WriterRow → WriterRow) (k : ℕ) (rs : List WriterRow) (d x : WriterRow) → k < length rs → x ≡ f (get_or rs k d) → set rs k x ≡ rows_where f (λ w. k == w) 0 rs
 where-at f k rs d x h e = let z : 0 + k ≡ k = omega arith in where-one f 0 k rs d x h e ∙ ap (λ i. rows_where f (λ w. i == w) 0 rs) z
