@@ -5,13 +5,16 @@ use Rattle.scenario.specs.declared.op.Op.TheVariants.{Begin, Start, Add, Snapsho
 use Rattle.scenario.specs.Plan.{Plan}
 use Rattle.generated.specs.Making.{span, volume, group, numbered, lane, by_lane, steps, with_effects, alone, volume_with, report_of, digest_of}
 
+abbrev pub text : List ℕ
+text = codes "scenario 1\nvolume D 1 0\nlane a\nbegin 25\nstart\nadd D\nsnapshot\nawait\nwrite D 0 fill 1\nimage 1 D 0\nend\n"
+
 abbrev pub scenario : Plan
 scenario = record {
-  source = codes "Da";
-  volumes = volume (span 0 1) 1 0 0 ∷ [];
-  groups = group (span 0 1) 0 ∷ [];
+  source = text;
+  volumes = volume (span 18 19) 1 0 0 ∷ [];
+  groups = group (span 18 19) 0 ∷ [];
   writers = [];
-  lanes = lane (span 1 2) (numbered 4 (Begin 25 false ∷ Start ∷ Add 0 ∷ Snapshot ∷ Await ∷ WriteFill 0 0 1 ∷ ImageBlock 1 0 0 ∷ End ∷ [])) ∷ [];
+  lanes = lane (span 29 30) (numbered 4 (Begin 25 false ∷ Start ∷ Add 0 ∷ Snapshot ∷ Await ∷ WriteFill 0 0 1 ∷ ImageBlock 1 0 0 ∷ End ∷ [])) ∷ [];
 }
 
 abbrev pub trail : List Move

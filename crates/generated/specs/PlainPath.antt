@@ -5,13 +5,16 @@ use Rattle.scenario.specs.declared.op.Op.TheVariants.{Begin, Start, Add, Snapsho
 use Rattle.scenario.specs.Plan.{Plan}
 use Rattle.generated.specs.Making.{span, volume, group, numbered, lane, by_lane, steps, with_effects, alone, volume_with, report_of, digest_of, data_of}
 
+abbrev pub text : List ℕ
+text = codes "scenario 1\nvolume C 4 4\nlane a\nbegin 25\nstart\nadd C\nsnapshot\nawait\nwrite C 1 fill 7\nimage 1 C 1\nread C 1\nend\n"
+
 abbrev pub scenario : Plan
 scenario = record {
-  source = codes "Ca";
-  volumes = volume (span 0 1) 4 4 0 ∷ [];
-  groups = group (span 0 1) 4 ∷ [];
+  source = text;
+  volumes = volume (span 18 19) 4 4 0 ∷ [];
+  groups = group (span 18 19) 4 ∷ [];
   writers = [];
-  lanes = lane (span 1 2) (numbered 4 (Begin 25 false ∷ Start ∷ Add 0 ∷ Snapshot ∷ Await ∷ WriteFill 0 1 7 ∷ ImageBlock 1 0 1 ∷ Read 0 1 ∷ End ∷ [])) ∷ [];
+  lanes = lane (span 29 30) (numbered 4 (Begin 25 false ∷ Start ∷ Add 0 ∷ Snapshot ∷ Await ∷ WriteFill 0 1 7 ∷ ImageBlock 1 0 1 ∷ Read 0 1 ∷ End ∷ [])) ∷ [];
 }
 
 abbrev pub trail : List Move

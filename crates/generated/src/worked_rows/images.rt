@@ -1,6 +1,7 @@
 //! Images: what they show, and which of them go.
 
 ghost use Rattle.std.specs.Prelude.{◌≡◌, true};
+ghost use Rattle.scenario.specs.Grammar.{reading_of, IsScenario};
 ghost use Rattle.vss_model.specs.Trail.{is_legal, is_complete};
 ghost use Rattle.vss_report.specs.ToldReport.{told_report};
 ghost use Rattle.generated.specs.PlainPath as plain_path;
@@ -13,6 +14,7 @@ ghost use Rattle.generated.specs.SharedArea as shared_area;
 
 /// One volume, one lane, one set without writers, one write after it: the image shows the old block.
 pub fn plain_path()
+    ensures text { reading_of plain_path.text ≡ IsScenario plain_path.scenario }
     ensures legal { is_legal plain_path.scenario plain_path.trail ≡ true }
     ensures complete { is_complete plain_path.scenario plain_path.trail ≡ true }
     ensures report { told_report plain_path.scenario plain_path.trail ≡ plain_path.report }
@@ -20,6 +22,7 @@ pub fn plain_path()
 
 /// An area without slots: the first write after the set is complete evicts its image, and succeeds.
 pub fn no_slots()
+    ensures text { reading_of no_slots.text ≡ IsScenario no_slots.scenario }
     ensures legal { is_legal no_slots.scenario no_slots.trail ≡ true }
     ensures complete { is_complete no_slots.scenario no_slots.trail ≡ true }
     ensures report { told_report no_slots.scenario no_slots.trail ≡ no_slots.report }
