@@ -70,8 +70,7 @@ code_of a = grind arith
 pub same_stage : (a b : Step) → is_stage (stage_of a) (stage_of b) ≡ is_step a b
 same_stage a b = ap (λ n. n == stage_code (stage_of b)) (code_of a) ∙ ap (λ n. step_code a == n) (code_of b)
 
-pub start_stage : (a : Step) (w : Bool)
-    → (not (makes_set (stage_of a)) && (if w then is_stage (stage_of a) Gathered else is_stage (stage_of a) Opened))
+pub start_stage : (a : Step) (w : Bool) → (not (makes_set (stage_of a)) && (if w then is_stage (stage_of a) Gathered else is_stage (stage_of a) Opened))
     ≡ (if w then is_step a ByGather else is_step a ByBegin)
 start_stage a w = grind arith
 
@@ -116,8 +115,7 @@ module _ (s : Plan) (st : State) where
   not_full : (m n : ℕ) → nat_le m n ≡ not (nat_lt n m)
   not_full m n = grind arith
 
-  add_tests : (v : ℕ) (r : SetRow) (a b c : Bool)
-      → is_accepted (add_to v r
+  add_tests : (v : ℕ) (r : SetRow) (a b c : Bool) → is_accepted (add_to v r
       (if a then Some ObjectAlreadyExists else if b then Some MaximumNumberOfVolumesReached else if c then Some MaximumNumberOfSnapshotsReached else None) st).0
       ≡ (not a && not b && not c)
   add_tests v r a b c = grind arith

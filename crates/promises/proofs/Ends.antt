@@ -99,7 +99,8 @@ none_some st r X e f = absurd cc
 abbrev Rest : Plan → List Act → List Act → Type 0
 Rest s before rest = (q : SetRow) → in_progress (state s (before ++ rest)) ≡ None → in_progress (state s before) ≡ Some q → CalmWhile s before rest q.number → HasCompleted (state s (before ++ rest)) q
 
-module _ (s : Plan) (so_far rest : List Act) (act : Act) (r : SetRow) (over : in_progress (state s (so_far ++ act ∷ rest)) ≡ None) (e : in_progress (state s so_far) ≡ Some r) (calm : CalmWhile s so_far (act ∷ rest) r.number) where
+module _ (s : Plan) (so_far rest : List Act) (act : Act) (r : SetRow) (over : in_progress (state s (so_far ++ act ∷ rest)) ≡ None)
+    (e : in_progress (state s so_far) ≡ Some r) (calm : CalmWhile s so_far (act ∷ rest) r.number) where
   is_here : in_progress (state s (so_far ++ [])) ≡ Some r
   is_here = subst (λ acts. in_progress (state s acts) ≡ Some r) (sym (append_nothing so_far)) e
 

@@ -74,8 +74,7 @@ module _ (n v : ℕ) (hs ks : List History) where
   abbrev told_row : SetRow → List Evicted
   told_row r = evicted_of r.number (volumes_losing r.number 0 hs ks)
 
-  told_rows : (rows : List SetRow)
-      → is_told n v (flat_map told_row (filter (λ r. is_complete r.result) rows))
+  told_rows : (rows : List SetRow) → is_told n v (flat_map told_row (filter (λ r. is_complete r.result) rows))
       ≡ (list_any (λ (r : SetRow). (r.number == n) && is_complete r.result) rows && is_among v (volumes_losing n 0 hs ks))
   told_rows [] = refl
   told_rows (r ∷ rows) = by_result (is_complete r.result) (told_rows rows)
@@ -89,8 +88,7 @@ module _ (n v : ℕ) (hs ks : List History) where
       either_is true b false d e f g = ap (λ x. x || d) (g refl) ∙ f ∙ and-false b
       either_is false b c d e f g = f
 
-      by_result : (b : Bool)
-          → is_told n v (flat_map told_row (filter (λ q. is_complete q.result) rows))
+      by_result : (b : Bool) → is_told n v (flat_map told_row (filter (λ q. is_complete q.result) rows))
           ≡ (list_any (λ (q : SetRow). (q.number == n) && is_complete q.result) rows && is_among v (volumes_losing n 0 hs ks))
           → is_told n v (flat_map told_row (if b then r ∷ filter (λ q. is_complete q.result) rows else filter (λ q. is_complete q.result) rows))
           ≡ ((((r.number == n) && b) || list_any (λ (q : SetRow). (q.number == n) && is_complete q.result) rows) && is_among v (volumes_losing n 0 hs ks))

@@ -8,9 +8,9 @@ use Rattle.std.specs.Prelude.{not, nat_lt, is_some, unwrap_or, option_map, if◌
 use Rattle.vss_names.specs.declared.set_outcome.SetOutcome.TheVariants.{Running as RunningSet, Failed as FailedSet}
 use Rattle.set_agenda.specs.Course.{Course, posted, failed as course_failed, settled_in, settled, worked, stepped as course_stepped, change_at}
 use Rattle.vss_model.specs.Ending.{Ending, SetFails, ending, row_settled, images_dropped, concluded, followed, failed_in}
-use Rattle.promises.proofs.Truth.{not_false}
 use Rattle.promises.proofs.Members.{next_up}
 use Rattle.scenario.proofs.Places.{number_is}
+use Rattle.vss_model.proofs.GoesOn.{not_false}
 
 -- ## lists of images
 

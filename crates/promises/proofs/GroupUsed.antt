@@ -1,11 +1,12 @@
 -- How many slots the images of a group use, and where a write finds its slot.
 use Rattle.promises.proofs.Words.{and_left, Image, History, after_set, Placed, group_used, used, needs_slot, needs_slot_in, gone_up_to, lacks_slot, evicted_up_to, change_at}
 use Rattle.promises.proofs.Words.{UpTo, at, within, some_same}
-use Rattle.std.proofs.Common.{◌≡◌, ℕ, ◌+◌, ◌≤◌, ◌<◌, zero, suc, List, [], ◌∷◌, Some, refl, Bool, true, false, ap, subst, find, length, arith}
+use Rattle.std.proofs.Common.{◌≡◌, ◌∙◌, ℕ, ◌+◌, ◌≤◌, ◌<◌, zero, suc, List, [], ◌∷◌, Some, refl, Bool, true, false, ap, subst, find, length, arith}
 use Rattle.std.specs.Prelude.{nat_lt, if◌then◌else◌, slice_get}
 use Rattle.promises.proofs.Truth.{no_less}
 use Rattle.promises.proofs.Shrinks.{used_in}
 use Rattle.set_agenda.proofs.Closings.{unless}
+use Rattle.std.proofs.lemmas.Bool.{cond-false, le-ltb}
 
 -- ## what each volume uses
 
@@ -78,14 +79,7 @@ find_passes test (x ∷ xs) m e = by_test (test x) refl e (find_passes test xs m
 
 none_after : (m : ℕ) (images : List Image) → UpTo m images → after_set m images ≡ []
 none_after m [] h = refl
-none_after m (i ∷ images) h = by_less (nat_lt m i.set) (not_past m i.set h.0) (none_after m images h.1)
-  where
-    not_past : (m a : ℕ) → a ≤ m → nat_lt m a ≡ false
-    not_past m a l = grind arith
-
-    by_less : (t : Bool) → t ≡ false → after_set m images ≡ [] → (if t then i ∷ after_set m images else after_set m images) ≡ []
-    by_less true e ih = absurd cc
-    by_less false e ih = ih
+none_after m (i ∷ images) h = cond-false (nat_lt m i.set) (i ∷ after_set m images) (after_set m images) (le-ltb m i.set h.0) ∙ none_after m images h.1
 
 -- with all its images gone a volume needs no slot
 needs_none : (m v b : ℕ) (ps : List Placed) (hs : List History) → within (slice_get ps v) ≡ true → UpTo m (at hs v).images → needs_slot_in (slice_get (gone_up_to m ps hs) v) b ≡ false

@@ -58,8 +58,7 @@ module _ (s : Plan) (so_far : List Act) where
   unfolding revert
   revert_says n v mark = by_kept (kept_image st n v) refl
     where
-      by_kept : (o : Option Kept) → kept_image st n v ≡ o
-          → (revert_to s v (revert_refusal v (kept_image st n v) st) (kept_image st n v) mark st).0
+      by_kept : (o : Option Kept) → kept_image st n v ≡ o → (revert_to s v (revert_refusal v (kept_image st n v) st) (kept_image st n v) mark st).0
           ≡ revert_answer (is_kept st n v) (is_of_backup (row_of st n)) (has_in_it v (in_progress st)) mark
       by_kept None e =
           ap (λ o. (revert_to s v (revert_refusal v o st) o mark st).0) e

@@ -4,12 +4,12 @@ use Rattle.promises.proofs.Words.{waited_for, with_group, left_from, groups_left
 use Rattle.std.proofs.Common.{◌≡◌, ◌∙◌, ℕ, List, [], ◌∷◌, Option, Some, refl, Bool, true, false, ap, sym, subst, arith}
 use Rattle.std.specs.Prelude.{◌&&◌, not}
 use Rattle.std.proofs.lemmas.Bool.{and_from, and_parts}
-use Rattle.promises.proofs.Heard.{passes}
 use Rattle.promises.proofs.OpenGroup.{every, in_kind}
 use Rattle.promises.proofs.Speaks.{now_group}
 use Rattle.set_agenda.proofs.Closings.{unless}
 use Rattle.vss_model.proofs.Orderly.{true_not_false}
 use Rattle.vss_model.proofs.Spoken.{among_filter}
+use Rattle.vss_model.proofs.Gathered.{filter_passes}
 
 -- ## one group alone
 
@@ -28,7 +28,7 @@ one_group p (x ∷ xs) ws f w e = by_others (others ws (x ∷ xs)) refl (subst (
         let parts = and_parts (is_orders p.group) (is_among w (y ∷ ys)) h in
         let among = ap (is_among w) g ∙ parts.1 in (
           and_from (is_orders p.group) (is_among w (x ∷ xs)) parts.0 (among_filter (λ z. not (is_among z ws)) w (x ∷ xs) among),
-          unless (is_among w ws) (passes (λ z. not (is_among z ws)) w (x ∷ xs) among),
+          unless (is_among w ws) (filter_passes (λ z. not (is_among z ws)) w (x ∷ xs) among),
         )
 
 abbrev pub last_place : Place

@@ -1,8 +1,6 @@
 -- The levels and the freeze time-outs of the writers' rows, and the levels of the participants, are those that the scenario gives the writers.
-use Rattle.promises.proofs.Words.{Level, Order, VssResult, Said, WriterRow, one_more, row_aborted, row_gathered, row_ended}
-use Rattle.promises.proofs.Words.{Member, IsKeptInCourse}
-use Rattle.promises.proofs.Words.{Plan, WriterPlan, start, row_of_writer}
-use Rattle.promises.proofs.Words.{Act, state, timeout_in, timeout_of, HasItsNumbers, level_in, level_of}
+use Rattle.promises.proofs.Words.{Level, Order, VssResult, Said, WriterRow, one_more, row_aborted, row_gathered, row_ended, Member, IsKeptInCourse, Plan}
+use Rattle.promises.proofs.Words.{WriterPlan, row_of_writer, Act, state, timeout_in, timeout_of, HasItsNumbers, level_in, level_of}
 use Rattle.std.proofs.Common.{◌≡◌, ◌∙◌, ℕ, ◌+◌, ◌≤◌, zero, suc, sym, List, [], ◌∷◌, ◌++◌, Some, refl, Bool, true, false, ap, map, arith}
 use Rattle.std.specs.Prelude.{slice_get}
 use Rattle.set_agenda.specs.Course.{Course, posted, rows_where, row_if, member_if, members_from, is_member, failed as course_failed, told, worked, released}
@@ -115,7 +113,9 @@ module _ (l : ℕ → Level) (limit : ℕ → ℕ) where
 
 -- ## at the start
 
-rows_at_start : (s : Plan) (ps : List WriterPlan) (k : ℕ) → ((j : ℕ) → (level_in (slice_get ps j) ≡ level_of s (k + j)) × (timeout_in (slice_get ps j) ≡ timeout_of s (k + j))) → RowsOf (level_of s) (timeout_of s) k (map row_of_writer ps)
+rows_at_start : (s : Plan) (ps : List WriterPlan) (k : ℕ)
+    → ((j : ℕ) → (level_in (slice_get ps j) ≡ level_of s (k + j)) × (timeout_in (slice_get ps j) ≡ timeout_of s (k + j)))
+    → RowsOf (level_of s) (timeout_of s) k (map row_of_writer ps)
 rows_at_start s [] k e = tt
 rows_at_start s (p ∷ ps) k e = (
   ((e 0).0 ∙ ap (level_of s) (no_more k), (e 0).1 ∙ ap (timeout_of s) (no_more k)),

@@ -71,8 +71,7 @@ module _ (now : ℕ) (c : Course) (a : Agenda) (o : Open) where
   nobody : (w : ℕ) (l : Option RunningLimit) → is_among w (lost_at l None o.waits) ≡ false
   nobody w l = grind arith
 
-  told_at : (g : Group) (w : ℕ)
-      → is_among w (lost_at (spent_of now (running_of (freeze_limit c) a o g)) (order_of g) o.waits)
+  told_at : (g : Group) (w : ℕ) → is_among w (lost_at (spent_of now (running_of (freeze_limit c) a o g)) (order_of g) o.waits)
       ≡ (is_some (order_if (is_orders g && is_among w o.waits) (order_of g)) && is_over now c a o (order_of g))
   told_at g w = grind (arith, by_spent, order_spent, nobody)
 

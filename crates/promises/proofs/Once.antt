@@ -71,8 +71,7 @@ not_below w x (m ∷ ms) l h i = by_head (is_at l m.level) (not_below (m.writer 
     differs : (w x m : ℕ) → w ≤ m → x < w → (m == x) ≡ false
     differs w x m h i = grind arith
 
-    by_head : (b : Bool) → is_among x (writers_at ms l) ≡ false
-        → is_among x (map (λ (y : Member). y.writer)
+    by_head : (b : Bool) → is_among x (writers_at ms l) ≡ false → is_among x (map (λ (y : Member). y.writer)
         (if b then m ∷ filter (λ (y : Member). is_at l y.level) ms else filter (λ (y : Member). is_at l y.level) ms)) ≡ false
     by_head true ih = or_from (m.writer == x) _ (differs w x m.writer h.0 i) ih
     by_head false ih = ih

@@ -80,8 +80,7 @@ pub last_new : (t now : ℕ) (test : Place → Bool) (p : Place) (said : Said) (
     → last_time t (filter (λ (e : Entry). test e.place) (log ++ map (at_place p said now) (w ∷ ws))) ≡ now
 last_new t now test p said [] w ws e = by_test (test p) e
   where
-    by_test : (b : Bool) → b ≡ true
-        → last_time t (if b then at_place p said now w ∷ filter (λ (x : Entry). test x.place) (map (at_place p said now) ws)
+    by_test : (b : Bool) → b ≡ true → last_time t (if b then at_place p said now w ∷ filter (λ (x : Entry). test x.place) (map (at_place p said now) ws)
         else filter (λ (x : Entry). test x.place) (map (at_place p said now) ws)) ≡ now
     by_test true f = last_all now test p said ws e
     by_test false f = absurd cc
@@ -134,8 +133,7 @@ hold_said now p said (w ∷ ws) t e = by_test (is_hold p.group) e (hold_said now
     some_same : (a b : ℕ) → Some a ≡ Some b → b ≡ a
     some_same a b e = cc
 
-    by_test : (b : Bool)
-        → first_time (if b then at_place p said now w ∷ filter (λ (y : Entry). is_hold y.place.group) (map (at_place p said now) ws)
+    by_test : (b : Bool) → first_time (if b then at_place p said now w ∷ filter (λ (y : Entry). is_hold y.place.group) (map (at_place p said now) ws)
         else filter (λ (y : Entry). is_hold y.place.group) (map (at_place p said now) ws)) ≡ Some t
         → (first_hold (map (at_place p said now) ws) ≡ Some t → t ≡ now) → t ≡ now
     by_test true f ih = some_same now t f

@@ -62,14 +62,12 @@ pub at_some_level : (ms : List Member) (w : ℕ) (X : Type 0) → ((l : Level) �
 at_some_level [] w X f e = absurd cc
 at_some_level (m ∷ ms) w X f e = by_head (m.writer == w) refl e (λ h. at_some_level ms w X (λ l i. f l (later l (is_at (Some l) m.level) i)) h)
   where
-    later : (l : Level) (b : Bool) → is_among w (writers_at ms (Some l)) ≡ true
-        → is_among w (map (λ (x : Member). x.writer)
+    later : (l : Level) (b : Bool) → is_among w (writers_at ms (Some l)) ≡ true → is_among w (map (λ (x : Member). x.writer)
         (if b then m ∷ filter (λ (x : Member). is_at (Some l) x.level) ms else filter (λ (x : Member). is_at (Some l) x.level) ms)) ≡ true
     later l true i = or_right (m.writer == w) _ i
     later l false i = i
 
-    own : (b : Bool) → b ≡ true → (m.writer == w) ≡ true
-        → is_among w (map (λ (x : Member). x.writer)
+    own : (b : Bool) → b ≡ true → (m.writer == w) ≡ true → is_among w (map (λ (x : Member). x.writer)
         (if b then m ∷ filter (λ (x : Member). is_at (Some m.level) x.level) ms else filter (λ (x : Member). is_at (Some m.level) x.level) ms)) ≡ true
     own true h i = or_left (m.writer == w) _ i
     own false h i = absurd cc
@@ -124,8 +122,7 @@ pub level_among : (s : Plan) (x : Level) (ms : List Member) (w : ℕ) → Member
 level_among s x [] w lv e = absurd cc
 level_among s x (m ∷ ms) w lv e = by_head (is_at (Some x) m.level) (m.writer == w) refl refl e (level_among s x ms w lv.1)
   where
-    by_head : (b c : Bool) → is_at (Some x) m.level ≡ b → (m.writer == w) ≡ c
-        → is_among w (map (λ (y : Member). y.writer)
+    by_head : (b c : Bool) → is_at (Some x) m.level ≡ b → (m.writer == w) ≡ c → is_among w (map (λ (y : Member). y.writer)
         (if b then m ∷ filter (λ (y : Member). is_at (Some x) y.level) ms else filter (λ (y : Member). is_at (Some x) y.level) ms)) ≡ true
         → (is_among w (writers_at ms (Some x)) ≡ true → level_of s w ≡ x) → level_of s w ≡ x
     by_head false c f h e ih = ih e

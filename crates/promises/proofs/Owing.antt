@@ -28,14 +28,15 @@ use Rattle.promises.proofs.Speaks.{deed_at, deed_in, said_at, Grows, made_now, l
 use Rattle.promises.proofs.BusyAgendas.{course_followed}
 use Rattle.promises.proofs.CalmCourses.{calm_begun}
 use Rattle.promises.proofs.Clock.{write_ticks}
-use Rattle.promises.proofs.Progress.{stage_of, StandsAt, stands_all, is_opened, is_started, is_done as is_done_stage, snapshots}
+use Rattle.promises.proofs.Progress.{stage_of, StandsAt, stands_all, snapshots}
 use Rattle.promises.proofs.Turns.{Turn, begun_turn, answer_turn, tick_turn, step_turn}
 use Rattle.promises.proofs.Members.{members_from_are}
 use Rattle.promises.proofs.CalmStages.{IsCalm, calm_kept, calm_always}
 use Rattle.promises.proofs.Participants.{Follows, follows_all, standing, asked_by, asked_are}
 use Rattle.scenario.proofs.Places.{number_is}
 use Rattle.set_agenda.proofs.Closings.{unless}
-use Rattle.promises.proofs.Heard.{passes}
+use Rattle.vss_model.proofs.OrderlyActs.{is_opened, is_started, is_done_stage}
+use Rattle.vss_model.proofs.Gathered.{filter_passes}
 
 abbrev p0 : Asking → Place
 p0 i = plain (Orders (order_for i))
@@ -112,7 +113,7 @@ still_waits i w said now ws a k mild untold waits =
     unsaid_now : has_said (a.log ++ new) (p0 i) w ≡ false
     unsaid_now =
         list_any-append (λ (x : Entry). same_place x.place (p0 i) && (x.who == w)) a.log new
-        ∙ ap (λ b. b || has_said new (p0 i) w) (unless (has_said a.log (p0 i) w) (passes (λ x. not (has_said a.log (p0 i) x)) w (writers_at a.members None) waits))
+        ∙ ap (λ b. b || has_said new (p0 i) w) (unless (has_said a.log (p0 i) w) (filter_passes (λ x. not (has_said a.log (p0 i) x)) w (writers_at a.members None) waits))
         ∙ false_from_ne_true (has_said new (p0 i) w) (λ f. both (is_among w ws) (new_said p (p0 i) said now ws w f) not_now)
 
 module _ (i : Asking) (w : ℕ) where

@@ -4,9 +4,8 @@ use Rattle.promises.proofs.Words.{naming_of, naming_found, naming_if, has_pair, 
 use Rattle.promises.proofs.Words.{class_of, token, Event, Line, Reply, State, start, in_progress, row_of_writer, followed, failed, Replied, refused, write, Act, enabled, idle_now, after, state}
 use Rattle.promises.proofs.Words.{Choosing, unsaid, is_chosen, line_says, event_says, is_unfit, choosing_if, choosing_from, choosing, is_writer, ChosenTakePart, Covers}
 use Rattle.promises.proofs.Words.{ChangesNothing, covered, after_enabled, after_not_enabled}
-use Rattle.std.proofs.Common.{◌≡◌, ◌∙◌, ℕ, ◌==◌, List, [], ◌∷◌, ◌++◌, Option, Some, None, refl, Bool, true, false, ap, sym, subst, map, fold, length}
+use Rattle.std.proofs.Common.{◌≡◌, ◌∙◌, ℕ, ◌==◌, List, [], ◌∷◌, ◌++◌, Option, Some, None, refl, Bool, true, false, ap, sym, subst, map, fold, length, arith}
 use Rattle.std.specs.Prelude.{◌&&◌, ◌||◌, not, if◌then◌else◌}
-use Rattle.std.proofs.Common.{arith}
 use Rattle.set_agenda.specs.declared.kind.Kind.TheVariants as kind
 use Rattle.set_agenda.specs.Course.{Course, begun, is_member, members_from, prepared as course_prepared, snapshot_begun, released}
 use Rattle.scenario.specs.declared.op.Op.TheVariants.{Prepare, Snapshot}

@@ -18,6 +18,7 @@ use Rattle.vss_model.specs.Sessions.{selected, start_set, has_no_volume, volumes
 use Rattle.promises.proofs.CalmCourses.{calm_begun}
 use Rattle.promises.proofs.SetFailures.{failure_at}
 use Rattle.promises.proofs.Turns.{Turn, quiet_turn, write_turn, revert_turn, begun_turn, answer_turn, tick_turn, step_turn, abort_turn, add_turn, none_started}
+use Rattle.vss_model.proofs.OrderlyActs.{is_opened, is_started, is_done_stage}
 
 -- ## where a session stands
 
@@ -66,15 +67,6 @@ brings_none o told p g = grind arith
 
 write_brings : (o : Op) (t : Target) (told : Reply) (p : Progress) → target_of o ≡ Some t → line_brings o told p ≡ p
 write_brings o t told p e = grind arith
-
-pub is_opened : (t : Stage) → is_stage t Opened ≡ true → t ≡ Opened
-is_opened t e = grind arith
-
-pub is_started : (t : Stage) → is_stage t Started ≡ true → t ≡ Started
-is_started t e = grind arith
-
-pub is_done : (t : Stage) → is_stage t Done ≡ true → t ≡ Done
-is_done t e = grind arith
 
 prepares : (c : Context) → has_writers c ≡ true → stage_after c Started ≡ Prepared
 prepares c e = grind arith
@@ -204,7 +196,7 @@ module _ (s : Plan) (so_far : List Act) (p : Progress) where
           (snapshot_begun (volumes_of (in_progress st)) st.clock st.course) refl refl g.stands (snapshots q.context q.stage g.allowed)
           (calm_begun kind.Snapshot st.course.members _ st.clock st.course);
       completes = λ lane q mark g. on_begun lane op.Complete ByComplete q _ refl g.stands
-          (ap (stage_after q.context) (is_done q.stage (and_parts (is_stage q.stage Done) (has_writers q.context) g.allowed).0))
+          (ap (stage_after q.context) (is_done_stage q.stage (and_parts (is_stage q.stage Done) (has_writers q.context) g.allowed).0))
           (calm_begun kind.Complete _ [] st.clock st.course);
       aborts = λ lane q mark e. goes (Line lane op.Abort) Fine _ refl (abort_turn s so_far);
       ends = λ lane q mark e. on_close (Line lane op.End) Fine q (failed AsyncCancelled st);

@@ -303,8 +303,7 @@ module _ (s : Plan) (so_far : List Act) where
       by_test p true = said_is p Lost r
       by_test p false = refl
 
-      by_group : (g : Group) (ws : List ℕ)
-          → say_to (order_of g) Lost ws w r
+      by_group : (g : Group) (ws : List ℕ) → say_to (order_of g) Lost ws w r
           ≡ row_by (is_among w (lost_at (Some l) (order_of g) ws)) (row_said (order_if (is_orders g && is_among w ws) (order_of g)) Lost) r
       by_group (Orders p) ws = by_test p (is_among w ws)
       by_group _ ws = refl

@@ -20,10 +20,11 @@ use Rattle.vss_model.specs.Sessions.{has_no_volume, closed}
 use Rattle.vss_model.specs.Steps.{answered, step_made, is_flush, is_failed_step, stepped_as, stepped, ticked, later}
 use Rattle.promises.proofs.Truth.{not_itself, same_number}
 use Rattle.promises.proofs.BusyAgendas.{course_followed}
-use Rattle.promises.proofs.Heard.{same_group, passes}
+use Rattle.promises.proofs.Heard.{same_group}
 use Rattle.promises.proofs.Speaks.{Grows, grows_answered, grows_stepped, grows_timed}
 use Rattle.promises.proofs.Stages.{failed_stays, closed_stays, grown}
 use Rattle.scenario.proofs.Places.{number_is}
+use Rattle.vss_model.proofs.Gathered.{failed_agenda, filter_passes}
 
 -- ## who waits at a place does not begin to wait there
 
@@ -53,10 +54,10 @@ module _ (said : Said) (now : ℕ) (ws : List ℕ) (a : Agenda) (w : ℕ) where
   more = grown said now ws a
 
   fewer_members : (g : Group) (l : Option Level) → is_among w (members_of more g l) ≡ true → is_among w (members_of a g l) ≡ true
-  fewer_members g l e = grind (arith, kept_among, was_not, failed_stays, passes, among_filter)
+  fewer_members g l e = grind (arith, kept_among, was_not, failed_stays, filter_passes, among_filter)
 
   fewer_waits : (p : Place) → is_among w (waited_for more p) ≡ true → is_among w (waited_for a p) ≡ true
-  fewer_waits p e = grind (arith, kept_among, was_not, said_stays, passes, fewer_members, among_filter)
+  fewer_waits p e = grind (arith, kept_among, was_not, said_stays, filter_passes, fewer_members, among_filter)
 
 -- no place comes twice
 abbrev are_apart : List Place → Bool
@@ -274,10 +275,6 @@ module _ (w : ℕ) (o : Order) where
   asks_begun k ms vs now b c e f g = grind (arith, opened_settled, count_first)
 
 -- ## every act
-
-failed_agenda : (why : VssResult) (c : Course) → (course_failed why c).agenda ≡ None
-unfolding course_failed
-failed_agenda why c = refl
 
 released_agenda : (c : Course) → ((released c).agenda ≡ None) × ((released c).opened ≡ c.opened)
 unfolding released

@@ -1,6 +1,5 @@
 -- Whether the rows say of a set that it has failed, and what keeps that.
-use Rattle.promises.proofs.Words.{SetOutcome, VssResult, Group, State, SetRow, is_running, row_changed, row_settled}
-use Rattle.promises.proofs.Words.{cut_set, step_made, failure_of, failure_in}
+use Rattle.promises.proofs.Words.{SetOutcome, VssResult, Group, State, SetRow, is_running, row_changed, row_settled, cut_set, step_made, failure_of, failure_in}
 use Rattle.std.proofs.Common.{◌≡◌, ℕ, ◌==◌, List, [], ◌∷◌, Option, Some, None, refl, Bool, true, false, ap, map, find, arith}
 use Rattle.std.specs.Prelude.{if◌then◌else◌}
 use Rattle.promises.proofs.Contexts.{changed_number}

@@ -1,9 +1,8 @@
 -- The rows of sets go on: no act loses one, and one that is over stays as it is.
 use Rattle.scenario.proofs.Places.{number_is}
 use Rattle.std.proofs.lemmas.Bool.{or_left}
-use Rattle.promises.proofs.Words.{append_assoc, list_any-append, SetOutcome, Mark}
-use Rattle.promises.proofs.Words.{Plan, Event, State, SetRow, is_running, in_progress, row_changed, NumberedFrom, Act}
-use Rattle.promises.proofs.Words.{after, state, state-append, orderly, found_above, IsLaterRow, HasLaterRow, KeepsRows, some_same}
+use Rattle.promises.proofs.Words.{append_assoc, list_any-append, SetOutcome, Mark, Plan, Event, State, SetRow, is_running, in_progress, row_changed}
+use Rattle.promises.proofs.Words.{NumberedFrom, Act, after, state, state-append, orderly, found_above, IsLaterRow, HasLaterRow, KeepsRows, some_same}
 use Rattle.promises.proofs.Words.{append_nothing}
 use Rattle.std.proofs.Common.{◌≡◌, ◌∙◌, ℕ, ◌+◌, ◌==◌, ◌<◌, ◌≤◌, List, [], ◌∷◌, ◌++◌, Some, refl, Bool, true, false, ap, sym, subst, map, find, arith}
 use Rattle.std.specs.Prelude.{if◌then◌else◌}
@@ -113,7 +112,8 @@ changed_in_progress k f (q ∷ rows) r num e h = by_head (is_running q.result) r
 -- ## every act
 
 module _ (s : Plan) (st : State) (num : NumberedFrom 1 st.sets) where
-  changed : (f : SetRow → SetRow) (x : State) (n : ℕ) (r : SetRow) → x.sets ≡ st.sets → n ≡ r.number → in_progress st ≡ Some r → ((q : SetRow) → is_running q.result ≡ true → IsLaterRow q (f q)) → GoOn st.sets (map (row_changed n f) x.sets)
+  changed : (f : SetRow → SetRow) (x : State) (n : ℕ) (r : SetRow) → x.sets ≡ st.sets → n ≡ r.number → in_progress st ≡ Some r
+      → ((q : SetRow) → is_running q.result ≡ true → IsLaterRow q (f q)) → GoOn st.sets (map (row_changed n f) x.sets)
   changed f x n r same number found later =
       subst (λ rows. GoOn st.sets (map (row_changed n f) rows)) (sym same) (subst (λ k. GoOn st.sets (map (row_changed k f) st.sets)) (sym number) (changed_in_progress 1 f st.sets r num found later))
 
@@ -133,7 +133,8 @@ own_number : (rows : List SetRow) (n : ℕ) (r : SetRow) → find (λ (x : SetRo
 own_number [] n r e = absurd cc
 own_number (q ∷ rows) n r e = by_head (q.number == n) refl e (own_number rows n r)
   where
-    by_head : (b : Bool) → (q.number == n) ≡ b → (if b then Some q else find (λ (x : SetRow). x.number == n) rows) ≡ Some r → (find (λ (x : SetRow). x.number == n) rows ≡ Some r → r.number ≡ n) → r.number ≡ n
+    by_head : (b : Bool) → (q.number == n) ≡ b → (if b then Some q else find (λ (x : SetRow). x.number == n) rows) ≡ Some r
+        → (find (λ (x : SetRow). x.number == n) rows ≡ Some r → r.number ≡ n) → r.number ≡ n
     by_head true f e ih = subst (λ (x : SetRow). x.number ≡ n) (some_same q r e) (number_is q.number n f)
     by_head false f e ih = ih e
 

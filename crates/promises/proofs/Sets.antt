@@ -1,16 +1,17 @@
 -- No volume is twice in a set.
-use Rattle.promises.proofs.Words.{list_any-append, SetOutcome, VssResult}
-use Rattle.promises.proofs.Words.{Mark, is_among, are_distinct, Plan, Event}
-use Rattle.promises.proofs.Words.{State, SetRow, in_progress, row_changed, NumberedFrom, Act, after, state, state-append, orderly}
-use Rattle.promises.proofs.Words.{row_running, VolumesAreDistinct, some_same, other_way}
+use Rattle.promises.proofs.Words.{list_any-append, SetOutcome, VssResult, Mark, is_among, are_distinct, Plan, Event, State, SetRow, in_progress, row_changed}
+use Rattle.promises.proofs.Words.{NumberedFrom, Act, after, state, state-append, orderly, row_running, VolumesAreDistinct, some_same, other_way}
 use Rattle.std.proofs.Common.{◌≡◌, ◌∙◌, ℕ, ◌+◌, ◌==◌, ◌<◌, List, [], ◌∷◌, ◌++◌, Some, None, refl, Bool, true, false, ap, sym, subst, map, find, fold, arith}
-use Rattle.std.specs.Prelude.{◌&&◌, ◌||◌, not, if◌then◌else◌}
+use Rattle.std.proofs.lemmas.Bool.{and_from, and_parts, or_parts}
+use Rattle.set_agenda.proofs.WriterSets.{or-false}
+use Rattle.std.specs.Prelude.{◌||◌, not, if◌then◌else◌}
 use Rattle.vss_model.specs.Ending.{row_settled}
 use Rattle.vss_model.specs.Sessions.{with_volume, add_refusal}
 use Rattle.vss_model.specs.Steps.{row_cut}
 use Rattle.promises.proofs.Members.{still_less}
 use Rattle.vss_model.specs.Changes.{Change, StartsSet, AddsVolume, IsCutAt, Settles, apply}
 use Rattle.vss_model.proofs.Changes.{IsAdd, Comes, by_changes}
+use Rattle.vss_model.proofs.FewTurns.{volumes_cut}
 
 abbrev AllDistinct : List SetRow → Type 0
 AllDistinct [] = Unit {0}
@@ -35,30 +36,15 @@ distinct_found n (q ∷ rows) r h e = by_head (q.number == n) e (distinct_found 
 
 -- ## a volume is added
 
+among_other : (x v : ℕ) (xs : List ℕ) → (x == v) ≡ false → is_among x (xs ++ v ∷ []) ≡ is_among x xs
+among_other x v xs e = list_any-append (λ (y : ℕ). y == x) xs (v ∷ []) ∙ ap (λ (b : Bool). is_among x xs || (b || false)) (other_way x v e) ∙ or-false (is_among x xs)
+
 distinct_more : (v : ℕ) (xs : List ℕ) → is_among v xs ≡ false → are_distinct xs ≡ true → are_distinct (xs ++ v ∷ []) ≡ true
 distinct_more v [] e f = refl
-distinct_more v (x ∷ xs) e f = by_parts (x == v) (is_among x xs) refl e f (distinct_more v xs)
-  where
-    none : (a b : Bool) → a ≡ false → b ≡ false → (a || (b || false)) ≡ false
-    none true b e f = absurd cc
-    none false true e f = absurd cc
-    none false false e f = refl
-
-    both : (a b : Bool) → a ≡ false → b ≡ true → (not a && b) ≡ true
-    both true b e f = absurd cc
-    both false b e f = f
-
-    by_parts : (c d : Bool) → (x == v) ≡ c → (c || is_among v xs) ≡ false → (not (is_among x xs) && are_distinct xs) ≡ true
-        → (is_among v xs ≡ false → are_distinct xs ≡ true → are_distinct (xs ++ v ∷ []) ≡ true)
-        → (not (is_among x (xs ++ v ∷ [])) && are_distinct (xs ++ v ∷ [])) ≡ true
-    by_parts true d g e f ih = absurd cc
-    by_parts false d g e f ih =
-        let parts = split (is_among x xs) (are_distinct xs) f in
-        both (is_among x (xs ++ v ∷ [])) (are_distinct (xs ++ v ∷ [])) (list_any-append (λ (y : ℕ). y == x) xs (v ∷ []) ∙ none (is_among x xs) (v == x) parts.0 (other_way x v g)) (ih e parts.1)
-      where
-        split : (a b : Bool) → (not a && b) ≡ true → (a ≡ false) × (b ≡ true)
-        split true b e = absurd cc
-        split false b e = (refl, e)
+distinct_more v (x ∷ xs) e f =
+    let none = or_parts (x == v) (is_among v xs) e in
+    let parts = and_parts (not (is_among x xs)) (are_distinct xs) f in
+    and_from (not (is_among x (xs ++ v ∷ []))) (are_distinct (xs ++ v ∷ [])) (ap not (among_other x v xs none.0) ∙ parts.0) (distinct_more v xs none.1 parts.1)
 
 changed_volumes : (b : Bool) (f : SetRow → SetRow) (r : SetRow) → b ≡ false → (if b then f r else r).volumes ≡ r.volumes
 changed_volumes b f r e = grind arith
@@ -96,9 +82,6 @@ not_in_set in_set many full x y z e = grind arith
 settled_volumes : (p : SetOutcome) (r : SetRow) → (row_settled p r).volumes ≡ r.volumes
 settled_volumes p r = grind arith
 
-cut_volumes : (n now : ℕ) (r : SetRow) → (row_cut n now r).volumes ≡ r.volumes
-cut_volumes n now r = grind arith
-
 module _ (s : Plan) (st : State) (num : NumberedFrom 1 st.sets) (h : AllDistinct st.sets) where
   added_volume : (x : State) (n v : ℕ) → IsAdd st x n v → AllDistinct (map (row_changed n (with_volume v)) x.sets)
   added_volume x n v i =
@@ -111,7 +94,7 @@ module _ (s : Plan) (st : State) (num : NumberedFrom 1 st.sets) (h : AllDistinct
   stays_distinct : (e : Event) (m : Mark) (c : Change) (x : State) → Comes s e m st x c → AllDistinct x.sets → AllDistinct (apply x c).sets
   stays_distinct e m (StartsSet r) x i d = distinct_append x.sets r d (ap (λ (q : SetRow). are_distinct q.volumes) i.row)
   stays_distinct e m (AddsVolume n v) x i d = added_volume x n v i
-  stays_distinct e m (IsCutAt n now) x i d = distinct_map (row_cut n now) (cut_volumes n now) x.sets d
+  stays_distinct e m (IsCutAt n now) x i d = distinct_map (row_cut n now) (volumes_cut n now) x.sets d
   stays_distinct e m (Settles o) x i d = distinct_map (row_settled o) (settled_volumes o) x.sets d
   stays_distinct e m _ x i d = d
 

@@ -37,7 +37,8 @@ within_placed k rows u = ap within (slice_get-map (placed k) rows u)
 
 -- ## each change
 
-module _ (s : Plan) (plan : IsPlan s) (st : State) (time : (v : ℕ) → AreInTime (length (at st.volumes v).writes) (at st.volumes v).images) (up : (v : ℕ) → UpTo (length st.sets) (at st.volumes v).images) where
+module _ (s : Plan) (plan : IsPlan s) (st : State) (time : (v : ℕ) → AreInTime (length (at st.volumes v).writes) (at st.volumes v).images)
+    (up : (v : ℕ) → UpTo (length st.sets) (at st.volumes v).images) where
   abbrev Fit : List History → Type 0
   Fit hs = (v : ℕ) → group_used (group_of s v) hs ≤ slots_of s v
 

@@ -211,5 +211,4 @@ logs_rise s acts = log_in_time s (way s acts) (state s acts).course.agenda (way_
 
 pub late_is_due : (s : Plan) (acts : List Act) (now : ℕ) → is_late_in now (state s acts).course (state s acts).course.agenda ≡ true
     → is_due_in now (state s acts).course (state s acts).course.agenda ≡ true
-late_is_due s acts now h =
-    due_in_agenda now (state s acts).course (state s acts).course.agenda (logs_rise s acts) h
+late_is_due s acts now h = due_in_agenda now (state s acts).course (state s acts).course.agenda (logs_rise s acts) h

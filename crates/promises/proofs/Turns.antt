@@ -81,7 +81,8 @@ module _ (s : Plan) (so_far : List Act) where
   no_set x f = grind (arith, outcome_is_running)
 
   -- from a state with the same session and the same failures; and with the same sets, where the course fails
-  module _ (c : Course) (y : State) (session : y.session ≡ st.session) (failures : (n : ℕ) → failure_at y.sets n ≡ failure_at st.sets n) (calm : CalmOrBusy st.course c) (sets : has_failed c.outcome ≡ true → y.sets ≡ st.sets) where
+  module _ (c : Course) (y : State) (session : y.session ≡ st.session) (failures : (n : ℕ) → failure_at y.sets n ≡ failure_at st.sets n)
+      (calm : CalmOrBusy st.course c) (sets : has_failed c.outcome ≡ true → y.sets ≡ st.sets) where
     abbrev z : State
     z = record y { course = c }
 

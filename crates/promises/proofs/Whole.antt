@@ -13,7 +13,7 @@ use Rattle.promises.proofs.Levels.{Ascends, MembersOf, levels_are, members_ascen
 use Rattle.promises.proofs.Speaks.{deed_at, deed_in, said_at, Speaks, IsOne}
 use Rattle.promises.proofs.Stages.{deeds_in, deeds_append, any_more, any_said, group_stage, place_stage, leveled, IsOfLevel, open_stage, Below, below_more}
 use Rattle.promises.proofs.Stages.{below_append, rising_append, stages_more, closed_stays, goes_up, Closed, closed_below, snapshot_from}
-use Rattle.promises.proofs.Heard.{said_deed, place_of, volume_number, Good, good_unspoken, steps_plain, open_plain, passes, unsaid, order_member, heard_writer, made_volume, alone, is_step}
+use Rattle.promises.proofs.Heard.{said_deed, place_of, volume_number, Good, good_unspoken, steps_plain, open_plain, unsaid, order_member, heard_writer, made_volume, alone, is_step}
 use Rattle.promises.proofs.Once.{once_one, Apart, once_spoken, waits_apart, none_given, open_unleveled, level_some, is_order_place}
 use Rattle.promises.proofs.Orders.{agreed_at, post_group, heard_group, heard_agreed, all_among, heard_at, prepare_heard, freeze_heard, thaw_heard, of_group_level, levels_given, open_leveled}
 use Rattle.promises.proofs.Scripts.{kept_among}
@@ -21,6 +21,7 @@ use Rattle.scenario.proofs.Places.{number_is}
 use Rattle.set_agenda.proofs.Closings.{unless}
 use Rattle.vss_model.proofs.AtCut.{all_said}
 use Rattle.vss_model.proofs.CutLog.{either_way}
+use Rattle.vss_model.proofs.Gathered.{filter_passes}
 
 -- ## one more is said
 
@@ -36,7 +37,8 @@ none_left [] (w ∷ ws) h = absurd (no_one (h w (or_left (w == w) (is_among w ws
     no_one e = cc
 none_left (o ∷ os) ws h = inr refl
 
-module _ (s : Plan) (said : Said) (now : ℕ) (ws : List ℕ) (a : Agenda) (k : a.kind ≡ Snapshot) (who : Speaks a ws) (mild : (fails_set (order_of (open_place (groups_left a)).group) && not (is_ok said)) ≡ false) (g : Good s a) where
+module _ (s : Plan) (said : Said) (now : ℕ) (ws : List ℕ) (a : Agenda) (k : a.kind ≡ Snapshot) (who : Speaks a ws)
+    (mild : (fails_set (order_of (open_place (groups_left a)).group) && not (is_ok said)) ≡ false) (g : Good s a) where
   abbrev more : Agenda
   more = all_say said now ws a
 
@@ -216,7 +218,7 @@ module _ (s : Plan) (said : Said) (now : ℕ) (ws : List ℕ) (a : Agenda) (k : 
           let member = subst (λ x. is_among x (members_of a (Orders PostSnapshot) p.level) ≡ true) s (subst (λ h. is_among u (members_of a h p.level) ≡ true) e (member_at u f)) in
           let at : open_stage (left_from a (places Snapshot)) ≡ 14 = sym (ap open_stage (snapshot_left a k)) ∙ n ∙ ap (λ h. group_stage h p.level) e in
           let closed = subst (λ m. Closed a m (places Snapshot)) at (closed_below a 0 (places Snapshot) snapshot_from) in
-          heard_agreed a.log w (unless (has_failed a.log w) (passes (λ x. not (has_failed a.log x)) w (writers_at a.members p.level) member))
+          heard_agreed a.log w (unless (has_failed a.log w) (filter_passes (λ x. not (has_failed a.log x)) w (writers_at a.members p.level) member))
           (thaw_heard a 14 (omega arith) closed w (order_member PostSnapshot a p.level w member))
 
   says_good : Good s (all_say said now ws a)

@@ -18,11 +18,12 @@ use Rattle.vss_model.specs.Steps.{answered, step_made, is_flush, is_failed_step,
 use Rattle.vss_model.proofs.LogRule.{Running, unspoken}
 use Rattle.promises.proofs.Clock.{clock-made}
 use Rattle.promises.proofs.Limits.{is_due_in, due_in, spent_runs}
-use Rattle.promises.proofs.Speaks.{Speaks, now_group, head_waits}
+use Rattle.promises.proofs.Speaks.{Speaks, now_group}
 use Rattle.promises.proofs.Times.{late_is_due}
 use Rattle.promises.proofs.NotSpent.{at_once, none_both, unspent_if, is_mild, mild_order}
 use Rattle.promises.proofs.AllLost.{lost_in_time}
 use Rattle.promises.proofs.OneMore.{Ordered, Unspent, InTime, said_in_time}
+use Rattle.vss_model.proofs.CourseCalls.{head_waits}
 
 -- ## the course
 
