@@ -76,11 +76,10 @@ module _ (s : Plan) where
 
 waits_are : (a : Agenda) (ps : List Place) (o : Open) (os : List Open) → left_from a ps ≡ o ∷ os → o.waits ≡ waited_for a o.place
 waits_are a [] o os e = absurd cc
-waits_are a (p ∷ ps) o os e = by_waits (waited_for a p) refl e (waits_are a ps o os)
-  where
-    by_waits : (ws : List ℕ) → waited_for a p ≡ ws → with_group p ws (left_from a ps) ≡ o ∷ os → (left_from a ps ≡ o ∷ os → o.waits ≡ waited_for a o.place) → o.waits ≡ waited_for a o.place
-    by_waits [] f g ih = ih g
-    by_waits (w ∷ ws) f g ih = let same : record { place = p; waits = w ∷ ws } ≡ o = cc in subst (λ (x : Open). x.waits ≡ waited_for a x.place) same (sym f)
+waits_are a (p ∷ ps) o os e = by_waits (waited_for a p) refl e (waits_are a ps o os) where
+  by_waits : (ws : List ℕ) → waited_for a p ≡ ws → with_group p ws (left_from a ps) ≡ o ∷ os → (left_from a ps ≡ o ∷ os → o.waits ≡ waited_for a o.place) → o.waits ≡ waited_for a o.place
+  by_waits [] f g ih = ih g
+  by_waits (w ∷ ws) f g ih = let same : record { place = p; waits = w ∷ ws } ≡ o = cc in subst (λ (x : Open). x.waits ≡ waited_for a x.place) same (sym f)
 
 abbrev is_identify : Group → Bool
 is_identify (Orders Identify) = true

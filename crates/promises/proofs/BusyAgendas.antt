@@ -39,11 +39,10 @@ frozen_now now f a o os l e not_answer = grind arith
 
 pub busy_limit : (now f : ℕ) (x : Option Agenda) (l : RunningLimit) → spent_of now (running_limits f x) ≡ Some l → (l.limit ≡ AnswerLimit → ⊥) → IsBusy x
 busy_limit now f None l e k = none_and_some None l refl e
-busy_limit now f (Some a) l e k = at_list (groups_left a) refl e
-  where
-    at_list : (os : List Open) → groups_left a ≡ os → spent_of now (running_at f a os) ≡ Some l → makes_a_set a.kind ≡ true
-    at_list [] g i = none_and_some None l refl i
-    at_list (o ∷ os) g i = of_kind freeze_runs a.kind a o os refl refl refl g (frozen_now now f a o os l i k)
+busy_limit now f (Some a) l e k = at_list (groups_left a) refl e where
+  at_list : (os : List Open) → groups_left a ≡ os → spent_of now (running_at f a os) ≡ Some l → makes_a_set a.kind ≡ true
+  at_list [] g i = none_and_some None l refl i
+  at_list (o ∷ os) g i = of_kind freeze_runs a.kind a o os refl refl refl g (frozen_now now f a o os l i k)
 
 -- ## while an agenda makes a set, one is in progress
 

@@ -70,15 +70,13 @@ module _ (s : Plan) (st : State) (v b : ℕ) where
 -- ## what a write and a revert bring
 
 changed_here : (f : History → History) (v : ℕ) (hs : List History) → v < length hs → at (change_at v f hs) v ≡ f (at hs v)
-changed_here f v [] l = absurd (nothing v l)
-  where
-    nothing : (v : ℕ) → v < 0 → ⊥
-    nothing v l = omega arith
+changed_here f v [] l = absurd (nothing v l) where
+  nothing : (v : ℕ) → v < 0 → ⊥
+  nothing v l = omega arith
 changed_here f zero (h ∷ hs) l = refl
-changed_here f (suc v) (h ∷ hs) l = changed_here f v hs (below v (length hs) l)
-  where
-    below : (v n : ℕ) → suc v < suc n → v < n
-    below v n l = omega arith
+changed_here f (suc v) (h ∷ hs) l = changed_here f v hs (below v (length hs) l) where
+  below : (v n : ℕ) → suc v < suc n → v < n
+  below v n l = omega arith
 
 last_own : (b : ℕ) (before : List ℕ) (ws : List Write) (w : Write) → (w.block == b) ≡ true → last_bytes b before (ws ++ w ∷ []) ≡ w.bytes
 last_own b before [] w e = ap (λ t. if t then w.bytes else before) e

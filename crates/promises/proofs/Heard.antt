@@ -136,13 +136,12 @@ steps_plain = (
 
 pub open_plain : (a : Agenda) (ps : List Place) → StepsPlain ps → is_orders (open_place (left_from a ps)).group ≡ false → open_place (left_from a ps) ≡ plain (open_place (left_from a ps)).group
 open_plain a [] h e = refl
-open_plain a (p ∷ ps) h e = at_group (waited_for a p) (left_from a ps) (open_plain a ps h.1) e
-  where
-    at_group : (ws : List ℕ) (later : List Open) → (is_orders (open_place later).group ≡ false → open_place later ≡ plain (open_place later).group)
-        → is_orders (open_place (with_group p ws later)).group ≡ false
-        → open_place (with_group p ws later) ≡ plain (open_place (with_group p ws later)).group
-    at_group [] later ih e = ih e
-    at_group (w ∷ ws) later ih e = h.0 e
+open_plain a (p ∷ ps) h e = at_group (waited_for a p) (left_from a ps) (open_plain a ps h.1) e where
+  at_group : (ws : List ℕ) (later : List Open) → (is_orders (open_place later).group ≡ false → open_place later ≡ plain (open_place later).group)
+      → is_orders (open_place (with_group p ws later)).group ≡ false
+      → open_place (with_group p ws later) ≡ plain (open_place (with_group p ws later)).group
+  at_group [] later ih e = ih e
+  at_group (w ∷ ws) later ih e = h.0 e
 
 -- who is waited for has not spoken
 pub unsaid_filter : (log : List Entry) (p : Place) (x : ℕ) (xs : List ℕ) → is_among x (filter (λ who. not (has_said log p who)) xs) ≡ true → has_said log p x ≡ false
@@ -150,13 +149,12 @@ unsaid_filter log p x xs e = unless (has_said log p x) (filter_passes (λ who. n
 
 pub unsaid : (a : Agenda) (ps : List Place) (x : ℕ) → is_among x (waits_now (left_from a ps)) ≡ true → has_said a.log (open_place (left_from a ps)) x ≡ false
 unsaid a [] x e = absurd cc
-unsaid a (p ∷ ps) x e = at_group (waited_for a p) (left_from a ps) (λ f. unsaid_filter a.log p x (members_of a p.group p.level) f) (unsaid a ps x) e
-  where
-    at_group : (ws : List ℕ) (later : List Open) → (is_among x ws ≡ true → has_said a.log p x ≡ false)
-        → (is_among x (waits_now later) ≡ true → has_said a.log (open_place later) x ≡ false) → is_among x (waits_now (with_group p ws later)) ≡ true
-        → has_said a.log (open_place (with_group p ws later)) x ≡ false
-    at_group [] later own ih e = ih e
-    at_group (w ∷ ws) later own ih e = own e
+unsaid a (p ∷ ps) x e = at_group (waited_for a p) (left_from a ps) (λ f. unsaid_filter a.log p x (members_of a p.group p.level) f) (unsaid a ps x) e where
+  at_group : (ws : List ℕ) (later : List Open) → (is_among x ws ≡ true → has_said a.log p x ≡ false)
+      → (is_among x (waits_now later) ≡ true → has_said a.log (open_place later) x ≡ false) → is_among x (waits_now (with_group p ws later)) ≡ true
+      → has_said a.log (open_place (with_group p ws later)) x ≡ false
+  at_group [] later own ih e = ih e
+  at_group (w ∷ ws) later own ih e = own e
 
 -- ## members
 
@@ -183,11 +181,10 @@ made_volume g v PostCommit a l u said now i e = absurd (true_not_false false (an
 
 -- a step is logged under its volume, or under 0
 pub alone : (u : ℕ) → is_among u (0 ∷ []) ≡ true → u ≡ 0
-alone u e = by_head (0 == u) refl e
-  where
-    by_head : (b : Bool) → (0 == u) ≡ b → (b || false) ≡ true → u ≡ 0
-    by_head true f e = sym (number_is 0 u f)
-    by_head false f e = absurd cc
+alone u e = by_head (0 == u) refl e where
+  by_head : (b : Bool) → (0 == u) ≡ b → (b || false) ≡ true → u ≡ 0
+  by_head true f e = sym (number_is 0 u f)
+  by_head false f e = absurd cc
 
 pub record IsStep (g : Group) (v : Option ℕ) (h : Group) (u : ℕ) : Type 0 where
   pub group : h ≡ g

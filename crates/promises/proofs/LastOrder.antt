@@ -39,18 +39,17 @@ asked_it waits w e = grind arith
 
 -- no other agenda has the order
 pub not_in_kind : (k : Kind) (a : Agenda) (w : ℕ) → a.kind ≡ k → every (λ q. not (is_last_order q.group)) (places k) ≡ true → open_order (groups_left a) w ≡ Some BackupComplete → ⊥
-not_in_kind k a w e h o = at_list (groups_left a) refl (order_is (is_asked w (groups_left a)) (order_now (groups_left a)) o)
-  where
-    order_is : (b : Bool) (x : Option Order) → order_if b x ≡ Some BackupComplete → x ≡ Some BackupComplete
-    order_is true x e = e
-    order_is false x e = absurd cc
+not_in_kind k a w e h o = at_list (groups_left a) refl (order_is (is_asked w (groups_left a)) (order_now (groups_left a)) o) where
+  order_is : (b : Bool) (x : Option Order) → order_if b x ≡ Some BackupComplete → x ≡ Some BackupComplete
+  order_is true x e = e
+  order_is false x e = absurd cc
 
-    not_it : (g : Group) → g ≡ Orders BackupComplete → not (is_last_order g) ≡ true → ⊥
-    not_it g f i = true_not_false (not (is_last_order g)) i (ap (λ x. not (is_last_order x)) f)
+  not_it : (g : Group) → g ≡ Orders BackupComplete → not (is_last_order g) ≡ true → ⊥
+  not_it g f i = true_not_false (not (is_last_order g)) i (ap (λ x. not (is_last_order x)) f)
 
-    at_list : (os : List Open) → groups_left a ≡ os → order_now os ≡ Some BackupComplete → ⊥
-    at_list [] g f = absurd cc
-    at_list (x ∷ xs) g f = not_it x.place.group (now_group (x ∷ xs) BackupComplete f) (in_kind (λ q. not (is_last_order q.group)) k a x xs e h g)
+  at_list : (os : List Open) → groups_left a ≡ os → order_now os ≡ Some BackupComplete → ⊥
+  at_list [] g f = absurd cc
+  at_list (x ∷ xs) g f = not_it x.place.group (now_group (x ∷ xs) BackupComplete f) (in_kind (λ q. not (is_last_order q.group)) k a x xs e h g)
 
 pub complete_left : (a : Agenda) → a.kind ≡ Complete → groups_left a ≡ with_group last_place (waited_for a last_place) []
 complete_left a e = ap (λ k. left_from a (places k)) e

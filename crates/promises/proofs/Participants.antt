@@ -56,11 +56,10 @@ within b c d e f = grind arith
 
 pub pair_added : (test : Pair → Bool) (q : Pair) (ps : List Pair) → list_any test (with_pair q ps) ≡ (list_any test ps || test q)
 pair_added test q [] = or-false (test q)
-pair_added test q (p ∷ ps) = by_place (comes_before q p) (pair_added test q ps)
-  where
-    by_place : (b : Bool) → list_any test (with_pair q ps) ≡ (list_any test ps || test q) → list_any test (if b then q ∷ p ∷ ps else p ∷ with_pair q ps) ≡ ((test p || list_any test ps) || test q)
-    by_place true ih = behind (test q) (test p) (list_any test ps)
-    by_place false ih = within (test p) (list_any test ps) (list_any test (with_pair q ps)) (test q) ih
+pair_added test q (p ∷ ps) = by_place (comes_before q p) (pair_added test q ps) where
+  by_place : (b : Bool) → list_any test (with_pair q ps) ≡ (list_any test ps || test q) → list_any test (if b then q ∷ p ∷ ps else p ∷ with_pair q ps) ≡ ((test p || list_any test ps) || test q)
+  by_place true ih = behind (test q) (test p) (list_any test ps)
+  by_place false ih = within (test p) (list_any test ps) (list_any test (with_pair q ps)) (test q) ih
 
 named_if : (w : ℕ) (q : Pair) (ps new : List Pair) (a b : Bool) → naming_if a b q ps ≡ Names new
     → list_any (λ (p : Pair). p.writer == w) new ≡ (list_any (λ (p : Pair). p.writer == w) ps || (q.writer == w))

@@ -27,12 +27,11 @@ distinct_append (q ∷ rows) r h e = (h.0, distinct_append rows r h.1 e)
 
 distinct_found : (n : ℕ) (rows : List SetRow) (r : SetRow) → AllDistinct rows → find (λ (q : SetRow). q.number == n) rows ≡ Some r → are_distinct r.volumes ≡ true
 distinct_found n [] r h e = absurd cc
-distinct_found n (q ∷ rows) r h e = by_head (q.number == n) e (distinct_found n rows r h.1)
-  where
-    by_head : (b : Bool) → (if b then Some q else find (λ (x : SetRow). x.number == n) rows) ≡ Some r
-        → (find (λ (x : SetRow). x.number == n) rows ≡ Some r → are_distinct r.volumes ≡ true) → are_distinct r.volumes ≡ true
-    by_head true f ih = subst (λ (x : SetRow). are_distinct x.volumes ≡ true) (some_same q r f) h.0
-    by_head false f ih = ih f
+distinct_found n (q ∷ rows) r h e = by_head (q.number == n) e (distinct_found n rows r h.1) where
+  by_head : (b : Bool) → (if b then Some q else find (λ (x : SetRow). x.number == n) rows) ≡ Some r
+      → (find (λ (x : SetRow). x.number == n) rows ≡ Some r → are_distinct r.volumes ≡ true) → are_distinct r.volumes ≡ true
+  by_head true f ih = subst (λ (x : SetRow). are_distinct x.volumes ≡ true) (some_same q r f) h.0
+  by_head false f ih = ih f
 
 -- ## a volume is added
 
@@ -60,19 +59,18 @@ none_changed k n f (r ∷ rows) num l h =
 added : (k : ℕ) (rows : List SetRow) (r : SetRow) (v : ℕ) → NumberedFrom k rows → find (λ (q : SetRow). q.number == r.number) rows ≡ Some r
     → is_among v r.volumes ≡ false → AllDistinct rows → AllDistinct (map (row_changed r.number (with_volume v)) rows)
 added k [] r v num e f h = tt
-added k (q ∷ rows) r v num e f h = by_head (q.number == r.number) refl e (added (k + 1) rows r v num.1)
-  where
-    equal_next : (a k n : ℕ) → a ≡ k → (a == n) ≡ true → n < k + 1
-    equal_next a k n e f = grind arith
+added k (q ∷ rows) r v num e f h = by_head (q.number == r.number) refl e (added (k + 1) rows r v num.1) where
+  equal_next : (a k n : ℕ) → a ≡ k → (a == n) ≡ true → n < k + 1
+  equal_next a k n e f = grind arith
 
-    by_head : (b : Bool) → (q.number == r.number) ≡ b → (if b then Some q else find (λ (x : SetRow). x.number == r.number) rows) ≡ Some r
-        → (find (λ (x : SetRow). x.number == r.number) rows ≡ Some r → is_among v r.volumes ≡ false → AllDistinct rows → AllDistinct (map (row_changed r.number (with_volume v)) rows))
-        → (are_distinct (if b then with_volume v q else q).volumes ≡ true) × AllDistinct (map (row_changed r.number (with_volume v)) rows)
-    by_head true g e ih = (
-      distinct_more v q.volumes (subst (λ (x : SetRow). is_among v x.volumes ≡ false) (sym (some_same q r e)) f) h.0,
-      none_changed (k + 1) r.number (with_volume v) rows num.1 (equal_next q.number k r.number num.0 g) h.1,
-    )
-    by_head false g e ih = (h.0, ih e f h.1)
+  by_head : (b : Bool) → (q.number == r.number) ≡ b → (if b then Some q else find (λ (x : SetRow). x.number == r.number) rows) ≡ Some r
+      → (find (λ (x : SetRow). x.number == r.number) rows ≡ Some r → is_among v r.volumes ≡ false → AllDistinct rows → AllDistinct (map (row_changed r.number (with_volume v)) rows))
+      → (are_distinct (if b then with_volume v q else q).volumes ≡ true) × AllDistinct (map (row_changed r.number (with_volume v)) rows)
+  by_head true g e ih = (
+    distinct_more v q.volumes (subst (λ (x : SetRow). is_among v x.volumes ≡ false) (sym (some_same q r e)) f) h.0,
+    none_changed (k + 1) r.number (with_volume v) rows num.1 (equal_next q.number k r.number num.0 g) h.1,
+  )
+  by_head false g e ih = (h.0, ih e f h.1)
 
 not_in_set : (in_set many full : Bool) (x y z : VssResult) → (if in_set then Some x else if many then Some y else if full then Some z else None) ≡ None → in_set ≡ false
 not_in_set in_set many full x y z e = grind arith
@@ -86,10 +84,9 @@ module _ (s : Plan) (st : State) (num : NumberedFrom 1 st.sets) (h : AllDistinct
   added_volume : (x : State) (n v : ℕ) → IsAdd st x n v → AllDistinct (map (row_changed n (with_volume v)) x.sets)
   added_volume x n v i =
       subst (λ (y : State). AllDistinct (map (row_changed n (with_volume v)) y.sets)) (sym i.first)
-      (subst (λ k. AllDistinct (map (row_changed k (with_volume v)) st.sets)) (sym i.number) (on_add v i.row i.found i.allowed))
-    where
-      on_add : (v : ℕ) (r : SetRow) → in_progress st ≡ Some r → add_refusal v r st ≡ None → AllDistinct (map (row_changed r.number (with_volume v)) st.sets)
-      on_add v r e f = grind (arith, added, row_running, not_in_set)
+      (subst (λ k. AllDistinct (map (row_changed k (with_volume v)) st.sets)) (sym i.number) (on_add v i.row i.found i.allowed)) where
+        on_add : (v : ℕ) (r : SetRow) → in_progress st ≡ Some r → add_refusal v r st ≡ None → AllDistinct (map (row_changed r.number (with_volume v)) st.sets)
+        on_add v r e f = grind (arith, added, row_running, not_in_set)
 
   stays_distinct : (e : Event) (m : Mark) (c : Change) (x : State) → Comes s e m st x c → AllDistinct x.sets → AllDistinct (apply x c).sets
   stays_distinct e m (StartsSet r) x i d = distinct_append x.sets r d (ap (λ (q : SetRow). are_distinct q.volumes) i.row)

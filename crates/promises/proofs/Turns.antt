@@ -194,13 +194,12 @@ module _ (s : Plan) (so_far : List Act) where
   -- ## a set starts, or a volume is added
 
   pub none_started : (q : Session) (x : State) → st.session ≡ Some q → makes_set q.stage ≡ false → set_failure (in_progress st) x ≡ None
-  none_started q x f g = by_set (in_progress st) refl (orderly s so_far).session
-    where
-      by_set : (o : Option SetRow) → in_progress st ≡ o → IsOfSession st.session st.course.outcome (in_progress st) → set_failure o x ≡ None
-      by_set None e i = refl
-      by_set (Some r) e i =
-          let own : IsOfSession (Some q) st.course.outcome (Some r) = subst (λ o. IsOfSession (Some q) st.course.outcome o) e (subst (λ p. IsOfSession p st.course.outcome (in_progress st)) f i) in
-          absurd (true_not_false (makes_set q.stage) own.0 g)
+  none_started q x f g = by_set (in_progress st) refl (orderly s so_far).session where
+    by_set : (o : Option SetRow) → in_progress st ≡ o → IsOfSession st.session st.course.outcome (in_progress st) → set_failure o x ≡ None
+    by_set None e i = refl
+    by_set (Some r) e i =
+        let own : IsOfSession (Some q) st.course.outcome (Some r) = subst (λ o. IsOfSession (Some q) st.course.outcome o) e (subst (λ p. IsOfSession p st.course.outcome (in_progress st)) f i) in
+        absurd (true_not_false (makes_set q.stage) own.0 g)
 
   pub add_turn : (v : ℕ) (r : SetRow) → Turn st (change_set r.number (with_volume v) st) (runs st)
   add_turn v r = grind (arith, quiet_turn, failure_map, changed_number, changed_result)
