@@ -70,8 +70,7 @@ code_of a = grind arith
 pub same_stage : (a b : Step) → is_stage (stage_of a) (stage_of b) ≡ is_step a b
 same_stage a b = ap (λ n. n == stage_code (stage_of b)) (code_of a) ∙ ap (λ n. step_code a == n) (code_of b)
 
-pub start_stage : (a : Step) (w : Bool)
-    → (not (makes_set (stage_of a)) && (if w then is_stage (stage_of a) Gathered else is_stage (stage_of a) Opened))
+pub start_stage : (a : Step) (w : Bool) → (not (makes_set (stage_of a)) && (if w then is_stage (stage_of a) Gathered else is_stage (stage_of a) Opened))
     ≡ (if w then is_step a ByGather else is_step a ByBegin)
 start_stage a w = grind arith
 
@@ -93,14 +92,13 @@ module _ (s : Plan) (st : State) where
 
   name_in : (w : ℕ) (named : List Pair) (name : List ℕ) (i : ℕ) (ps : List Part) → is_accepted (named_as (naming_found w (found_from name i ps) named) st).0 ≡ can_name_in w named name i ps
   name_in w named name i [] = refl
-  name_in w named name i (p ∷ ps) = by_name (bytes_eq (full_name p) name) (name_in w named name (i + 1) ps)
-    where
-      by_name : (b : Bool) → is_accepted (named_as (naming_found w (found_from name (i + 1) ps) named) st).0 ≡ can_name_in w named name (i + 1) ps
-          → is_accepted (named_as
-          (naming_found w (if b then Some (record { component = i; selectable = p.selectable }) else found_from name (i + 1) ps) named) st).0
-          ≡ (if b then p.selectable && not (has_pair named w i) else can_name_in w named name (i + 1) ps)
-      by_name true ih = name_if named (record { writer = w; component = i }) p.selectable (has_pair named w i)
-      by_name false ih = ih
+  name_in w named name i (p ∷ ps) = by_name (bytes_eq (full_name p) name) (name_in w named name (i + 1) ps) where
+    by_name : (b : Bool) → is_accepted (named_as (naming_found w (found_from name (i + 1) ps) named) st).0 ≡ can_name_in w named name (i + 1) ps
+        → is_accepted (named_as
+        (naming_found w (if b then Some (record { component = i; selectable = p.selectable }) else found_from name (i + 1) ps) named) st).0
+        ≡ (if b then p.selectable && not (has_pair named w i) else can_name_in w named name (i + 1) ps)
+    by_name true ih = name_if named (record { writer = w; component = i }) p.selectable (has_pair named w i)
+    by_name false ih = ih
 
   name_of : (w : ℕ) (name : List ℕ) (named : List Pair) (o : Option (Option Meta)) → is_accepted (named_as (naming_of w name o named) st).0 ≡ can_name w named name o
   name_of w name named (Some (Some m)) = name_in w named name 0 m.parts
@@ -116,8 +114,7 @@ module _ (s : Plan) (st : State) where
   not_full : (m n : ℕ) → nat_le m n ≡ not (nat_lt n m)
   not_full m n = grind arith
 
-  add_tests : (v : ℕ) (r : SetRow) (a b c : Bool)
-      → is_accepted (add_to v r
+  add_tests : (v : ℕ) (r : SetRow) (a b c : Bool) → is_accepted (add_to v r
       (if a then Some ObjectAlreadyExists else if b then Some MaximumNumberOfVolumesReached else if c then Some MaximumNumberOfSnapshotsReached else None) st).0
       ≡ (not a && not b && not c)
   add_tests v r a b c = grind arith
@@ -160,28 +157,27 @@ module _ (s : Plan) (so_far : List Act) (lane : ℕ) where
       → (allowed_in (asks_writers p) (stage_of p.step) c ≡ comes_now p o)
       → ((q : Session) → q.mode ≡ mode_of p.all → is_accepted (session_line s lane o q st).0 ≡ has_its_wants s st p o)
       → is_accepted (called c s lane o st).0 ≡ May st.session o
-  ordered_call c o same beside waits order wants = by_session st.session refl
-    where
-      in_order : (q : Session) → st.session ≡ Some q → runs st ≡ false → allowed_in (has_writers q.context) q.stage c ≡ comes_now p o
-      in_order q e f =
-          let at : StandsAt q (runs st) p = stands_all s so_far q e in
-          let quiet : StandsAt q false p = subst (λ b. StandsAt q b p) f at in
-          ap (λ w. allowed_in w q.stage c) (writers_asked q.context p.context at.context) ∙ ap (λ x. allowed_in (asks_writers p) x c) quiet.stage ∙ order
+  ordered_call c o same beside waits order wants = by_session st.session refl where
+    in_order : (q : Session) → st.session ≡ Some q → runs st ≡ false → allowed_in (has_writers q.context) q.stage c ≡ comes_now p o
+    in_order q e f =
+        let at : StandsAt q (runs st) p = stands_all s so_far q e in
+        let quiet : StandsAt q false p = subst (λ b. StandsAt q b p) f at in
+        ap (λ w. allowed_in w q.stage c) (writers_asked q.context p.context at.context) ∙ ap (λ x. allowed_in (asks_writers p) x c) quiet.stage ∙ order
 
-      by_session : (x : Option Session) → st.session ≡ x → is_accepted (called c s lane o st).0 ≡ May st.session o
-      by_session None e = no_session s st lane is_accepted refl refl o c e same ∙ ap (λ x. May x o) (sym e)
-      by_session (Some q) e =
-          passes s st lane is_accepted refl refl o c q e same
-          ∙ ap (λ b. (q.owner == lane) && (not
-          (is_start c && makes_set q.stage) && (not
-          (runs st && not b) && (allows q.stage (has_writers q.context) c && (not (is_await c && runs st) && is_accepted (session_line s lane o q st).0)))))
-          beside
-          ∙ ap (λ b. (q.owner == lane) && (not
-          (is_start c && makes_set q.stage) && (not
-          (runs st && true) && (allows q.stage (has_writers q.context) c && (not (b && runs st) && is_accepted (session_line s lane o q st).0))))) waits
-          ∙ parts (q.owner == lane) (is_start c && makes_set q.stage) (runs st) (allows q.stage (has_writers q.context) c)
-          (is_accepted (session_line s lane o q st).0) (comes_now p o) (has_its_wants s st p o) (in_order q e) (wants q (stands_all s so_far q e).mode)
-          ∙ ap (λ x. May x o) (sym e)
+    by_session : (x : Option Session) → st.session ≡ x → is_accepted (called c s lane o st).0 ≡ May st.session o
+    by_session None e = no_session s st lane is_accepted refl refl o c e same ∙ ap (λ x. May x o) (sym e)
+    by_session (Some q) e =
+        passes s st lane is_accepted refl refl o c q e same
+        ∙ ap (λ b. (q.owner == lane) && (not
+        (is_start c && makes_set q.stage) && (not
+        (runs st && not b) && (allows q.stage (has_writers q.context) c && (not (is_await c && runs st) && is_accepted (session_line s lane o q st).0)))))
+        beside
+        ∙ ap (λ b. (q.owner == lane) && (not
+        (is_start c && makes_set q.stage) && (not
+        (runs st && true) && (allows q.stage (has_writers q.context) c && (not (b && runs st) && is_accepted (session_line s lane o q st).0))))) waits
+        ∙ parts (q.owner == lane) (is_start c && makes_set q.stage) (runs st) (allows q.stage (has_writers q.context) c)
+        (is_accepted (session_line s lane o q st).0) (comes_now p o) (has_its_wants s st p o) (in_order q e) (wants q (stands_all s so_far q e).mode)
+        ∙ ap (λ x. May x o) (sym e)
 
   abbrev w : Bool
   w = asks_writers p
@@ -209,13 +205,12 @@ module _ (s : Plan) (so_far : List Act) (lane : ℕ) where
   told_call : (c : SessionCall) (o : Op) → check st.session (runs st) lane c ≡ check_other st.session (runs st) lane c
       → ((q : Session) → is_accepted (session_line s lane o q st).0 ≡ true → IsAccepting st o (session_line s lane o q st).0)
       → is_accepted (called c s lane o st).0 ≡ true → IsAccepting st o (called c s lane o st).0
-  told_call c o same k e = by_session st.session refl
-    where
-      by_session : (x : Option Session) → st.session ≡ x → IsAccepting st o (called c s lane o st).0
-      by_session None f = absurd (true_not_false (is_accepted (called c s lane o st).0) e (no_session s st lane is_accepted refl refl o c f same))
-      by_session (Some q) f =
-          let is = tells s st lane c o q f same e in
-          subst (IsAccepting st o) (sym is) (k q (ap is_accepted (sym is) ∙ e))
+  told_call c o same k e = by_session st.session refl where
+    by_session : (x : Option Session) → st.session ≡ x → IsAccepting st o (called c s lane o st).0
+    by_session None f = absurd (true_not_false (is_accepted (called c s lane o st).0) e (no_session s st lane is_accepted refl refl o c f same))
+    by_session (Some q) f =
+        let is = tells s st lane c o q f same e in
+        subst (IsAccepting st o) (sym is) (k q (ap is_accepted (sym is) ∙ e))
 
   told_line : (o : Op) (mark : Mark) → is_ordered o ≡ true → is_accepted (happens s (Line lane o) mark st).0 ≡ true → IsAccepting st o (happens s (Line lane o) mark st).0
   told_line o mark e = grind (arith, told_call, component_fine, add_fine, pending_told)
@@ -227,22 +222,21 @@ module _ (s : Plan) (so_far : List Act) (lane : ℕ) where
   context_there n all =
       by_tests (nat_eq 0 n) (nat_eq 9 n) (nat_eq 25 n) all
       ∙ ap (λ b. b || nat_eq 9 n || (nat_eq 25 n && not all)) (other_way 0 n) ∙ ap (λ b. (n == 0) || b || (nat_eq 25 n && not all)) (other_way 9 n)
-      ∙ ap (λ b. (n == 0) || (n == 9) || (b && not all)) (other_way 25 n)
-    where
-      other_way : (a b : ℕ) → nat_eq a b ≡ (b == a)
-      other_way a b = grind arith
+      ∙ ap (λ b. (n == 0) || (n == 9) || (b && not all)) (other_way 25 n) where
+        other_way : (a b : ℕ) → nat_eq a b ≡ (b == a)
+        other_way a b = grind arith
 
-      by_tests : (x y z a : Bool)
-          → is_some (option_and_then (without_all a) (if x then Some Backup else if y then Some AppRollback else if z then Some NasRollback else None))
-          ≡ (x || y || (z && not a))
-      by_tests true y z true = refl
-      by_tests true y z false = refl
-      by_tests false true z true = refl
-      by_tests false true z false = refl
-      by_tests false false true true = refl
-      by_tests false false true false = refl
-      by_tests false false false true = refl
-      by_tests false false false false = refl
+        by_tests : (x y z a : Bool)
+            → is_some (option_and_then (without_all a) (if x then Some Backup else if y then Some AppRollback else if z then Some NasRollback else None))
+            ≡ (x || y || (z && not a))
+        by_tests true y z true = refl
+        by_tests true y z false = refl
+        by_tests false true z true = refl
+        by_tests false true z false = refl
+        by_tests false false true true = refl
+        by_tests false false true false = refl
+        by_tests false false false true = refl
+        by_tests false false false false = refl
 
   begin_line : (n : ℕ) (all : Bool) → is_fine (called (call.Begin n all) s lane (op.Begin n all) st).0 ≡ (is_none st.session && is_context n all)
   unfolding called
@@ -250,11 +244,10 @@ module _ (s : Plan) (so_far : List Act) (lane : ℕ) where
 
   -- the set in progress is the session's
   pub makes_its_set : (q : Session) → st.session ≡ Some q → makes_set q.stage ≡ is_some (in_progress st)
-  makes_its_set q e = by_set (in_progress st) (subst (λ x. IsOfSession x st.course.outcome (in_progress st)) e (orderly s so_far).session)
-    where
-      by_set : (o : Option SetRow) → IsOfSession (Some q) st.course.outcome o → makes_set q.stage ≡ is_some o
-      by_set None h = h.0
-      by_set (Some r) h = h.0
+  makes_its_set q e = by_set (in_progress st) (subst (λ x. IsOfSession x st.course.outcome (in_progress st)) e (orderly s so_far).session) where
+    by_set : (o : Option SetRow) → IsOfSession (Some q) st.course.outcome o → makes_set q.stage ≡ is_some o
+    by_set None h = h.0
+    by_set (Some r) h = h.0
 
   beside : (own may busy : Bool) → (own && (true && (not (busy && false) && (may && (true && true))))) ≡ (own && may)
   beside own may busy = grind arith
@@ -263,23 +256,22 @@ module _ (s : Plan) (so_far : List Act) (lane : ℕ) where
       → goes_beside_agenda c ≡ true → is_await c ≡ false
       → ((q : Session) → st.session ≡ Some q → allows q.stage (has_writers q.context) c ≡ may) → ((q : Session) → is_fine (session_line s lane o q st).0 ≡ true)
       → is_fine (called c s lane o st).0 ≡ (owns st.session lane && may)
-  beside_call c o may same start on waits allowed fine = by_session st.session refl
-    where
-      by_session : (x : Option Session) → st.session ≡ x → is_fine (called c s lane o st).0 ≡ (owns st.session lane && may)
-      by_session None e = no_session s st lane is_fine refl refl o c e same ∙ ap (λ x. owns x lane && may) (sym e)
-      by_session (Some q) e =
-          passes s st lane is_fine refl refl o c q e same
-          ∙ ap (λ b. (q.owner == lane) && (not
-          (b && makes_set q.stage) && (not
-          (runs st && not (goes_beside_agenda c)) && (allows q.stage
-          (has_writers q.context) c && (not (is_await c && runs st) && is_fine (session_line s lane o q st).0))))) start
-          ∙ ap (λ b. (q.owner == lane) && (true && (not
-          (runs st && not b) && (allows q.stage (has_writers q.context) c && (not (is_await c && runs st) && is_fine (session_line s lane o q st).0))))) on
-          ∙ ap (λ b. (q.owner == lane) && (true && (not (runs st && false) && (allows q.stage (has_writers q.context) c && (not (b && runs st) && is_fine (session_line s lane o q st).0))))) waits
-          ∙ ap (λ b. (q.owner == lane) && (true && (not (runs st && false) && (b && (true && is_fine (session_line s lane o q st).0))))) (allowed q e)
-          ∙ ap (λ b. (q.owner == lane) && (true && (not (runs st && false) && (may && (true && b))))) (fine q)
-          ∙ beside (q.owner == lane) may (runs st)
-          ∙ ap (λ x. owns x lane && may) (sym e)
+  beside_call c o may same start on waits allowed fine = by_session st.session refl where
+    by_session : (x : Option Session) → st.session ≡ x → is_fine (called c s lane o st).0 ≡ (owns st.session lane && may)
+    by_session None e = no_session s st lane is_fine refl refl o c e same ∙ ap (λ x. owns x lane && may) (sym e)
+    by_session (Some q) e =
+        passes s st lane is_fine refl refl o c q e same
+        ∙ ap (λ b. (q.owner == lane) && (not
+        (b && makes_set q.stage) && (not
+        (runs st && not (goes_beside_agenda c)) && (allows q.stage
+        (has_writers q.context) c && (not (is_await c && runs st) && is_fine (session_line s lane o q st).0))))) start
+        ∙ ap (λ b. (q.owner == lane) && (true && (not
+        (runs st && not b) && (allows q.stage (has_writers q.context) c && (not (is_await c && runs st) && is_fine (session_line s lane o q st).0))))) on
+        ∙ ap (λ b. (q.owner == lane) && (true && (not (runs st && false) && (allows q.stage (has_writers q.context) c && (not (b && runs st) && is_fine (session_line s lane o q st).0))))) waits
+        ∙ ap (λ b. (q.owner == lane) && (true && (not (runs st && false) && (b && (true && is_fine (session_line s lane o q st).0))))) (allowed q e)
+        ∙ ap (λ b. (q.owner == lane) && (true && (not (runs st && false) && (may && (true && b))))) (fine q)
+        ∙ beside (q.owner == lane) may (runs st)
+        ∙ ap (λ x. owns x lane && may) (sym e)
 
   rows_told : owns st.session lane ≡ true → (called call.Status s lane op.Status st).0 ≡ StatusOf st.course.rows
   unfolding called

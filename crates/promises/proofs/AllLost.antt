@@ -60,14 +60,13 @@ apart_unasked_if b p ws os h = grind (arith, apart_unasked)
 
 keeps_none : (ws xs : List ℕ) → ((x : ℕ) → is_among x xs ≡ true → is_among x ws ≡ true) → others ws xs ≡ []
 keeps_none ws [] h = refl
-keeps_none ws (x ∷ xs) h = by_among (is_among x ws) (h x (first x (is_among x xs))) (keeps_none ws xs (λ y e. h y (or_right (x == y) (is_among y xs) e)))
-  where
-    first : (a : ℕ) (b : Bool) → ((a == a) || b) ≡ true
-    first a b = grind arith
+keeps_none ws (x ∷ xs) h = by_among (is_among x ws) (h x (first x (is_among x xs))) (keeps_none ws xs (λ y e. h y (or_right (x == y) (is_among y xs) e))) where
+  first : (a : ℕ) (b : Bool) → ((a == a) || b) ≡ true
+  first a b = grind arith
 
-    by_among : (b : Bool) → b ≡ true → others ws xs ≡ [] → (if not b then x ∷ others ws xs else others ws xs) ≡ []
-    by_among true e ih = ih
-    by_among false e ih = absurd cc
+  by_among : (b : Bool) → b ≡ true → others ws xs ≡ [] → (if not b then x ∷ others ws xs else others ws xs) ≡ []
+  by_among true e ih = ih
+  by_among false e ih = absurd cc
 
 others_none : (ws : List ℕ) → others ws ws ≡ []
 others_none ws = keeps_none ws ws (λ x e. e)
@@ -106,12 +105,11 @@ module _ (now : ℕ) (a : Agenda) (asks : is_orders (open_place (groups_left a))
       (none_both now (hold_running x.place.group (first_hold next.log)) (runs_if (freeze_runs x.place.group) FreezeLimit (freeze_opened_at next) f)
       (unspent_hold now x.place.group (first_hold next.log) (λ since e i. absurd (true_not_false (hold_runs x.place.group) i off.0)))
       (unspent_if (freeze_runs x.place.group) FreezeLimit (freeze_opened_at next) f now (λ i. absurd (true_not_false (freeze_runs x.place.group) i off.1))))
-      (unspent_if (answer_runs x.place.group) AnswerLimit (opened_at next x) answer_limit now (λ i. at_once now (opened_at next x) answer_limit opened))
-    where
-      opened : opened_at next x ≡ now
-      opened =
-          ap (λ us. last_time a.begun (filter (λ (y : Entry). not (same_place y.place x.place)) (a.log ++ map (at_place (open_place (groups_left a)) Lost now) us))) (speaks_some a ws who).is
-          ∙ last_new a.begun now (λ q. not (same_place q x.place)) (open_place (groups_left a)) Lost a.log (speaks_some a ws who).first (speaks_some a ws who).rest (ap not h.0)
+      (unspent_if (answer_runs x.place.group) AnswerLimit (opened_at next x) answer_limit now (λ i. at_once now (opened_at next x) answer_limit opened)) where
+        opened : opened_at next x ≡ now
+        opened =
+            ap (λ us. last_time a.begun (filter (λ (y : Entry). not (same_place y.place x.place)) (a.log ++ map (at_place (open_place (groups_left a)) Lost now) us))) (speaks_some a ws who).is
+            ∙ last_new a.begun now (λ q. not (same_place q x.place)) (open_place (groups_left a)) Lost a.log (speaks_some a ws who).first (speaks_some a ws who).rest (ap not h.0)
 
   pub lost_in_time : (f : ℕ) → InTime now f next
   lost_in_time f = record { unspent = unspent_next f (groups_left next) refl next_apart; ordered = ordered_more now Lost ws a who order }

@@ -1,7 +1,8 @@
 -- The rule of snapshots: a fact of a running snapshot agenda that holds where it begins, and is kept by what is said, holds in every
 -- state, and beside it the deeds since the `snapshot` line are those of the log; and a set completes only where such an agenda,
 -- with what the last act tells, has no group left.
-use Rattle.promises.proofs.Words.{Order, SetOutcome, VssResult, BadState, InsufficientStorage, AsyncPending, AsyncCancelled, Said, is_ok, Mark, Write, dropped, said_of, Group, Kind, Gather}
+use Rattle.promises.proofs.Words.{append_nothing, Order, SetOutcome, VssResult, BadState, InsufficientStorage, AsyncPending, AsyncCancelled, Said, is_ok, Mark}
+use Rattle.promises.proofs.Words.{Write, dropped, said_of, Group, Kind, Gather}
 use Rattle.promises.proofs.Words.{Prepare, Snapshot, Complete, Member, Agenda, Open, order_of, groups_left, left, open_group, next_volume, open_place, open_order, order_now, is_done, is_working}
 use Rattle.promises.proofs.Words.{all_say, spent_of, takers, Session, opened, Op, begins_agenda, Target, target_of, Plan, Event, Reply, Fine, Coded, Deleted, Idled, Stepped, State, SetRow, Kept}
 use Rattle.promises.proofs.Words.{start, is_complete, in_progress, row_of, row_changed, left_now, Act, enabled, order_of_writer, answer_reply, step_reply, idle_now, happens, reply, after, state}
@@ -25,18 +26,15 @@ use Rattle.vss_model.specs.Effects.{line_ticks, lost, lost_after, lost_order, lo
 use Rattle.vss_model.proofs.LogRule.{Running, unspoken}
 use Rattle.vss_model.proofs.OneCut.{changed_number, changed_result}
 use Rattle.promises.proofs.Clock.{clock-answered, clock-stepped_as, clock-ticked, write_ticks}
-use Rattle.promises.proofs.Incomplete.{begun_incomplete, done_followed, incomplete_closed, incomplete_failed, incomplete_made, incomplete_revert, incomplete_write}
+use Rattle.promises.proofs.Incomplete.{done_followed, incomplete_closed, incomplete_failed, incomplete_made, incomplete_revert, incomplete_write}
 use Rattle.promises.proofs.Speaks.{deed_in, said_at, Speaks, Grows, made_now, lost_told, grows_answered, grows_stepped, grows_timed}
 use Rattle.promises.proofs.Stages.{deeds_append}
+use Rattle.vss_model.proofs.Completed.{begun_incomplete}
 
 pub record IsKeptAlong (G : Agenda → Type 0) : Type 0 where
   pub begins : (ms : List Member) (vs : List ℕ) (now : ℕ) → G (unspoken Snapshot ms vs now)
   pub says : (said : Said) (now : ℕ) (ws : List ℕ) (a : Agenda) → a.kind ≡ Snapshot → Speaks a ws
       → (fails_set (order_of (open_place (groups_left a)).group) && not (is_ok said)) ≡ false → G a → G (all_say said now ws a)
-
-append_nothing : (xs : List Deed) → xs ≡ xs ++ []
-append_nothing [] = refl
-append_nothing (x ∷ xs) = ap (λ ys. x ∷ ys) (append_nothing xs)
 
 -- the last stand of a snapshot agenda: what was said is the whole way
 pub record IsLast (G : Agenda → Type 0) (so_far : List Deed) (running : Option Agenda) : Type 0 where
@@ -62,7 +60,7 @@ module _ (G : Agenda → Type 0) (k : IsKeptAlong G) where
   tells_on so_far news said now ws a who mild told h e = grind (arith, deeds_append)
 
   tells_rests : (so_far news : List Deed) (a : Agenda) → news ≡ [] → Tells so_far a → Tells (so_far ++ news) a
-  tells_rests so_far news a e h f = ((h f).0 ∙ append_nothing so_far ∙ ap (λ ds. so_far ++ ds) (sym e), (h f).1)
+  tells_rests so_far news a e h f = ((h f).0 ∙ sym (append_nothing so_far) ∙ ap (λ ds. so_far ++ ds) (sym e), (h f).1)
 
   settled_tells : (done : Bool) (so_far : List Deed) (a : Agenda) (o : SetOutcome) (b : Option Agenda) (p : SetOutcome) → Settles done a o b p → Tells so_far a → Running (Tells so_far) b
   settled_tells done so_far a o b p e h = grind arith
@@ -296,7 +294,7 @@ module _ (G : Agenda → Type 0) (k : IsKeptAlong G) where
     next_is act e = grind (arith, after_enabled)
 
     next_not : (act : Act) → enabled s st act.event ≡ false → way_after s st so_far act ≡ so_far
-    next_not act e = ap (λ b. way_if b act) e ∙ sym (append_nothing so_far)
+    next_not act e = ap (λ b. way_if b act) e ∙ append_nothing so_far
 
     abbrev pub After : List Deed → State → Type 0
     After ds x = Stands ds x × Completes ds x

@@ -69,45 +69,40 @@ step_says (Some h) u mark g v fault e =
 -- ## images that go
 
 none_stands : (n : ℕ) (h : History) → has_image n (dropped n h) ≡ false
-none_stands n h = by_case (has_image n (dropped n h)) refl
-  where
-    by_case : (b : Bool) → has_image n (dropped n h) ≡ b → b ≡ false
-    by_case true e = absurd (dropped_gone n h e)
-    by_case false e = refl
+none_stands n h = by_case (has_image n (dropped n h)) refl where
+  by_case : (b : Bool) → has_image n (dropped n h) ≡ b → b ≡ false
+  by_case true e = absurd (dropped_gone n h e)
+  by_case false e = refl
 
 all_lost : (n v : ℕ) (hs : List History) → length (volumes_losing n v hs (map (dropped n) hs)) ≡ count_images n hs
 all_lost n v [] = refl
-all_lost n v (h ∷ hs) = by_case (has_image n h) (has_image n (dropped n h)) (none_stands n h) (all_lost n (v + 1) hs)
-  where
-    by_case : (b c : Bool) → c ≡ false → length (volumes_losing n (v + 1) hs (map (dropped n) hs)) ≡ count_images n hs
-        → length (if b && not c then v ∷ volumes_losing n (v + 1) hs (map (dropped n) hs) else volumes_losing n (v + 1) hs (map (dropped n) hs)) ≡ (if b then 1 else 0) + count_images n hs
-    by_case b true e ih = absurd cc
-    by_case true false e ih = ap suc ih ∙ omega arith
-    by_case false false e ih = ih ∙ omega arith
+all_lost n v (h ∷ hs) = by_case (has_image n h) (has_image n (dropped n h)) (none_stands n h) (all_lost n (v + 1) hs) where
+  by_case : (b c : Bool) → c ≡ false → length (volumes_losing n (v + 1) hs (map (dropped n) hs)) ≡ count_images n hs
+      → length (if b && not c then v ∷ volumes_losing n (v + 1) hs (map (dropped n) hs) else volumes_losing n (v + 1) hs (map (dropped n) hs)) ≡ (if b then 1 else 0) + count_images n hs
+  by_case b true e ih = absurd cc
+  by_case true false e ih = ap suc ih ∙ omega arith
+  by_case false false e ih = ih ∙ omega arith
 
 none_lost : (n v : ℕ) (hs : List History) → length (volumes_losing n v hs hs) ≡ 0
 none_lost n v [] = refl
-none_lost n v (h ∷ hs) = by_case (has_image n h) (none_lost n (v + 1) hs)
-  where
-    by_case : (b : Bool) → length (volumes_losing n (v + 1) hs hs) ≡ 0 → length (if b && not b then v ∷ volumes_losing n (v + 1) hs hs else volumes_losing n (v + 1) hs hs) ≡ 0
-    by_case true ih = ih
-    by_case false ih = ih
+none_lost n v (h ∷ hs) = by_case (has_image n h) (none_lost n (v + 1) hs) where
+  by_case : (b : Bool) → length (volumes_losing n (v + 1) hs hs) ≡ 0 → length (if b && not b then v ∷ volumes_losing n (v + 1) hs hs else volumes_losing n (v + 1) hs hs) ≡ 0
+  by_case true ih = ih
+  by_case false ih = ih
 
 one_lost : (n v u : ℕ) (hs : List History) → has_image n (at hs u) ≡ true → length (volumes_losing n v hs (change_at u (dropped n) hs)) ≡ 1
 one_lost n v zero [] e = absurd cc
 one_lost n v (suc u) [] e = absurd cc
-one_lost n v zero (h ∷ hs) e = by_case (has_image n h) (has_image n (dropped n h)) e (none_stands n h)
-  where
-    by_case : (b c : Bool) → b ≡ true → c ≡ false → length (if b && not c then v ∷ volumes_losing n (v + 1) hs hs else volumes_losing n (v + 1) hs hs) ≡ 1
-    by_case true false e f = ap suc (none_lost n (v + 1) hs)
-    by_case true true e f = absurd cc
-    by_case false c e f = absurd cc
-one_lost n v (suc u) (h ∷ hs) e = by_case (has_image n h) (one_lost n (v + 1) u hs e)
-  where
-    by_case : (b : Bool) → length (volumes_losing n (v + 1) hs (change_at u (dropped n) hs)) ≡ 1
-        → length (if b && not b then v ∷ volumes_losing n (v + 1) hs (change_at u (dropped n) hs) else volumes_losing n (v + 1) hs (change_at u (dropped n) hs)) ≡ 1
-    by_case true ih = ih
-    by_case false ih = ih
+one_lost n v zero (h ∷ hs) e = by_case (has_image n h) (has_image n (dropped n h)) e (none_stands n h) where
+  by_case : (b c : Bool) → b ≡ true → c ≡ false → length (if b && not c then v ∷ volumes_losing n (v + 1) hs hs else volumes_losing n (v + 1) hs hs) ≡ 1
+  by_case true false e f = ap suc (none_lost n (v + 1) hs)
+  by_case true true e f = absurd cc
+  by_case false c e f = absurd cc
+one_lost n v (suc u) (h ∷ hs) e = by_case (has_image n h) (one_lost n (v + 1) u hs e) where
+  by_case : (b : Bool) → length (volumes_losing n (v + 1) hs (change_at u (dropped n) hs)) ≡ 1
+      → length (if b && not b then v ∷ volumes_losing n (v + 1) hs (change_at u (dropped n) hs) else volumes_losing n (v + 1) hs (change_at u (dropped n) hs)) ≡ 1
+  by_case true ih = ih
+  by_case false ih = ih
 
 deleted_same : (j k : ℕ) → Deleted j ≡ Deleted k → j ≡ k
 deleted_same j k e = cc
@@ -115,33 +110,31 @@ deleted_same j k e = cc
 module _ (st : State) where
   set_says : (n k : ℕ) → (delete_set n st).0 ≡ Deleted k → AreGone k n st (delete_set n st).1
   unfolding delete_set
-  set_says n k = by_case (is_kept_set st n && nat_lt 0 (count_images n st.volumes)) refl
-    where
-      some : (a : ℕ) → nat_lt 0 a ≡ true → 0 < a
-      some a e = grind arith
+  set_says n k = by_case (is_kept_set st n && nat_lt 0 (count_images n st.volumes)) refl where
+    some : (a : ℕ) → nat_lt 0 a ≡ true → 0 < a
+    some a e = grind arith
 
-      by_case : (b : Bool) → (is_kept_set st n && nat_lt 0 (count_images n st.volumes)) ≡ b
-          → (if b then (Deleted (count_images n st.volumes), record st { volumes = map (dropped n) st.volumes }) else delete_kept 0 None st).0 ≡ Deleted k
-          → AreGone k n st (if b then (Deleted (count_images n st.volumes), record st { volumes = map (dropped n) st.volumes }) else delete_kept 0 None st).1
-      by_case true f e =
-          let same = deleted_same (count_images n st.volumes) k e in
-          (subst (λ j. 0 < j) same (some (count_images n st.volumes) (and_right (is_kept_set st n) (nat_lt 0 (count_images n st.volumes)) f)), sym same ∙ sym (all_lost n 0 st.volumes))
-      by_case false f e = absurd cc
+    by_case : (b : Bool) → (is_kept_set st n && nat_lt 0 (count_images n st.volumes)) ≡ b
+        → (if b then (Deleted (count_images n st.volumes), record st { volumes = map (dropped n) st.volumes }) else delete_kept 0 None st).0 ≡ Deleted k
+        → AreGone k n st (if b then (Deleted (count_images n st.volumes), record st { volumes = map (dropped n) st.volumes }) else delete_kept 0 None st).1
+    by_case true f e =
+        let same = deleted_same (count_images n st.volumes) k e in
+        (subst (λ j. 0 < j) same (some (count_images n st.volumes) (and_right (is_kept_set st n) (nat_lt 0 (count_images n st.volumes)) f)), sym same ∙ sym (all_lost n 0 st.volumes))
+    by_case false f e = absurd cc
 
   image_says : (n v k : ℕ) → (delete_image n v st).0 ≡ Deleted k → AreGone k n st (delete_image n v st).1
   unfolding delete_image
-  image_says n v k e = by_kept (kept_image st n v) refl e
-    where
-      one : 0 < 1
-      one = omega arith
+  image_says n v k e = by_kept (kept_image st n v) refl e where
+    one : 0 < 1
+    one = omega arith
 
-      by_kept : (o : Option Kept) → kept_image st n v ≡ o → (delete_kept v o st).0 ≡ Deleted k → AreGone k n st (delete_kept v o st).1
-      by_kept None f e = absurd cc
-      by_kept (Some x) f e =
-          let known = kept_point n (row_of st n) (point_in n (history_of st v).images) x (λ r g. row_number n st.sets r g) f in
-          let same = deleted_same 1 k e in
-          let stands : has_image n (at st.volumes v) ≡ true = ap is_some known.1 in
-          (subst (λ j. 0 < j) same one, sym same ∙ sym (one_lost n 0 v st.volumes stands) ∙ ap (λ m. length (volumes_losing n 0 st.volumes (change_at v (dropped m) st.volumes))) (sym known.0))
+    by_kept : (o : Option Kept) → kept_image st n v ≡ o → (delete_kept v o st).0 ≡ Deleted k → AreGone k n st (delete_kept v o st).1
+    by_kept None f e = absurd cc
+    by_kept (Some x) f e =
+        let known = kept_point n (row_of st n) (point_in n (history_of st v).images) x (λ r g. row_number n st.sets r g) f in
+        let same = deleted_same 1 k e in
+        let stands : has_image n (at st.volumes v) ≡ true = ap is_some known.1 in
+        (subst (λ j. 0 < j) same one, sym same ∙ sym (one_lost n 0 v st.volumes stands) ∙ ap (λ m. length (volumes_losing n 0 st.volumes (change_at v (dropped m) st.volumes))) (sym known.0))
 
 -- ## every act
 

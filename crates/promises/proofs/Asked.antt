@@ -1,12 +1,10 @@
 -- Whoever has an order to answer is one whom it is for.
 use Rattle.writer_meta.proofs.Laws.{and_right}
 use Rattle.set_agenda.proofs.Closings.{unless}
-use Rattle.promises.proofs.Words.{list_any, Order, Identify, row_gathered, Group, Orders}
-use Rattle.promises.proofs.Words.{Kind, Member, Place, Session, Plan, class_of, State, start}
-use Rattle.promises.proofs.Words.{IsAgendaOf, Act, state, orderly, IsFor, AsksItsOwn, choosing}
-use Rattle.promises.proofs.Words.{filter_member, member_passes}
+use Rattle.promises.proofs.Words.{list_any, Order, Identify, row_gathered, Group, Orders, Kind, Member, Place, Session, Plan, class_of, State, start}
+use Rattle.promises.proofs.Words.{IsAgendaOf, Act, state, orderly, IsFor, AsksItsOwn, choosing, among_filter, filter_member, member_passes}
 use Rattle.std.proofs.Common.{◌≡◌, ◌∙◌, ℕ, ◌==◌, List, [], ◌∷◌, Option, Some, None, refl, Bool, true, false, ap, sym, subst, map, filter, arith}
-use Rattle.std.specs.Prelude.{◌&&◌, ◌||◌, not, is_some, if◌then◌else◌}
+use Rattle.std.specs.Prelude.{◌&&◌, ◌||◌, not, is_some}
 use Rattle.set_agenda.specs.declared.kind.Kind.TheVariants as kind
 use Rattle.set_agenda.specs.Agenda.{Agenda, Open, places, is_at, writers_at, members_of, waited_for, with_group, left_from, groups_left, left, is_among, is_orders, order_of, order_if, open_order}
 use Rattle.set_agenda.specs.Course.{Course, is_member, has_row_failed, posted, failed as course_failed, settled, begun, released}
@@ -19,19 +17,6 @@ use Rattle.promises.proofs.Participants.{ChosenIn, StandsChosen, follows_all}
 use Rattle.promises.proofs.SameChoice.{SameCourse, mode_in, on_course_answered, on_course_stepped, on_course_timed}
 
 -- ## lists of writers
-
-among_filter : (test : ℕ → Bool) (xs : List ℕ) (w : ℕ) → is_among w (filter test xs) ≡ true → is_among w xs ≡ true
-among_filter test [] w e = absurd cc
-among_filter test (x ∷ xs) w e = by_parts (test x) (x == w) refl e (among_filter test xs w)
-  where
-    by_test : (b c : Bool) → (if b then c || is_among w (filter test xs) else is_among w (filter test xs)) ≡ true → (is_among w (filter test xs) ≡ true → is_among w xs ≡ true) → (c || is_among w xs) ≡ true
-    by_test b true e ih = refl
-    by_test true false e ih = ih e
-    by_test false false e ih = ih e
-
-    by_parts : (b c : Bool) → (x == w) ≡ c → is_among w (if b then x ∷ filter test xs else filter test xs) ≡ true → (is_among w (filter test xs) ≡ true → is_among w xs ≡ true) → ((x == w) || is_among w xs) ≡ true
-    by_parts true c f e ih = by_test true (x == w) e ih
-    by_parts false c f e ih = by_test false (x == w) e ih
 
 writers_are : (ms : List Member) (w : ℕ) → is_among w (map (λ (m : Member). m.writer) ms) ≡ is_member ms w
 writers_are [] w = refl
@@ -91,11 +76,10 @@ module _ (s : Plan) where
 
 waits_are : (a : Agenda) (ps : List Place) (o : Open) (os : List Open) → left_from a ps ≡ o ∷ os → o.waits ≡ waited_for a o.place
 waits_are a [] o os e = absurd cc
-waits_are a (p ∷ ps) o os e = by_waits (waited_for a p) refl e (waits_are a ps o os)
-  where
-    by_waits : (ws : List ℕ) → waited_for a p ≡ ws → with_group p ws (left_from a ps) ≡ o ∷ os → (left_from a ps ≡ o ∷ os → o.waits ≡ waited_for a o.place) → o.waits ≡ waited_for a o.place
-    by_waits [] f g ih = ih g
-    by_waits (w ∷ ws) f g ih = let same : record { place = p; waits = w ∷ ws } ≡ o = cc in subst (λ (x : Open). x.waits ≡ waited_for a x.place) same (sym f)
+waits_are a (p ∷ ps) o os e = by_waits (waited_for a p) refl e (waits_are a ps o os) where
+  by_waits : (ws : List ℕ) → waited_for a p ≡ ws → with_group p ws (left_from a ps) ≡ o ∷ os → (left_from a ps ≡ o ∷ os → o.waits ≡ waited_for a o.place) → o.waits ≡ waited_for a o.place
+  by_waits [] f g ih = ih g
+  by_waits (w ∷ ws) f g ih = let same : record { place = p; waits = w ∷ ws } ≡ o = cc in subst (λ (x : Open). x.waits ≡ waited_for a x.place) same (sym f)
 
 abbrev is_identify : Group → Bool
 is_identify (Orders Identify) = true

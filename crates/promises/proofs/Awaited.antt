@@ -1,6 +1,5 @@
 -- `await` tells the last result.
-use Rattle.promises.proofs.Words.{Session, check, Plan, State, runs, Act, enabled, is_blocked, happens, state}
-use Rattle.promises.proofs.Words.{Owns, result_told, AwaitTells}
+use Rattle.promises.proofs.Words.{Session, check, Plan, State, runs, Act, enabled, is_blocked, happens, state, Owns, result_told, AwaitTells}
 use Rattle.std.proofs.Common.{◌≡◌, ◌∙◌, ℕ, List, refl, Bool, true, ap, sym, arith}
 use Rattle.std.specs.Prelude.{not}
 use Rattle.requestor.specs.declared.session_call.SessionCall.TheVariants as call

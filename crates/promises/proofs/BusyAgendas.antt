@@ -6,7 +6,8 @@ use Rattle.std.proofs.Common.{◌≡◌, ℕ, List, [], ◌∷◌, Option, Some,
 use Rattle.std.specs.Prelude.{not, is_some}
 use Rattle.set_agenda.specs.declared.limit.Limit.TheVariants.{Answer as AnswerLimit}
 use Rattle.promises.proofs.OpenGroup.{every}
-use Rattle.vss_model.specs.Ending.{Ending, ending, concluded, followed}
+use Rattle.vss_model.specs.Ending.{ending, followed}
+use Rattle.vss_model.proofs.Gathered.{course-concluded}
 
 -- ## agendas that fail sets
 
@@ -38,20 +39,16 @@ frozen_now now f a o os l e not_answer = grind arith
 
 pub busy_limit : (now f : ℕ) (x : Option Agenda) (l : RunningLimit) → spent_of now (running_limits f x) ≡ Some l → (l.limit ≡ AnswerLimit → ⊥) → IsBusy x
 busy_limit now f None l e k = none_and_some None l refl e
-busy_limit now f (Some a) l e k = at_list (groups_left a) refl e
-  where
-    at_list : (os : List Open) → groups_left a ≡ os → spent_of now (running_at f a os) ≡ Some l → makes_a_set a.kind ≡ true
-    at_list [] g i = none_and_some None l refl i
-    at_list (o ∷ os) g i = of_kind freeze_runs a.kind a o os refl refl refl g (frozen_now now f a o os l i k)
+busy_limit now f (Some a) l e k = at_list (groups_left a) refl e where
+  at_list : (os : List Open) → groups_left a ≡ os → spent_of now (running_at f a os) ≡ Some l → makes_a_set a.kind ≡ true
+  at_list [] g i = none_and_some None l refl i
+  at_list (o ∷ os) g i = of_kind freeze_runs a.kind a o os refl refl refl g (frozen_now now f a o os l i k)
 
 -- ## while an agenda makes a set, one is in progress
 
 pub busy_set : (x : Option Agenda) (q : Option Session) (o : SetOutcome) (found : Option SetRow) → IsBusy x → IsAgendaOf x q → IsOfSession q o found → is_some found ≡ true
 busy_set x q o found b h i = grind arith
 
-pub course_ended : (e : Ending) (x : State) → (concluded e x).course ≡ x.course
-course_ended e x = grind arith
-
 pub course_followed : (ran : Bool) (c : Course) (x : State) → (followed ran c x).course ≡ c
 unfolding followed
-course_followed ran c x = course_ended (ending x.course.outcome c.outcome ran c.agenda) (record x { course = c })
+course_followed ran c x = course-concluded (ending x.course.outcome c.outcome ran c.agenda) (record x { course = c })

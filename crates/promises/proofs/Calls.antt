@@ -7,8 +7,8 @@ use Rattle.std.proofs.Common.{◌≡◌, ◌∙◌, ℕ, List, Option, Some, Non
 use Rattle.std.specs.Prelude.{is_some}
 use Rattle.requestor.specs.declared.session_call.SessionCall.TheVariants as call
 use Rattle.vss_model.specs.Lines.{called, line}
-use Rattle.promises.proofs.Truth.{not_false}
 use Rattle.writer_meta.proofs.Laws.{and_left}
+use Rattle.vss_model.proofs.GoesOn.{not_false}
 
 -- ## a call of another lane
 

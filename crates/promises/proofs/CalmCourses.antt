@@ -27,11 +27,10 @@ pub calm_stepped : (ok : Bool) (now : ℕ) (c : Course) → is_working (left c.a
 calm_stepped ok now c e = inr (busy_step c.agenda e)
 
 pub calm_timed : (now : ℕ) (c : Course) → CalmOrBusy c (course_timed now c)
-calm_timed now c = by_result (over_timed now c)
-  where
-    by_result : {say : _} → PassesOrFails say c (course_timed now c) → CalmOrBusy c (course_timed now c)
-    by_result (inl h) = inl h.calm
-    by_result (inr h) = inr h.busy
+calm_timed now c = by_result (over_timed now c) where
+  by_result : {say : _} → PassesOrFails say c (course_timed now c) → CalmOrBusy c (course_timed now c)
+  by_result (inl h) = inl h.calm
+  by_result (inr h) = inr h.busy
 
 -- an agenda that begins fails nothing
 pub calm_begun : (k : Kind) (ms : List Member) (vs : List ℕ) (now : ℕ) (c : Course) → has_failed c.outcome ≡ false → has_failed (begun k ms vs now c).outcome ≡ false

@@ -44,19 +44,17 @@ module _ (st : State) (h : IsCalmOrderly st) where
       z = record y { course = c }
 
       goes : (o n : SetOutcome) → st.course.outcome ≡ o → c.outcome ≡ n → has_failed n ≡ true → (has_failed o ≡ false → ⊥) ⊎ (o ≡ RunningSet)
-      goes o n e f failed = by_calm calm
-        where
-          by_calm : CalmOrBusy st.course c → (has_failed o ≡ false → ⊥) ⊎ (o ≡ RunningSet)
-          by_calm (inl k) = inl (λ g. true_not_false (has_failed n) failed (sym (ap has_failed f) ∙ k (ap has_failed e ∙ g)))
-          by_calm (inr k) = inr (busy_runs k o e)
+      goes o n e f failed = by_calm calm where
+        by_calm : CalmOrBusy st.course c → (has_failed o ≡ false → ⊥) ⊎ (o ≡ RunningSet)
+        by_calm (inl k) = inl (λ g. true_not_false (has_failed n) failed (sym (ap has_failed f) ∙ k (ap has_failed e ∙ g)))
+        by_calm (inr k) = inr (busy_runs k o e)
 
       -- a set that has failed before
       again : (o n : SetOutcome) (q : Session) → st.course.outcome ≡ o → c.outcome ≡ n → (o ≡ RunningSet → ⊥) → has_failed st.course.outcome ≡ false → has_failed n ≡ false
-      again o n q e f other g = by_test (has_failed n) refl
-        where
-          by_test : (b : Bool) → has_failed n ≡ b → b ≡ false
-          by_test false k = refl
-          by_test true k = absurd (elim (goes o n e f k) [ inl i ↦ i (sym (ap has_failed e) ∙ g) | inr i ↦ other i ])
+      again o n q e f other g = by_test (has_failed n) refl where
+        by_test : (b : Bool) → has_failed n ≡ b → b ≡ false
+        by_test false k = refl
+        by_test true k = absurd (elim (goes o n e f k) [ inl i ↦ i (sym (ap has_failed e) ∙ g) | inr i ↦ other i ])
 
       ended : (o n : SetOutcome) → st.course.outcome ≡ o → c.outcome ≡ n → (o ≡ RunningSet → ⊥) → (q : Session) → option_map agenda_ended y.session ≡ Some q → (q.stage ≡ Failed → ⊥)
           → has_failed c.outcome ≡ false

@@ -90,38 +90,35 @@ module _ (why : VssResult) (c : Course) (run : has_failed c.outcome ≡ false) w
 
   answer_reason : (o : Option Order) (w : ℕ) (answer : Answer) (now : ℕ) → (answered_to o w (said_of answer) now c).outcome ≡ FailedSet why → IsAnswerCode answer why
   answer_reason None w answer now e = calm_reason c.outcome why run e
-  answer_reason (Some o) w answer now e = by_answer answer (is_decisive o) e
-    where
-      by_answer : (a : Answer) (b : Bool) → (decided (b && not (is_ok (said_of a))) (said_of a) (told o (said_of a) now (w ∷ []) c)).outcome ≡ FailedSet why → IsAnswerCode a why
-      by_answer Ok true e = settled_reason (told o said.Ok now (w ∷ []) c) (told_outcome o said.Ok now (w ∷ []) c) e
-      by_answer Ok false e = settled_reason (told o said.Ok now (w ∷ []) c) (told_outcome o said.Ok now (w ∷ []) c) e
-      by_answer (Veto error) true e = same_reason why (WriterFault error) (sym e ∙ failed_outcome (WriterFault error) (told o (said.Veto error) now (w ∷ []) c))
-      by_answer (Veto error) false e = settled_reason (told o (said.Veto error) now (w ∷ []) c) (told_outcome o (said.Veto error) now (w ∷ []) c) e
+  answer_reason (Some o) w answer now e = by_answer answer (is_decisive o) e where
+    by_answer : (a : Answer) (b : Bool) → (decided (b && not (is_ok (said_of a))) (said_of a) (told o (said_of a) now (w ∷ []) c)).outcome ≡ FailedSet why → IsAnswerCode a why
+    by_answer Ok true e = settled_reason (told o said.Ok now (w ∷ []) c) (told_outcome o said.Ok now (w ∷ []) c) e
+    by_answer Ok false e = settled_reason (told o said.Ok now (w ∷ []) c) (told_outcome o said.Ok now (w ∷ []) c) e
+    by_answer (Veto error) true e = same_reason why (WriterFault error) (sym e ∙ failed_outcome (WriterFault error) (told o (said.Veto error) now (w ∷ []) c))
+    by_answer (Veto error) false e = settled_reason (told o (said.Veto error) now (w ∷ []) c) (told_outcome o (said.Veto error) now (w ∷ []) c) e
 
   lost_outcome : (o : Option Order) (now : ℕ) → (lost_to o now c).outcome ≡ c.outcome
   lost_outcome o now = grind (arith, told_outcome)
 
   time_reason : (l : Option RunningLimit) (now : ℕ) → (treated l now c).outcome ≡ FailedSet why → (m : RunningLimit) → l ≡ Some m → why ≡ code_of_limit m.limit
   time_reason None now e m f = absurd cc
-  time_reason (Some l) now e m f = subst (λ (x : RunningLimit). why ≡ code_of_limit x.limit) (some_same l m f) (by_limit l.limit e)
-    where
-      by_order : (b : Bool) → (lost_decided b (lost now c)).outcome ≡ FailedSet why → why ≡ WriterNotResponding
-      by_order true e = same_reason why WriterNotResponding (sym e ∙ failed_outcome WriterNotResponding (lost now c))
-      by_order false e = settled_reason (lost now c) (lost_outcome (order_now (left c.agenda)) now) e
+  time_reason (Some l) now e m f = subst (λ (x : RunningLimit). why ≡ code_of_limit x.limit) (some_same l m f) (by_limit l.limit e) where
+    by_order : (b : Bool) → (lost_decided b (lost now c)).outcome ≡ FailedSet why → why ≡ WriterNotResponding
+    by_order true e = same_reason why WriterNotResponding (sym e ∙ failed_outcome WriterNotResponding (lost now c))
+    by_order false e = settled_reason (lost now c) (lost_outcome (order_now (left c.agenda)) now) e
 
-      by_limit : (x : Limit) → (treated_as x now c).outcome ≡ FailedSet why → why ≡ code_of_limit x
-      by_limit HoldLimit e = same_reason why HoldWritesTimeout (sym e ∙ failed_outcome HoldWritesTimeout c)
-      by_limit FreezeLimit e = same_reason why (WriterFault Timeout) (sym e ∙ failed_outcome (WriterFault Timeout) (lost now c))
-      by_limit AnswerLimit e = by_order (fails_set (order_now (left c.agenda))) e
+    by_limit : (x : Limit) → (treated_as x now c).outcome ≡ FailedSet why → why ≡ code_of_limit x
+    by_limit HoldLimit e = same_reason why HoldWritesTimeout (sym e ∙ failed_outcome HoldWritesTimeout c)
+    by_limit FreezeLimit e = same_reason why (WriterFault Timeout) (sym e ∙ failed_outcome (WriterFault Timeout) (lost now c))
+    by_limit AnswerLimit e = by_order (fails_set (order_now (left c.agenda))) e
 
   -- time fails nothing where no limit is spent
   late_reason : (now : ℕ) → Running (λ (x : Agenda). x.kind ≡ kind.Snapshot → Rising (times x.log)) c.agenda
       → (treated (spent_of now (limits_now c)) now c).outcome ≡ FailedSet why → why ≡ late_code_in now c c.agenda
-  late_reason now rising e = by_spent (spent_of now (limits_now c)) refl e
-    where
-      by_spent : (l : Option RunningLimit) → spent_of now (limits_now c) ≡ l → (treated l now c).outcome ≡ FailedSet why → why ≡ late_code_in now c c.agenda
-      by_spent None f e = calm_reason c.outcome why run e
-      by_spent (Some l) f e = time_reason (Some l) now e l refl ∙ limit_code now c c.agenda l f rising
+  late_reason now rising e = by_spent (spent_of now (limits_now c)) refl e where
+    by_spent : (l : Option RunningLimit) → spent_of now (limits_now c) ≡ l → (treated l now c).outcome ≡ FailedSet why → why ≡ late_code_in now c c.agenda
+    by_spent None f e = calm_reason c.outcome why run e
+    by_spent (Some l) f e = time_reason (Some l) now e l refl ∙ limit_code now c c.agenda l f rising
 
 -- ## every act
 
@@ -158,11 +155,10 @@ module _ (s : Plan) (so_far : List Act) (why : VssResult) where
 
   room_reason : (b : Bool) (v block : ℕ) → has_failed st.course.outcome ≡ false → (with_room_if b (cleared s v block st)).course.outcome ≡ FailedSet why → why ≡ InsufficientStorage
   unfolding course_failed
-  room_reason true v block f g = by_set (in_progress st) g
-    where
-      by_set : (o : Option SetRow) → (failed_in o InsufficientStorage (cleared s v block st)).course.outcome ≡ FailedSet why → why ≡ InsufficientStorage
-      by_set None g = calm_reason st.course.outcome why f g
-      by_set (Some r) g = same_reason why InsufficientStorage (sym g)
+  room_reason true v block f g = by_set (in_progress st) g where
+    by_set : (o : Option SetRow) → (failed_in o InsufficientStorage (cleared s v block st)).course.outcome ≡ FailedSet why → why ≡ InsufficientStorage
+    by_set None g = calm_reason st.course.outcome why f g
+    by_set (Some r) g = same_reason why InsufficientStorage (sym g)
   room_reason false v block f g = calm_reason st.course.outcome why f g
 
   write_reason : (v : ℕ) (w : Write) (mark : Mark) → set_failure (in_progress st) (write s v w mark st).1 ≡ Some why → why ≡ InsufficientStorage

@@ -9,7 +9,6 @@ use Rattle.promises.proofs.Words.{start, state, Act, asked_if, unspoken, StandsW
 use Rattle.std.proofs.Common.{◌≡◌, ◌∙◌, ℕ, ◌+◌, ◌==◌, zero, suc, List, [], ◌∷◌, Option, Some, None, refl, Bool, true, false, ap, sym, subst, filter, arith}
 use Rattle.std.specs.Prelude.{◌||◌, not, option_map, if◌then◌else◌, slice_get}
 use Rattle.set_agenda.specs.Course.{Course, posted, failed as course_failed, rows_where, row_if, has_row_failed, row_failed, begun, told, worked, released}
-use Rattle.vss_model.specs.Ending.{failed}
 use Rattle.promises.proofs.LastOrder.{is_last_order, last_place, not_in_kind, still_open}
 use Rattle.promises.proofs.OpenGroup.{every}
 use Rattle.promises.proofs.Members.{one_on}
@@ -38,20 +37,19 @@ well_posted prior c h = h
 -- a row that is not of these
 row_stays : (f : WriterRow → WriterRow) (test : ℕ → Bool) (k : ℕ) (rows : List WriterRow) (w : ℕ) → test (k + w) ≡ false → slice_get (rows_where f test k rows) w ≡ slice_get rows w
 row_stays f test k [] w e = refl
-row_stays f test k (r ∷ rows) zero e = ap (λ b. Some (row_if b f r)) (ap test (none_more k) ∙ e)
-  where
-    none_more : (n : ℕ) → n ≡ n + 0
-    none_more n = omega arith
+row_stays f test k (r ∷ rows) zero e = ap (λ b. Some (row_if b f r)) (ap test (none_more k) ∙ e) where
+  none_more : (n : ℕ) → n ≡ n + 0
+  none_more n = omega arith
 row_stays f test k (r ∷ rows) (suc w) e = row_stays f test (k + 1) rows w (ap test (one_on k w) ∙ e)
 
-well_said : (o : Order) (said : Said) (now : ℕ) (ws : List ℕ) (rows : List WriterRow) (x : Option Agenda) → Unfailed rows x → Unfailed (rows_where (row_after o said) (λ w. is_among w ws) 0 rows) (option_map (all_say said now ws) x)
+well_said : (o : Order) (said : Said) (now : ℕ) (ws : List ℕ) (rows : List WriterRow) (x : Option Agenda) → Unfailed rows x
+    → Unfailed (rows_where (row_after o said) (λ w. is_among w ws) 0 rows) (option_map (all_say said now ws) x)
 well_said o said now ws rows None h w e = nobody (rows_where (row_after o said) (λ w. is_among w ws) 0 rows) w e
 well_said o said now ws rows (Some a) h w e =
     let was = still_open a.kind said now ws a w refl e in
-    ap row_failed (row_stays (row_after o said) (λ x. is_among x ws) 0 rows w (ap (λ x. is_among x ws) (none_less w) ∙ was.1)) ∙ h w was.0
-  where
-    none_less : (n : ℕ) → 0 + n ≡ n
-    none_less n = omega arith
+    ap row_failed (row_stays (row_after o said) (λ x. is_among x ws) 0 rows w (ap (λ x. is_among x ws) (none_less w) ∙ was.1)) ∙ h w was.0 where
+      none_less : (n : ℕ) → 0 + n ≡ n
+      none_less n = omega arith
 
 well_told : (o : Order) (said : Said) (now : ℕ) (ws : List ℕ) (c : Course) → Well c → Well (told o said now ws c)
 unfolding told
@@ -76,19 +74,21 @@ well_begun_as k ms vs now c h = kept_begun Well well_kept k ms vs now c h
 well_begun : (k : Kind) (ms : List Member) (vs : List ℕ) (now : ℕ) (c : Course) → every (λ q. not (is_last_order q.group)) (places k) ≡ true → Well (begun k ms vs now c)
 well_begun k ms vs now c h = well_begun_as k ms vs now c (λ w e. absurd (not_in_kind k (unspoken k ms vs now) w refl h e))
 
-unfailed_member : (rows : List WriterRow) (w : ℕ) (ms : List Member) → is_among w (writers_at (filter (λ (m : Member). not (has_row_failed rows m.writer)) ms) None) ≡ true → has_row_failed rows w ≡ false
+unfailed_member : (rows : List WriterRow) (w : ℕ) (ms : List Member)
+    → is_among w (writers_at (filter (λ (m : Member). not (has_row_failed rows m.writer)) ms) None) ≡ true → has_row_failed rows w ≡ false
 unfailed_member rows w [] e = absurd cc
-unfailed_member rows w (m ∷ ms) e = by_test (has_row_failed rows m.writer) refl e (unfailed_member rows w ms)
-  where
-    by_head : (c : Bool) → (m.writer == w) ≡ c → has_row_failed rows m.writer ≡ false → (c || is_among w (writers_at (filter (λ (x : Member). not (has_row_failed rows x.writer)) ms) None)) ≡ true
-        → (is_among w (writers_at (filter (λ (x : Member). not (has_row_failed rows x.writer)) ms) None) ≡ true → has_row_failed rows w ≡ false) → has_row_failed rows w ≡ false
-    by_head true f g e ih = subst (λ x. has_row_failed rows x ≡ false) (number_is m.writer w f) g
-    by_head false f g e ih = ih e
+unfailed_member rows w (m ∷ ms) e = by_test (has_row_failed rows m.writer) refl e (unfailed_member rows w ms) where
+  by_head : (c : Bool) → (m.writer == w) ≡ c → has_row_failed rows m.writer ≡ false → (c || is_among w (writers_at (filter (λ (x : Member). not (has_row_failed rows x.writer)) ms) None)) ≡ true
+      → (is_among w (writers_at (filter (λ (x : Member). not (has_row_failed rows x.writer)) ms) None) ≡ true → has_row_failed rows w ≡ false) → has_row_failed rows w ≡ false
+  by_head true f g e ih = subst (λ x. has_row_failed rows x ≡ false) (number_is m.writer w f) g
+  by_head false f g e ih = ih e
 
-    by_test : (b : Bool) → has_row_failed rows m.writer ≡ b → is_among w (writers_at (if not b then m ∷ filter (λ (x : Member). not (has_row_failed rows x.writer)) ms else filter (λ (x : Member). not (has_row_failed rows x.writer)) ms) None) ≡ true
-        → (is_among w (writers_at (filter (λ (x : Member). not (has_row_failed rows x.writer)) ms) None) ≡ true → has_row_failed rows w ≡ false) → has_row_failed rows w ≡ false
-    by_test true f e ih = ih e
-    by_test false f e ih = by_head (m.writer == w) refl f e ih
+  by_test : (b : Bool) → has_row_failed rows m.writer ≡ b → is_among w (writers_at
+      (if not b then m ∷ filter (λ (x : Member). not (has_row_failed rows x.writer)) ms else filter (λ (x : Member). not (has_row_failed rows x.writer)) ms)
+      None) ≡ true
+      → (is_among w (writers_at (filter (λ (x : Member). not (has_row_failed rows x.writer)) ms) None) ≡ true → has_row_failed rows w ≡ false) → has_row_failed rows w ≡ false
+  by_test true f e ih = ih e
+  by_test false f e ih = by_head (m.writer == w) refl f e ih
 
 waiting_there : (waits : List ℕ) (w : ℕ) → is_asked w (with_group last_place waits []) ≡ true → is_among w waits ≡ true
 waiting_there waits w e = grind arith
@@ -101,7 +101,8 @@ well_completing ms now c =
     unfailed_member c.rows w ms
     (among_filter (λ who. not (has_said [] last_place who)) w (writers_at (filter (λ (m : Member). not (has_row_failed c.rows m.writer)) ms) None)
     (waiting_there (waited_for (unspoken Complete (filter (λ (m : Member). not (has_row_failed c.rows m.writer)) ms) [] now) last_place) w
-    (asked_if (is_asked w (groups_left (unspoken Complete (filter (λ (m : Member). not (has_row_failed c.rows m.writer)) ms) [] now))) (order_now (groups_left (unspoken Complete (filter (λ (m : Member). not (has_row_failed c.rows m.writer)) ms) [] now))) BackupComplete e))))
+    (asked_if (is_asked w (groups_left (unspoken Complete (filter (λ (m : Member). not (has_row_failed c.rows m.writer)) ms) [] now)))
+    (order_now (groups_left (unspoken Complete (filter (λ (m : Member). not (has_row_failed c.rows m.writer)) ms) [] now))) BackupComplete e))))
 
 -- ## every act
 

@@ -1,9 +1,7 @@
 -- What changes the contents of a volume.
-use Rattle.promises.proofs.Words.{payload_bytes, zeros, Mark, Clean, FaultAfter, Write, History}
-use Rattle.promises.proofs.Words.{last_bytes, content, written, to_restore, reverted}
-use Rattle.promises.proofs.Words.{is_among, line_of, does, Plan, blocks_of, Event, Line, State}
-use Rattle.promises.proofs.Words.{Kept, history_of, kept_image, Act, enabled, happens, after, state, as_many_volumes, at, as_many_map}
-use Rattle.promises.proofs.Words.{as_many_gone, block_now, may_change, ContentsChange, changes_by, after_enabled, all_taken}
+use Rattle.promises.proofs.Words.{payload_bytes, zeros, Mark, Clean, FaultAfter, Write, History, last_bytes, content, written, to_restore, reverted, is_among}
+use Rattle.promises.proofs.Words.{line_of, does, Plan, blocks_of, Event, Line, State, Kept, history_of, kept_image, Act, enabled, happens, after, state}
+use Rattle.promises.proofs.Words.{as_many_volumes, at, as_many_map, as_many_gone, block_now, may_change, ContentsChange, changes_by, after_enabled, all_taken}
 use Rattle.std.proofs.Common.{◌≡◌, ◌∙◌, ℕ, ◌+◌, ◌==◌, zero, suc, List, [], ◌∷◌, ◌++◌, Some, None, refl, Bool, true, false, ◌<◌, ap, sym, subst, length, take, arith}
 use Rattle.std.specs.Prelude.{◌&&◌, if◌then◌else◌}
 use Rattle.set_agenda.specs.Course.{change_at}
@@ -39,7 +37,9 @@ module _ (s : Plan) (st : State) (v b : ℕ) where
   by_writes : (c : Change) (x : State) → rewrites v c ≡ false → Stays x.volumes → Stays (apply x c).volumes
   by_writes c x e h = ap (λ ws. content ws (length ws) b) (same_writes v c x e) ∙ h
 
-  written_at : (w : Write) (u : ℕ) (hs : List History) (v : ℕ) → (w.block == b) ≡ false → content (at (change_at u (written w) hs) v).writes (length (at (change_at u (written w) hs) v).writes) b ≡ content (at hs v).writes (length (at hs v).writes) b
+  written_at : (w : Write) (u : ℕ) (hs : List History) (v : ℕ) → (w.block == b) ≡ false
+      → content (at (change_at u (written w) hs) v).writes (length (at (change_at u (written w) hs) v).writes) b
+      ≡ content (at hs v).writes (length (at hs v).writes) b
   written_at w u [] v e = refl
   written_at w zero (x ∷ hs) zero e = other_block x.writes w b e
   written_at w zero (x ∷ hs) (suc v) e = refl
@@ -70,15 +70,13 @@ module _ (s : Plan) (st : State) (v b : ℕ) where
 -- ## what a write and a revert bring
 
 changed_here : (f : History → History) (v : ℕ) (hs : List History) → v < length hs → at (change_at v f hs) v ≡ f (at hs v)
-changed_here f v [] l = absurd (nothing v l)
-  where
-    nothing : (v : ℕ) → v < 0 → ⊥
-    nothing v l = omega arith
+changed_here f v [] l = absurd (nothing v l) where
+  nothing : (v : ℕ) → v < 0 → ⊥
+  nothing v l = omega arith
 changed_here f zero (h ∷ hs) l = refl
-changed_here f (suc v) (h ∷ hs) l = changed_here f v hs (below v (length hs) l)
-  where
-    below : (v n : ℕ) → suc v < suc n → v < n
-    below v n l = omega arith
+changed_here f (suc v) (h ∷ hs) l = changed_here f v hs (below v (length hs) l) where
+  below : (v n : ℕ) → suc v < suc n → v < n
+  below v n l = omega arith
 
 last_own : (b : ℕ) (before : List ℕ) (ws : List Write) (w : Write) → (w.block == b) ≡ true → last_bytes b before (ws ++ w ∷ []) ≡ w.bytes
 last_own b before [] w e = ap (λ t. if t then w.bytes else before) e
@@ -98,8 +96,9 @@ module _ (s : Plan) (st : State) where
   revert_brings : (v b : ℕ) (k : Kept) (mark : Mark) → mark ≡ Clean → v < length st.volumes → block_now (reverted_as s v k mark st).1 v b ≡ content (history_of st v).writes k.point b
   revert_brings v b k mark e l = grind (arith, changed_here, now_is)
 
-  stop_brings : (v b j : ℕ) (k : Kept) (mark : Mark) → mark ≡ FaultAfter j → v < length st.volumes
-      → block_now (reverted_as s v k mark st).1 v b ≡ (if is_among b (take j (to_restore (blocks_of s v) (history_of st v).writes k.point)) then content (history_of st v).writes k.point b else block_now st v b)
+  stop_brings : (v b j : ℕ) (k : Kept) (mark : Mark) → mark ≡ FaultAfter j → v < length st.volumes → block_now (reverted_as s v k mark st).1 v b
+      ≡ (if is_among b (take j (to_restore (blocks_of s v) (history_of st v).writes k.point)) then content (history_of st v).writes k.point b
+      else block_now st v b)
   stop_brings v b j k mark e l = grind (arith, changed_here, some_restored)
 
   revert_is : (n v : ℕ) (k : Kept) (mark : Mark) → kept_image st n v ≡ Some k → revert_refusal v (Some k) st ≡ None → revert s n v mark st ≡ reverted_as s v k mark st
@@ -119,7 +118,11 @@ contents_change s so_far act =
           ap (λ (y : State). block_now y v b) (after_line s st act (Line lane o) e on ∙ ap (λ d. (does s lane o d act.mark st).1) is)
           ∙ write_brings s st v (record { block = b; bytes = payload_bytes payload }) act.mark m (many v l);
       reverted = λ lane n v b k e m h i l.
-          ap (λ (y : State). block_now y v b) (after_line s st act (Line lane (op.Revert n v)) e (ap (enabled s st) e) ∙ ap (λ (y : Replied). y.1) (revert_is s st n v k act.mark h i)) ∙ revert_brings s st v b k act.mark m (many v l);
+          ap (λ (y : State). block_now y v b)
+          (after_line s st act (Line lane (op.Revert n v)) e (ap (enabled s st) e) ∙ ap (λ (y : Replied). y.1) (revert_is s st n v k act.mark h i))
+          ∙ revert_brings s st v b k act.mark m (many v l);
       stopped = λ lane n v b j k e m h i l.
-          ap (λ (y : State). block_now y v b) (after_line s st act (Line lane (op.Revert n v)) e (ap (enabled s st) e) ∙ ap (λ (y : Replied). y.1) (revert_is s st n v k act.mark h i)) ∙ stop_brings s st v b j k act.mark m (many v l);
+          ap (λ (y : State). block_now y v b)
+          (after_line s st act (Line lane (op.Revert n v)) e (ap (enabled s st) e) ∙ ap (λ (y : Replied). y.1) (revert_is s st n v k act.mark h i))
+          ∙ stop_brings s st v b j k act.mark m (many v l);
     }

@@ -30,28 +30,27 @@ owned_start q st g num h = record {
       subst (λ m. context_in (st.sets ++ new_set (new_number st) q.context ∷ []) m ≡ Some p.context) (here.0)
       (context_new 1 st.sets (new_set (new_number st) q.context) num refl ∙ ap Some here.1);
   early = λ p e f. absurd (not_early p e f);
-}
-  where
-    none_some : {X : Type 0} (o : Option ℕ) (n : ℕ) → o ≡ None → o ≡ Some n → X
-    none_some o n e f = absurd cc
+} where
+  none_some : {X : Type 0} (o : Option ℕ) (n : ℕ) → o ≡ None → o ≡ Some n → X
+  none_some o n e f = absurd cc
 
-    of_new : (p : Session) (n : ℕ) → Some (started (new_number st) q) ≡ Some p → p.set ≡ Some n → (new_number st ≡ n) × (q.context ≡ p.context)
-    of_new p n e f = (
-      some_same (new_number st) n (ap (λ (y : Session). y.set) (some_same (started (new_number st) q) p e) ∙ f),
-      ap (λ (y : Session). y.context)
-          (some_same (started (new_number st) q) p e),
-    )
+  of_new : (p : Session) (n : ℕ) → Some (started (new_number st) q) ≡ Some p → p.set ≡ Some n → (new_number st ≡ n) × (q.context ≡ p.context)
+  of_new p n e f = (
+    some_same (new_number st) n (ap (λ (y : Session). y.set) (some_same (started (new_number st) q) p e) ∙ f),
+    ap (λ (y : Session). y.context)
+        (some_same (started (new_number st) q) p e),
+  )
 
-    not_early : (p : Session) → Some (started (new_number st) q) ≡ Some p → is_early p.stage ≡ true → ⊥
-    not_early p e f = true_not_false (is_early p.stage) f (ap (λ (y : Session). is_early y.stage) (sym (some_same (started (new_number st) q) p e)))
+  not_early : (p : Session) → Some (started (new_number st) q) ≡ Some p → is_early p.stage ≡ true → ⊥
+  not_early p e f = true_not_false (is_early p.stage) f (ap (λ (y : Session). is_early y.stage) (sym (some_same (started (new_number st) q) p e)))
 
-    by_number : (n v : ℕ) (b : Bool) → (new_number st == n) ≡ b → context_in (st.sets ++ new_set (new_number st) q.context ∷ []) n ≡ Some Backup
-        → stands st n v ≡ true → HasMade (Some (started (new_number st) q)) n
-    by_number n v true e c i = record { session = started (new_number st) q; is = refl; set = ap Some (number_is (new_number st) n e) }
-    by_number n v false e c i =
-        let made = h.own n v (sym (context_other st.sets (new_set (new_number st) q.context) n e) ∙ c) i in
-        let same = some_same made.session q (sym made.is ∙ g.stands) in
-        none_some q.set n (h.early q g.stands (starts_early q.stage (has_writers q.context) g.allowed)) (ap (λ (y : Session). y.set) (sym same) ∙ made.set)
+  by_number : (n v : ℕ) (b : Bool) → (new_number st == n) ≡ b → context_in (st.sets ++ new_set (new_number st) q.context ∷ []) n ≡ Some Backup
+      → stands st n v ≡ true → HasMade (Some (started (new_number st) q)) n
+  by_number n v true e c i = record { session = started (new_number st) q; is = refl; set = ap Some (number_is (new_number st) n e) }
+  by_number n v false e c i =
+      let made = h.own n v (sym (context_other st.sets (new_set (new_number st) q.context) n e) ∙ c) i in
+      let same = some_same made.session q (sym made.is ∙ g.stands) in
+      none_some q.set n (h.early q g.stands (starts_early q.stage (has_writers q.context) g.allowed)) (ap (λ (y : Session). y.set) (sym same) ∙ made.set)
 
 -- ## every act
 
@@ -115,20 +114,19 @@ module _ (s : Plan) (st : State) (num : NumberedFrom 1 st.sets) (h : Owned st) w
     own = λ n v c g. absurd (gone n v c g);
     same = λ p n f g. none_some _ p (closed_session q (failed why st)) f;
     early = λ p f g. none_some _ p (closed_session q (failed why st)) f;
-  }
-    where
-      none_some : {X : Type 0} (o : Option Session) (p : Session) → o ≡ None → o ≡ Some p → X
-      none_some o p e f = absurd cc
+  } where
+    none_some : {X : Type 0} (o : Option Session) (p : Session) → o ≡ None → o ≡ Some p → X
+    none_some o p e f = absurd cc
 
-      some_context : (x y : Context) → Some x ≡ Some y → y ≡ x
-      some_context x y e = cc
+    some_context : (x y : Context) → Some x ≡ Some y → y ≡ x
+    some_context x y e = cc
 
-      gone : (n v : ℕ) → context_in (closed q (failed why st)).sets n ≡ Some Backup → stands (closed q (failed why st)) n v ≡ true → ⊥
-      gone n v c g =
-          let con : context_in st.sets n ≡ Some Backup = sym ((relates_failed (in_progress st) why st).contexts n) ∙ sym (ap (λ rows. context_in rows n) (closed_sets q (failed why st))) ∙ c in
-          let made = h.own n v con (img n v g) in
-          let set : q.set ≡ Some n = ap (λ (y : Session). y.set) (some_same q made.session (sym e ∙ made.is)) ∙ made.set in
-          none_left q (failed why st) n v (some_context Backup q.context (sym con ∙ h.same q n e set)) set g
+    gone : (n v : ℕ) → context_in (closed q (failed why st)).sets n ≡ Some Backup → stands (closed q (failed why st)) n v ≡ true → ⊥
+    gone n v c g =
+        let con : context_in st.sets n ≡ Some Backup = sym ((relates_failed (in_progress st) why st).contexts n) ∙ sym (ap (λ rows. context_in rows n) (closed_sets q (failed why st))) ∙ c in
+        let made = h.own n v con (img n v g) in
+        let set : q.set ≡ Some n = ap (λ (y : Session). y.set) (some_same q made.session (sym e ∙ made.is)) ∙ made.set in
+        none_left q (failed why st) n v (some_context Backup q.context (sym con ∙ h.same q n e set)) set g
 
   on_begin : (q : Session) (x : State) → st.session ≡ None → q.set ≡ None → x.sets ≡ st.sets → x.session ≡ Some q → NoMore st x → Owned x
   on_begin q x e f sets ses img = grind arith

@@ -16,15 +16,14 @@ context_in rows n = option_map (λ (r : SetRow). r.context) (find (λ (r : SetRo
 pub context_map : (f : SetRow → SetRow) → ((r : SetRow) → (f r).number ≡ r.number) → ((r : SetRow) → (f r).context ≡ r.context) → (rows : List SetRow) (n : ℕ)
     → context_in (map f rows) n ≡ context_in rows n
 context_map f num con [] n = refl
-context_map f num con (r ∷ rows) n = by_head (r.number == n) ((f r).number == n) (ap (λ k. k == n) (num r)) (context_map f num con rows n)
-  where
-    by_head : (b c : Bool) → c ≡ b → context_in (map f rows) n ≡ context_in rows n
-        → option_map (λ (x : SetRow). x.context) (if c then Some (f r) else find (λ (x : SetRow). x.number == n) (map f rows))
-        ≡ option_map (λ (x : SetRow). x.context) (if b then Some r else find (λ (x : SetRow). x.number == n) rows)
-    by_head true true e ih = ap Some (con r)
-    by_head true false e ih = absurd cc
-    by_head false true e ih = absurd cc
-    by_head false false e ih = ih
+context_map f num con (r ∷ rows) n = by_head (r.number == n) ((f r).number == n) (ap (λ k. k == n) (num r)) (context_map f num con rows n) where
+  by_head : (b c : Bool) → c ≡ b → context_in (map f rows) n ≡ context_in rows n
+      → option_map (λ (x : SetRow). x.context) (if c then Some (f r) else find (λ (x : SetRow). x.number == n) (map f rows))
+      ≡ option_map (λ (x : SetRow). x.context) (if b then Some r else find (λ (x : SetRow). x.number == n) rows)
+  by_head true true e ih = ap Some (con r)
+  by_head true false e ih = absurd cc
+  by_head false true e ih = absurd cc
+  by_head false false e ih = ih
 
 pub settled_number : (o : SetOutcome) (r : SetRow) → (row_settled o r).number ≡ r.number
 settled_number o r = grind arith
@@ -40,13 +39,12 @@ changed_context n f r e = grind arith
 
 pub context_other : (rows : List SetRow) (r : SetRow) (n : ℕ) → (r.number == n) ≡ false → context_in (rows ++ r ∷ []) n ≡ context_in rows n
 context_other [] r n e = ap (λ b. option_map (λ (x : SetRow). x.context) (if b then Some r else None)) e
-context_other (q ∷ rows) r n e = by_head (q.number == n) (context_other rows r n e)
-  where
-    by_head : (b : Bool) → context_in (rows ++ r ∷ []) n ≡ context_in rows n
-        → option_map (λ (x : SetRow). x.context) (if b then Some q else find (λ (x : SetRow). x.number == n) (rows ++ r ∷ []))
-        ≡ option_map (λ (x : SetRow). x.context) (if b then Some q else find (λ (x : SetRow). x.number == n) rows)
-    by_head true ih = refl
-    by_head false ih = ih
+context_other (q ∷ rows) r n e = by_head (q.number == n) (context_other rows r n e) where
+  by_head : (b : Bool) → context_in (rows ++ r ∷ []) n ≡ context_in rows n
+      → option_map (λ (x : SetRow). x.context) (if b then Some q else find (λ (x : SetRow). x.number == n) (rows ++ r ∷ []))
+      ≡ option_map (λ (x : SetRow). x.context) (if b then Some q else find (λ (x : SetRow). x.number == n) rows)
+  by_head true ih = refl
+  by_head false ih = ih
 
 pub context_new : (k : ℕ) (rows : List SetRow) (r : SetRow) → NumberedFrom k rows → r.number ≡ length rows + k → context_in (rows ++ r ∷ []) r.number ≡ Some r.context
 context_new k [] r h e = ap (λ b. option_map (λ (x : SetRow). x.context) (if b then Some r else None)) (same_number r.number)
@@ -152,21 +150,19 @@ owned_by x next r img h = owned_still r.change r.keeps x next r.contexts r.is im
 
 pub cut_images : (m n : ℕ) (vs : List ℕ) (u : ℕ) (hs : List History) (v : ℕ) → (m == n) ≡ false → has_image n (at (cut_each m vs u hs) v) ≡ true → has_image n (at hs v) ≡ true
 cut_images m n vs u [] v e h = h
-cut_images m n vs u (x ∷ hs) zero e h = by_set (is_among u vs) h
-  where
-    other : (images : List Image) (p : ℕ) → is_some (point_in n (images ++ record { set = m; point = p } ∷ [])) ≡ true → is_some (point_in n images) ≡ true
-    other [] p h = ap (λ b. is_some (if b then Some p else None)) (sym e) ∙ h
-    other (i ∷ images) p h = by_head (i.set == n) h (other images p)
-      where
-        by_head : (b : Bool) → is_some (if b then Some i.point else point_in n (images ++ record { set = m; point = p } ∷ [])) ≡ true
-            → (is_some (point_in n (images ++ record { set = m; point = p } ∷ [])) ≡ true → is_some (point_in n images) ≡ true)
-            → is_some (if b then Some i.point else point_in n images) ≡ true
-        by_head true h ih = refl
-        by_head false h ih = ih h
+cut_images m n vs u (x ∷ hs) zero e h = by_set (is_among u vs) h where
+  other : (images : List Image) (p : ℕ) → is_some (point_in n (images ++ record { set = m; point = p } ∷ [])) ≡ true → is_some (point_in n images) ≡ true
+  other [] p h = ap (λ b. is_some (if b then Some p else None)) (sym e) ∙ h
+  other (i ∷ images) p h = by_head (i.set == n) h (other images p) where
+    by_head : (b : Bool) → is_some (if b then Some i.point else point_in n (images ++ record { set = m; point = p } ∷ [])) ≡ true
+        → (is_some (point_in n (images ++ record { set = m; point = p } ∷ [])) ≡ true → is_some (point_in n images) ≡ true)
+        → is_some (if b then Some i.point else point_in n images) ≡ true
+    by_head true h ih = refl
+    by_head false h ih = ih h
 
-    by_set : (b : Bool) → has_image n (cut_if b m x) ≡ true → has_image n x ≡ true
-    by_set true h = other x.images (length x.writes) h
-    by_set false h = h
+  by_set : (b : Bool) → has_image n (cut_if b m x) ≡ true → has_image n x ≡ true
+  by_set true h = other x.images (length x.writes) h
+  by_set false h = h
 cut_images m n vs u (x ∷ hs) (suc v) e h = cut_images m n vs (u + 1) hs v e h
 
 pub cut_contexts : (o : Option SetRow) (st : State) (n : ℕ) → context_in (cut_set o st).sets n ≡ context_in st.sets n
@@ -181,8 +177,7 @@ owned_cut (Some r) st e k h = record {
   own = λ n v c g. by_number n v (r.number == n) refl (sym (cut_contexts (Some r) st n) ∙ c) g;
   same = λ q n f g. cut_contexts (Some r) st n ∙ h.same q n f g;
   early = h.early;
-}
-  where
-    by_number : (n v : ℕ) (b : Bool) → (r.number == n) ≡ b → context_in st.sets n ≡ Some Backup → stands (cut_set (Some r) st) n v ≡ true → HasMade st.session n
-    by_number n v true i c g = subst (HasMade st.session) (number_is r.number n i) (made_by st.session st.course.outcome r (subst (IsSessionOfSet st.session st.course.outcome) e k))
-    by_number n v false i c g = h.own n v c (cut_images r.number n r.volumes 0 st.volumes v i g)
+} where
+  by_number : (n v : ℕ) (b : Bool) → (r.number == n) ≡ b → context_in st.sets n ≡ Some Backup → stands (cut_set (Some r) st) n v ≡ true → HasMade st.session n
+  by_number n v true i c g = subst (HasMade st.session) (number_is r.number n i) (made_by st.session st.course.outcome r (subst (IsSessionOfSet st.session st.course.outcome) e k))
+  by_number n v false i c g = h.own n v c (cut_images r.number n r.volumes 0 st.volumes v i g)

@@ -23,14 +23,13 @@ later_point b p o e = grind arith
 -- a later image is of a later set
 pub later_set : (i : Image) (m p : ℕ) (images : List Image) → AreLater i images → point_in m images ≡ Some p → (i.set == m) ≡ false
 later_set i m p [] h e = absurd cc
-later_set i m p (j ∷ images) h e = by_head (j.set == m) refl e (later_set i m p images h.2)
-  where
-    differs : (a b m : ℕ) → a < b → (b == m) ≡ true → (a == m) ≡ false
-    differs a b m l e = grind arith
+later_set i m p (j ∷ images) h e = by_head (j.set == m) refl e (later_set i m p images h.2) where
+  differs : (a b m : ℕ) → a < b → (b == m) ≡ true → (a == m) ≡ false
+  differs a b m l e = grind arith
 
-    by_head : (b : Bool) → (j.set == m) ≡ b → (if b then Some j.point else point_in m images) ≡ Some p → (point_in m images ≡ Some p → (i.set == m) ≡ false) → (i.set == m) ≡ false
-    by_head true f e ih = differs i.set j.set m h.0 f
-    by_head false f e ih = ih e
+  by_head : (b : Bool) → (j.set == m) ≡ b → (if b then Some j.point else point_in m images) ≡ Some p → (point_in m images ≡ Some p → (i.set == m) ≡ false) → (i.set == m) ≡ false
+  by_head true f e ih = differs i.set j.set m h.0 f
+  by_head false f e ih = ih e
 
 own_copies : (u : ℕ) (ws : List Write) (i : Image) (newer : List Image) (bs : List ℕ) → All (IsOfImage u ws (i ∷ newer)) (map (copy_of u ws i) bs)
 own_copies u ws i newer [] = All-nil (IsOfImage u ws (i ∷ newer))
@@ -73,18 +72,17 @@ one_later u p ps h hs c i = record { volume = suc i.volume; place = i.place; of_
 in_group : (u : ℕ) (ps : List Placed) (hs : List History) → InTimeAll hs → All (IsInGroup u ps hs) (copies_from u ps hs)
 in_group u [] hs t = All-nil (IsInGroup u [] hs)
 in_group u (p ∷ ps) [] t = All-nil (IsInGroup u (p ∷ ps) [])
-in_group u (p ∷ ps) (h ∷ hs) t = by_group p.within refl (λ k. in_group k ps hs (λ v. t (suc v)))
-  where
-    by_group : (b : Bool) → p.within ≡ b → ((k : ℕ) → All (IsInGroup k ps hs) (copies_from k ps hs))
-        → All (IsInGroup u (p ∷ ps) (h ∷ hs)) (if b then copies_of u p.blocks h.writes h.images ++ copies_from (u + 1) ps hs else copies_from u ps hs)
-    by_group true e rest =
-        All-append (IsInGroup u (p ∷ ps) (h ∷ hs)) (copies_of u p.blocks h.writes h.images) (copies_from (u + 1) ps hs)
-        (all_along (IsOfImage u h.writes h.images) (IsInGroup u (p ∷ ps) (h ∷ hs)) (copies_of u p.blocks h.writes h.images)
-        (λ c i. record { volume = 0; place = i.volume; of_group = e; own = u; image = i }) (copies_in u p.blocks (length h.writes) h.writes h.images (t 0)))
-        (all_along (IsInGroup (u + 1) ps hs) (IsInGroup u (p ∷ ps) (h ∷ hs)) (copies_from (u + 1) ps hs)
-        (λ c i. one_later u p ps h hs c (subst (λ b. IsInGroup (if b then u + 1 else u) ps hs c) (sym e) i)) (rest (u + 1)))
-    by_group false e rest = all_along (IsInGroup u ps hs) (IsInGroup u (p ∷ ps) (h ∷ hs)) (copies_from u ps hs)
-        (λ c i. one_later u p ps h hs c (subst (λ b. IsInGroup (if b then u + 1 else u) ps hs c) (sym e) i)) (rest u)
+in_group u (p ∷ ps) (h ∷ hs) t = by_group p.within refl (λ k. in_group k ps hs (λ v. t (suc v))) where
+  by_group : (b : Bool) → p.within ≡ b → ((k : ℕ) → All (IsInGroup k ps hs) (copies_from k ps hs))
+      → All (IsInGroup u (p ∷ ps) (h ∷ hs)) (if b then copies_of u p.blocks h.writes h.images ++ copies_from (u + 1) ps hs else copies_from u ps hs)
+  by_group true e rest =
+      All-append (IsInGroup u (p ∷ ps) (h ∷ hs)) (copies_of u p.blocks h.writes h.images) (copies_from (u + 1) ps hs)
+      (all_along (IsOfImage u h.writes h.images) (IsInGroup u (p ∷ ps) (h ∷ hs)) (copies_of u p.blocks h.writes h.images)
+      (λ c i. record { volume = 0; place = i.volume; of_group = e; own = u; image = i }) (copies_in u p.blocks (length h.writes) h.writes h.images (t 0)))
+      (all_along (IsInGroup (u + 1) ps hs) (IsInGroup u (p ∷ ps) (h ∷ hs)) (copies_from (u + 1) ps hs)
+      (λ c i. one_later u p ps h hs c (subst (λ b. IsInGroup (if b then u + 1 else u) ps hs c) (sym e) i)) (rest (u + 1)))
+  by_group false e rest = all_along (IsInGroup u ps hs) (IsInGroup u (p ∷ ps) (h ∷ hs)) (copies_from u ps hs)
+      (λ c i. one_later u p ps h hs c (subst (λ b. IsInGroup (if b then u + 1 else u) ps hs c) (sym e) i)) (rest u)
 
 -- ## the cut
 

@@ -15,10 +15,9 @@ use Rattle.promises.proofs.Members.{one_on}
 row_where : (f : WriterRow → WriterRow) (test : ℕ → Bool) (k : ℕ) (rows : List WriterRow) (w : ℕ) (r : WriterRow) → slice_get rows w ≡ Some r
     → slice_get (rows_where f test k rows) w ≡ Some (row_if (test (k + w)) f r)
 row_where f test k [] w r e = absurd cc
-row_where f test k (x ∷ rows) zero r e = ap (λ n. Some (row_if (test n) f x)) (none_more k) ∙ ap (λ y. Some (row_if (test (k + 0)) f y)) (some_same x r e)
-  where
-    none_more : (n : ℕ) → n ≡ n + 0
-    none_more n = omega arith
+row_where f test k (x ∷ rows) zero r e = ap (λ n. Some (row_if (test n) f x)) (none_more k) ∙ ap (λ y. Some (row_if (test (k + 0)) f y)) (some_same x r e) where
+  none_more : (n : ℕ) → n ≡ n + 0
+  none_more n = omega arith
 row_where f test k (x ∷ rows) (suc w) r e = row_where f test (k + 1) rows w r e ∙ ap (λ n. Some (row_if (test n) f r)) (one_on k w)
 
 -- ## rows
@@ -39,18 +38,16 @@ same_rows rows w r e = e
 
 pub rows_where_are : (f : WriterRow → WriterRow) (test : ℕ → Bool) (say : ℕ → WriterRow → WriterRow) (rows more : List WriterRow) → Becomes say rows more
     → Becomes (λ w r. row_if (test w) f (say w r)) rows (rows_where f test 0 more)
-rows_where_are f test say rows more h w r e = row_where f test 0 more w (say w r) (h w r e) ∙ ap (λ n. Some (row_if (test n) f (say w r))) (none_less w)
-  where
-    none_less : (a : ℕ) → 0 + a ≡ a
-    none_less a = omega arith
+rows_where_are f test say rows more h w r e = row_where f test 0 more w (say w r) (h w r e) ∙ ap (λ n. Some (row_if (test n) f (say w r))) (none_less w) where
+  none_less : (a : ℕ) → 0 + a ≡ a
+  none_less a = omega arith
 
 pub rows_map_are : (f : WriterRow → WriterRow) (say : ℕ → WriterRow → WriterRow) (rows more : List WriterRow) → Becomes say rows more → Becomes (λ w r. f (say w r)) rows (map f more)
-rows_map_are f say rows more h w r e = mapped more w (say w r) (h w r e)
-  where
-    mapped : (ys : List WriterRow) (n : ℕ) (y : WriterRow) → slice_get ys n ≡ Some y → slice_get (map f ys) n ≡ Some (f y)
-    mapped [] n y e = absurd cc
-    mapped (x ∷ ys) zero y e = ap (λ z. Some (f z)) (some_same x y e)
-    mapped (x ∷ ys) (suc n) y e = mapped ys n y e
+rows_map_are f say rows more h w r e = mapped more w (say w r) (h w r e) where
+  mapped : (ys : List WriterRow) (n : ℕ) (y : WriterRow) → slice_get ys n ≡ Some y → slice_get (map f ys) n ≡ Some (f y)
+  mapped [] n y e = absurd cc
+  mapped (x ∷ ys) zero y e = ap (λ z. Some (f z)) (some_same x y e)
+  mapped (x ∷ ys) (suc n) y e = mapped ys n y e
 
 -- ## a call that fails the set, and one that does not
 
@@ -157,11 +154,10 @@ steps_ask_nobody g o e f = grind arith
 
 no_hold_asks : (now f : ℕ) (x : Option Agenda) (l : RunningLimit) (o : Order) → spent_of now (running_limits f x) ≡ Some l → l.limit ≡ HoldLimit → order_now (left x) ≡ Some o → ⊥
 no_hold_asks now f None l o e k i = none_and_some None l refl e
-no_hold_asks now f (Some a) l o e k i = at_list (groups_left a) e i
-  where
-    at_list : (os : List Open) → spent_of now (running_at f a os) ≡ Some l → order_now os ≡ Some o → ⊥
-    at_list [] e i = none_and_some None l refl e
-    at_list (x ∷ os) e i = steps_ask_nobody x.place.group o (holds_work now f a x os l e k) i
+no_hold_asks now f (Some a) l o e k i = at_list (groups_left a) e i where
+  at_list : (os : List Open) → spent_of now (running_at f a os) ≡ Some l → order_now os ≡ Some o → ⊥
+  at_list [] e i = none_and_some None l refl e
+  at_list (x ∷ os) e i = steps_ask_nobody x.place.group o (holds_work now f a x os l e k) i
 
 stay_lost_to : (x : Option Order) (now : ℕ) (c : Course) → Becomes (say_to x Lost (waits_now (left c.agenda))) c.rows (lost_to x now c).rows
 stay_lost_to x now c = grind (arith, same_rows, stay_told)
@@ -191,11 +187,10 @@ lost_by (Some l) c w r = all_lost c w r
 over_lost : (b : Bool) (now : ℕ) (c : Course) → fails_set (order_now (left c.agenda)) ≡ b → PassesOrFails (all_lost c) c (lost_decided b (lost now c))
 over_lost true now c e = inr
     (fails_by (all_lost c) _ c (now_lost now c) (stay_lost_to (order_now (left c.agenda)) now c) (members_lost_to (order_now (left c.agenda)) now c)
-    (busy_by (order_now (left c.agenda)) refl e))
-  where
-    busy_by : (x : Option Order) → order_now (left c.agenda) ≡ x → fails_set x ≡ true → IsBusy c.agenda
-    busy_by None f g = absurd cc
-    busy_by (Some o) f g = busy_order c.agenda o f g
+    (busy_by (order_now (left c.agenda)) refl e)) where
+      busy_by : (x : Option Order) → order_now (left c.agenda) ≡ x → fails_set x ≡ true → IsBusy c.agenda
+      busy_by None f g = absurd cc
+      busy_by (Some o) f g = busy_order c.agenda o f g
 over_lost false now c e = inl (record {
   stay = stay_settled (all_lost c) c (now_lost now c) (stay_lost_to (order_now (left c.agenda)) now c);
   calm = λ f. calm_settled (now_lost now c) (ap has_failed (outcome_lost_to (order_now (left c.agenda)) now c) ∙ f);
@@ -204,21 +199,19 @@ over_lost false now c e = inl (record {
 over_treated_as : (x : Limit) (now : ℕ) (c : Course) (l : RunningLimit) → spent_of now (limits_now c) ≡ Some l → l.limit ≡ x → PassesOrFails (all_lost c) c (treated_as x now c)
 over_treated_as HoldLimit now c l e k = inr
     (fails_by (all_lost c) _ c c (nobody_asked (order_now (left c.agenda)) refl) refl
-    (busy_limit now (freeze_limit c) c.agenda l e (λ f. not_hold (sym k ∙ f))))
-  where
-    not_hold : HoldLimit ≡ AnswerLimit → ⊥
-    not_hold e = cc
+    (busy_limit now (freeze_limit c) c.agenda l e (λ f. not_hold (sym k ∙ f)))) where
+      not_hold : HoldLimit ≡ AnswerLimit → ⊥
+      not_hold e = cc
 
-    -- while volumes are held the provider works
-    nobody_asked : (x : Option Order) → order_now (left c.agenda) ≡ x → Becomes (say_to x Lost (waits_now (left c.agenda))) c.rows c.rows
-    nobody_asked None f = same_rows c.rows
-    nobody_asked (Some o) f = absurd (no_hold_asks now (freeze_limit c) c.agenda l o e k f)
+      -- while volumes are held the provider works
+      nobody_asked : (x : Option Order) → order_now (left c.agenda) ≡ x → Becomes (say_to x Lost (waits_now (left c.agenda))) c.rows c.rows
+      nobody_asked None f = same_rows c.rows
+      nobody_asked (Some o) f = absurd (no_hold_asks now (freeze_limit c) c.agenda l o e k f)
 over_treated_as FreezeLimit now c l e k =
     inr (fails_by (all_lost c) _ c (now_lost now c) (stay_lost_to (order_now (left c.agenda)) now c) (members_lost_to (order_now (left c.agenda)) now c)
-    (busy_limit now (freeze_limit c) c.agenda l e (λ f. not_freeze (sym k ∙ f))))
-  where
-    not_freeze : FreezeLimit ≡ AnswerLimit → ⊥
-    not_freeze e = cc
+    (busy_limit now (freeze_limit c) c.agenda l e (λ f. not_freeze (sym k ∙ f)))) where
+      not_freeze : FreezeLimit ≡ AnswerLimit → ⊥
+      not_freeze e = cc
 over_treated_as AnswerLimit now c l e k = over_lost (fails_set (order_now (left c.agenda))) now c refl
 
 over_treated : (o : Option RunningLimit) (now : ℕ) (c : Course) → spent_of now (limits_now c) ≡ o → PassesOrFails (lost_by o c) c (treated o now c)

@@ -29,16 +29,15 @@ module _ (s : Plan) (so_far : List Act) (act : Act) (n : ℕ) where
       ∙ by_step (is_cut_group (open_group (left_now st))) (is_set n (in_progress st)) (cut s n so_far) refl refl refl
       ∙ ap (λ b. if b && is_set n (in_progress st) then Some so_far else cut s n so_far)
       (sym (same_group (open_group (left_now st)) (next_volume (left_now st)) act.mark) ∙ sym (ap (λ (x : Event). is_cut_reply (happens s x act.mark st).0) e))
-      ∙ ap (λ b. if is_cut_reply (reply s st act) && b then Some so_far else cut s n so_far) (sym (same_set n (in_progress st)))
-    where
-      by_step : (a b : Bool) (o : Option (List Act)) → is_cut_group (open_group (left_now st)) ≡ a → is_set n (in_progress st) ≡ b → cut s n so_far ≡ o
-          → or_cut o (cut_if (true && a && b) so_far None) ≡ (if a && b then Some so_far else o)
-      by_step true true (Some before) e f g = absurd (cut_before s so_far act n (in_progress st) before refl f e g)
-      by_step true true None e f g = refl
-      by_step true false (Some before) e f g = refl
-      by_step true false None e f g = refl
-      by_step false b (Some before) e f g = refl
-      by_step false b None e f g = refl
+      ∙ ap (λ b. if is_cut_reply (reply s st act) && b then Some so_far else cut s n so_far) (sym (same_set n (in_progress st))) where
+        by_step : (a b : Bool) (o : Option (List Act)) → is_cut_group (open_group (left_now st)) ≡ a → is_set n (in_progress st) ≡ b → cut s n so_far ≡ o
+            → or_cut o (cut_if (true && a && b) so_far None) ≡ (if a && b then Some so_far else o)
+        by_step true true (Some before) e f g = absurd (cut_before s so_far act n (in_progress st) before refl f e g)
+        by_step true true None e f g = refl
+        by_step true false (Some before) e f g = refl
+        by_step true false None e f g = refl
+        by_step false b (Some before) e f g = refl
+        by_step false b None e f g = refl
 
 pub cuts_at_the_step : (s : Plan) (so_far : List Act) (act : Act) → CutsAtTheStep s so_far act
 cuts_at_the_step s so_far act = grind (arith, stepped, not_cut)

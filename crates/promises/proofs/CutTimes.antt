@@ -1,9 +1,8 @@
 -- The row of a set that was cut has the clock at its cut: only the Cut step writes it, and it comes once.
 use Rattle.scenario.proofs.Places.{number_is}
 use Rattle.vss_model.proofs.Orderly.{true_not_false}
-use Rattle.promises.proofs.Words.{SetOutcome, Mark}
-use Rattle.promises.proofs.Words.{open_group, Plan, Event, State, SetRow, in_progress, row_changed, left_now, Act, after, state, state-append, cuts}
-use Rattle.promises.proofs.Words.{or_cut, cut-append, append_nothing, both, after_cut, not_cut_yet, orderly, row_running}
+use Rattle.promises.proofs.Words.{SetOutcome, Mark, open_group, Plan, Event, State, SetRow, in_progress, row_changed, left_now, Act, after, state, state-append}
+use Rattle.promises.proofs.Words.{cuts, or_cut, cut-append, append_nothing, both, after_cut, not_cut_yet, orderly, row_running}
 use Rattle.std.proofs.Common.{◌≡◌, ◌∙◌, ℕ, ◌+◌, ◌==◌, List, [], ◌∷◌, ◌++◌, Option, Some, None, refl, Bool, true, false, ap, sym, subst, map, find, arith}
 use Rattle.std.specs.Prelude.{◌&&◌, option_map, if◌then◌else◌}
 use Rattle.set_agenda.specs.Course.{Course, stepped as course_stepped}
@@ -20,24 +19,23 @@ use Rattle.vss_model.proofs.Changes.{IsCut, Comes, by_changes}
 abbrev pub time_in : List SetRow → ℕ → Option (Option ℕ)
 time_in rows n = option_map (λ (r : SetRow). r.cut_at) (find (λ (r : SetRow). r.number == n) rows)
 
-time_map : (f : SetRow → SetRow) → ((r : SetRow) → (f r).number ≡ r.number) → (n : ℕ) → ((r : SetRow) → (r.number == n) ≡ true → (f r).cut_at ≡ r.cut_at) → (rows : List SetRow) → time_in (map f rows) n ≡ time_in rows n
+time_map : (f : SetRow → SetRow) → ((r : SetRow) → (f r).number ≡ r.number) → (n : ℕ) → ((r : SetRow) → (r.number == n) ≡ true → (f r).cut_at ≡ r.cut_at)
+    → (rows : List SetRow) → time_in (map f rows) n ≡ time_in rows n
 time_map f num n times [] = refl
-time_map f num n times (r ∷ rows) = by_head (r.number == n) ((f r).number == n) refl (ap (λ k. k == n) (num r)) (time_map f num n times rows)
-  where
-    by_head : (b c : Bool) → (r.number == n) ≡ b → c ≡ (r.number == n) → time_in (map f rows) n ≡ time_in rows n
-        → option_map (λ (x : SetRow). x.cut_at) (if c then Some (f r) else find (λ (x : SetRow). x.number == n) (map f rows)) ≡ option_map (λ (x : SetRow). x.cut_at) (if b then Some r else find (λ (x : SetRow). x.number == n) rows)
-    by_head true true e g ih = ap Some (times r e)
-    by_head true false e g ih = absurd (differ (r.number == n) e g)
-      where
-        differ : (d : Bool) → d ≡ true → false ≡ d → ⊥
-        differ true e g = cc
-        differ false e g = cc
-    by_head false true e g ih = absurd (differ (r.number == n) e g)
-      where
-        differ : (d : Bool) → d ≡ false → true ≡ d → ⊥
-        differ true e g = cc
-        differ false e g = cc
-    by_head false false e g ih = ih
+time_map f num n times (r ∷ rows) = by_head (r.number == n) ((f r).number == n) refl (ap (λ k. k == n) (num r)) (time_map f num n times rows) where
+  by_head : (b c : Bool) → (r.number == n) ≡ b → c ≡ (r.number == n) → time_in (map f rows) n ≡ time_in rows n
+      → option_map (λ (x : SetRow). x.cut_at) (if c then Some (f r) else find (λ (x : SetRow). x.number == n) (map f rows))
+      ≡ option_map (λ (x : SetRow). x.cut_at) (if b then Some r else find (λ (x : SetRow). x.number == n) rows)
+  by_head true true e g ih = ap Some (times r e)
+  by_head true false e g ih = absurd (differ (r.number == n) e g) where
+    differ : (d : Bool) → d ≡ true → false ≡ d → ⊥
+    differ true e g = cc
+    differ false e g = cc
+  by_head false true e g ih = absurd (differ (r.number == n) e g) where
+    differ : (d : Bool) → d ≡ false → true ≡ d → ⊥
+    differ true e g = cc
+    differ false e g = cc
+  by_head false false e g ih = ih
 
 settled_time : (o : SetOutcome) (r : SetRow) → (row_settled o r).cut_at ≡ r.cut_at
 settled_time o r = grind arith
@@ -48,12 +46,12 @@ added_time m v r = grind arith
 -- a set that is there stays, where another is started
 time_more : (rows : List SetRow) (r : SetRow) (n : ℕ) (t : Option ℕ) → time_in rows n ≡ Some t → time_in (rows ++ r ∷ []) n ≡ Some t
 time_more [] r n t e = absurd cc
-time_more (q ∷ rows) r n t e = by_head (q.number == n) e (time_more rows r n t)
-  where
-    by_head : (b : Bool) → option_map (λ (x : SetRow). x.cut_at) (if b then Some q else find (λ (x : SetRow). x.number == n) rows) ≡ Some t → (time_in rows n ≡ Some t → time_in (rows ++ r ∷ []) n ≡ Some t)
-        → option_map (λ (x : SetRow). x.cut_at) (if b then Some q else find (λ (x : SetRow). x.number == n) (rows ++ r ∷ [])) ≡ Some t
-    by_head true e ih = e
-    by_head false e ih = ih e
+time_more (q ∷ rows) r n t e = by_head (q.number == n) e (time_more rows r n t) where
+  by_head : (b : Bool) → option_map (λ (x : SetRow). x.cut_at) (if b then Some q else find (λ (x : SetRow). x.number == n) rows) ≡ Some t
+      → (time_in rows n ≡ Some t → time_in (rows ++ r ∷ []) n ≡ Some t)
+      → option_map (λ (x : SetRow). x.cut_at) (if b then Some q else find (λ (x : SetRow). x.number == n) (rows ++ r ∷ [])) ≡ Some t
+  by_head true e ih = e
+  by_head false e ih = ih e
 
 -- the cut of another set
 time_cut_other : (m now n : ℕ) (rows : List SetRow) → (m == n) ≡ false → time_in (map (row_cut m now) rows) n ≡ time_in rows n
@@ -62,12 +60,14 @@ time_cut_other m now n rows e = grind (arith, time_map, changed_number, number_i
 -- its own
 time_cut_own : (n now : ℕ) (rows : List SetRow) (q : SetRow) → find (λ (r : SetRow). r.number == n) rows ≡ Some q → time_in (map (row_cut n now) rows) n ≡ Some (Some now)
 time_cut_own n now [] q e = absurd cc
-time_cut_own n now (r ∷ rows) q e = by_head (r.number == n) refl e (time_cut_own n now rows q)
-  where
-    by_head : (b : Bool) → (r.number == n) ≡ b → (if b then Some r else find (λ (x : SetRow). x.number == n) rows) ≡ Some q → (find (λ (x : SetRow). x.number == n) rows ≡ Some q → time_in (map (row_cut n now) rows) n ≡ Some (Some now))
-        → option_map (λ (x : SetRow). x.cut_at) (if (if b then with_cut now r else r).number == n then Some (if b then with_cut now r else r) else find (λ (x : SetRow). x.number == n) (map (row_cut n now) rows)) ≡ Some (Some now)
-    by_head true f e ih = ap (λ c. option_map (λ (x : SetRow). x.cut_at) (if c then Some (with_cut now r) else find (λ (x : SetRow). x.number == n) (map (row_cut n now) rows))) f
-    by_head false f e ih = ap (λ c. option_map (λ (x : SetRow). x.cut_at) (if c then Some r else find (λ (x : SetRow). x.number == n) (map (row_cut n now) rows))) f ∙ ih e
+time_cut_own n now (r ∷ rows) q e = by_head (r.number == n) refl e (time_cut_own n now rows q) where
+  by_head : (b : Bool) → (r.number == n) ≡ b → (if b then Some r else find (λ (x : SetRow). x.number == n) rows) ≡ Some q
+      → (find (λ (x : SetRow). x.number == n) rows ≡ Some q → time_in (map (row_cut n now) rows) n ≡ Some (Some now))
+      → option_map (λ (x : SetRow). x.cut_at)
+      (if (if b then with_cut now r else r).number == n then Some (if b then with_cut now r else r)
+      else find (λ (x : SetRow). x.number == n) (map (row_cut n now) rows)) ≡ Some (Some now)
+  by_head true f e ih = ap (λ c. option_map (λ (x : SetRow). x.cut_at) (if c then Some (with_cut now r) else find (λ (x : SetRow). x.number == n) (map (row_cut n now) rows))) f
+  by_head false f e ih = ap (λ c. option_map (λ (x : SetRow). x.cut_at) (if c then Some r else find (λ (x : SetRow). x.number == n) (map (row_cut n now) rows))) f ∙ ih e
 
 -- ## what keeps it
 
@@ -93,7 +93,8 @@ module _ (s : Plan) (st : State) (n : ℕ) (t : Option ℕ) where
       apart : (a b c : Bool) → a ≡ true → b ≡ true → ((a && b) && c) ≡ false → c ≡ false
       apart a b c g h f = grind arith
 
-  keeps_time : (e : Event) (m : Mark) → is_cut_of n st (record { event = e; mark = m }) ≡ false → (c : Change) (x : State) → Comes s e m st x c → time_in x.sets n ≡ Some t → time_in (apply x c).sets n ≡ Some t
+  keeps_time : (e : Event) (m : Mark) → is_cut_of n st (record { event = e; mark = m }) ≡ false → (c : Change) (x : State) → Comes s e m st x c
+      → time_in x.sets n ≡ Some t → time_in (apply x c).sets n ≡ Some t
   keeps_time e m f (StartsSet r) x i h = time_more x.sets r n t h
   keeps_time e m f (AddsVolume k v) x i h = time_map (row_changed k (with_volume v)) (λ r. changed_number k (with_volume v) r refl) n (λ r g. added_time k v r) x.sets ∙ h
   keeps_time e m f (IsCutAt k now) x i h = time_cut_other k now n x.sets (cut_other e m x k now f i.0) ∙ h
@@ -116,7 +117,8 @@ module _ (s : Plan) (so_far : List Act) (act : Act) (n : ℕ) where
   parts c = grind (arith, both)
 
   -- the Cut step of set n
-  cut_now : (o : Option SetRow) → in_progress st ≡ o → is_set n o ≡ true → is_cut_group (open_group (left_now st)) ≡ true → is_provider act.event ≡ true → time_in (after s st act).sets n ≡ Some (Some st.clock)
+  cut_now : (o : Option SetRow) → in_progress st ≡ o → is_set n o ≡ true → is_cut_group (open_group (left_now st)) ≡ true → is_provider act.event ≡ true
+      → time_in (after s st act).sets n ≡ Some (Some st.clock)
   cut_now None e f g h = absurd cc
   cut_now (Some r) e f g h =
       ap (λ (x : State). time_in x.sets n) (after_cut s st act h g)
@@ -141,11 +143,10 @@ timed_next s so_far act h n before e = grind (arith, state-append, time_next, cu
 
 timed_from : (s : Plan) (so_far acts : List Act) → Timed s so_far → Timed s (so_far ++ acts)
 timed_from s so_far [] h = subst (Timed s) (sym (append_nothing so_far)) h
-timed_from s so_far (act ∷ acts) h = subst (Timed s) (regrouped so_far acts) (timed_from s (so_far ++ act ∷ []) acts (timed_next s so_far act h))
-  where
-    regrouped : (xs ys : List Act) → (xs ++ act ∷ []) ++ ys ≡ xs ++ act ∷ ys
-    regrouped [] ys = refl
-    regrouped (x ∷ xs) ys = ap (λ zs. x ∷ zs) (regrouped xs ys)
+timed_from s so_far (act ∷ acts) h = subst (Timed s) (regrouped so_far acts) (timed_from s (so_far ++ act ∷ []) acts (timed_next s so_far act h)) where
+  regrouped : (xs ys : List Act) → (xs ++ act ∷ []) ++ ys ≡ xs ++ act ∷ ys
+  regrouped [] ys = refl
+  regrouped (x ∷ xs) ys = ap (λ zs. x ∷ zs) (regrouped xs ys)
 
 -- the row of a set that was cut
 pub cut_time : (s : Plan) (so_far : List Act) (n : ℕ) (before : List Act) → cut s n so_far ≡ Some before → time_in (state s so_far).sets n ≡ Some (Some (state s before).clock)

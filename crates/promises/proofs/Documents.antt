@@ -32,22 +32,20 @@ record IsOfPlan (o : Option WriterPlan) (m : Meta) : Type 0 where
 
 of_plan : (s : Plan) (st : State) (k : ℕ) (ps : List WriterPlan) (u : ℕ) (m : Meta) → slice_get (known_from s st k ps) u ≡ Some (Some m) → IsOfPlan (slice_get ps u) m
 of_plan s st k [] u m e = absurd cc
-of_plan s st k (p ∷ ps) zero m e = by_known (is_known s st k) e
-  where
-    by_known : (b : Bool) → Some (meta_if b p.meta) ≡ Some (Some m) → IsOfPlan (Some p) m
-    by_known true f = record { plan = p; is = refl; meta = cc }
-    by_known false f = absurd cc
+of_plan s st k (p ∷ ps) zero m e = by_known (is_known s st k) e where
+  by_known : (b : Bool) → Some (meta_if b p.meta) ≡ Some (Some m) → IsOfPlan (Some p) m
+  by_known true f = record { plan = p; is = refl; meta = cc }
+  by_known false f = absurd cc
 of_plan s st k (p ∷ ps) (suc u) m e = of_plan s st (k + 1) ps u m e
 
 first_is : (name : List ℕ) (i j : ℕ) (ps : List Part) (f : _) → found_from name j ps ≡ Some f → is_first name i j ps ≡ (f.component == i)
 first_is name i j [] f e = absurd cc
-first_is name i j (p ∷ ps) f e = by_name (bytes_eq (full_name p) name) e (first_is name i (j + 1) ps f)
-  where
-    by_name : (b : Bool) → (if b then Some (record { component = j; selectable = p.selectable }) else found_from name (j + 1) ps) ≡ Some f
-        → (found_from name (j + 1) ps ≡ Some f → is_first name i (j + 1) ps ≡ (f.component == i))
-        → (if b then j == i else is_first name i (j + 1) ps) ≡ (f.component == i)
-    by_name true g ih = let e : f ≡ record { component = j; selectable = p.selectable } = cc in rw e refl
-    by_name false g ih = ih g
+first_is name i j (p ∷ ps) f e = by_name (bytes_eq (full_name p) name) e (first_is name i (j + 1) ps f) where
+  by_name : (b : Bool) → (if b then Some (record { component = j; selectable = p.selectable }) else found_from name (j + 1) ps) ≡ Some f
+      → (found_from name (j + 1) ps ≡ Some f → is_first name i (j + 1) ps ≡ (f.component == i))
+      → (if b then j == i else is_first name i (j + 1) ps) ≡ (f.component == i)
+  by_name true g ih = let e : f ≡ record { component = j; selectable = p.selectable } = cc in rw e refl
+  by_name false g ih = ih g
 
 module _ (w i : ℕ) where
   pair_if : (q : Pair) (ps new : List Pair) (a b : Bool) → naming_if a b q ps ≡ Names new → has_pair new w i ≡ (has_pair ps w i || is_pair w i q)
@@ -198,11 +196,10 @@ module _ (s : Plan) (so_far : List Act) (q : Session) (e : (state s so_far).sess
       with_writer false b c e f = absurd cc
 
   not_picked : (w : ℕ) → is_known s st w ≡ false → picks w ≡ false
-  not_picked w f = sym (selected_is w) ∙ by_mode q.mode
-    where
-      by_mode : (m : Mode) → is_selected s st m w ≡ false
-      by_mode All = f
-      by_mode Components = false_from_ne_true (list_any (λ (p : Pair). p.writer == w) st.explicit) (λ g. true_not_false (is_known s st w) (named_is_known s st w (named_known_components s so_far) g) f)
+  not_picked w f = sym (selected_is w) ∙ by_mode q.mode where
+    by_mode : (m : Mode) → is_selected s st m w ≡ false
+    by_mode All = f
+    by_mode Components = false_from_ne_true (list_any (λ (p : Pair). p.writer == w) st.explicit) (λ g. true_not_false (is_known s st w) (named_is_known s st w (named_known_components s so_far) g) f)
 
   writer_are : (w : ℕ) (p : WriterPlan) → is_writer s w ≡ true → choices_of (selected s q st) w (meta_if (is_known s st w) p.meta) ≡ writer_listed s so_far w p
   writer_are w p f = grind (arith, taker_picked, parts_are, not_picked)
@@ -211,13 +208,12 @@ module _ (s : Plan) (so_far : List Act) (q : Session) (e : (state s so_far).sess
   writers_are w [] f = refl
   writers_are w (p ∷ ps) f =
       ap (λ xs. xs ++ chosen_from (selected s q st) (w + 1) (known_from s st (w + 1) ps)) (writer_are w p (inside w (length ps) (length s.writers) f))
-      ∙ ap (λ xs. writer_listed s so_far w p ++ xs) (writers_are (w + 1) ps (next w (length ps) (length s.writers) f))
-    where
-      inside : (w n m : ℕ) → w + suc n ≡ m → nat_lt w m ≡ true
-      inside w n m e = grind arith
+      ∙ ap (λ xs. writer_listed s so_far w p ++ xs) (writers_are (w + 1) ps (next w (length ps) (length s.writers) f)) where
+        inside : (w n m : ℕ) → w + suc n ≡ m → nat_lt w m ≡ true
+        inside w n m e = grind arith
 
-      next : (w n m : ℕ) → w + suc n ≡ m → (w + 1) + n ≡ m
-      next w n m e = omega arith
+        next : (w n m : ℕ) → w + suc n ≡ m → (w + 1) + n ≡ m
+        next w n m e = omega arith
 
   named_mode : is_named (selected s q st) ≡ not all
   named_mode = grind (arith, mode_is)

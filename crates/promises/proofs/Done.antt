@@ -36,16 +36,14 @@ newer_gone n m images l e = not_itself (nat_lt n m) (lt-ltb n m l) (kept_by (λ 
 -- where no image is counted, none stands
 none_counted : (n : ℕ) (hs : List History) (v : ℕ) → nat_lt 0 (count_images n hs) ≡ false → has_image n (at hs v) ≡ true → ⊥
 none_counted n [] v e f = no_image n v f
-none_counted n (h ∷ hs) zero e f = counted (has_image n h) (count_images n hs) f e
-  where
-    counted : (b : Bool) (k : ℕ) → b ≡ true → nat_lt 0 ((if b then 1 else 0) + k) ≡ false → ⊥
-    counted true k e f = grind arith
-    counted false k e f = cc
-none_counted n (h ∷ hs) (suc v) e f = none_counted n hs v (fewer (has_image n h) (count_images n hs) e) f
-  where
-    fewer : (b : Bool) (k : ℕ) → nat_lt 0 ((if b then 1 else 0) + k) ≡ false → nat_lt 0 k ≡ false
-    fewer true k e = grind arith
-    fewer false k e = grind arith
+none_counted n (h ∷ hs) zero e f = counted (has_image n h) (count_images n hs) f e where
+  counted : (b : Bool) (k : ℕ) → b ≡ true → nat_lt 0 ((if b then 1 else 0) + k) ≡ false → ⊥
+  counted true k e f = grind arith
+  counted false k e f = cc
+none_counted n (h ∷ hs) (suc v) e f = none_counted n hs v (fewer (has_image n h) (count_images n hs) e) f where
+  fewer : (b : Bool) (k : ℕ) → nat_lt 0 ((if b then 1 else 0) + k) ≡ false → nat_lt 0 k ≡ false
+  fewer true k e = grind arith
+  fewer false k e = grind arith
 
 -- ## the lines
 
@@ -68,13 +66,12 @@ module _ (s : Plan) (st : State) where
 
   image_gone : (n v : ℕ) (k : Kept) → kept_image st n v ≡ Some k → stands (delete_image n v st).1 n v ≡ true → ⊥
   unfolding delete_image
-  image_gone n v k e f = by_kept (kept_image st n v) e f
-    where
-      by_kept : (o : Option Kept) → o ≡ Some k → stands (delete_kept v o st).1 n v ≡ true → ⊥
-      by_kept None g h = absurd cc
-      by_kept (Some x) g h =
-          let same : x.row.number ≡ n = ap (λ (y : Kept). y.row.number) (some_same x k g) ∙ row_is n v k e in
-          dropped_gone n (at st.volumes v) (subst (λ m. has_image n (dropped m (at st.volumes v)) ≡ true) same (kept_change (dropped x.row.number) n st.volumes v h))
+  image_gone n v k e f = by_kept (kept_image st n v) e f where
+    by_kept : (o : Option Kept) → o ≡ Some k → stands (delete_kept v o st).1 n v ≡ true → ⊥
+    by_kept None g h = absurd cc
+    by_kept (Some x) g h =
+        let same : x.row.number ≡ n = ap (λ (y : Kept). y.row.number) (some_same x k g) ∙ row_is n v k e in
+        dropped_gone n (at st.volumes v) (subst (λ m. has_image n (dropped m (at st.volumes v)) ≡ true) same (kept_change (dropped x.row.number) n st.volumes v h))
 
   reverted_gone : (n v m : ℕ) (k : Kept) (mark : Mark) → k.row.number ≡ n → reverts mark ≡ true → n < m → stands (reverted_as s v k mark st).1 m v ≡ true → ⊥
   reverted_gone n v m k Clean e r l f = newer_gone k.row.number m (at st.volumes v).images (subst (λ x. x < m) (sym e) l) (kept_change (reverted k.row.number k.point) m st.volumes v f)

@@ -17,14 +17,13 @@ use Rattle.promises.proofs.SetRows.{later_again, later_row, keeps_rows, go_on_fr
 
 none_runs : (rows : List SetRow) (n : ℕ) (r : SetRow) → find (λ (q : SetRow). is_running q.result) rows ≡ None → find (λ (q : SetRow). q.number == n) rows ≡ Some r → is_running r.result ≡ false
 none_runs [] n r e f = absurd cc
-none_runs (q ∷ rows) n r e f = by_heads (is_running q.result) (q.number == n) refl e f (none_runs rows n r)
-  where
-    by_heads : (b c : Bool) → is_running q.result ≡ b → (if b then Some q else find (λ (x : SetRow). is_running x.result) rows) ≡ None
-        → (if c then Some q else find (λ (x : SetRow). x.number == n) rows) ≡ Some r
-        → (find (λ (x : SetRow). is_running x.result) rows ≡ None → find (λ (x : SetRow). x.number == n) rows ≡ Some r → is_running r.result ≡ false) → is_running r.result ≡ false
-    by_heads true c g e f ih = absurd cc
-    by_heads false true g e f ih = subst (λ (x : SetRow). is_running x.result ≡ false) (some_same q r f) g
-    by_heads false false g e f ih = ih e f
+none_runs (q ∷ rows) n r e f = by_heads (is_running q.result) (q.number == n) refl e f (none_runs rows n r) where
+  by_heads : (b c : Bool) → is_running q.result ≡ b → (if b then Some q else find (λ (x : SetRow). is_running x.result) rows) ≡ None
+      → (if c then Some q else find (λ (x : SetRow). x.number == n) rows) ≡ Some r
+      → (find (λ (x : SetRow). is_running x.result) rows ≡ None → find (λ (x : SetRow). x.number == n) rows ≡ Some r → is_running r.result ≡ false) → is_running r.result ≡ false
+  by_heads true c g e f ih = absurd cc
+  by_heads false true g e f ih = subst (λ (x : SetRow). is_running x.result ≡ false) (some_same q r f) g
+  by_heads false false g e f ih = ih e f
 
 later_ends : (st : State) (r : SetRow) → in_progress st ≡ None → HasLaterRow st r → HasEnded st r
 later_ends st r e h = record { has = h; over = none_runs st.sets r.number h.row e h.is_row }
@@ -57,29 +56,27 @@ module _ (s : Plan) (st : State) (act : Act) (calm : IsCalm s st act) where
 runs_found : (k n : ℕ) (rows : List SetRow) (r : SetRow) → OverButNewest rows → find (λ (q : SetRow). q.number == n) rows ≡ Some r → is_running r.result ≡ true
     → find (λ (q : SetRow). is_running q.result) rows ≡ Some r
 runs_found k n [] r h e f = absurd cc
-runs_found k n (q ∷ []) r h e f = alone (q.number == n) e
-  where
-    running : (b : Bool) → b ≡ true → q ≡ r → (if b then Some q else None) ≡ Some r
-    running true e g = ap (λ x. Some x) g
-    running false e g = absurd cc
+runs_found k n (q ∷ []) r h e f = alone (q.number == n) e where
+  running : (b : Bool) → b ≡ true → q ≡ r → (if b then Some q else None) ≡ Some r
+  running true e g = ap (λ x. Some x) g
+  running false e g = absurd cc
 
-    alone : (b : Bool) → (if b then Some q else None) ≡ Some r → (if is_running q.result then Some q else None) ≡ Some r
-    alone true e = let same = some_same q r e in running (is_running q.result) (subst (λ (x : SetRow). is_running x.result ≡ true) (sym same) f) same
-    alone false e = absurd cc
-runs_found k n (q ∷ p ∷ rows) r h e f = by_head (q.number == n) e (runs_found k n (p ∷ rows) r h.1)
-  where
-    skip : (b : Bool) → b ≡ false → find (λ (x : SetRow). is_running x.result) (p ∷ rows) ≡ Some r → (if b then Some q else find (λ (x : SetRow). is_running x.result) (p ∷ rows)) ≡ Some r
-    skip true e g = absurd cc
-    skip false e g = g
+  alone : (b : Bool) → (if b then Some q else None) ≡ Some r → (if is_running q.result then Some q else None) ≡ Some r
+  alone true e = let same = some_same q r e in running (is_running q.result) (subst (λ (x : SetRow). is_running x.result ≡ true) (sym same) f) same
+  alone false e = absurd cc
+runs_found k n (q ∷ p ∷ rows) r h e f = by_head (q.number == n) e (runs_found k n (p ∷ rows) r h.1) where
+  skip : (b : Bool) → b ≡ false → find (λ (x : SetRow). is_running x.result) (p ∷ rows) ≡ Some r → (if b then Some q else find (λ (x : SetRow). is_running x.result) (p ∷ rows)) ≡ Some r
+  skip true e g = absurd cc
+  skip false e g = g
 
-    clash : is_running r.result ≡ false → ⊥
-    clash g = absurd cc
+  clash : is_running r.result ≡ false → ⊥
+  clash g = absurd cc
 
-    by_head : (b : Bool) → (if b then Some q else find (λ (x : SetRow). x.number == n) (p ∷ rows)) ≡ Some r
-        → (find (λ (x : SetRow). x.number == n) (p ∷ rows) ≡ Some r → is_running r.result ≡ true → find (λ (x : SetRow). is_running x.result) (p ∷ rows) ≡ Some r)
-        → (if is_running q.result then Some q else find (λ (x : SetRow). is_running x.result) (p ∷ rows)) ≡ Some r
-    by_head true e ih = absurd (clash (subst (λ (x : SetRow). is_running x.result ≡ false) (some_same q r e) h.0))
-    by_head false e ih = skip (is_running q.result) h.0 (ih e f)
+  by_head : (b : Bool) → (if b then Some q else find (λ (x : SetRow). x.number == n) (p ∷ rows)) ≡ Some r
+      → (find (λ (x : SetRow). x.number == n) (p ∷ rows) ≡ Some r → is_running r.result ≡ true → find (λ (x : SetRow). is_running x.result) (p ∷ rows) ≡ Some r)
+      → (if is_running q.result then Some q else find (λ (x : SetRow). is_running x.result) (p ∷ rows)) ≡ Some r
+  by_head true e ih = absurd (clash (subst (λ (x : SetRow). is_running x.result ≡ false) (some_same q r e) h.0))
+  by_head false e ih = skip (is_running q.result) h.0 (ih e f)
 
 -- ## a calm set completes
 
@@ -99,7 +96,8 @@ none_some st r X e f = absurd cc
 abbrev Rest : Plan → List Act → List Act → Type 0
 Rest s before rest = (q : SetRow) → in_progress (state s (before ++ rest)) ≡ None → in_progress (state s before) ≡ Some q → CalmWhile s before rest q.number → HasCompleted (state s (before ++ rest)) q
 
-module _ (s : Plan) (so_far rest : List Act) (act : Act) (r : SetRow) (over : in_progress (state s (so_far ++ act ∷ rest)) ≡ None) (e : in_progress (state s so_far) ≡ Some r) (calm : CalmWhile s so_far (act ∷ rest) r.number) where
+module _ (s : Plan) (so_far rest : List Act) (act : Act) (r : SetRow) (over : in_progress (state s (so_far ++ act ∷ rest)) ≡ None)
+    (e : in_progress (state s so_far) ≡ Some r) (calm : CalmWhile s so_far (act ∷ rest) r.number) where
   is_here : in_progress (state s (so_far ++ [])) ≡ Some r
   is_here = subst (λ acts. in_progress (state s acts) ≡ Some r) (sym (append_nothing so_far)) e
 

@@ -19,27 +19,25 @@ use Rattle.scenario.proofs.Places.{number_is}
 none_before : (n u v : ℕ) (hs ks : List History) → v < u → is_among v (volumes_losing n u hs ks) ≡ false
 none_before n u v [] ks l = refl
 none_before n u v (h ∷ hs) [] l = refl
-none_before n u v (h ∷ hs) (k ∷ ks) l = by_loss (has_image n h && not (has_image n k)) (none_before n (u + 1) v hs ks (still_less u v l))
-  where
-    by_loss : (b : Bool) → is_among v (volumes_losing n (u + 1) hs ks) ≡ false → is_among v (if b then u ∷ volumes_losing n (u + 1) hs ks else volumes_losing n (u + 1) hs ks) ≡ false
-    by_loss true ih = or_from (u == v) (is_among v (volumes_losing n (u + 1) hs ks)) (beyond u v l) ih
-    by_loss false ih = ih
+none_before n u v (h ∷ hs) (k ∷ ks) l = by_loss (has_image n h && not (has_image n k)) (none_before n (u + 1) v hs ks (still_less u v l)) where
+  by_loss : (b : Bool) → is_among v (volumes_losing n (u + 1) hs ks) ≡ false → is_among v (if b then u ∷ volumes_losing n (u + 1) hs ks else volumes_losing n (u + 1) hs ks) ≡ false
+  by_loss true ih = or_from (u == v) (is_among v (volumes_losing n (u + 1) hs ks)) (beyond u v l) ih
+  by_loss false ih = ih
 
 among_losing : (n u k v : ℕ) (hs ks : List History) → length ks ≡ length hs → v ≡ u + k → is_among v (volumes_losing n u hs ks) ≡ (has_image n (at hs k) && not (has_image n (at ks k)))
 among_losing n u zero v [] ks e f = refl
 among_losing n u (suc k) v [] ks e f = refl
 among_losing n u k v (h ∷ hs) [] e f = absurd cc
-among_losing n u zero v (h ∷ hs) (k ∷ ks) e f = by_loss (has_image n h && not (has_image n k)) (none_before n (u + 1) v hs ks (before u v f))
-  where
-    before : (a b : ℕ) → b ≡ a + 0 → b < a + 1
-    before a b e = omega (arith, e)
+among_losing n u zero v (h ∷ hs) (k ∷ ks) e f = by_loss (has_image n h && not (has_image n k)) (none_before n (u + 1) v hs ks (before u v f)) where
+  before : (a b : ℕ) → b ≡ a + 0 → b < a + 1
+  before a b e = omega (arith, e)
 
-    same : (a b : ℕ) → b ≡ a + 0 → (a == b) ≡ true
-    same a b e = grind arith
+  same : (a b : ℕ) → b ≡ a + 0 → (a == b) ≡ true
+  same a b e = grind arith
 
-    by_loss : (b : Bool) → is_among v (volumes_losing n (u + 1) hs ks) ≡ false → is_among v (if b then u ∷ volumes_losing n (u + 1) hs ks else volumes_losing n (u + 1) hs ks) ≡ b
-    by_loss true ih = or_left (u == v) (is_among v (volumes_losing n (u + 1) hs ks)) (same u v f)
-    by_loss false ih = ih
+  by_loss : (b : Bool) → is_among v (volumes_losing n (u + 1) hs ks) ≡ false → is_among v (if b then u ∷ volumes_losing n (u + 1) hs ks else volumes_losing n (u + 1) hs ks) ≡ b
+  by_loss true ih = or_left (u == v) (is_among v (volumes_losing n (u + 1) hs ks)) (same u v f)
+  by_loss false ih = ih
 among_losing n u (suc j) v (h ∷ hs) (k ∷ ks) e f = by_loss (has_image n h && not (has_image n k)) (among_losing n (u + 1) j v hs ks (one_less (length ks) (length hs) e) (shift u j v f))
   where
     one_less : (a b : ℕ) → suc a ≡ suc b → a ≡ b
@@ -64,53 +62,48 @@ among_losing n u (suc j) v (h ∷ hs) (k ∷ ks) e f = by_loss (has_image n h &&
 
 told_of : (m n v : ℕ) (vs : List ℕ) → is_told n v (evicted_of m vs) ≡ ((m == n) && is_among v vs)
 told_of m n v [] = off (m == n)
-told_of m n v (u ∷ vs) = ap (λ b. ((m == n) && (u == v)) || b) (told_of m n v vs) ∙ joined (m == n) (u == v) (is_among v vs)
-  where
-    joined : (a b c : Bool) → ((a && b) || (a && c)) ≡ (a && (b || c))
-    joined true b c = refl
-    joined false b c = refl
+told_of m n v (u ∷ vs) = ap (λ b. ((m == n) && (u == v)) || b) (told_of m n v vs) ∙ joined (m == n) (u == v) (is_among v vs) where
+  joined : (a b c : Bool) → ((a && b) || (a && c)) ≡ (a && (b || c))
+  joined true b c = refl
+  joined false b c = refl
 
 module _ (n v : ℕ) (hs ks : List History) where
   abbrev told_row : SetRow → List Evicted
   told_row r = evicted_of r.number (volumes_losing r.number 0 hs ks)
 
-  told_rows : (rows : List SetRow)
-      → is_told n v (flat_map told_row (filter (λ r. is_complete r.result) rows))
+  told_rows : (rows : List SetRow) → is_told n v (flat_map told_row (filter (λ r. is_complete r.result) rows))
       ≡ (list_any (λ (r : SetRow). (r.number == n) && is_complete r.result) rows && is_among v (volumes_losing n 0 hs ks))
   told_rows [] = refl
-  told_rows (r ∷ rows) = by_result (is_complete r.result) (told_rows rows)
-    where
-      not_it : (a b : Bool) → b ≡ ((a && false) || b)
-      not_it true b = refl
-      not_it false b = refl
+  told_rows (r ∷ rows) = by_result (is_complete r.result) (told_rows rows) where
+    not_it : (a b : Bool) → b ≡ ((a && false) || b)
+    not_it true b = refl
+    not_it false b = refl
 
-      either_is : (a b c d e : Bool) → d ≡ (b && c) → (a ≡ true → e ≡ c) → ((a && e) || d) ≡ (((a && true) || b) && c)
-      either_is true b true d e f g = ap (λ x. x || d) (g refl)
-      either_is true b false d e f g = ap (λ x. x || d) (g refl) ∙ f ∙ and-false b
-      either_is false b c d e f g = f
+    either_is : (a b c d e : Bool) → d ≡ (b && c) → (a ≡ true → e ≡ c) → ((a && e) || d) ≡ (((a && true) || b) && c)
+    either_is true b true d e f g = ap (λ x. x || d) (g refl)
+    either_is true b false d e f g = ap (λ x. x || d) (g refl) ∙ f ∙ and-false b
+    either_is false b c d e f g = f
 
-      by_result : (b : Bool)
-          → is_told n v (flat_map told_row (filter (λ q. is_complete q.result) rows))
-          ≡ (list_any (λ (q : SetRow). (q.number == n) && is_complete q.result) rows && is_among v (volumes_losing n 0 hs ks))
-          → is_told n v (flat_map told_row (if b then r ∷ filter (λ q. is_complete q.result) rows else filter (λ q. is_complete q.result) rows))
-          ≡ ((((r.number == n) && b) || list_any (λ (q : SetRow). (q.number == n) && is_complete q.result) rows) && is_among v (volumes_losing n 0 hs ks))
-      by_result true ih =
-          list_any-append (λ (e : Evicted). (e.set == n) && (e.volume == v)) (told_row r) (flat_map told_row (filter (λ q. is_complete q.result) rows))
-          ∙ ap (λ b. b || is_told n v (flat_map told_row (filter (λ q. is_complete q.result) rows))) (told_of r.number n v (volumes_losing r.number 0 hs ks))
-          ∙ either_is (r.number == n) (list_any (λ (q : SetRow). (q.number == n) && is_complete q.result) rows) (is_among v (volumes_losing n 0 hs ks))
-          (is_told n v (flat_map told_row (filter (λ q. is_complete q.result) rows)))
-          (is_among v (volumes_losing r.number 0 hs ks)) ih (λ e. ap (λ m. is_among v (volumes_losing m 0 hs ks)) (number_is r.number n e))
-      by_result false ih = ih ∙ ap (λ b. b && is_among v (volumes_losing n 0 hs ks)) (not_it (r.number == n) (list_any (λ (q : SetRow). (q.number == n) && is_complete q.result) rows))
+    by_result : (b : Bool) → is_told n v (flat_map told_row (filter (λ q. is_complete q.result) rows))
+        ≡ (list_any (λ (q : SetRow). (q.number == n) && is_complete q.result) rows && is_among v (volumes_losing n 0 hs ks))
+        → is_told n v (flat_map told_row (if b then r ∷ filter (λ q. is_complete q.result) rows else filter (λ q. is_complete q.result) rows))
+        ≡ ((((r.number == n) && b) || list_any (λ (q : SetRow). (q.number == n) && is_complete q.result) rows) && is_among v (volumes_losing n 0 hs ks))
+    by_result true ih =
+        list_any-append (λ (e : Evicted). (e.set == n) && (e.volume == v)) (told_row r) (flat_map told_row (filter (λ q. is_complete q.result) rows))
+        ∙ ap (λ b. b || is_told n v (flat_map told_row (filter (λ q. is_complete q.result) rows))) (told_of r.number n v (volumes_losing r.number 0 hs ks))
+        ∙ either_is (r.number == n) (list_any (λ (q : SetRow). (q.number == n) && is_complete q.result) rows) (is_among v (volumes_losing n 0 hs ks))
+        (is_told n v (flat_map told_row (filter (λ q. is_complete q.result) rows)))
+        (is_among v (volumes_losing r.number 0 hs ks)) ih (λ e. ap (λ m. is_among v (volumes_losing m 0 hs ks)) (number_is r.number n e))
+    by_result false ih = ih ∙ ap (λ b. b && is_among v (volumes_losing n 0 hs ks)) (not_it (r.number == n) (list_any (λ (q : SetRow). (q.number == n) && is_complete q.result) rows))
 
 -- ## in order
 
 all_of_both : (test : Evicted → Bool) (xs ys : List Evicted) → list_all test xs ≡ true → list_all test ys ≡ true → list_all test (xs ++ ys) ≡ true
 all_of_both test [] ys e f = f
-all_of_both test (x ∷ xs) ys e f = by_first (test x) e (all_of_both test xs ys)
-  where
-    by_first : (b : Bool) → (b && list_all test xs) ≡ true → (list_all test xs ≡ true → list_all test ys ≡ true → list_all test (xs ++ ys) ≡ true) → (b && list_all test (xs ++ ys)) ≡ true
-    by_first true e ih = ih e f
-    by_first false e ih = absurd cc
+all_of_both test (x ∷ xs) ys e f = by_first (test x) e (all_of_both test xs ys) where
+  by_first : (b : Bool) → (b && list_all test xs) ≡ true → (list_all test xs ≡ true → list_all test ys ≡ true → list_all test (xs ++ ys) ≡ true) → (b && list_all test (xs ++ ys)) ≡ true
+  by_first true e ih = ih e f
+  by_first false e ih = absurd cc
 
 -- images of one set, on volumes from u on
 abbrev of_set : ℕ → ℕ → List History → List History → List Evicted
@@ -119,42 +112,39 @@ of_set m u hs ks = evicted_of m (volumes_losing m u hs ks)
 after_volume : (m u w : ℕ) (hs ks : List History) → w < u → list_all (goes_before (record { set = m; volume = w })) (of_set m u hs ks) ≡ true
 after_volume m u w [] ks l = refl
 after_volume m u w (h ∷ hs) [] l = refl
-after_volume m u w (h ∷ hs) (k ∷ ks) l = by_loss (has_image m h && not (has_image m k)) (after_volume m (u + 1) w hs ks (still_less u w l))
-  where
-    before : (m a b : ℕ) → b < a → (nat_lt m m || ((m == m) && nat_lt b a)) ≡ true
-    before m a b l = grind arith
+after_volume m u w (h ∷ hs) (k ∷ ks) l = by_loss (has_image m h && not (has_image m k)) (after_volume m (u + 1) w hs ks (still_less u w l)) where
+  before : (m a b : ℕ) → b < a → (nat_lt m m || ((m == m) && nat_lt b a)) ≡ true
+  before m a b l = grind arith
 
-    by_loss : (b : Bool) → list_all (goes_before (record { set = m; volume = w })) (of_set m (u + 1) hs ks) ≡ true
-        → list_all (goes_before (record { set = m; volume = w })) (evicted_of m (if b then u ∷ volumes_losing m (u + 1) hs ks else volumes_losing m (u + 1) hs ks)) ≡ true
-    by_loss true ih = and_from (goes_before (record { set = m; volume = w }) (record { set = m; volume = u }))
-        (list_all (goes_before (record { set = m; volume = w })) (of_set m (u + 1) hs ks)) (before m u w l) ih
-    by_loss false ih = ih
+  by_loss : (b : Bool) → list_all (goes_before (record { set = m; volume = w })) (of_set m (u + 1) hs ks) ≡ true
+      → list_all (goes_before (record { set = m; volume = w })) (evicted_of m (if b then u ∷ volumes_losing m (u + 1) hs ks else volumes_losing m (u + 1) hs ks)) ≡ true
+  by_loss true ih = and_from (goes_before (record { set = m; volume = w }) (record { set = m; volume = u }))
+      (list_all (goes_before (record { set = m; volume = w })) (of_set m (u + 1) hs ks)) (before m u w l) ih
+  by_loss false ih = ih
 
 -- a list in order behind images of one set
 in_order_on : (m u : ℕ) (hs ks : List History) (es : List Evicted) → are_in_order es ≡ true → list_all (λ (f : Evicted). nat_lt m f.set) es ≡ true → are_in_order (of_set m u hs ks ++ es) ≡ true
 in_order_on m u [] ks es e f = e
 in_order_on m u (h ∷ hs) [] es e f = e
-in_order_on m u (h ∷ hs) (k ∷ ks) es e f = by_loss (has_image m h && not (has_image m k)) (in_order_on m (u + 1) hs ks es e f)
-  where
-    next : (a : ℕ) → a < a + 1
-    next a = omega arith
+in_order_on m u (h ∷ hs) (k ∷ ks) es e f = by_loss (has_image m h && not (has_image m k)) (in_order_on m (u + 1) hs ks es e f) where
+  next : (a : ℕ) → a < a + 1
+  next a = omega arith
 
-    later_sets : (fs : List Evicted) → list_all (λ (x : Evicted). nat_lt m x.set) fs ≡ true → list_all (goes_before (record { set = m; volume = u })) fs ≡ true
-    later_sets [] g = refl
-    later_sets (x ∷ fs) g = by_less (nat_lt m x.set) g (later_sets fs)
-      where
-        by_less : (b : Bool) → (b && list_all (λ (y : Evicted). nat_lt m y.set) fs) ≡ true
-            → (list_all (λ (y : Evicted). nat_lt m y.set) fs ≡ true → list_all (goes_before (record { set = m; volume = u })) fs ≡ true)
-            → ((b || ((m == x.set) && nat_lt u x.volume)) && list_all (goes_before (record { set = m; volume = u })) fs) ≡ true
-        by_less true g ih = ih g
-        by_less false g ih = absurd cc
+  later_sets : (fs : List Evicted) → list_all (λ (x : Evicted). nat_lt m x.set) fs ≡ true → list_all (goes_before (record { set = m; volume = u })) fs ≡ true
+  later_sets [] g = refl
+  later_sets (x ∷ fs) g = by_less (nat_lt m x.set) g (later_sets fs) where
+    by_less : (b : Bool) → (b && list_all (λ (y : Evicted). nat_lt m y.set) fs) ≡ true
+        → (list_all (λ (y : Evicted). nat_lt m y.set) fs ≡ true → list_all (goes_before (record { set = m; volume = u })) fs ≡ true)
+        → ((b || ((m == x.set) && nat_lt u x.volume)) && list_all (goes_before (record { set = m; volume = u })) fs) ≡ true
+    by_less true g ih = ih g
+    by_less false g ih = absurd cc
 
-    by_loss : (b : Bool) → are_in_order (of_set m (u + 1) hs ks ++ es) ≡ true
-        → are_in_order (evicted_of m (if b then u ∷ volumes_losing m (u + 1) hs ks else volumes_losing m (u + 1) hs ks) ++ es) ≡ true
-    by_loss true ih =
-        and_from (list_all (goes_before (record { set = m; volume = u })) (of_set m (u + 1) hs ks ++ es)) (are_in_order (of_set m (u + 1) hs ks ++ es))
-        (all_of_both (goes_before (record { set = m; volume = u })) (of_set m (u + 1) hs ks) es (after_volume m (u + 1) u hs ks (next u)) (later_sets es f)) ih
-    by_loss false ih = ih
+  by_loss : (b : Bool) → are_in_order (of_set m (u + 1) hs ks ++ es) ≡ true
+      → are_in_order (evicted_of m (if b then u ∷ volumes_losing m (u + 1) hs ks else volumes_losing m (u + 1) hs ks) ++ es) ≡ true
+  by_loss true ih =
+      and_from (list_all (goes_before (record { set = m; volume = u })) (of_set m (u + 1) hs ks ++ es)) (are_in_order (of_set m (u + 1) hs ks ++ es))
+      (all_of_both (goes_before (record { set = m; volume = u })) (of_set m (u + 1) hs ks) es (after_volume m (u + 1) u hs ks (next u)) (later_sets es f)) ih
+  by_loss false ih = ih
 
 of_later_set : (m k : ℕ) (vs : List ℕ) → m < k → list_all (λ (f : Evicted). nat_lt m f.set) (evicted_of k vs) ≡ true
 of_later_set m k [] l = refl
@@ -164,20 +154,19 @@ module _ (hs ks : List History) where
   later_rows : (m k : ℕ) (rows : List SetRow) → NumberedFrom k rows → m < k
       → list_all (λ (f : Evicted). nat_lt m f.set) (flat_map (told_row 0 0 hs ks) (filter (λ r. is_complete r.result) rows)) ≡ true
   later_rows m k [] num l = refl
-  later_rows m k (r ∷ rows) num l = by_result (is_complete r.result) (later_rows m (k + 1) rows num.1 (still m k l))
-    where
-      still : (a b : ℕ) → a < b → a < b + 1
-      still a b l = omega arith
+  later_rows m k (r ∷ rows) num l = by_result (is_complete r.result) (later_rows m (k + 1) rows num.1 (still m k l)) where
+    still : (a b : ℕ) → a < b → a < b + 1
+    still a b l = omega arith
 
-      own : (a b c : ℕ) → c ≡ b → a < b → a < c
-      own a b c e l = omega (arith, e, l)
+    own : (a b c : ℕ) → c ≡ b → a < b → a < c
+    own a b c e l = omega (arith, e, l)
 
-      by_result : (b : Bool) → list_all (λ (f : Evicted). nat_lt m f.set) (flat_map (told_row 0 0 hs ks) (filter (λ q. is_complete q.result) rows)) ≡ true
-          → list_all (λ (f : Evicted). nat_lt m f.set) (flat_map (told_row 0 0 hs ks) (if b then r ∷ filter (λ q. is_complete q.result) rows else filter (λ q. is_complete q.result) rows)) ≡ true
-      by_result true ih =
-          all_of_both (λ (f : Evicted). nat_lt m f.set) (told_row 0 0 hs ks r) (flat_map (told_row 0 0 hs ks) (filter (λ q. is_complete q.result) rows))
-          (of_later_set m r.number (volumes_losing r.number 0 hs ks) (own m k r.number num.0 l)) ih
-      by_result false ih = ih
+    by_result : (b : Bool) → list_all (λ (f : Evicted). nat_lt m f.set) (flat_map (told_row 0 0 hs ks) (filter (λ q. is_complete q.result) rows)) ≡ true
+        → list_all (λ (f : Evicted). nat_lt m f.set) (flat_map (told_row 0 0 hs ks) (if b then r ∷ filter (λ q. is_complete q.result) rows else filter (λ q. is_complete q.result) rows)) ≡ true
+    by_result true ih =
+        all_of_both (λ (f : Evicted). nat_lt m f.set) (told_row 0 0 hs ks r) (flat_map (told_row 0 0 hs ks) (filter (λ q. is_complete q.result) rows))
+        (of_later_set m r.number (volumes_losing r.number 0 hs ks) (own m k r.number num.0 l)) ih
+    by_result false ih = ih
 
   rows_in_order : (k : ℕ) (rows : List SetRow) → NumberedFrom k rows → are_in_order (flat_map (told_row 0 0 hs ks) (filter (λ r. is_complete r.result) rows)) ≡ true
   rows_in_order k [] num = refl
@@ -211,28 +200,25 @@ module _ (s : Plan) (st : State) (num : NumberedFrom 1 st.sets) (n v u : ℕ) (w
 
   -- of a kept image nothing else is taken
   stands_on : is_kept_set st n ≡ true → stands st n v ≡ true → stands written_to n v ≡ stands fits n v
-  stands_on e h = both_ways (stands written_to n v) (stands fits n v) ((fewer.each v).sets n) (λ g. true_from_ne_false (stands written_to n v) (gone g))
-    where
-      gone : stands fits n v ≡ true → stands written_to n v ≡ false → ⊥
-      gone g f = by_cases (wants_or_fails s st num n v u w mark (set_loses_image (in_progress st) st.volumes fits.volumes) (stands fits n v) refl h f)
-        where
-          by_cases : Fails st written_to n ⊎ (stands fits n v ≡ false) → ⊥
-          by_cases (inl x) = not_failed e x
-          by_cases (inr x) = true_not_false (stands fits n v) g x
+  stands_on e h = both_ways (stands written_to n v) (stands fits n v) ((fewer.each v).sets n) (λ g. true_from_ne_false (stands written_to n v) (gone g)) where
+    gone : stands fits n v ≡ true → stands written_to n v ≡ false → ⊥
+    gone g f = by_cases (wants_or_fails s st num n v u w mark (set_loses_image (in_progress st) st.volumes fits.volumes) (stands fits n v) refl h f) where
+      by_cases : Fails st written_to n ⊎ (stands fits n v ≡ false) → ⊥
+      by_cases (inl x) = not_failed e x
+      by_cases (inr x) = true_not_false (stands fits n v) g x
 
   told_for : is_told n v (evicted_for s st u w.block) ≡ (is_kept_set st n && (stands st n v && not (stands written_to n v)))
   told_for =
       told_rows n v st.volumes fits.volumes st.sets
       ∙ ap (λ b. is_kept_set st n && b) (among_losing n 0 v v st.volumes fits.volumes (as_many_gone _ _ st.volumes) (zero_plus v))
-      ∙ by_kept (is_kept_set st n) (stands st n v) refl refl
-    where
-      zero_plus : (a : ℕ) → a ≡ 0 + a
-      zero_plus a = omega arith
+      ∙ by_kept (is_kept_set st n) (stands st n v) refl refl where
+        zero_plus : (a : ℕ) → a ≡ 0 + a
+        zero_plus a = omega arith
 
-      by_kept : (b c : Bool) → is_kept_set st n ≡ b → stands st n v ≡ c → (b && (c && not (stands fits n v))) ≡ (b && (c && not (stands written_to n v)))
-      by_kept true true e f = ap not (sym (stands_on e f))
-      by_kept true false e f = refl
-      by_kept false c e f = refl
+        by_kept : (b c : Bool) → is_kept_set st n ≡ b → stands st n v ≡ c → (b && (c && not (stands fits n v))) ≡ (b && (c && not (stands written_to n v)))
+        by_kept true true e f = ap not (sym (stands_on e f))
+        by_kept true false e f = refl
+        by_kept false c e f = refl
 
 told_if : (s : Plan) (st : State) (act : Act) (n v u : ℕ) (w : Write) (event : Event) → NumberedFrom 1 st.sets → act.event ≡ event
     → evicted s st event ≡ evicted_for s st u w.block → after s st act ≡ (write s u w act.mark st).1

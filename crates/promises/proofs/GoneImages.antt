@@ -8,55 +8,52 @@ use Rattle.std.specs.Prelude.{not, nat_lt, is_some, unwrap_or, option_map, if◌
 use Rattle.vss_names.specs.declared.set_outcome.SetOutcome.TheVariants.{Running as RunningSet, Failed as FailedSet}
 use Rattle.set_agenda.specs.Course.{Course, posted, failed as course_failed, settled_in, settled, worked, stepped as course_stepped, change_at}
 use Rattle.vss_model.specs.Ending.{Ending, SetFails, ending, row_settled, images_dropped, concluded, followed, failed_in}
-use Rattle.promises.proofs.Truth.{not_false}
 use Rattle.promises.proofs.Members.{next_up}
 use Rattle.scenario.proofs.Places.{number_is}
+use Rattle.vss_model.proofs.GoesOn.{not_false}
 
 -- ## lists of images
 
 pub gone_by : (test : ℕ → Bool) (n : ℕ) (images : List Image) → is_some (point_in n images) ≡ true → is_some (point_in n (filter (λ i. test i.set) images)) ≡ false → test n ≡ false
 gone_by test n [] e f = absurd cc
-gone_by test n (i ∷ images) e f = by_head (i.set == n) (test i.set) refl refl e f (gone_by test n images)
-  where
-    found : (c : Bool) (o : Option ℕ) → c ≡ true → is_some (if c then Some i.point else o) ≡ true
-    found true o e = refl
-    found false o e = absurd cc
+gone_by test n (i ∷ images) e f = by_head (i.set == n) (test i.set) refl refl e f (gone_by test n images) where
+  found : (c : Bool) (o : Option ℕ) → c ≡ true → is_some (if c then Some i.point else o) ≡ true
+  found true o e = refl
+  found false o e = absurd cc
 
-    skipped : (c : Bool) (o : Option ℕ) → c ≡ false → is_some (if c then Some i.point else o) ≡ false → is_some o ≡ false
-    skipped true o e f = absurd cc
-    skipped false o e f = f
+  skipped : (c : Bool) (o : Option ℕ) → c ≡ false → is_some (if c then Some i.point else o) ≡ false → is_some o ≡ false
+  skipped true o e f = absurd cc
+  skipped false o e f = f
 
-    by_head : (b c : Bool) → (i.set == n) ≡ b → test i.set ≡ c → is_some (if b then Some i.point else point_in n images) ≡ true
-        → is_some (point_in n (if c then i ∷ filter (λ i. test i.set) images else filter (λ i. test i.set) images)) ≡ false
-        → (is_some (point_in n images) ≡ true → is_some (point_in n (filter (λ i. test i.set) images)) ≡ false → test n ≡ false) → test n ≡ false
-    by_head true true g h e f ih = absurd (true_not_false _ (found (i.set == n) (point_in n (filter (λ i. test i.set) images)) g) f)
-    by_head true false g h e f ih = subst (λ m. test m ≡ false) (number_is i.set n g) h
-    by_head false true g h e f ih = ih e (skipped (i.set == n) (point_in n (filter (λ i. test i.set) images)) g f)
-    by_head false false g h e f ih = ih e f
+  by_head : (b c : Bool) → (i.set == n) ≡ b → test i.set ≡ c → is_some (if b then Some i.point else point_in n images) ≡ true
+      → is_some (point_in n (if c then i ∷ filter (λ i. test i.set) images else filter (λ i. test i.set) images)) ≡ false
+      → (is_some (point_in n images) ≡ true → is_some (point_in n (filter (λ i. test i.set) images)) ≡ false → test n ≡ false) → test n ≡ false
+  by_head true true g h e f ih = absurd (true_not_false _ (found (i.set == n) (point_in n (filter (λ i. test i.set) images)) g) f)
+  by_head true false g h e f ih = subst (λ m. test m ≡ false) (number_is i.set n g) h
+  by_head false true g h e f ih = ih e (skipped (i.set == n) (point_in n (filter (λ i. test i.set) images)) g f)
+  by_head false false g h e f ih = ih e f
 
 pub kept_by : (test : ℕ → Bool) (n : ℕ) (images : List Image) → is_some (point_in n (filter (λ i. test i.set) images)) ≡ true → test n ≡ true
 kept_by test n [] e = absurd cc
-kept_by test n (i ∷ images) e = by_head (test i.set) (i.set == n) refl refl e (kept_by test n images)
-  where
-    skipped : (c : Bool) (o : Option ℕ) → c ≡ false → is_some (if c then Some i.point else o) ≡ true → is_some o ≡ true
-    skipped true o e f = absurd cc
-    skipped false o e f = f
+kept_by test n (i ∷ images) e = by_head (test i.set) (i.set == n) refl refl e (kept_by test n images) where
+  skipped : (c : Bool) (o : Option ℕ) → c ≡ false → is_some (if c then Some i.point else o) ≡ true → is_some o ≡ true
+  skipped true o e f = absurd cc
+  skipped false o e f = f
 
-    by_head : (b c : Bool) → test i.set ≡ b → (i.set == n) ≡ c → is_some (point_in n (if b then i ∷ filter (λ i. test i.set) images else filter (λ i. test i.set) images)) ≡ true
-        → (is_some (point_in n (filter (λ i. test i.set) images)) ≡ true → test n ≡ true) → test n ≡ true
-    by_head false c g h e ih = ih e
-    by_head true true g h e ih = subst (λ m. test m ≡ true) (number_is i.set n h) g
-    by_head true false g h e ih = ih (skipped (i.set == n) _ h e)
+  by_head : (b c : Bool) → test i.set ≡ b → (i.set == n) ≡ c → is_some (point_in n (if b then i ∷ filter (λ i. test i.set) images else filter (λ i. test i.set) images)) ≡ true
+      → (is_some (point_in n (filter (λ i. test i.set) images)) ≡ true → test n ≡ true) → test n ≡ true
+  by_head false c g h e ih = ih e
+  by_head true true g h e ih = subst (λ m. test m ≡ true) (number_is i.set n h) g
+  by_head true false g h e ih = ih (skipped (i.set == n) _ h e)
 
 still_after : (n : ℕ) (images : List Image) (m p : ℕ) → is_some (point_in n images) ≡ true → is_some (point_in n (images ++ record { set = m; point = p } ∷ [])) ≡ true
 still_after n [] m p e = absurd cc
-still_after n (i ∷ images) m p e = by_head (i.set == n) e (still_after n images m p)
-  where
-    by_head : (b : Bool) → is_some (if b then Some i.point else point_in n images) ≡ true
-        → (is_some (point_in n images) ≡ true → is_some (point_in n (images ++ record { set = m; point = p } ∷ [])) ≡ true)
-        → is_some (if b then Some i.point else point_in n (images ++ record { set = m; point = p } ∷ [])) ≡ true
-    by_head true e ih = refl
-    by_head false e ih = ih e
+still_after n (i ∷ images) m p e = by_head (i.set == n) e (still_after n images m p) where
+  by_head : (b : Bool) → is_some (if b then Some i.point else point_in n images) ≡ true
+      → (is_some (point_in n images) ≡ true → is_some (point_in n (images ++ record { set = m; point = p } ∷ [])) ≡ true)
+      → is_some (if b then Some i.point else point_in n (images ++ record { set = m; point = p } ∷ [])) ≡ true
+  by_head true e ih = refl
+  by_head false e ih = ih e
 
 pub gone_dropped : (m n : ℕ) (h : History) → has_image n h ≡ true → has_image n (dropped m h) ≡ false → m ≡ n
 gone_dropped m n h e f = sym (number_is n m (not_false (n == m) (gone_by (λ k. not (k == m)) n h.images e f)))
@@ -83,65 +80,58 @@ gone_change f n (suc u) (h ∷ hs) (suc v) e g = let ih = gone_change f n u hs v
 pub gone_group : (m n : ℕ) (ps : List Placed) (hs : List History) (v : ℕ) → has_image n (at hs v) ≡ true → has_image n (at (gone_up_to m ps hs) v) ≡ false → (within (slice_get ps v) ≡ true) × (n ≤ m)
 gone_group m n [] hs v e g = absurd (true_not_false (has_image n (at hs v)) e g)
 gone_group m n (p ∷ ps) [] v e g = absurd (true_not_false (has_image n (at [] v)) e g)
-gone_group m n (p ∷ ps) (h ∷ hs) zero e g = by_group p.within refl g
-  where
-    by_group : (b : Bool) → p.within ≡ b → has_image n (if b then record { writes = h.writes; images = after_set m h.images } else h) ≡ false → (p.within ≡ true) × (n ≤ m)
-    by_group true i g = (i, ltb-false m n (gone_by (λ k. nat_lt m k) n h.images e g))
-    by_group false i g = absurd (true_not_false (has_image n h) e g)
+gone_group m n (p ∷ ps) (h ∷ hs) zero e g = by_group p.within refl g where
+  by_group : (b : Bool) → p.within ≡ b → has_image n (if b then record { writes = h.writes; images = after_set m h.images } else h) ≡ false → (p.within ≡ true) × (n ≤ m)
+  by_group true i g = (i, ltb-false m n (gone_by (λ k. nat_lt m k) n h.images e g))
+  by_group false i g = absurd (true_not_false (has_image n h) e g)
 gone_group m n (p ∷ ps) (h ∷ hs) (suc v) e g = gone_group m n ps hs v e g
 
 pub left_in_group : (m n : ℕ) (ps : List Placed) (hs : List History) (v : ℕ) → within (slice_get ps v) ≡ true → has_image n (at (gone_up_to m ps hs) v) ≡ true → m < n
 left_in_group m n [] hs zero w e = absurd cc
 left_in_group m n [] hs (suc v) w e = absurd cc
-left_in_group m n (p ∷ ps) [] v w e = absurd (no_image v e)
-  where
-    no_image : (v : ℕ) → has_image n (at [] v) ≡ true → ⊥
-    no_image zero e = cc
-    no_image (suc v) e = cc
-left_in_group m n (p ∷ ps) (h ∷ hs) zero w e = by_group p.within w e
-  where
-    by_group : (b : Bool) → b ≡ true → has_image n (if b then record { writes = h.writes; images = after_set m h.images } else h) ≡ true → m < n
-    by_group true i e = ltb-true m n (kept_by (λ k. nat_lt m k) n h.images e)
-    by_group false i e = absurd cc
+left_in_group m n (p ∷ ps) [] v w e = absurd (no_image v e) where
+  no_image : (v : ℕ) → has_image n (at [] v) ≡ true → ⊥
+  no_image zero e = cc
+  no_image (suc v) e = cc
+left_in_group m n (p ∷ ps) (h ∷ hs) zero w e = by_group p.within w e where
+  by_group : (b : Bool) → b ≡ true → has_image n (if b then record { writes = h.writes; images = after_set m h.images } else h) ≡ true → m < n
+  by_group true i e = ltb-true m n (kept_by (λ k. nat_lt m k) n h.images e)
+  by_group false i e = absurd cc
 left_in_group m n (p ∷ ps) (h ∷ hs) (suc v) w e = left_in_group m n ps hs v w e
 
 cut_keeps : (n m : ℕ) (vs : List ℕ) (u : ℕ) (hs : List History) (v : ℕ) → has_image n (at hs v) ≡ true → has_image n (at (cut_each m vs u hs) v) ≡ true
 cut_keeps n m vs u [] v e = e
-cut_keeps n m vs u (h ∷ hs) zero e = by_set (is_among u vs)
-  where
-    by_set : (b : Bool) → has_image n (cut_if b m h) ≡ true
-    by_set true = still_after n h.images m (length h.writes) e
-    by_set false = e
+cut_keeps n m vs u (h ∷ hs) zero e = by_set (is_among u vs) where
+  by_set : (b : Bool) → has_image n (cut_if b m h) ≡ true
+  by_set true = still_after n h.images m (length h.writes) e
+  by_set false = e
 cut_keeps n m vs u (h ∷ hs) (suc v) e = cut_keeps n m vs (u + 1) hs v e
 
 -- ## the least number of sets
 
 found_least : (test : ℕ → Bool) (a len m : ℕ) → a ≤ m → m < unwrap_or (find test (range_with_len a len)) (a + len) → test m ≡ false
-found_least test a zero m l h = absurd (over a m l h)
-  where
-    over : (a m : ℕ) → a ≤ m → m < a + 0 → ⊥
-    over a m l h = omega arith
-found_least test a (suc len) m l h = by_head (test a) (a == m) refl refl h (found_least test (a + 1) len m)
-  where
-    one_more : (a len : ℕ) → a + suc len ≡ a + 1 + len
-    one_more a len = omega arith
+found_least test a zero m l h = absurd (over a m l h) where
+  over : (a m : ℕ) → a ≤ m → m < a + 0 → ⊥
+  over a m l h = omega arith
+found_least test a (suc len) m l h = by_head (test a) (a == m) refl refl h (found_least test (a + 1) len m) where
+  one_more : (a len : ℕ) → a + suc len ≡ a + 1 + len
+  one_more a len = omega arith
 
-    itself : (a m : ℕ) → a ≤ m → m < a → ⊥
-    itself a m l h = omega arith
+  itself : (a m : ℕ) → a ≤ m → m < a → ⊥
+  itself a m l h = omega arith
 
-    by_head : (b c : Bool) → test a ≡ b → (a == m) ≡ c → m < unwrap_or (if b then Some a else find test (range_with_len (a + 1) len)) (a + suc len)
-        → (a + 1 ≤ m → m < unwrap_or (find test (range_with_len (a + 1) len)) (a + 1 + len) → test m ≡ false) → test m ≡ false
-    by_head true c g i h ih = absurd (itself a m l h)
-    by_head false true g i h ih = subst (λ k. test k ≡ false) (number_is a m i) g
-    by_head false false g i h ih = ih (next_up a m l i) (subst (λ k. m < unwrap_or (find test (range_with_len (a + 1) len)) k) (one_more a len) h)
+  by_head : (b c : Bool) → test a ≡ b → (a == m) ≡ c → m < unwrap_or (if b then Some a else find test (range_with_len (a + 1) len)) (a + suc len)
+      → (a + 1 ≤ m → m < unwrap_or (find test (range_with_len (a + 1) len)) (a + 1 + len) → test m ≡ false) → test m ≡ false
+  by_head true c g i h ih = absurd (itself a m l h)
+  by_head false true g i h ih = subst (λ k. test k ≡ false) (number_is a m i) g
+  by_head false false g i h ih = ih (next_up a m l i) (subst (λ k. m < unwrap_or (find test (range_with_len (a + 1) len)) k) (one_more a len) h)
 
 pub least_sets : (sets slots : ℕ) (ps : List Placed) (v b : ℕ) (hs : List History) (m : ℕ) → m < evicted_up_to sets slots ps v b hs → lacks_slot slots ps v b (gone_up_to m ps hs) ≡ true
 least_sets sets slots ps v b hs m h = not_false _
     (found_least (λ k. not (lacks_slot slots ps v b (gone_up_to k ps hs))) 0 sets m (omega arith)
-    (subst (λ k. m < unwrap_or (find (λ k. not (lacks_slot slots ps v b (gone_up_to k ps hs))) (range_with_len 0 sets)) k) (from_none sets) h))
-  where
-    from_none : (n : ℕ) → n ≡ 0 + n
-    from_none n = omega arith
+    (subst (λ k. m < unwrap_or (find (λ k. not (lacks_slot slots ps v b (gone_up_to k ps hs))) (range_with_len 0 sets)) k) (from_none sets) h)) where
+      from_none : (n : ℕ) → n ≡ 0 + n
+      from_none n = omega arith
 
 -- ## a set that fails
 

@@ -1,11 +1,12 @@
 -- How many slots the images of a group use, and where a write finds its slot.
 use Rattle.promises.proofs.Words.{and_left, Image, History, after_set, Placed, group_used, used, needs_slot, needs_slot_in, gone_up_to, lacks_slot, evicted_up_to, change_at}
 use Rattle.promises.proofs.Words.{UpTo, at, within, some_same}
-use Rattle.std.proofs.Common.{◌≡◌, ℕ, ◌+◌, ◌≤◌, ◌<◌, zero, suc, List, [], ◌∷◌, Some, refl, Bool, true, false, ap, subst, find, length, arith}
+use Rattle.std.proofs.Common.{◌≡◌, ◌∙◌, ℕ, ◌+◌, ◌≤◌, ◌<◌, zero, suc, List, [], ◌∷◌, Some, refl, Bool, true, false, ap, subst, find, length, arith}
 use Rattle.std.specs.Prelude.{nat_lt, if◌then◌else◌, slice_get}
 use Rattle.promises.proofs.Truth.{no_less}
 use Rattle.promises.proofs.Shrinks.{used_in}
 use Rattle.set_agenda.proofs.Closings.{unless}
+use Rattle.std.proofs.lemmas.Bool.{cond-false, le-ltb}
 
 -- ## what each volume uses
 
@@ -30,11 +31,10 @@ group_less (p ∷ ps) (h ∷ hs) (k ∷ ks) f e = by_group p.within (f 0 p.block
 pub group_other : (f : History → History) (u : ℕ) (ps : List Placed) (hs : List History) → within (slice_get ps u) ≡ false → group_used ps (change_at u f hs) ≡ group_used ps hs
 group_other f u [] hs e = refl
 group_other f u (p ∷ ps) [] e = refl
-group_other f zero (p ∷ ps) (h ∷ hs) e = by_group p.within e
-  where
-    by_group : (b : Bool) → b ≡ false → (if b then used_in p.blocks (f h) else 0) + group_used ps hs ≡ (if b then used_in p.blocks h else 0) + group_used ps hs
-    by_group true g = absurd cc
-    by_group false g = refl
+group_other f zero (p ∷ ps) (h ∷ hs) e = by_group p.within e where
+  by_group : (b : Bool) → b ≡ false → (if b then used_in p.blocks (f h) else 0) + group_used ps hs ≡ (if b then used_in p.blocks h else 0) + group_used ps hs
+  by_group true g = absurd cc
+  by_group false g = refl
 group_other f (suc u) (p ∷ ps) (h ∷ hs) e = ap (λ k. (if p.within then used p.blocks h.writes h.images else 0) + k) (group_other f u ps hs e)
 
 -- a volume that uses at most so many more
@@ -42,20 +42,18 @@ pub group_more : (f : History → History) (u extra : ℕ) (ps : List Placed) (h
     → ((n : ℕ) → used_in n (f (at hs u)) ≤ used_in n (at hs u) + extra) → group_used ps (change_at u f hs) ≤ group_used ps hs + extra
 group_more f u extra [] hs g = omega arith
 group_more f u extra (p ∷ ps) [] g = omega arith
-group_more f zero extra (p ∷ ps) (h ∷ hs) g = by_group p.within (g p.blocks)
-  where
-    more : (a b x e : ℕ) → a ≤ b + e → a + x ≤ (b + x) + e
-    more a b x e l = omega arith
+group_more f zero extra (p ∷ ps) (h ∷ hs) g = by_group p.within (g p.blocks) where
+  more : (a b x e : ℕ) → a ≤ b + e → a + x ≤ (b + x) + e
+  more a b x e l = omega arith
 
-    by_group : (b : Bool) → used_in p.blocks (f h) ≤ used_in p.blocks h + extra
-        → (if b then used_in p.blocks (f h) else 0) + group_used ps hs ≤ ((if b then used_in p.blocks h else 0) + group_used ps hs) + extra
-    by_group true l = more (used_in p.blocks (f h)) (used_in p.blocks h) (group_used ps hs) extra l
-    by_group false l = more 0 0 (group_used ps hs) extra (omega arith)
+  by_group : (b : Bool) → used_in p.blocks (f h) ≤ used_in p.blocks h + extra
+      → (if b then used_in p.blocks (f h) else 0) + group_used ps hs ≤ ((if b then used_in p.blocks h else 0) + group_used ps hs) + extra
+  by_group true l = more (used_in p.blocks (f h)) (used_in p.blocks h) (group_used ps hs) extra l
+  by_group false l = more 0 0 (group_used ps hs) extra (omega arith)
 group_more f (suc u) extra (p ∷ ps) (h ∷ hs) g = more (if p.within then used p.blocks h.writes h.images else 0) (group_used ps (change_at u f hs))
-    (group_used ps hs) extra (group_more f u extra ps hs g)
-  where
-    more : (a x y e : ℕ) → x ≤ y + e → a + x ≤ (a + y) + e
-    more a x y e l = omega arith
+    (group_used ps hs) extra (group_more f u extra ps hs g) where
+      more : (a x y e : ℕ) → x ≤ y + e → a + x ≤ (a + y) + e
+      more a x y e l = omega arith
 
 -- a change that makes its own volume use no more
 pub changed_uses : (f : History → History) (u : ℕ) (hs : List History) → ((n : ℕ) → used_in n (f (at hs u)) ≤ used_in n (at hs u)) → (v n : ℕ)
@@ -70,32 +68,23 @@ changed_uses f (suc u) (h ∷ hs) g (suc v) n = changed_uses f u hs g v n
 
 find_passes : (test : ℕ → Bool) (xs : List ℕ) (m : ℕ) → find test xs ≡ Some m → test m ≡ true
 find_passes test [] m e = absurd cc
-find_passes test (x ∷ xs) m e = by_test (test x) refl e (find_passes test xs m)
-  where
-    by_test : (t : Bool) → test x ≡ t → (if t then Some x else find test xs) ≡ Some m → (find test xs ≡ Some m → test m ≡ true) → test m ≡ true
-    by_test true f g ih = subst (λ y. test y ≡ true) (some_same x m g) f
-    by_test false f g ih = ih g
+find_passes test (x ∷ xs) m e = by_test (test x) refl e (find_passes test xs m) where
+  by_test : (t : Bool) → test x ≡ t → (if t then Some x else find test xs) ≡ Some m → (find test xs ≡ Some m → test m ≡ true) → test m ≡ true
+  by_test true f g ih = subst (λ y. test y ≡ true) (some_same x m g) f
+  by_test false f g ih = ih g
 
 none_after : (m : ℕ) (images : List Image) → UpTo m images → after_set m images ≡ []
 none_after m [] h = refl
-none_after m (i ∷ images) h = by_less (nat_lt m i.set) (not_past m i.set h.0) (none_after m images h.1)
-  where
-    not_past : (m a : ℕ) → a ≤ m → nat_lt m a ≡ false
-    not_past m a l = grind arith
-
-    by_less : (t : Bool) → t ≡ false → after_set m images ≡ [] → (if t then i ∷ after_set m images else after_set m images) ≡ []
-    by_less true e ih = absurd cc
-    by_less false e ih = ih
+none_after m (i ∷ images) h = cond-false (nat_lt m i.set) (i ∷ after_set m images) (after_set m images) (le-ltb m i.set h.0) ∙ none_after m images h.1
 
 -- with all its images gone a volume needs no slot
 needs_none : (m v b : ℕ) (ps : List Placed) (hs : List History) → within (slice_get ps v) ≡ true → UpTo m (at hs v).images → needs_slot_in (slice_get (gone_up_to m ps hs) v) b ≡ false
 needs_none m v b [] hs e up = absurd cc
 needs_none m v b (p ∷ ps) [] e up = refl
-needs_none m zero b (p ∷ ps) (h ∷ hs) e up = by_group p.within e
-  where
-    by_group : (t : Bool) → t ≡ true → needs_slot_in (Some (if t then record { writes = h.writes; images = after_set m h.images } else h)) b ≡ false
-    by_group true f = ap (λ images. needs_slot h.writes images b) (none_after m h.images up)
-    by_group false f = absurd cc
+needs_none m zero b (p ∷ ps) (h ∷ hs) e up = by_group p.within e where
+  by_group : (t : Bool) → t ≡ true → needs_slot_in (Some (if t then record { writes = h.writes; images = after_set m h.images } else h)) b ≡ false
+  by_group true f = ap (λ images. needs_slot h.writes images b) (none_after m h.images up)
+  by_group false f = absurd cc
 needs_none m (suc v) b (p ∷ ps) (h ∷ hs) e up = needs_none m v b ps hs e up
 
 -- with the images of so many sets gone a write does not lack its slot

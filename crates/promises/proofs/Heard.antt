@@ -5,12 +5,14 @@ use Rattle.promises.proofs.Words.{Rising, same_volume, is_heard, is_made, AreOnc
 use Rattle.std.proofs.Common.{◌≡◌, ◌∙◌, ℕ, ◌==◌, List, [], ◌∷◌, Option, Some, None, refl, Bool, true, false, ap, sym, subst, map, filter}
 use Rattle.std.specs.Prelude.{◌&&◌, ◌||◌, not, if◌then◌else◌}
 use Rattle.std.proofs.lemmas.Bool.{and_parts, or_left, or_right}
-use Rattle.set_agenda.specs.Agenda.{Agenda, Entry, Open, plain, places, same_order, group_code, level_code, is_orders, has_failed, has_said, is_at, writers_at, members_of, waited_for, with_group, left_from, groups_left, open_place, is_among, waits_now, at_level}
+use Rattle.set_agenda.specs.Agenda.{Agenda, Entry, Open, plain, places, same_order, group_code, level_code, is_orders, has_failed, has_said, is_at, writers_at}
+use Rattle.set_agenda.specs.Agenda.{members_of, waited_for, with_group, left_from, groups_left, open_place, is_among, waits_now, at_level}
 use Rattle.promises.proofs.Levels.{Ascends, MembersOf}
 use Rattle.promises.proofs.Speaks.{deed_at, deed_in}
 use Rattle.promises.proofs.Stages.{deeds_in, open_stage, Below}
 use Rattle.scenario.proofs.Places.{number_is}
 use Rattle.set_agenda.proofs.Closings.{unless}
+use Rattle.vss_model.proofs.Gathered.{filter_passes}
 
 -- ## who was waited for has spoken
 
@@ -41,11 +43,14 @@ pub same_group : (g h : Group) → (group_code g == group_code h) ≡ true → g
 same_group g h e = sym (decoded g) ∙ ap decode (number_is (group_code g) (group_code h) e) ∙ decoded h
 
 -- what was said at a place is a deed of it
-pub said_deed : (log : List Entry) (p : Place) (who : ℕ) (test : Deed → Bool) → ((said : Said) (now u : ℕ) → (u == who) ≡ true → test (deed_at p.group u said now) ≡ true) → has_said log p who ≡ true → list_any test (map deed_in log) ≡ true
+pub said_deed : (log : List Entry) (p : Place) (who : ℕ) (test : Deed → Bool)
+    → ((said : Said) (now u : ℕ) → (u == who) ≡ true → test (deed_at p.group u said now) ≡ true) → has_said log p who ≡ true
+    → list_any test (map deed_in log) ≡ true
 said_deed [] p who test f e = absurd cc
 said_deed (x ∷ log) p who test f e = by_head (group_code x.place.group == group_code p.group) (level_code x.place.level == level_code p.level) (x.who == who) refl refl e (said_deed log p who test f)
   where
-    by_head : (b l c : Bool) → (group_code x.place.group == group_code p.group) ≡ b → (x.who == who) ≡ c → (((b && l) && c) || has_said log p who) ≡ true → (has_said log p who ≡ true → list_any test (map deed_in log) ≡ true)
+    by_head : (b l c : Bool) → (group_code x.place.group == group_code p.group) ≡ b → (x.who == who) ≡ c → (((b && l) && c) || has_said log p who) ≡ true
+        → (has_said log p who ≡ true → list_any test (map deed_in log) ≡ true)
         → (test (deed_in x) || list_any test (map deed_in log)) ≡ true
     by_head true true true g h e ih =
         or_left (test (deed_in x)) _ (subst (λ z. test (deed_at z x.who x.said x.time) ≡ true) (sym (same_group x.place.group p.group g)) (f x.said x.time x.who h))
@@ -104,43 +109,52 @@ StepsPlain [] = Unit {0}
 StepsPlain (p ∷ ps) = (is_orders p.group ≡ false → p ≡ plain p.group) × StepsPlain ps
 
 pub steps_plain : StepsPlain (places Snapshot)
-steps_plain = (λ e. absurd cc, (λ e. absurd cc, (λ e. absurd cc, (λ e. absurd cc, (λ e. refl, (λ e. refl, (λ e. refl, (λ e. refl, (λ e. refl, (λ e. refl, (λ e. refl, (λ e. absurd cc, (λ e. absurd cc, (λ e. absurd cc, (λ e. absurd cc, tt)))))))))))))))
+steps_plain = (
+  λ e. absurd
+      cc,
+  (
+    λ e. absurd
+        cc,
+    (
+      λ e. absurd
+          cc,
+      (
+        λ e. absurd
+            cc,
+        (
+          λ e. refl,
+          (
+            λ e.
+                refl,
+            (λ e. refl, (λ e. refl, (λ e. refl, (λ e. refl, (λ e. refl, (λ e. absurd cc, (λ e. absurd cc, (λ e. absurd cc, (λ e. absurd cc, tt))))))))),
+          ),
+        ),
+      ),
+    ),
+  ),
+)
 
 pub open_plain : (a : Agenda) (ps : List Place) → StepsPlain ps → is_orders (open_place (left_from a ps)).group ≡ false → open_place (left_from a ps) ≡ plain (open_place (left_from a ps)).group
 open_plain a [] h e = refl
-open_plain a (p ∷ ps) h e = at_group (waited_for a p) (left_from a ps) (open_plain a ps h.1) e
-  where
-    at_group : (ws : List ℕ) (later : List Open) → (is_orders (open_place later).group ≡ false → open_place later ≡ plain (open_place later).group) → is_orders (open_place (with_group p ws later)).group ≡ false
-        → open_place (with_group p ws later) ≡ plain (open_place (with_group p ws later)).group
-    at_group [] later ih e = ih e
-    at_group (w ∷ ws) later ih e = h.0 e
-
--- who passes a filter passes its test
-pub passes : (test : ℕ → Bool) (x : ℕ) (xs : List ℕ) → is_among x (filter test xs) ≡ true → test x ≡ true
-passes test x [] e = absurd cc
-passes test x (y ∷ xs) e = by_head (test y) (y == x) refl refl e (passes test x xs)
-  where
-    by_head : (b c : Bool) → test y ≡ b → (y == x) ≡ c → is_among x (if b then y ∷ filter test xs else filter test xs) ≡ true → (is_among x (filter test xs) ≡ true → test x ≡ true) → test x ≡ true
-    by_head false c g h e ih = ih e
-    by_head true true g h e ih = subst (λ z. test z ≡ true) (number_is y x h) g
-    by_head true false g h e ih = ih (other (y == x) h e)
-      where
-        other : (c : Bool) → c ≡ false → (c || is_among x (filter test xs)) ≡ true → is_among x (filter test xs) ≡ true
-        other true h e = absurd cc
-        other false h e = e
+open_plain a (p ∷ ps) h e = at_group (waited_for a p) (left_from a ps) (open_plain a ps h.1) e where
+  at_group : (ws : List ℕ) (later : List Open) → (is_orders (open_place later).group ≡ false → open_place later ≡ plain (open_place later).group)
+      → is_orders (open_place (with_group p ws later)).group ≡ false
+      → open_place (with_group p ws later) ≡ plain (open_place (with_group p ws later)).group
+  at_group [] later ih e = ih e
+  at_group (w ∷ ws) later ih e = h.0 e
 
 -- who is waited for has not spoken
 pub unsaid_filter : (log : List Entry) (p : Place) (x : ℕ) (xs : List ℕ) → is_among x (filter (λ who. not (has_said log p who)) xs) ≡ true → has_said log p x ≡ false
-unsaid_filter log p x xs e = unless (has_said log p x) (passes (λ who. not (has_said log p who)) x xs e)
+unsaid_filter log p x xs e = unless (has_said log p x) (filter_passes (λ who. not (has_said log p who)) x xs e)
 
 pub unsaid : (a : Agenda) (ps : List Place) (x : ℕ) → is_among x (waits_now (left_from a ps)) ≡ true → has_said a.log (open_place (left_from a ps)) x ≡ false
 unsaid a [] x e = absurd cc
-unsaid a (p ∷ ps) x e = at_group (waited_for a p) (left_from a ps) (λ f. unsaid_filter a.log p x (members_of a p.group p.level) f) (unsaid a ps x) e
-  where
-    at_group : (ws : List ℕ) (later : List Open) → (is_among x ws ≡ true → has_said a.log p x ≡ false) → (is_among x (waits_now later) ≡ true → has_said a.log (open_place later) x ≡ false) → is_among x (waits_now (with_group p ws later)) ≡ true
-        → has_said a.log (open_place (with_group p ws later)) x ≡ false
-    at_group [] later own ih e = ih e
-    at_group (w ∷ ws) later own ih e = own e
+unsaid a (p ∷ ps) x e = at_group (waited_for a p) (left_from a ps) (λ f. unsaid_filter a.log p x (members_of a p.group p.level) f) (unsaid a ps x) e where
+  at_group : (ws : List ℕ) (later : List Open) → (is_among x ws ≡ true → has_said a.log p x ≡ false)
+      → (is_among x (waits_now later) ≡ true → has_said a.log (open_place later) x ≡ false) → is_among x (waits_now (with_group p ws later)) ≡ true
+      → has_said a.log (open_place (with_group p ws later)) x ≡ false
+  at_group [] later own ih e = ih e
+  at_group (w ∷ ws) later own ih e = own e
 
 -- ## members
 
@@ -149,11 +163,13 @@ order_member PostSnapshot a l w h = among_members (λ m. is_at l m.level) w a.me
 order_member _ a l w h = among_members (λ m. is_at l m.level) w a.members h
 
 -- the writer of a deed that was heard, and its group
-pub heard_writer : (order : Order) (w : ℕ) (g : Group) (a : Agenda) (l : Option Level) (u : ℕ) (said : Said) (now : ℕ) → is_among u (members_of a g l) ≡ true → is_heard order w (deed_at g u said now) ≡ true → is_member a.members w ≡ true
+pub heard_writer : (order : Order) (w : ℕ) (g : Group) (a : Agenda) (l : Option Level) (u : ℕ) (said : Said) (now : ℕ) → is_among u (members_of a g l) ≡ true
+    → is_heard order w (deed_at g u said now) ≡ true → is_member a.members w ≡ true
 heard_writer order w (Orders o) a l u said now h e = subst (λ x. is_member a.members x ≡ true) (number_is u w (and_parts (same_order o order) (u == w) e).1) (order_member o a l u h)
 heard_writer order w _ a l u said now h e = absurd cc
 
-pub made_volume : (g : Group) (v : ℕ) (h : Group) (a : Agenda) (l : Option Level) (u : ℕ) (said : Said) (now : ℕ) → is_among u (members_of a h l) ≡ true → is_made g (Some v) (deed_at h u said now) ≡ true → is_among v a.volumes ≡ true
+pub made_volume : (g : Group) (v : ℕ) (h : Group) (a : Agenda) (l : Option Level) (u : ℕ) (said : Said) (now : ℕ) → is_among u (members_of a h l) ≡ true
+    → is_made g (Some v) (deed_at h u said now) ≡ true → is_among v a.volumes ≡ true
 made_volume g v (Orders o) a l u said now i e = absurd cc
 made_volume g v PreCommit a l u said now i e = absurd (true_not_false false (and_parts (group_code PreCommit == group_code g) false e).1 refl)
 made_volume g v Flush a l u said now i e = subst (λ x. is_among x a.volumes ≡ true) (number_is u v (and_parts (group_code Flush == group_code g) (u == v) e).1) i
@@ -165,11 +181,10 @@ made_volume g v PostCommit a l u said now i e = absurd (true_not_false false (an
 
 -- a step is logged under its volume, or under 0
 pub alone : (u : ℕ) → is_among u (0 ∷ []) ≡ true → u ≡ 0
-alone u e = by_head (0 == u) refl e
-  where
-    by_head : (b : Bool) → (0 == u) ≡ b → (b || false) ≡ true → u ≡ 0
-    by_head true f e = sym (number_is 0 u f)
-    by_head false f e = absurd cc
+alone u e = by_head (0 == u) refl e where
+  by_head : (b : Bool) → (0 == u) ≡ b → (b || false) ≡ true → u ≡ 0
+  by_head true f e = sym (number_is 0 u f)
+  by_head false f e = absurd cc
 
 pub record IsStep (g : Group) (v : Option ℕ) (h : Group) (u : ℕ) : Type 0 where
   pub group : h ≡ g
@@ -186,7 +201,8 @@ step_some g (Some v) h u s f =
     let parts = and_parts (group_code h == group_code g) (u == v) f in
     record { group = same_group h g parts.0; number = number_is u v parts.1; step = s }
 
-pub is_step : (g : Group) (v : Option ℕ) (h : Group) (a : Agenda) (l : Option Level) (u : ℕ) (said : Said) (now : ℕ) → is_among u (members_of a h l) ≡ true → is_made g v (deed_at h u said now) ≡ true → IsStep g v h u
+pub is_step : (g : Group) (v : Option ℕ) (h : Group) (a : Agenda) (l : Option Level) (u : ℕ) (said : Said) (now : ℕ) → is_among u (members_of a h l) ≡ true
+    → is_made g v (deed_at h u said now) ≡ true → IsStep g v h u
 is_step g v (Orders o) a l u said now i e = absurd cc
 is_step g v PreCommit a l u said now i e = step_none g v PreCommit u refl (alone u i) e
 is_step g v Flush a l u said now i e = step_some g v Flush u refl e

@@ -13,10 +13,9 @@ AllMore now n (l ∷ ls) = (n < running_until now l) × AllMore now n ls
 
 least_first : (now n t : ℕ) (ls : List Running) → n < Least now t ls → n < t
 least_first now n t [] h = h
-least_first now n t (l ∷ ls) h = below (running_until now l) t n (least_first now n (min t (running_until now l)) ls h)
-  where
-    below : (a t n : ℕ) → n < min t a → n < t
-    below a t n h = omega arith
+least_first now n t (l ∷ ls) h = below (running_until now l) t n (least_first now n (min t (running_until now l)) ls h) where
+  below : (a t n : ℕ) → n < min t a → n < t
+  below a t n h = omega arith
 
 least_all : (now n t : ℕ) (ls : List Running) → n < Least now t ls → AllMore now n ls
 least_all now n t [] h = tt
@@ -30,11 +29,10 @@ not_spent now n since limit h = grind arith
 
 none_spent : (now n : ℕ) (ls : List Running) → AllMore now n ls → is_some (spent_of (now + n) ls) ≡ false
 none_spent now n [] h = refl
-none_spent now n (l ∷ ls) h = by_test (is_spent (now + n) l.since l.ticks) (not_spent now n l.since l.ticks h.0) (none_spent now n ls h.1)
-  where
-    by_test : (b : Bool) → b ≡ false → is_some (spent_of (now + n) ls) ≡ false → is_some (if b then Some l else spent_of (now + n) ls) ≡ false
-    by_test true e ih = absurd cc
-    by_test false e ih = ih
+none_spent now n (l ∷ ls) h = by_test (is_spent (now + n) l.since l.ticks) (not_spent now n l.since l.ticks h.0) (none_spent now n ls h.1) where
+  by_test : (b : Bool) → b ≡ false → is_some (spent_of (now + n) ls) ≡ false → is_some (if b then Some l else spent_of (now + n) ls) ≡ false
+  by_test true e ih = absurd cc
+  by_test false e ih = ih
 
 shorter_spends_none : (now n : ℕ) (ls : List Running) → n < ticks_to_spend now ls → is_some (spent_of (now + n) ls) ≡ false
 shorter_spends_none now n [] h = refl

@@ -47,11 +47,10 @@ module _ (s : Plan) (st : State) (num : NumberedFrom 1 st.sets) (n v : ℕ) wher
   put_keeps u w mark x h g = grind (arith, true_not_false, gone_change)
 
   pub volumes_room : (b : Bool) (x : State) → FewerIn x.volumes (with_room_if b x).volumes
-  volumes_room true x = by_set (in_progress x)
-    where
-      by_set : (o : Option SetRow) → FewerIn x.volumes (failed_in o InsufficientStorage x).volumes
-      by_set None = fewer_in_same x.volumes
-      by_set (Some r) = fewer_images_dropped (in_progress x) x.volumes
+  volumes_room true x = by_set (in_progress x) where
+    by_set : (o : Option SetRow) → FewerIn x.volumes (failed_in o InsufficientStorage x).volumes
+    by_set None = fewer_in_same x.volumes
+    by_set (Some r) = fewer_images_dropped (in_progress x) x.volumes
   volumes_room false x = fewer_in_same x.volumes
 
   sets_put : (u : ℕ) (w : Write) (mark : Mark) (x : State) → (put u w mark x).sets ≡ x.sets
@@ -74,25 +73,23 @@ module _ (s : Plan) (st : State) (num : NumberedFrom 1 st.sets) (n v : ℕ) wher
           shared = went.0;
           needed = λ m l. least_sets (length st.sets) (slots_of s u) (group_of s u) u w.block st.volumes m (less m n most l went.1);
           together = λ m x l i. false_from_ne_true (stands written_to m x) (λ f. over most m n (left_in_group most m (group_of s u) st.volumes x i ((fewer.each x).sets m f)) l went.1);
-        }
-      where
-        less : (a b c : ℕ) → a < b → b ≤ c → a < c
-        less a b c l h = omega arith
+        } where
+          less : (a b c : ℕ) → a < b → b ≤ c → a < c
+          less a b c l h = omega arith
 
-        over : (g m n : ℕ) → g < m → m ≤ n → n ≤ g → ⊥
-        over g m n l h i = omega arith
+          over : (g m n : ℕ) → g < m → m ≤ n → n ≤ g → ⊥
+          over g m n l h i = omega arith
 
     pub wants_or_fails : (b : Bool) (c : Bool) → stands roomy n v ≡ c → stands st n v ≡ true → stands (put u w mark (with_room_if b roomy)) n v ≡ false
         → Fails st (put u w mark (with_room_if b roomy)) n ⊎ (stands roomy n v ≡ false)
     wants_or_fails b false e h g = inr e
     wants_or_fails false true e h g = absurd (put_keeps u w mark roomy e g)
-    wants_or_fails true true e h g = inl (by_stand (stands (failed InsufficientStorage roomy) n v) refl)
-      where
-        by_stand : (c : Bool) → stands (failed InsufficientStorage roomy) n v ≡ c → Fails st (put u w mark (failed InsufficientStorage roomy)) n
-        by_stand true f = absurd (put_keeps u w mark (failed InsufficientStorage roomy) f g)
-        by_stand false f =
-            gone_failed_in n v (in_progress roomy) InsufficientStorage roomy (Fails st (put u w mark (failed InsufficientStorage roomy)) n) e f
-            (λ r i s sets. fails_as st (put u w mark (failed InsufficientStorage roomy)) r (FailedSet InsufficientStorage) n i num (sets_put u w mark (failed InsufficientStorage roomy) ∙ sets) refl s)
+    wants_or_fails true true e h g = inl (by_stand (stands (failed InsufficientStorage roomy) n v) refl) where
+      by_stand : (c : Bool) → stands (failed InsufficientStorage roomy) n v ≡ c → Fails st (put u w mark (failed InsufficientStorage roomy)) n
+      by_stand true f = absurd (put_keeps u w mark (failed InsufficientStorage roomy) f g)
+      by_stand false f =
+          gone_failed_in n v (in_progress roomy) InsufficientStorage roomy (Fails st (put u w mark (failed InsufficientStorage roomy)) n) e f
+          (λ r i s sets. fails_as st (put u w mark (failed InsufficientStorage roomy)) r (FailedSet InsufficientStorage) n i num (sets_put u w mark (failed InsufficientStorage roomy) ∙ sets) refl s)
 
     write_goes : stands st n v ≡ true → stands written_to n v ≡ false → Fails st written_to n ⊎ IsWanted s st written_to u w.block n v
     write_goes h g = grind (arith, wants_or_fails, wanted)
@@ -135,12 +132,11 @@ module _ (s : Plan) (st : State) (num : NumberedFrom 1 st.sets) (n v : ℕ) wher
   on_close : (lane : ℕ) (q : Session) (why : VssResult) → st.session ≡ Some q → stands st n v ≡ true → stands (closed q (failed why st)) n v ≡ false
       → Cause (Line lane op.End) (closed q (failed why st))
   unfolding closed
-  on_close lane q why e h g = by_stand (stands (failed why st) n v) refl
-    where
-      by_stand : (c : Bool) → stands (failed why st) n v ≡ c → Cause (Line lane op.End) (closed q (failed why st))
-      by_stand true f = inr (released_goes q q.context q.set (failed why st).volumes e refl refl f g)
-      by_stand false f = gone_failed_in n v (in_progress st) why st (Cause (Line lane op.End) (closed q (failed why st))) h f
-          (λ r i s sets. inl (fails_as st (closed q (failed why st)) r (FailedSet why) n i num sets refl s))
+  on_close lane q why e h g = by_stand (stands (failed why st) n v) refl where
+    by_stand : (c : Bool) → stands (failed why st) n v ≡ c → Cause (Line lane op.End) (closed q (failed why st))
+    by_stand true f = inr (released_goes q q.context q.set (failed why st).volumes e refl refl f g)
+    by_stand false f = gone_failed_in n v (in_progress st) why st (Cause (Line lane op.End) (closed q (failed why st))) h f
+        (λ r i s sets. inl (fails_as st (closed q (failed why st)) r (FailedSet why) n i num sets refl s))
 
   -- ## answers, steps, time
 

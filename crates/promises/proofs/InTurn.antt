@@ -21,17 +21,16 @@ same_head x y xs ys e = cc
 
 before_first : (said : ℕ → Bool) (xs rest : List ℕ) (u v : ℕ) → filter (λ x. not (said x)) xs ≡ v ∷ rest → is_before u v xs ≡ true → said u ≡ true
 before_first said [] rest u v e b = absurd cc
-before_first said (x ∷ xs) rest u v e b = by_head (said x) (x == v) (x == u) refl refl refl e b (before_first said xs rest u v)
-  where
-    by_head : (a c d : Bool) → said x ≡ a → (x == v) ≡ c → (x == u) ≡ d
-        → (if not a then x ∷ filter (λ y. not (said y)) xs else filter (λ y. not (said y)) xs) ≡ v ∷ rest → (if c then false else d || is_before u v xs) ≡ true
-        → (filter (λ y. not (said y)) xs ≡ v ∷ rest → is_before u v xs ≡ true → said u ≡ true) → said u ≡ true
-    by_head a true d f g h e b ih = absurd cc
-    by_head false false d f g h e b ih =
-        let same : x ≡ v = same_head x v (filter (λ y. not (said y)) xs) rest e in
-        let twice : true ≡ false = sym (same_number v) ∙ ap (λ y. y == v) (sym same) ∙ g in absurd cc
-    by_head true false true f g h e b ih = subst (λ y. said y ≡ true) (number_is x u h) f
-    by_head true false false f g h e b ih = ih e b
+before_first said (x ∷ xs) rest u v e b = by_head (said x) (x == v) (x == u) refl refl refl e b (before_first said xs rest u v) where
+  by_head : (a c d : Bool) → said x ≡ a → (x == v) ≡ c → (x == u) ≡ d
+      → (if not a then x ∷ filter (λ y. not (said y)) xs else filter (λ y. not (said y)) xs) ≡ v ∷ rest → (if c then false else d || is_before u v xs) ≡ true
+      → (filter (λ y. not (said y)) xs ≡ v ∷ rest → is_before u v xs ≡ true → said u ≡ true) → said u ≡ true
+  by_head a true d f g h e b ih = absurd cc
+  by_head false false d f g h e b ih =
+      let same : x ≡ v = same_head x v (filter (λ y. not (said y)) xs) rest e in
+      let twice : true ≡ false = sym (same_number v) ∙ ap (λ y. y == v) (sym same) ∙ g in absurd cc
+  by_head true false true f g h e b ih = subst (λ y. said y ≡ true) (number_is x u h) f
+  by_head true false false f g h e b ih = ih e b
 
 -- ## the groups that are left
 
@@ -56,20 +55,19 @@ over_volumes false x v e = absurd cc
 module _ (a : Agenda) (g : Group) (u v : ℕ) (b : is_before u v a.volumes ≡ true) where
   made_before : (ps : List Place) → open_group (left_from a ps) ≡ Some g → next_volume (left_from a ps) ≡ Some v → made g (Some u) (map deed_in a.log) ≡ true
   made_before [] e f = absurd cc
-  made_before (p ∷ ps) e f = by_waits (waited_for a p) refl e f (made_before ps)
-    where
-      by_waits : (ws : List ℕ) → waited_for a p ≡ ws → open_group (with_group p ws (left_from a ps)) ≡ Some g → next_volume (with_group p ws (left_from a ps)) ≡ Some v
-          → (open_group (left_from a ps) ≡ Some g → next_volume (left_from a ps) ≡ Some v → made g (Some u) (map deed_in a.log) ≡ true) → made g (Some u) (map deed_in a.log) ≡ true
-      by_waits [] w e f ih = ih e f
-      by_waits (x ∷ ws) w e f ih =
-          let group : p.group ≡ g = some_same p.group g e in
-          let over = over_volumes (is_over_volumes g) x v (ap (λ h. volume_if (is_over_volumes h) x) (sym group) ∙ f) in
-          let all : members_of a p.group p.level ≡ a.volumes = ap (λ h. members_of a h p.level) group ∙ over_all a g p.level over.0 in
-          let waits : filter (λ who. not (has_said a.log p who)) a.volumes ≡ v ∷ ws =
-          ap (λ xs. filter (λ who. not (has_said a.log p who)) xs) (sym all) ∙ w ∙ ap (λ y. y ∷ ws) over.1 in
-          said_deed a.log p u (is_made g (Some u))
-          (λ said now y h. subst (λ k. is_made g (Some u) (deed_at k y said now) ≡ true) (sym group) (step_told g u y said now over.0 h))
-          (before_first (has_said a.log p) a.volumes ws u v waits b)
+  made_before (p ∷ ps) e f = by_waits (waited_for a p) refl e f (made_before ps) where
+    by_waits : (ws : List ℕ) → waited_for a p ≡ ws → open_group (with_group p ws (left_from a ps)) ≡ Some g → next_volume (with_group p ws (left_from a ps)) ≡ Some v
+        → (open_group (left_from a ps) ≡ Some g → next_volume (left_from a ps) ≡ Some v → made g (Some u) (map deed_in a.log) ≡ true) → made g (Some u) (map deed_in a.log) ≡ true
+    by_waits [] w e f ih = ih e f
+    by_waits (x ∷ ws) w e f ih =
+        let group : p.group ≡ g = some_same p.group g e in
+        let over = over_volumes (is_over_volumes g) x v (ap (λ h. volume_if (is_over_volumes h) x) (sym group) ∙ f) in
+        let all : members_of a p.group p.level ≡ a.volumes = ap (λ h. members_of a h p.level) group ∙ over_all a g p.level over.0 in
+        let waits : filter (λ who. not (has_said a.log p who)) a.volumes ≡ v ∷ ws =
+        ap (λ xs. filter (λ who. not (has_said a.log p who)) xs) (sym all) ∙ w ∙ ap (λ y. y ∷ ws) over.1 in
+        said_deed a.log p u (is_made g (Some u))
+        (λ said now y h. subst (λ k. is_made g (Some u) (deed_at k y said now) ≡ true) (sym group) (step_told g u y said now over.0 h))
+        (before_first (has_said a.log p) a.volumes ws u v waits b)
 
 -- only a snapshot's agenda has steps on volumes
 no_volume : (p : Place) (ws : List ℕ) (v : ℕ) → is_over_volumes p.group ≡ false → next_volume (with_group p ws []) ≡ Some v → ⊥

@@ -1,11 +1,8 @@
 -- A set that an act does not complete stays incomplete, and an agenda that begins completes none.
-use Rattle.promises.proofs.Words.{VssResult, Mark, Write, Group}
-use Rattle.promises.proofs.Words.{Kind, Member, groups_left, is_done, Session, Plan}
-use Rattle.promises.proofs.Words.{State, SetRow, Kept, is_complete, cut_set, step_made, unspoken, has_complete, incomplete_settled}
-use Rattle.promises.proofs.Words.{incomplete_map}
-use Rattle.std.proofs.Common.{◌≡◌, ℕ, List, ◌⊎◌, Option, Some, refl, Bool, true, false, arith}
-use Rattle.vss_names.specs.declared.set_outcome.SetOutcome.TheVariants.{Running as RunningSet}
-use Rattle.set_agenda.specs.Course.{Course, posted, failed as course_failed, settled_if, settled, begun}
+use Rattle.promises.proofs.Words.{VssResult, Mark, Write, Group, Session, Plan, State, SetRow, Kept, is_complete, cut_set, step_made, has_complete}
+use Rattle.promises.proofs.Words.{incomplete_settled, incomplete_map}
+use Rattle.std.proofs.Common.{◌≡◌, ℕ, ◌⊎◌, Option, refl, Bool, true, false, arith}
+use Rattle.set_agenda.specs.Course.{Course, failed as course_failed}
 use Rattle.vss_model.specs.Ending.{Ending, concluded, followed, failed_in}
 use Rattle.vss_model.specs.Images.{with_room_if, put, write, reverted_as}
 use Rattle.vss_model.specs.Sessions.{closed}
@@ -49,11 +46,3 @@ module _ (n : ℕ) where
 
   pub incomplete_made : (g : Option Group) (st : State) → has_complete st.sets n ≡ false → has_complete (step_made g st).sets n ≡ false
   incomplete_made g st h = grind (arith, incomplete_cut)
-
-begun_incomplete_if : (done : Bool) (j : Kind) (ms : List Member) (vs : List ℕ) (now : ℕ) (c : Course) → is_done (groups_left (unspoken j ms vs now)) ≡ done → c.outcome ≡ RunningSet
-    → is_complete (settled_if done j (record c { agenda = Some (unspoken j ms vs now) })).outcome ≡ true → ⊥
-begun_incomplete_if done j ms vs now c d e f = grind arith
-
-pub begun_incomplete : (j : Kind) (ms : List Member) (vs : List ℕ) (now : ℕ) (c : Course) → c.outcome ≡ RunningSet → is_complete (begun j ms vs now c).outcome ≡ true → ⊥
-unfolding begun posted settled
-begun_incomplete j ms vs now c e f = begun_incomplete_if (is_done (groups_left (unspoken j ms vs now))) j ms vs now c refl e f

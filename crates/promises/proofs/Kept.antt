@@ -17,19 +17,18 @@ row_complete (Some r) = is_complete r.result
 
 complete_is : (k n : ℕ) (rows : List SetRow) → NumberedFrom k rows → has_complete rows n ≡ row_complete (find (λ (r : SetRow). r.number == n) rows)
 complete_is k n [] num = refl
-complete_is k n (r ∷ rows) num = by_head (r.number == n) refl (complete_is (k + 1) n rows num.1)
-  where
-    or_off : (a b : Bool) → b ≡ false → (a || b) ≡ a
-    or_off true b e = refl
-    or_off false b e = e
+complete_is k n (r ∷ rows) num = by_head (r.number == n) refl (complete_is (k + 1) n rows num.1) where
+  or_off : (a b : Bool) → b ≡ false → (a || b) ≡ a
+  or_off true b e = refl
+  or_off false b e = e
 
-    below : (a b c : ℕ) → (a == b) ≡ true → a ≡ c → b < c + 1
-    below a b c e f = grind arith
+  below : (a b c : ℕ) → (a == b) ≡ true → a ≡ c → b < c + 1
+  below a b c e f = grind arith
 
-    by_head : (b : Bool) → (r.number == n) ≡ b → has_complete rows n ≡ row_complete (find (λ (x : SetRow). x.number == n) rows)
-        → ((b && is_complete r.result) || has_complete rows n) ≡ row_complete (if b then Some r else find (λ (x : SetRow). x.number == n) rows)
-    by_head true e ih = or_off (is_complete r.result) (has_complete rows n) (none_below (k + 1) n rows num.1 (below r.number n k e num.0))
-    by_head false e ih = ih
+  by_head : (b : Bool) → (r.number == n) ≡ b → has_complete rows n ≡ row_complete (find (λ (x : SetRow). x.number == n) rows)
+      → ((b && is_complete r.result) || has_complete rows n) ≡ row_complete (if b then Some r else find (λ (x : SetRow). x.number == n) rows)
+  by_head true e ih = or_off (is_complete r.result) (has_complete rows n) (none_below (k + 1) n rows num.1 (below r.number n k e num.0))
+  by_head false e ih = ih
 
 module _ (s : Plan) (so_far : List Act) where
   abbrev st : State
@@ -56,34 +55,30 @@ module _ (s : Plan) (so_far : List Act) where
 
   revert_says : (n v : ℕ) (mark : Mark) → (revert s n v mark st).0 ≡ revert_answer (is_kept st n v) (is_of_backup (row_of st n)) (has_in_it v (in_progress st)) mark
   unfolding revert
-  revert_says n v mark = by_kept (kept_image st n v) refl
-    where
-      by_kept : (o : Option Kept) → kept_image st n v ≡ o
-          → (revert_to s v (revert_refusal v (kept_image st n v) st) (kept_image st n v) mark st).0
-          ≡ revert_answer (is_kept st n v) (is_of_backup (row_of st n)) (has_in_it v (in_progress st)) mark
-      by_kept None e =
-          ap (λ o. (revert_to s v (revert_refusal v o st) o mark st).0) e
-          ∙ ap (λ b. revert_answer b (is_of_backup (row_of st n)) (has_in_it v (in_progress st)) mark) (sym (sym (found n v) ∙ ap is_some e))
-      by_kept (Some k) e =
-          ap (λ o. (revert_to s v (revert_refusal v o st) o mark st).0) e
-          ∙ by_refusal v k mark (is_backup k.row.context) (is_in_set v (in_progress st))
-          ∙ ap (λ b. revert_answer true b (is_in_set v (in_progress st)) mark) (row_kept (row_of st n) (point_in n (history_of st v).images) k e)
-          ∙ ap (λ b. revert_answer true (is_of_backup (row_of st n)) b mark) (busy_is v (in_progress st))
-          ∙ ap (λ b. revert_answer b (is_of_backup (row_of st n)) (has_in_it v (in_progress st)) mark) (sym (sym (found n v) ∙ ap is_some e))
+  revert_says n v mark = by_kept (kept_image st n v) refl where
+    by_kept : (o : Option Kept) → kept_image st n v ≡ o → (revert_to s v (revert_refusal v (kept_image st n v) st) (kept_image st n v) mark st).0
+        ≡ revert_answer (is_kept st n v) (is_of_backup (row_of st n)) (has_in_it v (in_progress st)) mark
+    by_kept None e =
+        ap (λ o. (revert_to s v (revert_refusal v o st) o mark st).0) e
+        ∙ ap (λ b. revert_answer b (is_of_backup (row_of st n)) (has_in_it v (in_progress st)) mark) (sym (sym (found n v) ∙ ap is_some e))
+    by_kept (Some k) e =
+        ap (λ o. (revert_to s v (revert_refusal v o st) o mark st).0) e
+        ∙ by_refusal v k mark (is_backup k.row.context) (is_in_set v (in_progress st))
+        ∙ ap (λ b. revert_answer true b (is_in_set v (in_progress st)) mark) (row_kept (row_of st n) (point_in n (history_of st v).images) k e)
+        ∙ ap (λ b. revert_answer true (is_of_backup (row_of st n)) b mark) (busy_is v (in_progress st))
+        ∙ ap (λ b. revert_answer b (is_of_backup (row_of st n)) (has_in_it v (in_progress st)) mark) (sym (sym (found n v) ∙ ap is_some e))
 
   -- ## deletions
 
   some_counted : (n v : ℕ) (hs : List History) → has_image n (at hs v) ≡ true → nat_lt 0 (count_images n hs) ≡ true
   some_counted n zero [] e = absurd cc
   some_counted n (suc v) [] e = absurd cc
-  some_counted n zero (h ∷ hs) e = ap (λ b. nat_lt 0 ((if b then 1 else 0) + count_images n hs)) e ∙ positive (count_images n hs)
-    where
-      positive : (k : ℕ) → nat_lt 0 (1 + k) ≡ true
-      positive k = grind arith
-  some_counted n (suc v) (h ∷ hs) e = more (if has_image n h then 1 else 0) (count_images n hs) (some_counted n v hs e)
-    where
-      more : (a k : ℕ) → nat_lt 0 k ≡ true → nat_lt 0 (a + k) ≡ true
-      more a k e = grind arith
+  some_counted n zero (h ∷ hs) e = ap (λ b. nat_lt 0 ((if b then 1 else 0) + count_images n hs)) e ∙ positive (count_images n hs) where
+    positive : (k : ℕ) → nat_lt 0 (1 + k) ≡ true
+    positive k = grind arith
+  some_counted n (suc v) (h ∷ hs) e = more (if has_image n h then 1 else 0) (count_images n hs) (some_counted n v hs e) where
+    more : (a k : ℕ) → nat_lt 0 k ≡ true → nat_lt 0 (a + k) ≡ true
+    more a k e = grind arith
 
   none_counted : (n : ℕ) (hs : List History) → ((v : ℕ) → has_image n (at hs v) ≡ false) → nat_lt 0 (count_images n hs) ≡ false
   none_counted n [] h = refl
@@ -102,11 +97,10 @@ module _ (s : Plan) (so_far : List Act) where
 
   image_says : (n v : ℕ) → (delete_image n v st).0 ≡ (if is_kept st n v then Deleted 1 else Coded ObjectNotFound)
   unfolding delete_image
-  image_says n v = by_kept (kept_image st n v) ∙ ap (λ b. if b then Deleted 1 else Coded ObjectNotFound) (found n v)
-    where
-      by_kept : (o : Option Kept) → (delete_kept v o st).0 ≡ (if is_some o then Deleted 1 else Coded ObjectNotFound)
-      by_kept None = refl
-      by_kept (Some k) = refl
+  image_says n v = by_kept (kept_image st n v) ∙ ap (λ b. if b then Deleted 1 else Coded ObjectNotFound) (found n v) where
+    by_kept : (o : Option Kept) → (delete_kept v o st).0 ≡ (if is_some o then Deleted 1 else Coded ObjectNotFound)
+    by_kept None = refl
+    by_kept (Some k) = refl
 
 pub finds_the_kept : (s : Plan) (so_far : List Act) (act : Act) → FindsTheKept s so_far act
 finds_the_kept s so_far act = grind (arith, found, line_reply, revert_says, set_goes, no_set, image_says)

@@ -36,51 +36,48 @@ overwritten_by : (n b : ℕ) (images : List Image) (i : ℕ) (ws : List Write) �
 overwritten_by n b images i [] f = refl
 overwritten_by n b images i (w ∷ ws) f =
     ap (λ c. c || names ws b) (plain (w.block == b) ∙ ap (λ c. (w.block == b) && not c) (sym (f i)))
-    ∙ ap (λ c. ((w.block == b) && not (is_cut_by n i images)) || c) (overwritten_by n b images (i + 1) ws f)
-  where
-    plain : (c : Bool) → c ≡ (c && true)
-    plain true = refl
-    plain false = refl
+    ∙ ap (λ c. ((w.block == b) && not (is_cut_by n i images)) || c) (overwritten_by n b images (i + 1) ws f) where
+      plain : (c : Bool) → c ≡ (c && true)
+      plain true = refl
+      plain false = refl
 
 -- one is cut at q writes
 overwritten_up_to : (n b q : ℕ) (images : List Image) (i : ℕ) (ws : List Write) → ((j : ℕ) → is_cut_by n j images ≡ nat_le q j)
     → names (take (q - i) ws) b ≡ is_overwritten n b images i ws
-overwritten_up_to n b q images i [] f = ap (λ xs. names xs b) (take_none (q - i))
-  where
-    take_none : (k : ℕ) → take {A = Write} k [] ≡ []
-    take_none zero = refl
-    take_none (suc k) = refl
-overwritten_up_to n b q images i (w ∷ ws) f = by_time (nat_le q i) refl (overwritten_up_to n b q images (i + 1) ws f)
-  where
-    none_left : (q i : ℕ) → nat_le q i ≡ true → q - i ≡ 0
-    none_left q i e = grind arith
+overwritten_up_to n b q images i [] f = ap (λ xs. names xs b) (take_none (q - i)) where
+  take_none : (k : ℕ) → take {A = Write} k [] ≡ []
+  take_none zero = refl
+  take_none (suc k) = refl
+overwritten_up_to n b q images i (w ∷ ws) f = by_time (nat_le q i) refl (overwritten_up_to n b q images (i + 1) ws f) where
+  none_left : (q i : ℕ) → nat_le q i ≡ true → q - i ≡ 0
+  none_left q i e = grind arith
 
-    none_more : (q i : ℕ) → nat_le q i ≡ true → q - (i + 1) ≡ 0
-    none_more q i e = grind arith
+  none_more : (q i : ℕ) → nat_le q i ≡ true → q - (i + 1) ≡ 0
+  none_more q i e = grind arith
 
-    one_left : (q i : ℕ) → nat_le q i ≡ false → q - i ≡ suc (q - (i + 1))
-    one_left q i e = grind arith
+  one_left : (q i : ℕ) → nat_le q i ≡ false → q - i ≡ suc (q - (i + 1))
+  one_left q i e = grind arith
 
-    off : (c : Bool) → false ≡ ((c && false) || false)
-    off true = refl
-    off false = refl
+  off : (c : Bool) → false ≡ ((c && false) || false)
+  off true = refl
+  off false = refl
 
-    plain : (c d : Bool) → (c || d) ≡ ((c && true) || d)
-    plain true d = refl
-    plain false d = refl
+  plain : (c d : Bool) → (c || d) ≡ ((c && true) || d)
+  plain true d = refl
+  plain false d = refl
 
-    by_time : (c : Bool) → nat_le q i ≡ c → names (take (q - (i + 1)) ws) b ≡ is_overwritten n b images (i + 1) ws
-        → names (take (q - i) (w ∷ ws)) b ≡ (((w.block == b) && not (is_cut_by n i images)) || is_overwritten n b images (i + 1) ws)
-    by_time true e ih =
-        ap (λ k. names (take k (w ∷ ws)) b) (none_left q i e)
-        ∙ off (w.block == b)
-        ∙ ap (λ c. ((w.block == b) && false) || c) (sym (ap (λ k. names (take k ws) b) (none_more q i e)) ∙ ih)
-        ∙ ap (λ c. ((w.block == b) && not c) || is_overwritten n b images (i + 1) ws) (sym (f i ∙ e))
-    by_time false e ih =
-        ap (λ k. names (take k (w ∷ ws)) b) (one_left q i e)
-        ∙ plain (w.block == b) (names (take (q - (i + 1)) ws) b)
-        ∙ ap (λ c. ((w.block == b) && true) || c) ih
-        ∙ ap (λ c. ((w.block == b) && not c) || is_overwritten n b images (i + 1) ws) (sym (f i ∙ e))
+  by_time : (c : Bool) → nat_le q i ≡ c → names (take (q - (i + 1)) ws) b ≡ is_overwritten n b images (i + 1) ws
+      → names (take (q - i) (w ∷ ws)) b ≡ (((w.block == b) && not (is_cut_by n i images)) || is_overwritten n b images (i + 1) ws)
+  by_time true e ih =
+      ap (λ k. names (take k (w ∷ ws)) b) (none_left q i e)
+      ∙ off (w.block == b)
+      ∙ ap (λ c. ((w.block == b) && false) || c) (sym (ap (λ k. names (take k ws) b) (none_more q i e)) ∙ ih)
+      ∙ ap (λ c. ((w.block == b) && not c) || is_overwritten n b images (i + 1) ws) (sym (f i ∙ e))
+  by_time false e ih =
+      ap (λ k. names (take k (w ∷ ws)) b) (one_left q i e)
+      ∙ plain (w.block == b) (names (take (q - (i + 1)) ws) b)
+      ∙ ap (λ c. ((w.block == b) && true) || c) ih
+      ∙ ap (λ c. ((w.block == b) && not c) || is_overwritten n b images (i + 1) ws) (sym (f i ∙ e))
 
 -- the same of the images behind one that is no later
 pub overwritten_along : (n b : ℕ) (x : Image) (images : List Image) (i : ℕ) (ws : List Write) → nat_lt n x.set ≡ false
@@ -90,15 +87,14 @@ overwritten_along n b x images i ws e = grind arith
 -- later images come at no fewer writes
 later_cuts : (n j : ℕ) (x : Image) (images : List Image) → AreLater x images → is_cut_by n j images ≡ true → nat_le x.point j ≡ true
 later_cuts n j x [] h e = absurd cc
-later_cuts n j x (y ∷ images) h e = by_head (nat_lt n y.set) (nat_le y.point j) refl e (later_cuts n j x images h.2)
-  where
-    before : (a c j : ℕ) → a ≤ c → nat_le c j ≡ true → nat_le a j ≡ true
-    before a c j l e = grind arith
+later_cuts n j x (y ∷ images) h e = by_head (nat_lt n y.set) (nat_le y.point j) refl e (later_cuts n j x images h.2) where
+  before : (a c j : ℕ) → a ≤ c → nat_le c j ≡ true → nat_le a j ≡ true
+  before a c j l e = grind arith
 
-    by_head : (a c : Bool) → nat_le y.point j ≡ c → ((a && c) || is_cut_by n j images) ≡ true → (is_cut_by n j images ≡ true → nat_le x.point j ≡ true) → nat_le x.point j ≡ true
-    by_head true true f e ih = before x.point y.point j h.1 f
-    by_head true false f e ih = ih e
-    by_head false c f e ih = ih e
+  by_head : (a c : Bool) → nat_le y.point j ≡ c → ((a && c) || is_cut_by n j images) ≡ true → (is_cut_by n j images ≡ true → nat_le x.point j ≡ true) → nat_le x.point j ≡ true
+  by_head true true f e ih = before x.point y.point j h.1 f
+  by_head true false f e ih = ih e
+  by_head false c f e ih = ih e
 
 next_cut : (n j : ℕ) (x : Image) (images : List Image) → AreLater x images → nat_lt n x.set ≡ true → is_cut_by n j (x ∷ images) ≡ nat_le x.point j
 next_cut n j x images h e = grind (arith, later_cuts)
@@ -107,15 +103,14 @@ next_cut n j x images h e = grind (arith, later_cuts)
 
 no_image : (k u n b m : ℕ) (ws : List Write) (images : List Image) → point_in n images ≡ None → list_any (is_copy u n b) (copies_of k m ws images) ≡ false
 no_image k u n b m ws [] e = refl
-no_image k u n b m ws (i ∷ newer) e = by_set (i.set == n) refl e (no_image k u n b m ws newer)
-  where
-    by_set : (c : Bool) → (i.set == n) ≡ c → (if c then Some i.point else point_in n newer) ≡ None
-        → (point_in n newer ≡ None → list_any (is_copy u n b) (copies_of k m ws newer) ≡ false) → list_any (is_copy u n b) (copies_of k m ws (i ∷ newer)) ≡ false
-    by_set true f e ih = absurd cc
-    by_set false f e ih =
-        list_any-append (is_copy u n b) (map (copy_of k ws i) (named m ws i newer)) (copies_of k m ws newer)
-        ∙ ap (λ c. c || list_any (is_copy u n b) (copies_of k m ws newer)) (any_other k u n b ws i (named m ws i newer) (ap (λ c. (k == u) && c) f ∙ and-false (k == u)))
-        ∙ ih e
+no_image k u n b m ws (i ∷ newer) e = by_set (i.set == n) refl e (no_image k u n b m ws newer) where
+  by_set : (c : Bool) → (i.set == n) ≡ c → (if c then Some i.point else point_in n newer) ≡ None
+      → (point_in n newer ≡ None → list_any (is_copy u n b) (copies_of k m ws newer) ≡ false) → list_any (is_copy u n b) (copies_of k m ws (i ∷ newer)) ≡ false
+  by_set true f e ih = absurd cc
+  by_set false f e ih =
+      list_any-append (is_copy u n b) (map (copy_of k ws i) (named m ws i newer)) (copies_of k m ws newer)
+      ∙ ap (λ c. c || list_any (is_copy u n b) (copies_of k m ws newer)) (any_other k u n b ws i (named m ws i newer) (ap (λ c. (k == u) && c) f ∙ and-false (k == u)))
+      ∙ ih e
 
 other_volume : (k u n b m : ℕ) (ws : List Write) (images : List Image) → (k == u) ≡ false → list_any (is_copy u n b) (copies_of k m ws images) ≡ false
 other_volume k u n b m ws [] e = refl
@@ -134,15 +129,14 @@ not_later n i e = grind arith
 -- of an image that comes before the one of set n
 pub earlier : (n p : ℕ) (i : Image) (images : List Image) → AreLater i images → point_in n images ≡ Some p → nat_lt n i.set ≡ false
 earlier n p i [] h e = absurd cc
-earlier n p i (j ∷ images) h e = by_head (j.set == n) refl e (earlier n p i images h.2)
-  where
-    below : (a c n : ℕ) → a < c → (c == n) ≡ true → nat_lt n a ≡ false
-    below a c n l e = grind arith
+earlier n p i (j ∷ images) h e = by_head (j.set == n) refl e (earlier n p i images h.2) where
+  below : (a c n : ℕ) → a < c → (c == n) ≡ true → nat_lt n a ≡ false
+  below a c n l e = grind arith
 
-    by_head : (c : Bool) → (j.set == n) ≡ c → (if c then Some j.point else point_in n images) ≡ Some p → (point_in n images ≡ Some p → nat_lt n i.set ≡ false)
-        → nat_lt n i.set ≡ false
-    by_head true f e ih = below i.set j.set n h.0 f
-    by_head false f e ih = ih e
+  by_head : (c : Bool) → (j.set == n) ≡ c → (if c then Some j.point else point_in n images) ≡ Some p → (point_in n images ≡ Some p → nat_lt n i.set ≡ false)
+      → nat_lt n i.set ≡ false
+  by_head true f e ih = below i.set j.set n h.0 f
+  by_head false f e ih = ih e
 
 pub since_cut : (n b : ℕ) (ws : List Write) (i : Image) (newer : List Image) → AreLater i newer → AreInTime (length ws) newer → (i.set == n) ≡ true
     → names (writes_since ws i.point newer) b ≡ is_overwritten n b (i ∷ newer) i.point (drop i.point ws)
@@ -154,24 +148,23 @@ among_named m b ws l = grind (arith, range_passes)
 exactly_of : (k n b m p : ℕ) (ws : List Write) (images : List Image) → AreInTime (length ws) images → point_in n images ≡ Some p → b < m
     → list_any (is_copy k n b) (copies_of k m ws images) ≡ is_overwritten n b images p (drop p ws)
 exactly_of k n b m p ws [] t e l = absurd cc
-exactly_of k n b m p ws (i ∷ newer) t e l = by_set (i.set == n) refl e (λ f. exactly_of k n b m p ws newer t.2 f l)
-  where
-    by_set : (c : Bool) → (i.set == n) ≡ c → (if c then Some i.point else point_in n newer) ≡ Some p
-        → (point_in n newer ≡ Some p → list_any (is_copy k n b) (copies_of k m ws newer) ≡ is_overwritten n b newer p (drop p ws))
-        → list_any (is_copy k n b) (copies_of k m ws (i ∷ newer)) ≡ is_overwritten n b (i ∷ newer) p (drop p ws)
-    by_set true f e ih =
-        list_any-append (is_copy k n b) (map (copy_of k ws i) (named m ws i newer)) (copies_of k m ws newer)
-        ∙ ap (λ c. list_any (is_copy k n b) (map (copy_of k ws i) (named m ws i newer)) || c) (no_image k k n b m ws newer (none_of_set i newer n t.1 f))
-        ∙ or-false (list_any (is_copy k n b) (map (copy_of k ws i) (named m ws i newer)))
-        ∙ any_own k k n b ws i (named m ws i newer) (same_number k) f
-        ∙ among_named m b (writes_since ws i.point newer) l
-        ∙ since_cut n b ws i newer t.1 t.2 f
-        ∙ ap (λ q. is_overwritten n b (i ∷ newer) q (drop q ws)) (some_same i.point p e)
-    by_set false f e ih =
-        list_any-append (is_copy k n b) (map (copy_of k ws i) (named m ws i newer)) (copies_of k m ws newer)
-        ∙ ap (λ c. c || list_any (is_copy k n b) (copies_of k m ws newer)) (any_other k k n b ws i (named m ws i newer) (ap (λ c. (k == k) && c) f ∙ and-false (k == k)))
-        ∙ ih e
-        ∙ overwritten_along n b i newer p (drop p ws) (earlier n p i newer t.1 e)
+exactly_of k n b m p ws (i ∷ newer) t e l = by_set (i.set == n) refl e (λ f. exactly_of k n b m p ws newer t.2 f l) where
+  by_set : (c : Bool) → (i.set == n) ≡ c → (if c then Some i.point else point_in n newer) ≡ Some p
+      → (point_in n newer ≡ Some p → list_any (is_copy k n b) (copies_of k m ws newer) ≡ is_overwritten n b newer p (drop p ws))
+      → list_any (is_copy k n b) (copies_of k m ws (i ∷ newer)) ≡ is_overwritten n b (i ∷ newer) p (drop p ws)
+  by_set true f e ih =
+      list_any-append (is_copy k n b) (map (copy_of k ws i) (named m ws i newer)) (copies_of k m ws newer)
+      ∙ ap (λ c. list_any (is_copy k n b) (map (copy_of k ws i) (named m ws i newer)) || c) (no_image k k n b m ws newer (none_of_set i newer n t.1 f))
+      ∙ or-false (list_any (is_copy k n b) (map (copy_of k ws i) (named m ws i newer)))
+      ∙ any_own k k n b ws i (named m ws i newer) (same_number k) f
+      ∙ among_named m b (writes_since ws i.point newer) l
+      ∙ since_cut n b ws i newer t.1 t.2 f
+      ∙ ap (λ q. is_overwritten n b (i ∷ newer) q (drop q ws)) (some_same i.point p e)
+  by_set false f e ih =
+      list_any-append (is_copy k n b) (map (copy_of k ws i) (named m ws i newer)) (copies_of k m ws newer)
+      ∙ ap (λ c. c || list_any (is_copy k n b) (copies_of k m ws newer)) (any_other k k n b ws i (named m ws i newer) (ap (λ c. (k == k) && c) f ∙ and-false (k == k)))
+      ∙ ih e
+      ∙ overwritten_along n b i newer p (drop p ws) (earlier n p i newer t.1 e)
 
 -- ## the copies of a group
 
@@ -182,61 +175,57 @@ blocks_at (Some p) = p.blocks
 place_least : (k : ℕ) (ps : List Placed) (u : ℕ) → k ≤ place_from k ps u
 place_least k [] u = omega arith
 place_least k (p ∷ ps) zero = omega arith
-place_least k (p ∷ ps) (suc u) = by_group p.within (λ j. place_least j ps u)
-  where
-    next : (k n : ℕ) → k + 1 ≤ n → k ≤ n
-    next k n l = omega arith
+place_least k (p ∷ ps) (suc u) = by_group p.within (λ j. place_least j ps u) where
+  next : (k n : ℕ) → k + 1 ≤ n → k ≤ n
+  next k n l = omega arith
 
-    by_group : (c : Bool) → ((j : ℕ) → j ≤ place_from j ps u) → k ≤ place_from (if c then k + 1 else k) ps u
-    by_group true ih = next k (place_from (k + 1) ps u) (ih (k + 1))
-    by_group false ih = ih k
+  by_group : (c : Bool) → ((j : ℕ) → j ≤ place_from j ps u) → k ≤ place_from (if c then k + 1 else k) ps u
+  by_group true ih = next k (place_from (k + 1) ps u) (ih (k + 1))
+  by_group false ih = ih k
 
 none_below : (j k n b : ℕ) (ps : List Placed) (hs : List History) → k < j → list_any (is_copy k n b) (copies_from j ps hs) ≡ false
 none_below j k n b [] hs l = refl
 none_below j k n b (p ∷ ps) [] l = refl
-none_below j k n b (p ∷ ps) (h ∷ hs) l = by_group p.within (λ i g. none_below i k n b ps hs g)
-  where
-    by_group : (c : Bool) → ((i : ℕ) → k < i → list_any (is_copy k n b) (copies_from i ps hs) ≡ false)
-        → list_any (is_copy k n b) (if c then copies_of j p.blocks h.writes h.images ++ copies_from (j + 1) ps hs else copies_from j ps hs) ≡ false
-    by_group true ih =
-        list_any-append (is_copy k n b) (copies_of j p.blocks h.writes h.images) (copies_from (j + 1) ps hs)
-        ∙ ap (λ c. c || list_any (is_copy k n b) (copies_from (j + 1) ps hs)) (other_volume j k n b p.blocks h.writes h.images (beyond j k l))
-        ∙ ih (j + 1) (still_less j k l)
-    by_group false ih = ih j l
+none_below j k n b (p ∷ ps) (h ∷ hs) l = by_group p.within (λ i g. none_below i k n b ps hs g) where
+  by_group : (c : Bool) → ((i : ℕ) → k < i → list_any (is_copy k n b) (copies_from i ps hs) ≡ false)
+      → list_any (is_copy k n b) (if c then copies_of j p.blocks h.writes h.images ++ copies_from (j + 1) ps hs else copies_from j ps hs) ≡ false
+  by_group true ih =
+      list_any-append (is_copy k n b) (copies_of j p.blocks h.writes h.images) (copies_from (j + 1) ps hs)
+      ∙ ap (λ c. c || list_any (is_copy k n b) (copies_from (j + 1) ps hs)) (other_volume j k n b p.blocks h.writes h.images (beyond j k l))
+      ∙ ih (j + 1) (still_less j k l)
+  by_group false ih = ih j l
 
 exactly_in : (k : ℕ) (ps : List Placed) (hs : List History) (u n b p : ℕ) → InTimeAll hs → within (slice_get ps u) ≡ true → b < blocks_at (slice_get ps u)
     → point_in n (at hs u).images ≡ Some p
     → list_any (is_copy (place_from k ps u) n b) (copies_from k ps hs) ≡ is_overwritten n b (at hs u).images p (drop p (at hs u).writes)
 exactly_in k [] hs u n b p t e l f = absurd cc
 exactly_in k (x ∷ ps) [] u n b p t e l f = absurd cc
-exactly_in k (x ∷ ps) (h ∷ hs) zero n b p t e l f = by_group x.within e
-  where
-    next : (k : ℕ) → k < k + 1
-    next k = omega arith
+exactly_in k (x ∷ ps) (h ∷ hs) zero n b p t e l f = by_group x.within e where
+  next : (k : ℕ) → k < k + 1
+  next k = omega arith
 
-    by_group : (c : Bool) → c ≡ true
-        → list_any (is_copy k n b) (if c then copies_of k x.blocks h.writes h.images ++ copies_from (k + 1) ps hs else copies_from k ps hs) ≡ is_overwritten n b h.images p (drop p h.writes)
-    by_group true g =
-        list_any-append (is_copy k n b) (copies_of k x.blocks h.writes h.images) (copies_from (k + 1) ps hs)
-        ∙ ap (λ c. list_any (is_copy k n b) (copies_of k x.blocks h.writes h.images) || c) (none_below (k + 1) k n b ps hs (next k))
-        ∙ or-false (list_any (is_copy k n b) (copies_of k x.blocks h.writes h.images))
-        ∙ exactly_of k n b x.blocks p h.writes h.images (t 0) f l
-    by_group false g = absurd cc
-exactly_in k (x ∷ ps) (h ∷ hs) (suc u) n b p t e l f = by_group x.within (λ j. exactly_in j ps hs u n b p (λ v. t (suc v)) e l f)
-  where
-    before : (k n : ℕ) → k + 1 ≤ n → (k == n) ≡ false
-    before k n l = grind arith
+  by_group : (c : Bool) → c ≡ true
+      → list_any (is_copy k n b) (if c then copies_of k x.blocks h.writes h.images ++ copies_from (k + 1) ps hs else copies_from k ps hs) ≡ is_overwritten n b h.images p (drop p h.writes)
+  by_group true g =
+      list_any-append (is_copy k n b) (copies_of k x.blocks h.writes h.images) (copies_from (k + 1) ps hs)
+      ∙ ap (λ c. list_any (is_copy k n b) (copies_of k x.blocks h.writes h.images) || c) (none_below (k + 1) k n b ps hs (next k))
+      ∙ or-false (list_any (is_copy k n b) (copies_of k x.blocks h.writes h.images))
+      ∙ exactly_of k n b x.blocks p h.writes h.images (t 0) f l
+  by_group false g = absurd cc
+exactly_in k (x ∷ ps) (h ∷ hs) (suc u) n b p t e l f = by_group x.within (λ j. exactly_in j ps hs u n b p (λ v. t (suc v)) e l f) where
+  before : (k n : ℕ) → k + 1 ≤ n → (k == n) ≡ false
+  before k n l = grind arith
 
-    by_group : (c : Bool) → ((j : ℕ) → list_any (is_copy (place_from j ps u) n b) (copies_from j ps hs) ≡ is_overwritten n b (at hs u).images p (drop p (at hs u).writes))
-        → list_any (is_copy (place_from (if c then k + 1 else k) ps u) n b)
-        (if c then copies_of k x.blocks h.writes h.images ++ copies_from (k + 1) ps hs else copies_from k ps hs)
-        ≡ is_overwritten n b (at hs u).images p (drop p (at hs u).writes)
-    by_group true ih =
-        list_any-append (is_copy (place_from (k + 1) ps u) n b) (copies_of k x.blocks h.writes h.images) (copies_from (k + 1) ps hs)
-        ∙ ap (λ c. c || list_any (is_copy (place_from (k + 1) ps u) n b) (copies_from (k + 1) ps hs))
-        (other_volume k (place_from (k + 1) ps u) n b x.blocks h.writes h.images (before k (place_from (k + 1) ps u) (place_least (k + 1) ps u)))
-        ∙ ih (k + 1)
-    by_group false ih = ih k
+  by_group : (c : Bool) → ((j : ℕ) → list_any (is_copy (place_from j ps u) n b) (copies_from j ps hs) ≡ is_overwritten n b (at hs u).images p (drop p (at hs u).writes))
+      → list_any (is_copy (place_from (if c then k + 1 else k) ps u) n b)
+      (if c then copies_of k x.blocks h.writes h.images ++ copies_from (k + 1) ps hs else copies_from k ps hs)
+      ≡ is_overwritten n b (at hs u).images p (drop p (at hs u).writes)
+  by_group true ih =
+      list_any-append (is_copy (place_from (k + 1) ps u) n b) (copies_of k x.blocks h.writes h.images) (copies_from (k + 1) ps hs)
+      ∙ ap (λ c. c || list_any (is_copy (place_from (k + 1) ps u) n b) (copies_from (k + 1) ps hs))
+      (other_volume k (place_from (k + 1) ps u) n b x.blocks h.writes h.images (before k (place_from (k + 1) ps u) (place_least (k + 1) ps u)))
+      ∙ ih (k + 1)
+  by_group false ih = ih k
 
 -- ## none twice
 
@@ -251,26 +240,24 @@ once_both (c ∷ xs) ys e f h =
     and_from (not (list_any (is_copy c.volume c.set c.block) (xs ++ ys))) (are_once (xs ++ ys))
     (ap not (list_any-append (is_copy c.volume c.set c.block) xs ys) ∙ ap (λ b. not (list_any (is_copy c.volume c.set c.block) xs || b)) h.0
     ∙ or_none (list_any (is_copy c.volume c.set c.block) xs) parts.0)
-    (once_both xs ys parts.1 f h.1)
-  where
-    or_none : (b : Bool) → not b ≡ true → not (b || false) ≡ true
-    or_none true g = g
-    or_none false g = g
+    (once_both xs ys parts.1 f h.1) where
+      or_none : (b : Bool) → not b ≡ true → not (b || false) ≡ true
+      or_none true g = g
+      or_none false g = g
 
 once_range : (k : ℕ) (ws : List Write) (i : Image) (test : ℕ → Bool) (a n : ℕ) → are_once (map (copy_of k ws i) (filter test (range_with_len a n))) ≡ true
 once_range k ws i test a zero = refl
-once_range k ws i test a (suc n) = by_test (test a) (once_range k ws i test (a + 1) n)
-  where
-    next : (a : ℕ) → a < a + 1
-    next a = omega arith
+once_range k ws i test a (suc n) = by_test (test a) (once_range k ws i test (a + 1) n) where
+  next : (a : ℕ) → a < a + 1
+  next a = omega arith
 
-    by_test : (c : Bool) → are_once (map (copy_of k ws i) (filter test (range_with_len (a + 1) n))) ≡ true
-        → are_once (map (copy_of k ws i) (if c then a ∷ filter test (range_with_len (a + 1) n) else filter test (range_with_len (a + 1) n))) ≡ true
-    by_test true ih =
-        and_from (not (list_any (is_copy k i.set a) (map (copy_of k ws i) (filter test (range_with_len (a + 1) n))))) (are_once (map (copy_of k ws i) (filter test (range_with_len (a + 1) n))))
-        (ap not (any_own k k i.set a ws i (filter test (range_with_len (a + 1) n)) (same_number k) (same_number i.set) ∙ none_passes test (a + 1) n a (next a)))
-        ih
-    by_test false ih = ih
+  by_test : (c : Bool) → are_once (map (copy_of k ws i) (filter test (range_with_len (a + 1) n))) ≡ true
+      → are_once (map (copy_of k ws i) (if c then a ∷ filter test (range_with_len (a + 1) n) else filter test (range_with_len (a + 1) n))) ≡ true
+  by_test true ih =
+      and_from (not (list_any (is_copy k i.set a) (map (copy_of k ws i) (filter test (range_with_len (a + 1) n))))) (are_once (map (copy_of k ws i) (filter test (range_with_len (a + 1) n))))
+      (ap not (any_own k k i.set a ws i (filter test (range_with_len (a + 1) n)) (same_number k) (same_number i.set) ∙ none_passes test (a + 1) n a (next a)))
+      ih
+  by_test false ih = ih
 
 not_newer : (k m : ℕ) (ws : List Write) (i : Image) (newer : List Image) (bs : List ℕ) → AreLater i newer → NotAmong (copies_of k m ws newer) (map (copy_of k ws i) bs)
 not_newer k m ws i newer [] h = tt
@@ -284,25 +271,23 @@ once_of k m most ws (i ∷ newer) t =
 
 not_below : (k m : ℕ) (ws : List Write) (images : List Image) (ps : List Placed) (hs : List History) → NotAmong (copies_from (k + 1) ps hs) (copies_of k m ws images)
 not_below k m ws [] ps hs = tt
-not_below k m ws (i ∷ newer) ps hs = over (not_below k m ws newer ps hs) (named m ws i newer)
-  where
-    next : (k : ℕ) → k < k + 1
-    next k = omega arith
+not_below k m ws (i ∷ newer) ps hs = over (not_below k m ws newer ps hs) (named m ws i newer) where
+  next : (k : ℕ) → k < k + 1
+  next k = omega arith
 
-    over : NotAmong (copies_from (k + 1) ps hs) (copies_of k m ws newer) → (bs : List ℕ) → NotAmong (copies_from (k + 1) ps hs) (map (copy_of k ws i) bs ++ copies_of k m ws newer)
-    over ih [] = ih
-    over ih (b ∷ bs) = (none_below (k + 1) k i.set b ps hs (next k), over ih bs)
+  over : NotAmong (copies_from (k + 1) ps hs) (copies_of k m ws newer) → (bs : List ℕ) → NotAmong (copies_from (k + 1) ps hs) (map (copy_of k ws i) bs ++ copies_of k m ws newer)
+  over ih [] = ih
+  over ih (b ∷ bs) = (none_below (k + 1) k i.set b ps hs (next k), over ih bs)
 
 once_in : (k : ℕ) (ps : List Placed) (hs : List History) → InTimeAll hs → are_once (copies_from k ps hs) ≡ true
 once_in k [] hs t = refl
 once_in k (p ∷ ps) [] t = refl
-once_in k (p ∷ ps) (h ∷ hs) t = by_group p.within (λ j. once_in j ps hs (λ v. t (suc v)))
-  where
-    by_group : (c : Bool) → ((j : ℕ) → are_once (copies_from j ps hs) ≡ true)
-        → are_once (if c then copies_of k p.blocks h.writes h.images ++ copies_from (k + 1) ps hs else copies_from k ps hs) ≡ true
-    by_group true ih = once_both (copies_of k p.blocks h.writes h.images) (copies_from (k + 1) ps hs)
-        (once_of k p.blocks (length h.writes) h.writes h.images (t 0)) (ih (k + 1)) (not_below k p.blocks h.writes h.images ps hs)
-    by_group false ih = ih k
+once_in k (p ∷ ps) (h ∷ hs) t = by_group p.within (λ j. once_in j ps hs (λ v. t (suc v))) where
+  by_group : (c : Bool) → ((j : ℕ) → are_once (copies_from j ps hs) ≡ true)
+      → are_once (if c then copies_of k p.blocks h.writes h.images ++ copies_from (k + 1) ps hs else copies_from k ps hs) ≡ true
+  by_group true ih = once_both (copies_of k p.blocks h.writes h.images) (copies_from (k + 1) ps hs)
+      (once_of k p.blocks (length h.writes) h.writes h.images (t 0)) (ih (k + 1)) (not_below k p.blocks h.writes h.images ps hs)
+  by_group false ih = ih k
 
 -- ## the volumes of a plan
 

@@ -4,12 +4,12 @@ use Rattle.promises.proofs.Words.{waited_for, with_group, left_from, groups_left
 use Rattle.std.proofs.Common.{◌≡◌, ◌∙◌, ℕ, List, [], ◌∷◌, Option, Some, refl, Bool, true, false, ap, sym, subst, arith}
 use Rattle.std.specs.Prelude.{◌&&◌, not}
 use Rattle.std.proofs.lemmas.Bool.{and_from, and_parts}
-use Rattle.promises.proofs.Heard.{passes}
 use Rattle.promises.proofs.OpenGroup.{every, in_kind}
 use Rattle.promises.proofs.Speaks.{now_group}
 use Rattle.set_agenda.proofs.Closings.{unless}
 use Rattle.vss_model.proofs.Orderly.{true_not_false}
 use Rattle.vss_model.proofs.Spoken.{among_filter}
+use Rattle.vss_model.proofs.Gathered.{filter_passes}
 
 -- ## one group alone
 
@@ -28,7 +28,7 @@ one_group p (x ∷ xs) ws f w e = by_others (others ws (x ∷ xs)) refl (subst (
         let parts = and_parts (is_orders p.group) (is_among w (y ∷ ys)) h in
         let among = ap (is_among w) g ∙ parts.1 in (
           and_from (is_orders p.group) (is_among w (x ∷ xs)) parts.0 (among_filter (λ z. not (is_among z ws)) w (x ∷ xs) among),
-          unless (is_among w ws) (passes (λ z. not (is_among z ws)) w (x ∷ xs) among),
+          unless (is_among w ws) (filter_passes (λ z. not (is_among z ws)) w (x ∷ xs) among),
         )
 
 abbrev pub last_place : Place
@@ -39,18 +39,17 @@ asked_it waits w e = grind arith
 
 -- no other agenda has the order
 pub not_in_kind : (k : Kind) (a : Agenda) (w : ℕ) → a.kind ≡ k → every (λ q. not (is_last_order q.group)) (places k) ≡ true → open_order (groups_left a) w ≡ Some BackupComplete → ⊥
-not_in_kind k a w e h o = at_list (groups_left a) refl (order_is (is_asked w (groups_left a)) (order_now (groups_left a)) o)
-  where
-    order_is : (b : Bool) (x : Option Order) → order_if b x ≡ Some BackupComplete → x ≡ Some BackupComplete
-    order_is true x e = e
-    order_is false x e = absurd cc
+not_in_kind k a w e h o = at_list (groups_left a) refl (order_is (is_asked w (groups_left a)) (order_now (groups_left a)) o) where
+  order_is : (b : Bool) (x : Option Order) → order_if b x ≡ Some BackupComplete → x ≡ Some BackupComplete
+  order_is true x e = e
+  order_is false x e = absurd cc
 
-    not_it : (g : Group) → g ≡ Orders BackupComplete → not (is_last_order g) ≡ true → ⊥
-    not_it g f i = true_not_false (not (is_last_order g)) i (ap (λ x. not (is_last_order x)) f)
+  not_it : (g : Group) → g ≡ Orders BackupComplete → not (is_last_order g) ≡ true → ⊥
+  not_it g f i = true_not_false (not (is_last_order g)) i (ap (λ x. not (is_last_order x)) f)
 
-    at_list : (os : List Open) → groups_left a ≡ os → order_now os ≡ Some BackupComplete → ⊥
-    at_list [] g f = absurd cc
-    at_list (x ∷ xs) g f = not_it x.place.group (now_group (x ∷ xs) BackupComplete f) (in_kind (λ q. not (is_last_order q.group)) k a x xs e h g)
+  at_list : (os : List Open) → groups_left a ≡ os → order_now os ≡ Some BackupComplete → ⊥
+  at_list [] g f = absurd cc
+  at_list (x ∷ xs) g f = not_it x.place.group (now_group (x ∷ xs) BackupComplete f) (in_kind (λ q. not (is_last_order q.group)) k a x xs e h g)
 
 pub complete_left : (a : Agenda) → a.kind ≡ Complete → groups_left a ≡ with_group last_place (waited_for a last_place) []
 complete_left a e = ap (λ k. left_from a (places k)) e

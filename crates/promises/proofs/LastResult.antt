@@ -143,11 +143,10 @@ last_next s so_far act h q e =
 
 last_from : (s : Plan) (so_far acts : List Act) → StandsLast s so_far → StandsLast s (so_far ++ acts)
 last_from s so_far [] h = subst (StandsLast s) (sym (append_nothing so_far)) h
-last_from s so_far (act ∷ acts) h = subst (StandsLast s) (regrouped so_far acts) (last_from s (so_far ++ act ∷ []) acts (last_next s so_far act h))
-  where
-    regrouped : (xs ys : List Act) → (xs ++ act ∷ []) ++ ys ≡ xs ++ act ∷ ys
-    regrouped [] ys = refl
-    regrouped (x ∷ xs) ys = ap (λ zs. x ∷ zs) (regrouped xs ys)
+last_from s so_far (act ∷ acts) h = subst (StandsLast s) (regrouped so_far acts) (last_from s (so_far ++ act ∷ []) acts (last_next s so_far act h)) where
+  regrouped : (xs ys : List Act) → (xs ++ act ∷ []) ++ ys ≡ xs ++ act ∷ ys
+  regrouped [] ys = refl
+  regrouped (x ∷ xs) ys = ap (λ zs. x ∷ zs) (regrouped xs ys)
 
 pub last_all : (s : Plan) (so_far : List Act) → StandsLast s so_far
 last_all s so_far = last_from s [] so_far (λ q e. absurd cc)

@@ -69,15 +69,14 @@ spent_holds now g t l e = grind arith
 
 first_is : (log : List Entry) → first_time (filter (λ e. is_hold e.place.group) log) ≡ option_map (λ (e : Entry). e.time) (find (λ (e : Entry). is_hold_step e.place.group) log)
 first_is [] = refl
-first_is (x ∷ log) = by_test (is_hold x.place.group) (is_hold_step x.place.group) (same_hold_step x.place.group) (first_is log)
-  where
-    by_test : (b c : Bool) → b ≡ c → first_time (filter (λ e. is_hold e.place.group) log) ≡ option_map (λ (e : Entry). e.time) (find (λ (e : Entry). is_hold_step e.place.group) log)
-        → first_time (if b then x ∷ filter (λ e. is_hold e.place.group) log else filter (λ e. is_hold e.place.group) log)
-        ≡ option_map (λ (e : Entry). e.time) (if c then Some x else find (λ (e : Entry). is_hold_step e.place.group) log)
-    by_test true true e ih = refl
-    by_test true false e ih = absurd cc
-    by_test false true e ih = absurd cc
-    by_test false false e ih = ih
+first_is (x ∷ log) = by_test (is_hold x.place.group) (is_hold_step x.place.group) (same_hold_step x.place.group) (first_is log) where
+  by_test : (b c : Bool) → b ≡ c → first_time (filter (λ e. is_hold e.place.group) log) ≡ option_map (λ (e : Entry). e.time) (find (λ (e : Entry). is_hold_step e.place.group) log)
+      → first_time (if b then x ∷ filter (λ e. is_hold e.place.group) log else filter (λ e. is_hold e.place.group) log)
+      ≡ option_map (λ (e : Entry). e.time) (if c then Some x else find (λ (e : Entry). is_hold_step e.place.group) log)
+  by_test true true e ih = refl
+  by_test true false e ih = absurd cc
+  by_test false true e ih = absurd cc
+  by_test false false e ih = ih
 
 pub held_finds : (now : ℕ) (g : Group) (a : Agenda) → holds_volumes g ≡ true → held_since_first now a ≡ true → Finds now (hold_running g (first_hold a.log)) HoldLimit
 held_finds now g a e f = grind (arith, first_is, finds_one, same_hold, passed_spent)
@@ -87,23 +86,19 @@ held_finds now g a e f = grind (arith, first_is, finds_one, same_hold, passed_sp
 least_spent : (now since least : ℕ) (rows : List WriterRow) (ms : List Member)
     → (has_passed least since now || list_any (λ (m : Member). has_passed (limit_of (slice_get rows m.writer)) since now) ms) ≡ true
     → is_spent now since (fold (λ l (m : Member). min l (limit_of (slice_get rows m.writer))) least ms) ≡ true
-least_spent now since least rows [] e = passed_spent now since least (no_more (has_passed least since now) e)
-  where
-    no_more : (a : Bool) → (a || false) ≡ true → a ≡ true
-    no_more true e = refl
-    no_more false e = absurd cc
+least_spent now since least rows [] e = passed_spent now since least (no_more (has_passed least since now) e) where
+  no_more : (a : Bool) → (a || false) ≡ true → a ≡ true
+  no_more true e = refl
+  no_more false e = absurd cc
 least_spent now since least rows (m ∷ ms) e =
     least_spent now since (min least (limit_of (slice_get rows m.writer))) rows ms
-    (of_min (limit_of (slice_get rows m.writer)) (list_any (λ (x : Member). has_passed (limit_of (slice_get rows x.writer)) since now) ms) e)
-  where
-    of_min : (n : ℕ) (rest : Bool) → (has_passed least since now || (has_passed n since now || rest)) ≡ true → (has_passed (min least n) since now || rest) ≡ true
-    of_min n true e = all_true (has_passed (min least n) since now)
-      where
+    (of_min (limit_of (slice_get rows m.writer)) (list_any (λ (x : Member). has_passed (limit_of (slice_get rows x.writer)) since now) ms) e) where
+      of_min : (n : ℕ) (rest : Bool) → (has_passed least since now || (has_passed n since now || rest)) ≡ true → (has_passed (min least n) since now || rest) ≡ true
+      of_min n true e = all_true (has_passed (min least n) since now) where
         all_true : (a : Bool) → (a || true) ≡ true
         all_true true = refl
         all_true false = refl
-    of_min n false e = least_of least n since now e
-      where
+      of_min n false e = least_of least n since now e where
         least_of : (a b t x : ℕ) → (nat_lt (t + a) x || (nat_lt (t + b) x || false)) ≡ true → (nat_lt (t + min a b) x || false) ≡ true
         least_of a b t x e = grind arith
 

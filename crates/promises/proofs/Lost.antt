@@ -19,11 +19,10 @@ spent_is now since limit = grind arith
 least_is : (now since least : ℕ) (rows : List WriterRow) (ms : List Member)
     → has_passed (fold (λ l (m : Member). min l (limit_of (slice_get rows m.writer))) least ms) since now
     ≡ (has_passed least since now || list_any (λ (m : Member). has_passed (limit_of (slice_get rows m.writer)) since now) ms)
-least_is now since least rows [] = or_nothing (has_passed least since now)
-  where
-    or_nothing : (a : Bool) → a ≡ (a || false)
-    or_nothing true = refl
-    or_nothing false = refl
+least_is now since least rows [] = or_nothing (has_passed least since now) where
+  or_nothing : (a : Bool) → a ≡ (a || false)
+  or_nothing true = refl
+  or_nothing false = refl
 least_is now since least rows (m ∷ ms) =
     least_is now since (min least (limit_of (slice_get rows m.writer))) rows ms
     ∙ ap (λ b. b || list_any (λ (x : Member). has_passed (limit_of (slice_get rows x.writer)) since now) ms) (of_min least (limit_of (slice_get rows m.writer)) since now)
@@ -71,8 +70,7 @@ module _ (now : ℕ) (c : Course) (a : Agenda) (o : Open) where
   nobody : (w : ℕ) (l : Option RunningLimit) → is_among w (lost_at l None o.waits) ≡ false
   nobody w l = grind arith
 
-  told_at : (g : Group) (w : ℕ)
-      → is_among w (lost_at (spent_of now (running_of (freeze_limit c) a o g)) (order_of g) o.waits)
+  told_at : (g : Group) (w : ℕ) → is_among w (lost_at (spent_of now (running_of (freeze_limit c) a o g)) (order_of g) o.waits)
       ≡ (is_some (order_if (is_orders g && is_among w o.waits) (order_of g)) && is_over now c a o (order_of g))
   told_at g w = grind (arith, by_spent, order_spent, nobody)
 

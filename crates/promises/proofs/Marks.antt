@@ -1,6 +1,5 @@
 -- A device fails only where it is called.
-use Rattle.promises.proofs.Words.{Clean, Fault, FaultAfter, Group, Plan, Event}
-use Rattle.promises.proofs.Words.{State, Kept, is_flush, is_flush_step, Act, state}
+use Rattle.promises.proofs.Words.{Clean, Fault, FaultAfter, Group, Plan, Event, State, Kept, is_flush, is_flush_step, Act, state}
 use Rattle.std.proofs.Common.{◌≡◌, ℕ, List, Option, None, refl, true, arith}
 use Rattle.std.specs.Prelude.{is_some}
 use Rattle.vss_model.specs.Acts.{event_allows, may_stop_after}

@@ -1,7 +1,6 @@
 -- Limits that are not spent, and the stages in which they run.
-use Rattle.promises.proofs.Words.{Level, Order, PrepareBackup, PrepareSnapshot, Freeze, hold_limit, is_spent, Group, Orders}
-use Rattle.promises.proofs.Words.{Limit, Running as RunningLimit, is_prepare_snapshot, is_hold, hold_runs, freeze_runs, runs_if, hold_running, spent_of}
-use Rattle.promises.proofs.Words.{is_decisive, later_found}
+use Rattle.promises.proofs.Words.{Level, Order, PrepareBackup, PrepareSnapshot, Freeze, hold_limit, is_spent, Group, Orders, Limit, Running as RunningLimit}
+use Rattle.promises.proofs.Words.{is_prepare_snapshot, is_hold, hold_runs, freeze_runs, runs_if, hold_running, spent_of, is_decisive, later_found}
 use Rattle.std.proofs.Common.{◌≡◌, ◌∙◌, ℕ, ◌+◌, ◌≤◌, List, [], ◌∷◌, ◌++◌, Option, Some, None, refl, Bool, true, false, arith}
 use Rattle.std.specs.Prelude.{not, if◌then◌else◌}
 use Rattle.promises.proofs.Stages.{group_stage}
@@ -16,19 +15,17 @@ none_both now xs ys e f = later_found now xs ys e ∙ f
 
 pub none_first : (now : ℕ) (xs ys : List RunningLimit) → spent_of now (xs ++ ys) ≡ None → spent_of now xs ≡ None
 none_first now [] ys e = refl
-none_first now (x ∷ xs) ys e = by_test (is_spent now x.since x.ticks) e (none_first now xs ys)
-  where
-    by_test : (b : Bool) → (if b then Some x else spent_of now (xs ++ ys)) ≡ None → (spent_of now (xs ++ ys) ≡ None → spent_of now xs ≡ None) → (if b then Some x else spent_of now xs) ≡ None
-    by_test true e ih = absurd cc
-    by_test false e ih = ih e
+none_first now (x ∷ xs) ys e = by_test (is_spent now x.since x.ticks) e (none_first now xs ys) where
+  by_test : (b : Bool) → (if b then Some x else spent_of now (xs ++ ys)) ≡ None → (spent_of now (xs ++ ys) ≡ None → spent_of now xs ≡ None) → (if b then Some x else spent_of now xs) ≡ None
+  by_test true e ih = absurd cc
+  by_test false e ih = ih e
 
 pub none_second : (now : ℕ) (xs ys : List RunningLimit) → spent_of now (xs ++ ys) ≡ None → spent_of now ys ≡ None
 none_second now [] ys e = e
-none_second now (x ∷ xs) ys e = by_test (is_spent now x.since x.ticks) e (none_second now xs ys)
-  where
-    by_test : (b : Bool) → (if b then Some x else spent_of now (xs ++ ys)) ≡ None → (spent_of now (xs ++ ys) ≡ None → spent_of now ys ≡ None) → spent_of now ys ≡ None
-    by_test true e ih = absurd cc
-    by_test false e ih = ih e
+none_second now (x ∷ xs) ys e = by_test (is_spent now x.since x.ticks) e (none_second now xs ys) where
+  by_test : (b : Bool) → (if b then Some x else spent_of now (xs ++ ys)) ≡ None → (spent_of now (xs ++ ys) ≡ None → spent_of now ys ≡ None) → spent_of now ys ≡ None
+  by_test true e ih = absurd cc
+  by_test false e ih = ih e
 
 pub unspent_if : (b : Bool) (x : Limit) (since ticks now : ℕ) → (b ≡ true → is_spent now since ticks ≡ false) → spent_of now (runs_if b x since ticks) ≡ None
 unspent_if b x since ticks now h = grind arith

@@ -16,12 +16,11 @@ pub once_one : (ds : List Deed) (d : Deed) → AreOnce ds → list_any (λ x. is
 once_one [] d h e = (refl, tt)
 once_one (x ∷ ds) d h e =
     let parts = or_parts (is_again d x) (list_any (λ y. is_again d y) ds) e in
-    (list_any-append (λ y. is_again y x) ds (d ∷ []) ∙ none (list_any (λ y. is_again y x) ds) (is_again d x) h.0 parts.0, once_one ds d h.1 parts.1)
-  where
-    none : (a b : Bool) → a ≡ false → b ≡ false → (a || (b || false)) ≡ false
-    none true b e f = absurd cc
-    none false true e f = absurd cc
-    none false false e f = refl
+    (list_any-append (λ y. is_again y x) ds (d ∷ []) ∙ none (list_any (λ y. is_again y x) ds) (is_again d x) h.0 parts.0, once_one ds d h.1 parts.1) where
+      none : (a b : Bool) → a ≡ false → b ≡ false → (a || (b || false)) ≡ false
+      none true b e f = absurd cc
+      none false true e f = absurd cc
+      none false false e f = refl
 
 -- each number once
 abbrev pub Apart : List ℕ → Type 0
@@ -55,38 +54,34 @@ among_none test x xs e = false_from_ne_true (is_among x (filter test xs)) (λ f.
 
 pub apart_filter : (test : ℕ → Bool) (xs : List ℕ) → Apart xs → Apart (filter test xs)
 apart_filter test [] h = tt
-apart_filter test (x ∷ xs) h = by_head (test x) (apart_filter test xs h.1)
-  where
-    by_head : (b : Bool) → Apart (filter test xs) → Apart (if b then x ∷ filter test xs else filter test xs)
-    by_head true ih = (among_none test x xs h.0, ih)
-    by_head false ih = ih
+apart_filter test (x ∷ xs) h = by_head (test x) (apart_filter test xs h.1) where
+  by_head : (b : Bool) → Apart (filter test xs) → Apart (if b then x ∷ filter test xs else filter test xs)
+  by_head true ih = (among_none test x xs h.0, ih)
+  by_head false ih = ih
 
 pub not_below : (w x : ℕ) (ms : List Member) (l : Option Level) → Ascends w ms → x < w → is_among x (writers_at ms l) ≡ false
 not_below w x [] l h i = refl
-not_below w x (m ∷ ms) l h i = by_head (is_at l m.level) (not_below (m.writer + 1) x ms l h.1 (above w x m.writer h.0 i))
-  where
-    above : (w x m : ℕ) → w ≤ m → x < w → x < m + 1
-    above w x m h i = omega arith
+not_below w x (m ∷ ms) l h i = by_head (is_at l m.level) (not_below (m.writer + 1) x ms l h.1 (above w x m.writer h.0 i)) where
+  above : (w x m : ℕ) → w ≤ m → x < w → x < m + 1
+  above w x m h i = omega arith
 
-    differs : (w x m : ℕ) → w ≤ m → x < w → (m == x) ≡ false
-    differs w x m h i = grind arith
+  differs : (w x m : ℕ) → w ≤ m → x < w → (m == x) ≡ false
+  differs w x m h i = grind arith
 
-    by_head : (b : Bool) → is_among x (writers_at ms l) ≡ false
-        → is_among x (map (λ (y : Member). y.writer)
-        (if b then m ∷ filter (λ (y : Member). is_at l y.level) ms else filter (λ (y : Member). is_at l y.level) ms)) ≡ false
-    by_head true ih = or_from (m.writer == x) _ (differs w x m.writer h.0 i) ih
-    by_head false ih = ih
+  by_head : (b : Bool) → is_among x (writers_at ms l) ≡ false → is_among x (map (λ (y : Member). y.writer)
+      (if b then m ∷ filter (λ (y : Member). is_at l y.level) ms else filter (λ (y : Member). is_at l y.level) ms)) ≡ false
+  by_head true ih = or_from (m.writer == x) _ (differs w x m.writer h.0 i) ih
+  by_head false ih = ih
 
 pub apart_writers : (w : ℕ) (ms : List Member) (l : Option Level) → Ascends w ms → Apart (writers_at ms l)
 apart_writers w [] l h = tt
-apart_writers w (m ∷ ms) l h = by_head (is_at l m.level) (apart_writers (m.writer + 1) ms l h.1)
-  where
-    next : (n : ℕ) → n < n + 1
-    next n = omega arith
+apart_writers w (m ∷ ms) l h = by_head (is_at l m.level) (apart_writers (m.writer + 1) ms l h.1) where
+  next : (n : ℕ) → n < n + 1
+  next n = omega arith
 
-    by_head : (b : Bool) → Apart (writers_at ms l) → Apart (map (λ (y : Member). y.writer) (if b then m ∷ filter (λ (y : Member). is_at l y.level) ms else filter (λ (y : Member). is_at l y.level) ms))
-    by_head true ih = (not_below (m.writer + 1) m.writer ms l h.1 (next m.writer), ih)
-    by_head false ih = ih
+  by_head : (b : Bool) → Apart (writers_at ms l) → Apart (map (λ (y : Member). y.writer) (if b then m ∷ filter (λ (y : Member). is_at l y.level) ms else filter (λ (y : Member). is_at l y.level) ms))
+  by_head true ih = (not_below (m.writer + 1) m.writer ms l h.1 (next m.writer), ih)
+  by_head false ih = ih
 
 pub apart_members : (o : Order) (a : Agenda) (l : Option Level) → Ascends 0 a.members → Apart (members_of a (Orders o) l)
 apart_members o a l h = grind (arith, apart_filter, apart_writers)
@@ -112,12 +107,11 @@ none_given = grind arith
 
 pub open_unleveled : (a : Agenda) (ps : List Place) → NoneGiven ps → leveled (open_place (left_from a ps)).group ≡ false → (open_place (left_from a ps)).level ≡ None
 open_unleveled a [] h e = refl
-open_unleveled a (p ∷ ps) h e = at_group (waited_for a p) (left_from a ps) (open_unleveled a ps h.1) e
-  where
-    at_group : (ws : List ℕ) (later : List Open) → (leveled (open_place later).group ≡ false → (open_place later).level ≡ None)
-        → leveled (open_place (with_group p ws later)).group ≡ false → (open_place (with_group p ws later)).level ≡ None
-    at_group [] later ih e = ih e
-    at_group (w ∷ ws) later ih e = h.0 e
+open_unleveled a (p ∷ ps) h e = at_group (waited_for a p) (left_from a ps) (open_unleveled a ps h.1) e where
+  at_group : (ws : List ℕ) (later : List Open) → (leveled (open_place later).group ≡ false → (open_place later).level ≡ None)
+      → leveled (open_place (with_group p ws later)).group ≡ false → (open_place (with_group p ws later)).level ≡ None
+  at_group [] later ih e = ih e
+  at_group (w ∷ ws) later ih e = h.0 e
 
 pub level_some : (l : Option Level) (x : Level) → is_some l ≡ true → x ≡ level_or l → l ≡ Some x
 level_some l x e f = grind arith

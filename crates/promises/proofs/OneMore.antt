@@ -59,15 +59,13 @@ module _ (now : ℕ) (said : Said) (ws : List ℕ) (a : Agenda) (who : Speaks a 
   stage_is = ap open_stage now_open.is
 
   pub ordered_more : Ordered more
-  ordered_more k e = by_old (has_hold a.log) refl (sym (list_any-append (λ (x : Entry). is_hold x.place.group) a.log (map (at_place p said now) ws)) ∙ e)
-    where
-      by_old : (b : Bool) → has_hold a.log ≡ b → (has_hold a.log || has_hold (map (at_place p said now) ws)) ≡ true → 6 ≤ open_stage (groups_left more)
-      by_old true i j = chain 6 (open_stage (groups_left a)) (open_stage (groups_left more)) (order k i) (up k)
-      by_old false i j =
-          let held = new_hold now p said ws (second (has_hold a.log) (has_hold (map (at_place p said now) ws)) i j) in
-          let six = hold_six shown.place.group shown.place.level (ap (λ (q : Place). is_hold q.group) (sym p_is) ∙ held) in
-          chain 6 (open_stage (groups_left a)) (open_stage (groups_left more)) (subst (λ n. 6 ≤ n) (sym stage_is) six) (up k)
-        where
+  ordered_more k e = by_old (has_hold a.log) refl (sym (list_any-append (λ (x : Entry). is_hold x.place.group) a.log (map (at_place p said now) ws)) ∙ e) where
+    by_old : (b : Bool) → has_hold a.log ≡ b → (has_hold a.log || has_hold (map (at_place p said now) ws)) ≡ true → 6 ≤ open_stage (groups_left more)
+    by_old true i j = chain 6 (open_stage (groups_left a)) (open_stage (groups_left more)) (order k i) (up k)
+    by_old false i j =
+        let held = new_hold now p said ws (second (has_hold a.log) (has_hold (map (at_place p said now) ws)) i j) in
+        let six = hold_six shown.place.group shown.place.level (ap (λ (q : Place). is_hold q.group) (sym p_is) ∙ held) in
+        chain 6 (open_stage (groups_left a)) (open_stage (groups_left more)) (subst (λ n. 6 ≤ n) (sym stage_is) six) (up k) where
           second : (b c : Bool) → b ≡ false → (b || c) ≡ true → c ≡ true
           second true c e f = absurd cc
           second false c e f = f
@@ -115,60 +113,57 @@ module _ (now : ℕ) (said : Said) (ws : List ℕ) (a : Agenda) (who : Speaks a 
     under n k h = grind (arith, stage_is, chain, up)
 
     hold_part : spent_of now (hold_running x.place.group (first_hold more.log)) ≡ None
-    hold_part = unspent_hold now x.place.group (first_hold more.log) (λ since e i. by_old (first_hold a.log) refl since e i)
-      where
-        some_same : (t u : ℕ) → Some t ≡ Some u → u ≡ t
-        some_same t u e = cc
+    hold_part = unspent_hold now x.place.group (first_hold more.log) (λ since e i. by_old (first_hold a.log) refl since e i) where
+      some_same : (t u : ℕ) → Some t ≡ Some u → u ≡ t
+      some_same t u e = cc
 
-        by_old : (b : Option ℕ) → first_hold a.log ≡ b → (since : ℕ) → first_hold more.log ≡ Some since → hold_runs x.place.group ≡ true → is_spent now since hold_limit ≡ false
-        by_old None i since e j = at_once now since hold_limit (hold_new now p said ws a.log since i e)
-        by_old (Some t) i since e j =
-            let same = some_same t since (sym (hold_stays a.log (map (at_place p said now) ws) t i) ∙ e) in
-            let k = holds_kind a.kind refl j in
-            let six = subst (λ n. 6 ≤ n) stage_is (order k (hold_there a.log t i)) in
-            let held = hold_between shown.place.group shown.place.level six (under 9 k (hold_nine x.place.group x.place.level j)) in
-            let first = subst (λ b. spent_of now (hold_running shown.place.group b) ≡ None) i (none_first now H F (none_first now (H ++ F) A before)) in
-            subst (λ n. is_spent now n hold_limit ≡ false) (sym same) (is_unspent (hold_runs shown.place.group) HoldLimit t hold_limit now first held)
+      by_old : (b : Option ℕ) → first_hold a.log ≡ b → (since : ℕ) → first_hold more.log ≡ Some since → hold_runs x.place.group ≡ true → is_spent now since hold_limit ≡ false
+      by_old None i since e j = at_once now since hold_limit (hold_new now p said ws a.log since i e)
+      by_old (Some t) i since e j =
+          let same = some_same t since (sym (hold_stays a.log (map (at_place p said now) ws) t i) ∙ e) in
+          let k = holds_kind a.kind refl j in
+          let six = subst (λ n. 6 ≤ n) stage_is (order k (hold_there a.log t i)) in
+          let held = hold_between shown.place.group shown.place.level six (under 9 k (hold_nine x.place.group x.place.level j)) in
+          let first = subst (λ b. spent_of now (hold_running shown.place.group b) ≡ None) i (none_first now H F (none_first now (H ++ F) A before)) in
+          subst (λ n. is_spent now n hold_limit ≡ false) (sym same) (is_unspent (hold_runs shown.place.group) HoldLimit t hold_limit now first held)
 
     freeze_part : spent_of now (runs_if (freeze_runs x.place.group) FreezeLimit (freeze_opened_at more) f) ≡ None
-    freeze_part = unspent_if (freeze_runs x.place.group) FreezeLimit (freeze_opened_at more) f now (λ i. by_prepare (is_prepare_snapshot p.group) refl i)
-      where
-        by_prepare : (b : Bool) → is_prepare_snapshot p.group ≡ b → freeze_runs x.place.group ≡ true → is_spent now (freeze_opened_at more) f ≡ false
-        by_prepare true e i =
-            at_once now (freeze_opened_at more) f
-            (ap (λ us. last_time a.begun (filter (λ (y : Entry). is_prepare_snapshot y.place.group) (a.log ++ map (at_place p said now) us))) one.is
-            ∙ last_new a.begun now (λ q. is_prepare_snapshot q.group) p said a.log one.first one.rest e)
-        by_prepare false e i =
-            let k = freezes_kind a.kind refl i in
-            let frozen = freeze_between shown.place.group shown.place.level (ap (λ (q : Place). is_prepare_snapshot q.group) (sym p_is) ∙ e) (under 10 k (freeze_ten x.place.group x.place.level i)) in
-            let same : freeze_opened_at more ≡ freeze_opened_at a = ap (last_time a.begun) (none_new now (λ q. is_prepare_snapshot q.group) p said ws a.log e) in
-            subst (λ n. is_spent now n f ≡ false) (sym same)
-            (is_unspent (freeze_runs shown.place.group) FreezeLimit (freeze_opened_at a) f now
-            (none_second now H F (none_first now (H ++ F) A before)) frozen)
+    freeze_part = unspent_if (freeze_runs x.place.group) FreezeLimit (freeze_opened_at more) f now (λ i. by_prepare (is_prepare_snapshot p.group) refl i) where
+      by_prepare : (b : Bool) → is_prepare_snapshot p.group ≡ b → freeze_runs x.place.group ≡ true → is_spent now (freeze_opened_at more) f ≡ false
+      by_prepare true e i =
+          at_once now (freeze_opened_at more) f
+          (ap (λ us. last_time a.begun (filter (λ (y : Entry). is_prepare_snapshot y.place.group) (a.log ++ map (at_place p said now) us))) one.is
+          ∙ last_new a.begun now (λ q. is_prepare_snapshot q.group) p said a.log one.first one.rest e)
+      by_prepare false e i =
+          let k = freezes_kind a.kind refl i in
+          let frozen = freeze_between shown.place.group shown.place.level (ap (λ (q : Place). is_prepare_snapshot q.group) (sym p_is) ∙ e) (under 10 k (freeze_ten x.place.group x.place.level i)) in
+          let same : freeze_opened_at more ≡ freeze_opened_at a = ap (last_time a.begun) (none_new now (λ q. is_prepare_snapshot q.group) p said ws a.log e) in
+          subst (λ n. is_spent now n f ≡ false) (sym same)
+          (is_unspent (freeze_runs shown.place.group) FreezeLimit (freeze_opened_at a) f now
+          (none_second now H F (none_first now (H ++ F) A before)) frozen)
 
     answer_part : spent_of now (runs_if (answer_runs x.place.group) AnswerLimit (opened_at more x) answer_limit) ≡ None
-    answer_part = unspent_if (answer_runs x.place.group) AnswerLimit (opened_at more x) answer_limit now (λ i. by_place (same_place p x.place) refl i)
-      where
-        by_place : (b : Bool) → same_place p x.place ≡ b → answer_runs x.place.group ≡ true → is_spent now (opened_at more x) answer_limit ≡ false
-        by_place false e i =
-            at_once now (opened_at more x) answer_limit
-            (ap (λ us. last_time a.begun (filter (λ (y : Entry). not (same_place y.place x.place)) (a.log ++ map (at_place p said now) us))) one.is
-            ∙ last_new a.begun now (λ q. not (same_place q x.place)) p said a.log one.first one.rest (ap not e))
-        by_place true e i =
-            let codes = and_parts (group_code p.group == group_code x.place.group) (level_code p.level == level_code x.place.level) e in
-            let groups : group_code x.place.group ≡ group_code p.group = sym (number_is (group_code p.group) (group_code x.place.group) codes.0) in
-            let levels : level_code x.place.level ≡ level_code p.level = sym (number_is (level_code p.level) (level_code x.place.level) codes.1) in
-            let as_p : (y : Entry) → not (same_place y.place x.place) ≡ not (same_place y.place p) = λ y.
-            ap (λ n. not ((group_code y.place.group == n) && (level_code y.place.level == level_code x.place.level))) groups
-            ∙ ap (λ n. not ((group_code y.place.group == group_code p.group) && (level_code y.place.level == n))) levels in
-            let same : opened_at more x ≡ opened_at a shown =
-            ap (last_time a.begun)
-            (none_new now (λ q. not (same_place q x.place)) p said ws a.log (ap not e)
-            ∙ filter_along (λ y. not (same_place y.place x.place)) (λ y. not (same_place y.place p)) as_p a.log)
-            ∙ ap (λ (q : Place). last_time a.begun (filter (λ (y : Entry). not (same_place y.place q)) a.log)) p_is in
-            let asks : answer_runs shown.place.group ≡ true = ap (λ (q : Place). answer_runs q.group) (sym p_is) ∙ ap answer_runs (same_group p.group x.place.group codes.0) ∙ i in
-            subst (λ n. is_spent now n answer_limit ≡ false) (sym same)
-            (is_unspent (answer_runs shown.place.group) AnswerLimit (opened_at a shown) answer_limit now (none_second now (H ++ F) A before) asks)
+    answer_part = unspent_if (answer_runs x.place.group) AnswerLimit (opened_at more x) answer_limit now (λ i. by_place (same_place p x.place) refl i) where
+      by_place : (b : Bool) → same_place p x.place ≡ b → answer_runs x.place.group ≡ true → is_spent now (opened_at more x) answer_limit ≡ false
+      by_place false e i =
+          at_once now (opened_at more x) answer_limit
+          (ap (λ us. last_time a.begun (filter (λ (y : Entry). not (same_place y.place x.place)) (a.log ++ map (at_place p said now) us))) one.is
+          ∙ last_new a.begun now (λ q. not (same_place q x.place)) p said a.log one.first one.rest (ap not e))
+      by_place true e i =
+          let codes = and_parts (group_code p.group == group_code x.place.group) (level_code p.level == level_code x.place.level) e in
+          let groups : group_code x.place.group ≡ group_code p.group = sym (number_is (group_code p.group) (group_code x.place.group) codes.0) in
+          let levels : level_code x.place.level ≡ level_code p.level = sym (number_is (level_code p.level) (level_code x.place.level) codes.1) in
+          let as_p : (y : Entry) → not (same_place y.place x.place) ≡ not (same_place y.place p) = λ y.
+          ap (λ n. not ((group_code y.place.group == n) && (level_code y.place.level == level_code x.place.level))) groups
+          ∙ ap (λ n. not ((group_code y.place.group == group_code p.group) && (level_code y.place.level == n))) levels in
+          let same : opened_at more x ≡ opened_at a shown =
+          ap (last_time a.begun)
+          (none_new now (λ q. not (same_place q x.place)) p said ws a.log (ap not e)
+          ∙ filter_along (λ y. not (same_place y.place x.place)) (λ y. not (same_place y.place p)) as_p a.log)
+          ∙ ap (λ (q : Place). last_time a.begun (filter (λ (y : Entry). not (same_place y.place q)) a.log)) p_is in
+          let asks : answer_runs shown.place.group ≡ true = ap (λ (q : Place). answer_runs q.group) (sym p_is) ∙ ap answer_runs (same_group p.group x.place.group codes.0) ∙ i in
+          subst (λ n. is_spent now n answer_limit ≡ false) (sym same)
+          (is_unspent (answer_runs shown.place.group) AnswerLimit (opened_at a shown) answer_limit now (none_second now (H ++ F) A before) asks)
 
     parts : spent_of now (running_at f more (x ∷ xs)) ≡ None
     parts = grind (arith, none_both, hold_part, freeze_part, answer_part)

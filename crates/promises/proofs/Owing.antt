@@ -28,14 +28,15 @@ use Rattle.promises.proofs.Speaks.{deed_at, deed_in, said_at, Grows, made_now, l
 use Rattle.promises.proofs.BusyAgendas.{course_followed}
 use Rattle.promises.proofs.CalmCourses.{calm_begun}
 use Rattle.promises.proofs.Clock.{write_ticks}
-use Rattle.promises.proofs.Progress.{stage_of, StandsAt, stands_all, is_opened, is_started, is_done as is_done_stage, snapshots}
+use Rattle.promises.proofs.Progress.{stage_of, StandsAt, stands_all, snapshots}
 use Rattle.promises.proofs.Turns.{Turn, begun_turn, answer_turn, tick_turn, step_turn}
 use Rattle.promises.proofs.Members.{members_from_are}
 use Rattle.promises.proofs.CalmStages.{IsCalm, calm_kept, calm_always}
 use Rattle.promises.proofs.Participants.{Follows, follows_all, standing, asked_by, asked_are}
 use Rattle.scenario.proofs.Places.{number_is}
 use Rattle.set_agenda.proofs.Closings.{unless}
-use Rattle.promises.proofs.Heard.{passes}
+use Rattle.vss_model.proofs.OrderlyActs.{is_opened, is_started, is_done_stage}
+use Rattle.vss_model.proofs.Gathered.{filter_passes}
 
 abbrev p0 : Asking → Place
 p0 i = plain (Orders (order_for i))
@@ -61,25 +62,23 @@ none_waits i w a k e = grind arith
 -- a new entry of a place is of one who speaks
 new_said : (p q : Place) (said : Said) (now : ℕ) (ws : List ℕ) (w : ℕ) → has_said (map (at_place p said now) ws) q w ≡ true → is_among w ws ≡ true
 new_said p q said now [] w e = absurd cc
-new_said p q said now (x ∷ ws) w e = by_head (same_place p q) (x == w) e (new_said p q said now ws w)
-  where
-    by_head : (b c : Bool) → ((b && c) || has_said (map (at_place p said now) ws) q w) ≡ true → (has_said (map (at_place p said now) ws) q w ≡ true → is_among w ws ≡ true)
-        → (c || is_among w ws) ≡ true
-    by_head b true e ih = refl
-    by_head true false e ih = ih e
-    by_head false false e ih = ih e
+new_said p q said now (x ∷ ws) w e = by_head (same_place p q) (x == w) e (new_said p q said now ws w) where
+  by_head : (b c : Bool) → ((b && c) || has_said (map (at_place p said now) ws) q w) ≡ true → (has_said (map (at_place p said now) ws) q w ≡ true → is_among w ws ≡ true)
+      → (c || is_among w ws) ≡ true
+  by_head b true e ih = refl
+  by_head true false e ih = ih e
+  by_head false false e ih = ih e
 
 -- and what is said is told
 new_told : (g : Group) (p : Place) (said : Said) (now : ℕ) (ws : List ℕ) (w : ℕ) (test : Deed → Bool) → ((u : ℕ) → (u == w) ≡ true → test (deed_at p.group u said now) ≡ true)
     → is_among w ws ≡ true
     → list_any test (map deed_in (map (at_place p said now) ws)) ≡ true
 new_told g p said now [] w test f e = absurd cc
-new_told g p said now (x ∷ ws) w test f e = by_head (x == w) refl e (new_told g p said now ws w test f)
-  where
-    by_head : (b : Bool) → (x == w) ≡ b → (b || is_among w ws) ≡ true → (is_among w ws ≡ true → list_any test (map deed_in (map (at_place p said now) ws)) ≡ true)
-        → (test (deed_at p.group x said now) || list_any test (map deed_in (map (at_place p said now) ws))) ≡ true
-    by_head true i e ih = or_left (test (deed_at p.group x said now)) _ (f x i)
-    by_head false i e ih = or_right (test (deed_at p.group x said now)) _ (ih e)
+new_told g p said now (x ∷ ws) w test f e = by_head (x == w) refl e (new_told g p said now ws w test f) where
+  by_head : (b : Bool) → (x == w) ≡ b → (b || is_among w ws) ≡ true → (is_among w ws ≡ true → list_any test (map deed_in (map (at_place p said now) ws)) ≡ true)
+      → (test (deed_at p.group x said now) || list_any test (map deed_in (map (at_place p said now) ws))) ≡ true
+  by_head true i e ih = or_left (test (deed_at p.group x said now)) _ (f x i)
+  by_head false i e ih = or_right (test (deed_at p.group x said now)) _ (ih e)
 
 both : {X : Type 0} (b : Bool) → b ≡ true → b ≡ false → X
 both b e f = absurd cc
@@ -94,26 +93,25 @@ still_waits : (i : Asking) (w : ℕ) (said : Said) (now : ℕ) (ws : List ℕ) (
     → list_any (is_reply i w) (map deed_in (said_at (groups_left a) said now ws)) ≡ false → is_among w (waiting i a) ≡ true → is_among w (waiting i (all_say said now ws a)) ≡ true
 still_waits i w said now ws a k mild untold waits =
     kept_among (λ x. not (has_said (a.log ++ new) (p0 i) x)) w (writers_at a.members None) (ap not unsaid_now)
-    (among_filter (λ x. not (has_said a.log (p0 i) x)) w (writers_at a.members None) waits)
-  where
-    p : Place
-    p = open_place (groups_left a)
+    (among_filter (λ x. not (has_said a.log (p0 i) x)) w (writers_at a.members None) waits) where
+      p : Place
+      p = open_place (groups_left a)
 
-    new : List Entry
-    new = said_at (groups_left a) said now ws
+      new : List Entry
+      new = said_at (groups_left a) said now ws
 
-    open_now : p.group ≡ Orders (order_for i)
-    open_now = ap (λ (q : Place). q.group) (open_is i w a k waits)
+      open_now : p.group ≡ Orders (order_for i)
+      open_now = ap (λ (q : Place). q.group) (open_is i w a k waits)
 
-    not_now : is_among w ws ≡ false
-    not_now = false_from_ne_true (is_among w ws)
-        (λ f. both (list_any (is_reply i w) (map deed_in new)) (new_told p.group p said now ws w (is_reply i w) (λ u g. own_reply i p.group said now u w open_now mild g) f) untold)
+      not_now : is_among w ws ≡ false
+      not_now = false_from_ne_true (is_among w ws)
+          (λ f. both (list_any (is_reply i w) (map deed_in new)) (new_told p.group p said now ws w (is_reply i w) (λ u g. own_reply i p.group said now u w open_now mild g) f) untold)
 
-    unsaid_now : has_said (a.log ++ new) (p0 i) w ≡ false
-    unsaid_now =
-        list_any-append (λ (x : Entry). same_place x.place (p0 i) && (x.who == w)) a.log new
-        ∙ ap (λ b. b || has_said new (p0 i) w) (unless (has_said a.log (p0 i) w) (passes (λ x. not (has_said a.log (p0 i) x)) w (writers_at a.members None) waits))
-        ∙ false_from_ne_true (has_said new (p0 i) w) (λ f. both (is_among w ws) (new_said p (p0 i) said now ws w f) not_now)
+      unsaid_now : has_said (a.log ++ new) (p0 i) w ≡ false
+      unsaid_now =
+          list_any-append (λ (x : Entry). same_place x.place (p0 i) && (x.who == w)) a.log new
+          ∙ ap (λ b. b || has_said new (p0 i) w) (unless (has_said a.log (p0 i) w) (filter_passes (λ x. not (has_said a.log (p0 i) x)) w (writers_at a.members None) waits))
+          ∙ false_from_ne_true (has_said new (p0 i) w) (λ f. both (is_among w ws) (new_said p (p0 i) said now ws w f) not_now)
 
 module _ (i : Asking) (w : ℕ) where
   -- of a running agenda, by whether the writer owes an answer
@@ -153,13 +151,12 @@ module _ (i : Asking) (w : ℕ) where
 -- each of these members is waited for
 member_waits : (w : ℕ) (ms : List Member) → is_member ms w ≡ true → is_among w (filter (λ who. true) (map (λ (m : Member). m.writer) (filter (λ (m : Member). true) ms))) ≡ true
 member_waits w [] e = absurd cc
-member_waits w (m ∷ ms) e = by_head (m.writer == w) e (member_waits w ms)
-  where
-    by_head : (b : Bool) → (b || is_member ms w) ≡ true
-        → (is_member ms w ≡ true → is_among w (filter (λ who. true) (map (λ (x : Member). x.writer) (filter (λ (x : Member). true) ms))) ≡ true)
-        → (b || is_among w (filter (λ who. true) (map (λ (x : Member). x.writer) (filter (λ (x : Member). true) ms)))) ≡ true
-    by_head true e ih = refl
-    by_head false e ih = ih e
+member_waits w (m ∷ ms) e = by_head (m.writer == w) e (member_waits w ms) where
+  by_head : (b : Bool) → (b || is_member ms w) ≡ true
+      → (is_member ms w ≡ true → is_among w (filter (λ who. true) (map (λ (x : Member). x.writer) (filter (λ (x : Member). true) ms))) ≡ true)
+      → (b || is_among w (filter (λ who. true) (map (λ (x : Member). x.writer) (filter (λ (x : Member). true) ms)))) ≡ true
+  by_head true e ih = refl
+  by_head false e ih = ih e
 
 begun_other : (i : Asking) (w : ℕ) (c : Bool) (k : Kind) (ms : List Member) (vs : List ℕ) (now : ℕ) (x : Course) → (k ≡ kind_for i → ⊥)
     → Running (Waits i w c) (begun k ms vs now x).agenda
@@ -169,36 +166,32 @@ begun_other i w c k ms vs now x other = grind arith
 begun_own : (i : Asking) (w : ℕ) (d : Bool) (ms : List Member) (now : ℕ) (x : Course) → (d ≡ true → is_member ms w ≡ true)
     → Running (Waits i w d) (begun (kind_for i) ms [] now x).agenda × ((begun (kind_for i) ms [] now x).agenda ≡ None → d ≡ false)
 unfolding begun posted settled
-begun_own i w d ms now x own = by_done (is_done (groups_left a)) refl
-  where
-    a : Agenda
-    a = unspoken (kind_for i) ms [] now
+begun_own i w d ms now x own = by_done (is_done (groups_left a)) refl where
+  a : Agenda
+  a = unspoken (kind_for i) ms [] now
 
-    by_done : (b : Bool) → is_done (groups_left a) ≡ b
-        → Running (Waits i w d) (settled_if b (kind_for i) (record x { agenda = Some a })).agenda × ((settled_if b (kind_for i) (record x { agenda = Some a })).agenda ≡ None → d ≡ false)
-    by_done true e = (tt, λ f. false_from_ne_true d (λ g. both (is_among w (waiting i a)) (member_waits w ms (own g)) (none_waits i w a refl e)))
-    by_done false e = (λ k g. member_waits w ms (own g), λ f. absurd (differ f))
-      where
-        differ : Some a ≡ None → ⊥
-        differ e = cc
+  by_done : (b : Bool) → is_done (groups_left a) ≡ b
+      → Running (Waits i w d) (settled_if b (kind_for i) (record x { agenda = Some a })).agenda × ((settled_if b (kind_for i) (record x { agenda = Some a })).agenda ≡ None → d ≡ false)
+  by_done true e = (tt, λ f. false_from_ne_true d (λ g. both (is_among w (waiting i a)) (member_waits w ms (own g)) (none_waits i w a refl e)))
+  by_done false e = (λ k g. member_waits w ms (own g), λ f. absurd (differ f)) where
+    differ : Some a ≡ None → ⊥
+    differ e = cc
 
 -- ## whom it asks
 
 member_kept : (rows : List WriterRow) (ms : List Member) (w : ℕ) → not (has_row_failed rows w) ≡ true → is_member ms w ≡ true
     → is_member (filter (λ (m : Member). not (has_row_failed rows m.writer)) ms) w ≡ true
 member_kept rows [] w e f = absurd cc
-member_kept rows (m ∷ ms) w e f = by_head (m.writer == w) (not (has_row_failed rows m.writer)) refl refl f (member_kept rows ms w e)
-  where
-    by_head : (b c : Bool) → (m.writer == w) ≡ b → not (has_row_failed rows m.writer) ≡ c → (b || is_member ms w) ≡ true
-        → (is_member ms w ≡ true → is_member (filter (λ (x : Member). not (has_row_failed rows x.writer)) ms) w ≡ true)
-        → is_member (if c then m ∷ filter (λ (x : Member). not (has_row_failed rows x.writer)) ms else filter (λ (x : Member). not (has_row_failed rows x.writer)) ms) w ≡ true
-    by_head b true g h f ih = by_number b g f
-      where
-        by_number : (b : Bool) → (m.writer == w) ≡ b → (b || is_member ms w) ≡ true → is_member (m ∷ filter (λ (x : Member). not (has_row_failed rows x.writer)) ms) w ≡ true
-        by_number true g f = or_left (m.writer == w) _ g
-        by_number false g f = or_right (m.writer == w) _ (ih f)
-    by_head true false g h f ih = both (not (has_row_failed rows m.writer)) (ap (λ n. not (has_row_failed rows n)) (number_is m.writer w g) ∙ e) h
-    by_head false false g h f ih = ih f
+member_kept rows (m ∷ ms) w e f = by_head (m.writer == w) (not (has_row_failed rows m.writer)) refl refl f (member_kept rows ms w e) where
+  by_head : (b c : Bool) → (m.writer == w) ≡ b → not (has_row_failed rows m.writer) ≡ c → (b || is_member ms w) ≡ true
+      → (is_member ms w ≡ true → is_member (filter (λ (x : Member). not (has_row_failed rows x.writer)) ms) w ≡ true)
+      → is_member (if c then m ∷ filter (λ (x : Member). not (has_row_failed rows x.writer)) ms else filter (λ (x : Member). not (has_row_failed rows x.writer)) ms) w ≡ true
+  by_head b true g h f ih = by_number b g f where
+    by_number : (b : Bool) → (m.writer == w) ≡ b → (b || is_member ms w) ≡ true → is_member (m ∷ filter (λ (x : Member). not (has_row_failed rows x.writer)) ms) w ≡ true
+    by_number true g f = or_left (m.writer == w) _ g
+    by_number false g f = or_right (m.writer == w) _ (ih f)
+  by_head true false g h f ih = both (not (has_row_failed rows m.writer)) (ap (λ n. not (has_row_failed rows n)) (number_is m.writer w g) ∙ e) h
+  by_head false false g h f ih = ih f
 
 -- ## what acts tell
 
@@ -380,19 +373,18 @@ module _ (s : Plan) (so_far : List Act) (i : Asking) (w : ℕ) where
         tells_none lane o mark (Coded AsyncPending) x e (ap (λ b. b && true) f) (record {
           running = subst (λ (z : Course). Running (Waits i w c) z.agenda) (sym (course_followed true (begun k ms vs st.clock y) st)) (begun_other i w c k ms vs st.clock y other);
           done = λ q g stage. done_by q g stage turn;
-        })
-      where
-        x : State
-        x = followed true (begun k ms vs st.clock y) st
+        }) where
+          x : State
+          x = followed true (begun k ms vs st.clock y) st
 
-        over_by : (q : Session) (p : Option Session) → st.session ≡ p → option_map agenda_ended p ≡ Some q → q.stage ≡ stage_for i → c ≡ false
-        over_by q None e f g = absurd cc
-        over_by q (Some p) e f g = absurd (never p e (ap (λ (z : Session). z.stage) (some_same (agenda_ended p) q f) ∙ g))
+          over_by : (q : Session) (p : Option Session) → st.session ≡ p → option_map agenda_ended p ≡ Some q → q.stage ≡ stage_for i → c ≡ false
+          over_by q None e f g = absurd cc
+          over_by q (Some p) e f g = absurd (never p e (ap (λ (z : Session). z.stage) (some_same (agenda_ended p) q f) ∙ g))
 
-        done_by : (q : Session) → x.session ≡ Some q → q.stage ≡ stage_for i → Turn st x true → c ≡ false
-        done_by q g stage (inl t) = failed_stage i t.why st.session q (sym t.session ∙ g) stage
-        done_by q g stage (inr (inl t)) = over_by q st.session refl (sym t.session ∙ g) stage
-        done_by q g stage (inr (inr t)) = h.done q (sym t.session ∙ g) stage
+          done_by : (q : Session) → x.session ≡ Some q → q.stage ≡ stage_for i → Turn st x true → c ≡ false
+          done_by q g stage (inl t) = failed_stage i t.why st.session q (sym t.session ∙ g) stage
+          done_by q g stage (inr (inl t)) = over_by q st.session refl (sym t.session ∙ g) stage
+          done_by q g stage (inr (inr t)) = h.done q (sym t.session ∙ g) stage
 
     -- the agenda that asks begins
     begins_own : (lane : ℕ) (o : Op) (mark : Mark) (ms : List Member) (y : Course) → asks o i ≡ true → (is_asked_of w i s so_far ≡ true → is_member ms w ≡ true)
@@ -401,28 +393,27 @@ module _ (s : Plan) (so_far : List Act) (i : Asking) (w : ℕ) where
     begins_own lane o mark ms y f member never turn = record {
       running = subst (λ (z : Course). Running (Waits i w d) z.agenda) (sym is) own.0;
       done = λ q g stage. done_by q g stage turn;
-    }
-      where
-        x : State
-        x = followed true (begun (kind_for i) ms [] st.clock y) st
+    } where
+      x : State
+      x = followed true (begun (kind_for i) ms [] st.clock y) st
 
-        d : Bool
-        d = owes_after i w s so_far (Line lane o) (Coded AsyncPending) x.clock c
+      d : Bool
+      d = owes_after i w s so_far (Line lane o) (Coded AsyncPending) x.clock c
 
-        is : x.course ≡ begun (kind_for i) ms [] st.clock y
-        is = course_followed true (begun (kind_for i) ms [] st.clock y) st
+      is : x.course ≡ begun (kind_for i) ms [] st.clock y
+      is = course_followed true (begun (kind_for i) ms [] st.clock y) st
 
-        asked_now : (b l : Bool) → b ≡ true → ((if b && true then is_asked_of w i s so_far else c) && l) ≡ true → is_asked_of w i s so_far ≡ true
-        asked_now true l e g = (and_parts (is_asked_of w i s so_far) l g).0
-        asked_now false l e g = absurd cc
+      asked_now : (b l : Bool) → b ≡ true → ((if b && true then is_asked_of w i s so_far else c) && l) ≡ true → is_asked_of w i s so_far ≡ true
+      asked_now true l e g = (and_parts (is_asked_of w i s so_far) l g).0
+      asked_now false l e g = absurd cc
 
-        own : Running (Waits i w d) (begun (kind_for i) ms [] st.clock y).agenda × ((begun (kind_for i) ms [] st.clock y).agenda ≡ None → d ≡ false)
-        own = begun_own i w d ms st.clock y (λ e. member (asked_now (asks o i) _ f e))
+      own : Running (Waits i w d) (begun (kind_for i) ms [] st.clock y).agenda × ((begun (kind_for i) ms [] st.clock y).agenda ≡ None → d ≡ false)
+      own = begun_own i w d ms st.clock y (λ e. member (asked_now (asks o i) _ f e))
 
-        done_by : (q : Session) → x.session ≡ Some q → q.stage ≡ stage_for i → Turn st x true → d ≡ false
-        done_by q g stage (inl t) = failed_stage i t.why st.session q (sym t.session ∙ g) stage
-        done_by q g stage (inr (inl t)) = own.1 (ap (λ (z : Course). z.agenda) (sym is) ∙ quiet_none x t.quiet)
-        done_by q g stage (inr (inr t)) = absurd (never q (sym t.session ∙ g) stage)
+      done_by : (q : Session) → x.session ≡ Some q → q.stage ≡ stage_for i → Turn st x true → d ≡ false
+      done_by q g stage (inl t) = failed_stage i t.why st.session q (sym t.session ∙ g) stage
+      done_by q g stage (inr (inl t)) = own.1 (ap (λ (z : Course). z.agenda) (sym is) ∙ quiet_none x t.quiet)
+      done_by q g stage (inr (inr t)) = absurd (never q (sym t.session ∙ g) stage)
 
     -- the session's stage
     at_stage : (q : Session) (t : Stage) → st.session ≡ Some q → q.stage ≡ t → (t ≡ stage_for i → ⊥) → (p : Session) → st.session ≡ Some p → p.stage ≡ stage_for i → ⊥
@@ -478,16 +469,15 @@ module _ (s : Plan) (so_far : List Act) (i : Asking) (w : ℕ) where
     on_prepares lane q mark g true e =
         subst (λ k. Next (Line lane op.Prepare) mark (Coded AsyncPending, followed true (begun k ms [] st.clock y) st)) (ap kind_for same)
         (begins_own lane op.Prepare mark ms y e (λ a. asked_are s w st (choosing s w so_far) follows q g.stands ∙ subst (λ k. is_asked_of w k s so_far ≡ true) same a)
-        (at_stage q Started g.stands (started_now q g.allowed).0 (not_started i)) (begun_turn s so_far _ (calm_begun (kind_for i) ms [] st.clock y)))
-      where
-        same : i ≡ ForConsent
-        same = prepare_is i e
+        (at_stage q Started g.stands (started_now q g.allowed).0 (not_started i)) (begun_turn s so_far _ (calm_begun (kind_for i) ms [] st.clock y))) where
+          same : i ≡ ForConsent
+          same = prepare_is i e
 
-        ms : List Member
-        ms = asked_by s w st (choosing s w so_far) follows q
+          ms : List Member
+          ms = asked_by s w st (choosing s w so_far) follows q
 
-        y : Course
-        y = record st.course { members = ms }
+          y : Course
+          y = record st.course { members = ms }
     on_prepares lane q mark g false e =
         begins_other lane op.Prepare mark Prepare _ [] _ refl e (prepare_not i e).0 (begun_turn s so_far _ (calm_begun Prepare _ [] st.clock _))
         (to_stage q Prepared g.stands (prepares_to q.context q.stage (started_now q g.allowed)) (prepare_not i e).1)
@@ -496,18 +486,17 @@ module _ (s : Plan) (so_far : List Act) (i : Asking) (w : ℕ) where
     on_completes lane q mark g true e =
         subst (λ k. Next (Line lane op.Complete) mark (Coded AsyncPending, followed true (begun k ms [] st.clock st.course) st)) (ap kind_for same)
         (begins_own lane op.Complete mark ms st.course e member (at_stage q Done g.stands (done_now q g.allowed) (not_done i))
-        (begun_turn s so_far _ (calm_begun (kind_for i) ms [] st.clock st.course)))
-      where
-        same : i ≡ AtCompletion
-        same = complete_is i e
+        (begun_turn s so_far _ (calm_begun (kind_for i) ms [] st.clock st.course))) where
+          same : i ≡ AtCompletion
+          same = complete_is i e
 
-        ms : List Member
-        ms = filter (λ (m : Member). not (has_row_failed st.course.rows m.writer)) st.course.members
+          ms : List Member
+          ms = filter (λ (m : Member). not (has_row_failed st.course.rows m.writer)) st.course.members
 
-        member : is_asked_of w i s so_far ≡ true → is_member ms w ≡ true
-        member a =
-            let parts = and_parts (is_member st.course.members w) _ (subst (λ k. is_asked_of w k s so_far ≡ true) same a) in
-            member_kept st.course.rows st.course.members w parts.1 parts.0
+          member : is_asked_of w i s so_far ≡ true → is_member ms w ≡ true
+          member a =
+              let parts = and_parts (is_member st.course.members w) _ (subst (λ k. is_asked_of w k s so_far ≡ true) same a) in
+              member_kept st.course.rows st.course.members w parts.1 parts.0
     on_completes lane q mark g false e =
         begins_other lane op.Complete mark Complete _ [] st.course refl e (complete_not i e).0 (begun_turn s so_far _ (calm_begun Complete _ [] st.clock st.course))
         (to_stage q Finished g.stands (ap (stage_after q.context) (done_now q g.allowed)) (complete_not i e).1)
@@ -565,10 +554,9 @@ module _ (s : Plan) (i : Asking) (w : ℕ) where
 pub nobody_owes : (s : Plan) (so_far : List Act) → NobodyOwes s so_far
 nobody_owes s so_far asking w q e quiet step =
     let at : StandsAt q false (progress s so_far) = subst (λ b. StandsAt q b (progress s so_far)) quiet (stands_all s so_far q e) in
-    (stands_always s asking w so_far).done q e (at.stage ∙ stage_is asking (progress s so_far).step step)
-  where
-    stage_is : (i : Asking) (t : Step) → is_step t (step_for i) ≡ true → stage_of t ≡ stage_for i
-    stage_is ToIdentify ByGather e = refl
-    stage_is ForConsent ByPrepare e = refl
-    stage_is AtCompletion ByComplete e = refl
-    stage_is i t e = absurd cc
+    (stands_always s asking w so_far).done q e (at.stage ∙ stage_is asking (progress s so_far).step step) where
+      stage_is : (i : Asking) (t : Step) → is_step t (step_for i) ≡ true → stage_of t ≡ stage_for i
+      stage_is ToIdentify ByGather e = refl
+      stage_is ForConsent ByPrepare e = refl
+      stage_is AtCompletion ByComplete e = refl
+      stage_is i t e = absurd cc

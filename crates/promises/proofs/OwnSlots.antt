@@ -20,33 +20,30 @@ record IsLost (n : ℕ) (hs ks : List History) : Type 0 where
 lost_there : (n : ℕ) (hs ks : List History) → has_lost_image n hs ks ≡ true → IsLost n hs ks
 lost_there n [] ks e = absurd cc
 lost_there n (h ∷ hs) [] e = absurd cc
-lost_there n (h ∷ hs) (k ∷ ks) e = by_head (has_image n h) (has_image n k) refl refl e (lost_there n hs ks)
-  where
-    later : IsLost n hs ks → IsLost n (h ∷ hs) (k ∷ ks)
-    later more = record { volume = suc more.volume; was = more.was; gone = more.gone }
+lost_there n (h ∷ hs) (k ∷ ks) e = by_head (has_image n h) (has_image n k) refl refl e (lost_there n hs ks) where
+  later : IsLost n hs ks → IsLost n (h ∷ hs) (k ∷ ks)
+  later more = record { volume = suc more.volume; was = more.was; gone = more.gone }
 
-    by_head : (a b : Bool) → has_image n h ≡ a → has_image n k ≡ b → ((a && not b) || has_lost_image n hs ks) ≡ true → (has_lost_image n hs ks ≡ true → IsLost n hs ks) → IsLost n (h ∷ hs) (k ∷ ks)
-    by_head true false f g e ih = record { volume = 0; was = f; gone = g }
-    by_head true true f g e ih = later (ih e)
-    by_head false b f g e ih = later (ih e)
+  by_head : (a b : Bool) → has_image n h ≡ a → has_image n k ≡ b → ((a && not b) || has_lost_image n hs ks) ≡ true → (has_lost_image n hs ks ≡ true → IsLost n hs ks) → IsLost n (h ∷ hs) (k ∷ ks)
+  by_head true false f g e ih = record { volume = 0; was = f; gone = g }
+  by_head true true f g e ih = later (ih e)
+  by_head false b f g e ih = later (ih e)
 
 -- of those up to m, in a group
 lost_in_group : (m n : ℕ) (ps : List Placed) (hs : List History) (v : ℕ) → within (slice_get ps v) ≡ true → has_image n (at hs v) ≡ true → n ≤ m → has_lost_image n hs (gone_up_to m ps hs) ≡ true
 lost_in_group m n [] hs v w e l = absurd cc
-lost_in_group m n (p ∷ ps) [] v w e l = absurd (true_not_false (has_image n (at [] v)) e (no_image v))
-  where
-    no_image : (v : ℕ) → has_image n (at [] v) ≡ false
-    no_image zero = refl
-    no_image (suc v) = refl
-lost_in_group m n (p ∷ ps) (h ∷ hs) zero w e l = by_parts (has_image n h) (has_image n (at (gone_up_to m (p ∷ ps) (h ∷ hs)) 0)) e refl
-  where
-    over : (m n : ℕ) → m < n → n ≤ m → ⊥
-    over m n l h = omega arith
+lost_in_group m n (p ∷ ps) [] v w e l = absurd (true_not_false (has_image n (at [] v)) e (no_image v)) where
+  no_image : (v : ℕ) → has_image n (at [] v) ≡ false
+  no_image zero = refl
+  no_image (suc v) = refl
+lost_in_group m n (p ∷ ps) (h ∷ hs) zero w e l = by_parts (has_image n h) (has_image n (at (gone_up_to m (p ∷ ps) (h ∷ hs)) 0)) e refl where
+  over : (m n : ℕ) → m < n → n ≤ m → ⊥
+  over m n l h = omega arith
 
-    by_parts : (a b : Bool) → a ≡ true → has_image n (at (gone_up_to m (p ∷ ps) (h ∷ hs)) 0) ≡ b → ((a && not b) || has_lost_image n hs (gone_up_to m ps hs)) ≡ true
-    by_parts true true f g = absurd (over m n (left_in_group m n (p ∷ ps) (h ∷ hs) 0 w g) l)
-    by_parts true false f g = refl
-    by_parts false b f g = absurd cc
+  by_parts : (a b : Bool) → a ≡ true → has_image n (at (gone_up_to m (p ∷ ps) (h ∷ hs)) 0) ≡ b → ((a && not b) || has_lost_image n hs (gone_up_to m ps hs)) ≡ true
+  by_parts true true f g = absurd (over m n (left_in_group m n (p ∷ ps) (h ∷ hs) 0 w g) l)
+  by_parts true false f g = refl
+  by_parts false b f g = absurd cc
 lost_in_group m n (p ∷ ps) (h ∷ hs) (suc v) w e l = or_right _ _ (lost_in_group m n ps hs v w e l)
 
 -- ## how many sets go
@@ -75,25 +72,23 @@ goes_so_far : (sets slots : ℕ) (ps : List Placed) (v b : ℕ) (hs : List Histo
     → ((m : ℕ) → m < n → lacks_slot slots ps v b (gone_up_to m ps hs) ≡ true) → n ≤ evicted_up_to sets slots ps v b hs
 goes_so_far sets slots ps v b hs n l h =
     subst (λ k. n ≤ unwrap_or (find (λ m. not (lacks_slot slots ps v b (gone_up_to m ps hs))) (range_with_len 0 sets)) k) (from_none sets)
-    (reaches (λ m. not (lacks_slot slots ps v b (gone_up_to m ps hs))) 0 sets n (subst (λ k. n ≤ k) (sym (from_none sets)) l) (λ m i j. ap not (h m j)))
-  where
-    from_none : (k : ℕ) → 0 + k ≡ k
-    from_none k = omega arith
+    (reaches (λ m. not (lacks_slot slots ps v b (gone_up_to m ps hs))) 0 sets n (subst (λ k. n ≤ k) (sym (from_none sets)) l) (λ m i j. ap not (h m j))) where
+      from_none : (k : ℕ) → 0 + k ≡ k
+      from_none k = omega arith
 
 -- the numbers of sets are no greater than there are sets
 numbered_within : (k : ℕ) (rows : List SetRow) (test : SetRow → Bool) (r : SetRow) → NumberedFrom k rows → find test rows ≡ Some r → r.number + 1 ≤ k + length rows
 numbered_within k [] test r num e = absurd cc
-numbered_within k (q ∷ rows) test r num e = by_head (test q) e (numbered_within (k + 1) rows test r num.1)
-  where
-    here : (a n : ℕ) → a ≡ k → a + 1 ≤ k + suc n
-    here a n e = omega (arith, e)
+numbered_within k (q ∷ rows) test r num e = by_head (test q) e (numbered_within (k + 1) rows test r num.1) where
+  here : (a n : ℕ) → a ≡ k → a + 1 ≤ k + suc n
+  here a n e = omega (arith, e)
 
-    later : (a n : ℕ) → a + 1 ≤ k + 1 + n → a + 1 ≤ k + suc n
-    later a n l = omega arith
+  later : (a n : ℕ) → a + 1 ≤ k + 1 + n → a + 1 ≤ k + suc n
+  later a n l = omega arith
 
-    by_head : (b : Bool) → (if b then Some q else find test rows) ≡ Some r → (find test rows ≡ Some r → r.number + 1 ≤ k + 1 + length rows) → r.number + 1 ≤ k + suc (length rows)
-    by_head true e ih = here r.number (length rows) (ap (λ (x : SetRow). x.number) (sym (some_same q r e)) ∙ num.0)
-    by_head false e ih = later r.number (length rows) (ih e)
+  by_head : (b : Bool) → (if b then Some q else find test rows) ≡ Some r → (find test rows ≡ Some r → r.number + 1 ≤ k + 1 + length rows) → r.number + 1 ≤ k + suc (length rows)
+  by_head true e ih = here r.number (length rows) (ap (λ (x : SetRow). x.number) (sym (some_same q r e)) ∙ num.0)
+  by_head false e ih = later r.number (length rows) (ih e)
 
 -- ## both ways
 
@@ -113,10 +108,9 @@ module _ (s : Plan) (st : State) (r : SetRow) (is : in_progress st ≡ Some r) (
         shared = went.0;
         stands_there = lost.was;
         full = λ m l. least_sets (length st.sets) (slots_of s v) (group_of s v) v b st.volumes m (less m r.number most l went.1);
-      }
-    where
-      less : (a b c : ℕ) → a < b → b ≤ c → a < c
-      less a b c l h = omega arith
+      } where
+        less : (a b c : ℕ) → a < b → b ≤ c → a < c
+        less a b c l h = omega arith
 
   pub loses : NumberedFrom 1 st.sets → HasNoSlot s st r.number v b → loses_own_image s st v b ≡ true
   loses num h =
@@ -129,11 +123,10 @@ module _ (s : Plan) (st : State) (r : SetRow) (is : in_progress st ≡ Some r) (
 
 -- where no set is in progress, or its images need not go
 pub loses_none : (s : Plan) (st : State) (v b : ℕ) → ((r : SetRow) → in_progress st ≡ Some r → HasNoSlot s st r.number v b → ⊥) → loses_own_image s st v b ≡ false
-loses_none s st v b h = by_set (in_progress st) refl
-  where
-    by_set : (o : Option SetRow) → in_progress st ≡ o → loses_own_image s st v b ≡ false
-    by_set None e = ap (λ o. set_loses_image o st.volumes (cleared s v b st).volumes) e
-    by_set (Some r) e = false_from_ne_true (loses_own_image s st v b) (λ f. h r e (no_slot s st r e v b f))
+loses_none s st v b h = by_set (in_progress st) refl where
+  by_set : (o : Option SetRow) → in_progress st ≡ o → loses_own_image s st v b ≡ false
+  by_set None e = ap (λ o. set_loses_image o st.volumes (cleared s v b st).volumes) e
+  by_set (Some r) e = false_from_ne_true (loses_own_image s st v b) (λ f. h r e (no_slot s st r e v b f))
 
 some_target : (a b : Target) → Some a ≡ Some b → a ≡ b
 some_target a b e = cc

@@ -4,9 +4,8 @@ use Rattle.promises.proofs.Words.{naming_of, naming_found, naming_if, has_pair, 
 use Rattle.promises.proofs.Words.{class_of, token, Event, Line, Reply, State, start, in_progress, row_of_writer, followed, failed, Replied, refused, write, Act, enabled, idle_now, after, state}
 use Rattle.promises.proofs.Words.{Choosing, unsaid, is_chosen, line_says, event_says, is_unfit, choosing_if, choosing_from, choosing, is_writer, ChosenTakePart, Covers}
 use Rattle.promises.proofs.Words.{ChangesNothing, covered, after_enabled, after_not_enabled}
-use Rattle.std.proofs.Common.{◌≡◌, ◌∙◌, ℕ, ◌==◌, List, [], ◌∷◌, ◌++◌, Option, Some, None, refl, Bool, true, false, ap, sym, subst, map, fold, length}
+use Rattle.std.proofs.Common.{◌≡◌, ◌∙◌, ℕ, ◌==◌, List, [], ◌∷◌, ◌++◌, Option, Some, None, refl, Bool, true, false, ap, sym, subst, map, fold, length, arith}
 use Rattle.std.specs.Prelude.{◌&&◌, ◌||◌, not, if◌then◌else◌}
-use Rattle.std.proofs.Common.{arith}
 use Rattle.set_agenda.specs.declared.kind.Kind.TheVariants as kind
 use Rattle.set_agenda.specs.Course.{Course, begun, is_member, members_from, prepared as course_prepared, snapshot_begun, released}
 use Rattle.scenario.specs.declared.op.Op.TheVariants.{Prepare, Snapshot}
@@ -57,11 +56,10 @@ within b c d e f = grind arith
 
 pub pair_added : (test : Pair → Bool) (q : Pair) (ps : List Pair) → list_any test (with_pair q ps) ≡ (list_any test ps || test q)
 pair_added test q [] = or-false (test q)
-pair_added test q (p ∷ ps) = by_place (comes_before q p) (pair_added test q ps)
-  where
-    by_place : (b : Bool) → list_any test (with_pair q ps) ≡ (list_any test ps || test q) → list_any test (if b then q ∷ p ∷ ps else p ∷ with_pair q ps) ≡ ((test p || list_any test ps) || test q)
-    by_place true ih = behind (test q) (test p) (list_any test ps)
-    by_place false ih = within (test p) (list_any test ps) (list_any test (with_pair q ps)) (test q) ih
+pair_added test q (p ∷ ps) = by_place (comes_before q p) (pair_added test q ps) where
+  by_place : (b : Bool) → list_any test (with_pair q ps) ≡ (list_any test ps || test q) → list_any test (if b then q ∷ p ∷ ps else p ∷ with_pair q ps) ≡ ((test p || list_any test ps) || test q)
+  by_place true ih = behind (test q) (test p) (list_any test ps)
+  by_place false ih = within (test p) (list_any test ps) (list_any test (with_pair q ps)) (test q) ih
 
 named_if : (w : ℕ) (q : Pair) (ps new : List Pair) (a b : Bool) → naming_if a b q ps ≡ Names new
     → list_any (λ (p : Pair). p.writer == w) new ≡ (list_any (λ (p : Pair). p.writer == w) ps || (q.writer == w))

@@ -66,10 +66,9 @@ named_is_known s st w over e =
     subst (λ x. is_known s st x ≡ true) (zero_plus w)
     (known_at s st 0 s.writers w
     (named_known (known_metas s st) st.explicit w
-    (and_left (list_all (names_selectable (known_metas s st)) st.explicit) (is_ascending st.explicit) over) e))
-  where
-    zero_plus : (a : ℕ) → 0 + a ≡ a
-    zero_plus a = omega arith
+    (and_left (list_all (names_selectable (known_metas s st)) st.explicit) (is_ascending st.explicit) over) e)) where
+      zero_plus : (a : ℕ) → 0 + a ≡ a
+      zero_plus a = omega arith
 
 named_enabled : (s : Plan) (st : State) (w : ℕ) → AreOver (known_metas s st) st.explicit → list_any (λ (p : Pair). p.writer == w) st.explicit ≡ true → is_disabled s st w ≡ false
 named_enabled s st w over e = unless (is_disabled s st w) (and_left (not (is_disabled s st w)) (not (has_failed_identify (slice_get st.course.rows w))) (named_is_known s st w over e))

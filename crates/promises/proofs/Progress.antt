@@ -18,6 +18,7 @@ use Rattle.vss_model.specs.Sessions.{selected, start_set, has_no_volume, volumes
 use Rattle.promises.proofs.CalmCourses.{calm_begun}
 use Rattle.promises.proofs.SetFailures.{failure_at}
 use Rattle.promises.proofs.Turns.{Turn, quiet_turn, write_turn, revert_turn, begun_turn, answer_turn, tick_turn, step_turn, abort_turn, add_turn, none_started}
+use Rattle.vss_model.proofs.OrderlyActs.{is_opened, is_started, is_done_stage}
 
 -- ## where a session stands
 
@@ -47,34 +48,24 @@ set_so o x = grind arith
 
 -- a context by its number
 context_is : (n : ℕ) (all : Bool) (c : Context) → context_of n all ≡ Some c → number_of c ≡ n
-context_is n all c e = by_number (context_of_number n) refl e
-  where
-    named : (b : Bool) (a : Context) → context_if b a ≡ Some c → a ≡ c
-    named true a e = some_same a c e
-    named false a e = absurd cc
+context_is n all c e = by_number (context_of_number n) refl e where
+  named : (b : Bool) (a : Context) → context_if b a ≡ Some c → a ≡ c
+  named true a e = some_same a c e
+  named false a e = absurd cc
 
-    by_mode : (b : Bool) (a : Context) → without_all b a ≡ Some c → a ≡ c
-    by_mode true a e = named (has_writers a) a e
-    by_mode false a e = some_same a c e
+  by_mode : (b : Bool) (a : Context) → without_all b a ≡ Some c → a ≡ c
+  by_mode true a e = named (has_writers a) a e
+  by_mode false a e = some_same a c e
 
-    by_number : (o : Option Context) → context_of_number n ≡ o → option_and_then (without_all all) o ≡ Some c → number_of c ≡ n
-    by_number None f e = absurd cc
-    by_number (Some a) f e = ap number_of (sym (by_mode all a e)) ∙ (IsLookUp-context_of_number n (Some a) (sym f)).has
+  by_number : (o : Option Context) → context_of_number n ≡ o → option_and_then (without_all all) o ≡ Some c → number_of c ≡ n
+  by_number None f e = absurd cc
+  by_number (Some a) f e = ap number_of (sym (by_mode all a e)) ∙ (IsLookUp-context_of_number n (Some a) (sym f)).has
 
 brings_none : (o : Op) (told : Reply) (p : Progress) → ChangesNothing o told → line_brings o told p ≡ p
 brings_none o told p g = grind arith
 
 write_brings : (o : Op) (t : Target) (told : Reply) (p : Progress) → target_of o ≡ Some t → line_brings o told p ≡ p
 write_brings o t told p e = grind arith
-
-pub is_opened : (t : Stage) → is_stage t Opened ≡ true → t ≡ Opened
-is_opened t e = grind arith
-
-pub is_started : (t : Stage) → is_stage t Started ≡ true → t ≡ Started
-is_started t e = grind arith
-
-pub is_done : (t : Stage) → is_stage t Done ≡ true → t ≡ Done
-is_done t e = grind arith
 
 prepares : (c : Context) → has_writers c ≡ true → stage_after c Started ≡ Prepared
 prepares c e = grind arith
@@ -154,11 +145,10 @@ module _ (s : Plan) (so_far : List Act) (p : Progress) where
     no_agenda a i = grind arith
 
     no_set : st.session ≡ None → (x : State) → set_fails (in_progress st) x ≡ false
-    no_set e x = by_set (in_progress st) (subst (λ o. IsOfSession o st.course.outcome (in_progress st)) e (orderly s so_far).session)
-      where
-        by_set : (o : Option SetRow) → IsOfSession None st.course.outcome o → set_fails o x ≡ false
-        by_set None i = refl
-        by_set (Some r) i = absurd i
+    no_set e x = by_set (in_progress st) (subst (λ o. IsOfSession o st.course.outcome (in_progress st)) e (orderly s so_far).session) where
+      by_set : (o : Option SetRow) → IsOfSession None st.course.outcome o → set_fails o x ≡ false
+      by_set None i = refl
+      by_set (Some r) i = absurd i
 
     on_opened : (lane n : ℕ) (all : Bool) (c : Context) → st.session ≡ None → context_of n all ≡ Some c
         → Next (Line lane (op.Begin n all)) Clean (Fine, record st { session = Some (opened lane c all); explicit = [] })
@@ -204,7 +194,7 @@ module _ (s : Plan) (so_far : List Act) (p : Progress) where
           (snapshot_begun (volumes_of (in_progress st)) st.clock st.course) refl refl g.stands (snapshots q.context q.stage g.allowed)
           (calm_begun kind.Snapshot st.course.members _ st.clock st.course);
       completes = λ lane q mark g. on_begun lane op.Complete ByComplete q _ refl g.stands
-          (ap (stage_after q.context) (is_done q.stage (and_parts (is_stage q.stage Done) (has_writers q.context) g.allowed).0))
+          (ap (stage_after q.context) (is_done_stage q.stage (and_parts (is_stage q.stage Done) (has_writers q.context) g.allowed).0))
           (calm_begun kind.Complete _ [] st.clock st.course);
       aborts = λ lane q mark e. goes (Line lane op.Abort) Fine _ refl (abort_turn s so_far);
       ends = λ lane q mark e. on_close (Line lane op.End) Fine q (failed AsyncCancelled st);
@@ -237,11 +227,10 @@ stands_next s so_far act h =
 
 stands_from : (s : Plan) (so_far acts : List Act) → StandsSo s so_far → StandsSo s (so_far ++ acts)
 stands_from s so_far [] h = subst (StandsSo s) (sym (append_nothing so_far)) h
-stands_from s so_far (act ∷ acts) h = subst (StandsSo s) (regrouped so_far acts) (stands_from s (so_far ++ act ∷ []) acts (stands_next s so_far act h))
-  where
-    regrouped : (xs ys : List Act) → (xs ++ act ∷ []) ++ ys ≡ xs ++ act ∷ ys
-    regrouped [] ys = refl
-    regrouped (x ∷ xs) ys = ap (λ zs. x ∷ zs) (regrouped xs ys)
+stands_from s so_far (act ∷ acts) h = subst (StandsSo s) (regrouped so_far acts) (stands_from s (so_far ++ act ∷ []) acts (stands_next s so_far act h)) where
+  regrouped : (xs ys : List Act) → (xs ++ act ∷ []) ++ ys ≡ xs ++ act ∷ ys
+  regrouped [] ys = refl
+  regrouped (x ∷ xs) ys = ap (λ zs. x ∷ zs) (regrouped xs ys)
 
 pub stands_all : (s : Plan) (so_far : List Act) → StandsSo s so_far
 stands_all s so_far = stands_from s [] so_far (λ own e. absurd cc)

@@ -23,17 +23,16 @@ filter_along f g same bs = grind arith
 uses : (n set p : ℕ) (ws : List Write) (images : List Image) → AreInTime (length ws) images → point_in set images ≡ Some p
     → used_by n ws images set ≡ Some (overwritten n set p (record { writes = ws; images = images }))
 uses n set p ws [] t e = absurd cc
-uses n set p ws (i ∷ newer) t e = by_head (i.set == set) refl e (λ f. uses n set p ws newer t.2 f)
-  where
-    by_head : (b : Bool) → (i.set == set) ≡ b → (if b then Some i.point else point_in set newer) ≡ Some p
-        → (point_in set newer ≡ Some p → used_by n ws newer set ≡ Some (overwritten n set p (record { writes = ws; images = newer })))
-        → (if b then Some (length (named n ws i newer)) else used_by n ws newer set) ≡ Some (overwritten n set p (record { writes = ws; images = i ∷ newer }))
-    by_head true f e ih =
-        ap (λ (bs : List ℕ). Some (length bs)) (filter_along (names (writes_since ws i.point newer)) (λ b. is_overwritten set b (i ∷ newer) p (drop p ws))
-        (λ b. since_cut set b ws i newer t.1 t.2 f ∙ ap (λ q. is_overwritten set b (i ∷ newer) q (drop q ws)) (some_same i.point p e)) (range_with_len 0 n))
-    by_head false f e ih =
-        ih e ∙ ap (λ (bs : List ℕ). Some (length bs)) (filter_along (λ b. is_overwritten set b newer p (drop p ws)) (λ b. is_overwritten set b (i ∷ newer) p (drop p ws))
-        (λ b. overwritten_along set b i newer p (drop p ws) (earlier set p i newer t.1 e)) (range_with_len 0 n))
+uses n set p ws (i ∷ newer) t e = by_head (i.set == set) refl e (λ f. uses n set p ws newer t.2 f) where
+  by_head : (b : Bool) → (i.set == set) ≡ b → (if b then Some i.point else point_in set newer) ≡ Some p
+      → (point_in set newer ≡ Some p → used_by n ws newer set ≡ Some (overwritten n set p (record { writes = ws; images = newer })))
+      → (if b then Some (length (named n ws i newer)) else used_by n ws newer set) ≡ Some (overwritten n set p (record { writes = ws; images = i ∷ newer }))
+  by_head true f e ih =
+      ap (λ (bs : List ℕ). Some (length bs)) (filter_along (names (writes_since ws i.point newer)) (λ b. is_overwritten set b (i ∷ newer) p (drop p ws))
+      (λ b. since_cut set b ws i newer t.1 t.2 f ∙ ap (λ q. is_overwritten set b (i ∷ newer) q (drop q ws)) (some_same i.point p e)) (range_with_len 0 n))
+  by_head false f e ih =
+      ih e ∙ ap (λ (bs : List ℕ). Some (length bs)) (filter_along (λ b. is_overwritten set b newer p (drop p ws)) (λ b. is_overwritten set b (i ∷ newer) p (drop p ws))
+      (λ b. overwritten_along set b i newer p (drop p ws) (earlier set p i newer t.1 e)) (range_with_len 0 n))
 
 -- ## the reply
 

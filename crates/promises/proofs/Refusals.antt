@@ -19,21 +19,20 @@ module _ (s : Plan) (st : State) where
   name_in : (w : ℕ) (named : List Pair) (name : List ℕ) (i : ℕ) (ps : List Part) → is_accepted (named_as (naming_found w (found_from name i ps) named) st).0 ≡ false
       → (named_as (naming_found w (found_from name i ps) named) st).0 ≡ name_refusal_in name ps
   name_in w named name i [] e = refl
-  name_in w named name i (p ∷ ps) e = by_name (bytes_eq (full_name p) name) (name_in w named name (i + 1) ps) e
-    where
-      one : (a b : Bool) → is_accepted (named_as (naming_if a b (record { writer = w; component = i }) named) st).0 ≡ false
-          → (named_as (naming_if a b (record { writer = w; component = i }) named) st).0 ≡ (if a then Coded ObjectAlreadyExists else NotSelectable)
-      one false b e = refl
-      one true true e = refl
-      one true false e = absurd cc
+  name_in w named name i (p ∷ ps) e = by_name (bytes_eq (full_name p) name) (name_in w named name (i + 1) ps) e where
+    one : (a b : Bool) → is_accepted (named_as (naming_if a b (record { writer = w; component = i }) named) st).0 ≡ false
+        → (named_as (naming_if a b (record { writer = w; component = i }) named) st).0 ≡ (if a then Coded ObjectAlreadyExists else NotSelectable)
+    one false b e = refl
+    one true true e = refl
+    one true false e = absurd cc
 
-      by_name : (b : Bool)
-          → (is_accepted (named_as (naming_found w (found_from name (i + 1) ps) named) st).0 ≡ false → (named_as (naming_found w (found_from name (i + 1) ps) named) st).0 ≡ name_refusal_in name ps)
-          → is_accepted (named_as (naming_found w (if b then Some (record { component = i; selectable = p.selectable }) else found_from name (i + 1) ps) named) st).0 ≡ false
-          → (named_as (naming_found w (if b then Some (record { component = i; selectable = p.selectable }) else found_from name (i + 1) ps) named) st).0
-          ≡ (if b then (if p.selectable then Coded ObjectAlreadyExists else NotSelectable) else name_refusal_in name ps)
-      by_name true ih e = one p.selectable (has_pair named w i) e
-      by_name false ih e = ih e
+    by_name : (b : Bool)
+        → (is_accepted (named_as (naming_found w (found_from name (i + 1) ps) named) st).0 ≡ false → (named_as (naming_found w (found_from name (i + 1) ps) named) st).0 ≡ name_refusal_in name ps)
+        → is_accepted (named_as (naming_found w (if b then Some (record { component = i; selectable = p.selectable }) else found_from name (i + 1) ps) named) st).0 ≡ false
+        → (named_as (naming_found w (if b then Some (record { component = i; selectable = p.selectable }) else found_from name (i + 1) ps) named) st).0
+        ≡ (if b then (if p.selectable then Coded ObjectAlreadyExists else NotSelectable) else name_refusal_in name ps)
+    by_name true ih e = one p.selectable (has_pair named w i) e
+    by_name false ih e = ih e
 
   name_of : (w : ℕ) (name : List ℕ) (m : Option (Option Meta)) → is_accepted (named_as (naming_of w name m st.explicit) st).0 ≡ false
       → (named_as (naming_of w name m st.explicit) st).0 ≡ name_refusal name m
@@ -47,21 +46,20 @@ module _ (s : Plan) (st : State) where
   add_refused : (v : ℕ) (o : Option SetRow) → is_accepted (add v o st).0 ≡ false → (add v o st).0 ≡ place_refusal v o
   add_refused v None e = refl
   add_refused v (Some r) e = by_tests (is_among v r.volumes) (nat_le most_volumes (length r.volumes)) (nat_lt (length r.volumes) 64)
-      (nat_le most_images (length (history_of st v).images)) (not_full (length r.volumes)) e
-    where
-      not_full : (n : ℕ) → nat_le most_volumes n ≡ not (nat_lt n 64)
-      not_full n = grind arith
+      (nat_le most_images (length (history_of st v).images)) (not_full (length r.volumes)) e where
+        not_full : (n : ℕ) → nat_le most_volumes n ≡ not (nat_lt n 64)
+        not_full n = grind arith
 
-      by_tests : (a b d c : Bool) → b ≡ not d
-          → is_accepted (add_to v r (if a then Some ObjectAlreadyExists else if b then Some MaximumNumberOfVolumesReached else if c then Some MaximumNumberOfSnapshotsReached else None) st).0 ≡ false
-          → (add_to v r (if a then Some ObjectAlreadyExists else if b then Some MaximumNumberOfVolumesReached else if c then Some MaximumNumberOfSnapshotsReached else None) st).0
-          ≡ (if a then Coded ObjectAlreadyExists else if d then Coded MaximumNumberOfSnapshotsReached else Coded MaximumNumberOfVolumesReached)
-      by_tests true b d c f e = refl
-      by_tests false true false c f e = refl
-      by_tests false true true c f e = absurd cc
-      by_tests false false true true f e = refl
-      by_tests false false true false f e = absurd cc
-      by_tests false false false c f e = absurd cc
+        by_tests : (a b d c : Bool) → b ≡ not d
+            → is_accepted (add_to v r (if a then Some ObjectAlreadyExists else if b then Some MaximumNumberOfVolumesReached else if c then Some MaximumNumberOfSnapshotsReached else None) st).0 ≡ false
+            → (add_to v r (if a then Some ObjectAlreadyExists else if b then Some MaximumNumberOfVolumesReached else if c then Some MaximumNumberOfSnapshotsReached else None) st).0
+            ≡ (if a then Coded ObjectAlreadyExists else if d then Coded MaximumNumberOfSnapshotsReached else Coded MaximumNumberOfVolumesReached)
+        by_tests true b d c f e = refl
+        by_tests false true false c f e = refl
+        by_tests false true true c f e = absurd cc
+        by_tests false false true true f e = refl
+        by_tests false false true false f e = absurd cc
+        by_tests false false false c f e = absurd cc
 
   -- a call that waits for nothing but a set with a volume
   volume_refused : (b : Bool) (x y : Replied) → x.0 ≡ Coded BadState → is_accepted y.0 ≡ true → is_accepted (if b then x else y).0 ≡ false → (if b then x else y).0 ≡ Coded BadState
@@ -110,23 +108,22 @@ module _ (s : Plan) (so_far : List Act) (lane : ℕ) where
       → ((q : Session) → st.session ≡ Some q → (is_start c && makes_set q.stage) ≡ false → order_refusal o (in_progress st) ≡ Coded BadState)
       → ((q : Session) → q.mode ≡ mode_of p.all → is_accepted (session_line s lane o q st).0 ≡ false → (session_line s lane o q st).0 ≡ want_refusal s st p o)
       → is_accepted (called c s lane o st).0 ≡ false → (called c s lane o st).0 ≡ Told st.session o
-  refused_call c o same beside waits order start idle wants e = by_session st.session refl
-    where
-      in_order : (q : Session) → st.session ≡ Some q → runs st ≡ false → allowed_in (has_writers q.context) q.stage c ≡ comes_now p o
-      in_order q e f =
-          let at : StandsAt q (runs st) p = stands_all s so_far q e in
-          let quiet : StandsAt q false p = subst (λ b. StandsAt q b p) f at in
-          ap (λ w. allowed_in w q.stage c) (writers_asked q.context p.context at.context) ∙ ap (λ x. allowed_in (asks_writers p) x c) quiet.stage ∙ order
+  refused_call c o same beside waits order start idle wants e = by_session st.session refl where
+    in_order : (q : Session) → st.session ≡ Some q → runs st ≡ false → allowed_in (has_writers q.context) q.stage c ≡ comes_now p o
+    in_order q e f =
+        let at : StandsAt q (runs st) p = stands_all s so_far q e in
+        let quiet : StandsAt q false p = subst (λ b. StandsAt q b p) f at in
+        ap (λ w. allowed_in w q.stage c) (writers_asked q.context p.context at.context) ∙ ap (λ x. allowed_in (asks_writers p) x c) quiet.stage ∙ order
 
-      by_session : (x : Option Session) → st.session ≡ x → (called c s lane o st).0 ≡ Told st.session o
-      by_session None f = none_called c o f same ∙ ap (λ x. Told x o) (sym f)
-      by_session (Some q) f =
-          let is = called_is c o q f same beside waits in
-          is
-          ∙ parts (q.owner == lane) (is_start c && makes_set q.stage) (runs st) (allows q.stage (has_writers q.context) c) (comes_now p o)
-          (session_line s lane o q st).0 (want_refusal s st p o) (order_refusal o (in_progress st))
-          (in_order q f) (start q f) (idle q f) (wants q (stands_all s so_far q f).mode) (ap is_accepted (sym is) ∙ e)
-          ∙ ap (λ x. Told x o) (sym f)
+    by_session : (x : Option Session) → st.session ≡ x → (called c s lane o st).0 ≡ Told st.session o
+    by_session None f = none_called c o f same ∙ ap (λ x. Told x o) (sym f)
+    by_session (Some q) f =
+        let is = called_is c o q f same beside waits in
+        is
+        ∙ parts (q.owner == lane) (is_start c && makes_set q.stage) (runs st) (allows q.stage (has_writers q.context) c) (comes_now p o)
+        (session_line s lane o q st).0 (want_refusal s st p o) (order_refusal o (in_progress st))
+        (in_order q f) (start q f) (idle q f) (wants q (stands_all s so_far q f).mode) (ap is_accepted (sym is) ∙ e)
+        ∙ ap (λ x. Told x o) (sym f)
 
   -- a call that is no `start`
   other_call : (c : SessionCall) (o : Op) → check st.session (runs st) lane c ≡ check_other st.session (runs st) lane c → goes_beside_agenda c ≡ false → is_await c ≡ false
@@ -137,18 +134,16 @@ module _ (s : Plan) (so_far : List Act) (lane : ℕ) where
   other_call c o same beside waits other order bad wants e = grind (arith, refused_call)
 
   start_now : (q : Session) → st.session ≡ Some q → makes_set q.stage ≡ true → order_refusal op.Start (in_progress st) ≡ Coded SnapshotSetInProgress
-  start_now q e f = by_set (in_progress st) (sym (makes_its_set s so_far lane q e) ∙ f)
-    where
-      by_set : (o : Option SetRow) → is_some o ≡ true → order_refusal op.Start o ≡ Coded SnapshotSetInProgress
-      by_set None e = absurd cc
-      by_set (Some r) e = refl
+  start_now q e f = by_set (in_progress st) (sym (makes_its_set s so_far lane q e) ∙ f) where
+    by_set : (o : Option SetRow) → is_some o ≡ true → order_refusal op.Start o ≡ Coded SnapshotSetInProgress
+    by_set None e = absurd cc
+    by_set (Some r) e = refl
 
   start_idle : (q : Session) → st.session ≡ Some q → makes_set q.stage ≡ false → order_refusal op.Start (in_progress st) ≡ Coded BadState
-  start_idle q e f = by_set (in_progress st) (sym (makes_its_set s so_far lane q e) ∙ f)
-    where
-      by_set : (o : Option SetRow) → is_some o ≡ false → order_refusal op.Start o ≡ Coded BadState
-      by_set None e = refl
-      by_set (Some r) e = absurd cc
+  start_idle q e f = by_set (in_progress st) (sym (makes_its_set s so_far lane q e) ∙ f) where
+    by_set : (o : Option SetRow) → is_some o ≡ false → order_refusal op.Start o ≡ Coded BadState
+    by_set None e = refl
+    by_set (Some r) e = absurd cc
 
   abbrev w : Bool
   w = asks_writers p

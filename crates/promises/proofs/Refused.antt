@@ -3,7 +3,7 @@ use Rattle.promises.proofs.Words.{Plan, Act, reply, state, leaves_all, RefusalsC
 use Rattle.std.proofs.Common.{◌≡◌, ◌∙◌, List, [], fold, Bool, true, ap, arith}
 use Rattle.std.specs.Prelude.{◌&&◌, not, if◌then◌else◌}
 use Rattle.vss_model.specs.Acts.{enabled}
-use Rattle.vss_model.specs.Changes.{Change, apply, event_changes, changes}
+use Rattle.vss_model.specs.Changes.{Change, apply, event_changes}
 use Rattle.vss_model.proofs.Changes.{made}
 
 none : (a b : Bool) (cs : List Change) → b ≡ true → (if a && not b then cs else []) ≡ []

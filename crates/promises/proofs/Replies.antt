@@ -25,44 +25,41 @@ map_along f g e ns = grind arith
 
 below_listed : (test : Image → Bool) (i : Image) (images : List Image) → AreLater i images → IsBelow i.set (sets_of (filter test images))
 below_listed test i [] h = tt
-below_listed test i (j ∷ images) h = by_test (test j) (below_listed test i images h.2)
-  where
-    by_test : (b : Bool) → IsBelow i.set (sets_of (filter test images)) → IsBelow i.set (sets_of (if b then j ∷ filter test images else filter test images))
-    by_test true ih = (h.0, ih)
-    by_test false ih = ih
+below_listed test i (j ∷ images) h = by_test (test j) (below_listed test i images h.2) where
+  by_test : (b : Bool) → IsBelow i.set (sets_of (filter test images)) → IsBelow i.set (sets_of (if b then j ∷ filter test images else filter test images))
+  by_test true ih = (h.0, ih)
+  by_test false ih = ih
 
 rising_listed : (test : Image → Bool) (most : ℕ) (images : List Image) → AreInTime most images → AreRising (sets_of (filter test images))
 rising_listed test most [] h = tt
-rising_listed test most (i ∷ images) h = by_test (test i) (below_listed test i images h.1) (rising_listed test most images h.2)
-  where
-    by_test : (b : Bool) → IsBelow i.set (sets_of (filter test images)) → AreRising (sets_of (filter test images)) → AreRising (sets_of (if b then i ∷ filter test images else filter test images))
-    by_test true below ih = (below, ih)
-    by_test false below ih = ih
+rising_listed test most (i ∷ images) h = by_test (test i) (below_listed test i images h.1) (rising_listed test most images h.2) where
+  by_test : (b : Bool) → IsBelow i.set (sets_of (filter test images)) → AreRising (sets_of (filter test images)) → AreRising (sets_of (if b then i ∷ filter test images else filter test images))
+  by_test true below ih = (below, ih)
+  by_test false below ih = ih
 
 listed : (st : State) (n : ℕ) (images : List Image) → is_among n (sets_of (filter (λ i. is_kept_set st i.set) images)) ≡ (is_kept_set st n && is_some (point_in n images))
 listed st n [] = off (is_kept_set st n)
-listed st n (i ∷ images) = by_head (i.set == n) (is_kept_set st i.set) (is_kept_set st n) refl refl refl (listed st n images)
-  where
-    among : (c : Bool) (rest : List ℕ) → (i.set == n) ≡ c → is_among n (i.set ∷ rest) ≡ (c || is_among n rest)
-    among c rest e = ap (λ x. x || is_among n rest) e
+listed st n (i ∷ images) = by_head (i.set == n) (is_kept_set st i.set) (is_kept_set st n) refl refl refl (listed st n images) where
+  among : (c : Bool) (rest : List ℕ) → (i.set == n) ≡ c → is_among n (i.set ∷ rest) ≡ (c || is_among n rest)
+  among c rest e = ap (λ x. x || is_among n rest) e
 
-    point : (c : Bool) → (i.set == n) ≡ c → is_some (point_in n (i ∷ images)) ≡ (c || is_some (point_in n images))
-    point true e = ap (λ x. is_some (if x then Some i.point else point_in n images)) e
-    point false e = ap (λ x. is_some (if x then Some i.point else point_in n images)) e
+  point : (c : Bool) → (i.set == n) ≡ c → is_some (point_in n (i ∷ images)) ≡ (c || is_some (point_in n images))
+  point true e = ap (λ x. is_some (if x then Some i.point else point_in n images)) e
+  point false e = ap (λ x. is_some (if x then Some i.point else point_in n images)) e
 
-    by_head : (c d b : Bool) → (i.set == n) ≡ c → is_kept_set st i.set ≡ d → is_kept_set st n ≡ b
-        → is_among n (sets_of (filter (λ j. is_kept_set st j.set) images)) ≡ (is_kept_set st n && is_some (point_in n images))
-        → is_among n (sets_of (if is_kept_set st i.set then i ∷ filter (λ j. is_kept_set st j.set) images else filter (λ j. is_kept_set st j.set) images))
-        ≡ (is_kept_set st n && is_some (point_in n (i ∷ images)))
-    by_head true true b e f g ih =
-        let kept_too : is_kept_set st n ≡ true = ap (is_kept_set st) (sym (number_is i.set n e)) ∙ f in
-        rw f (rw kept_too (among true (sets_of (filter (λ j. is_kept_set st j.set) images)) e ∙ sym (point true e)))
-    by_head true false b e f g ih =
-        let not_kept : is_kept_set st n ≡ false = ap (is_kept_set st) (sym (number_is i.set n e)) ∙ f in
-        rw f (ih ∙ rw not_kept refl)
-    by_head false true b e f g ih =
-        rw f (among false (sets_of (filter (λ j. is_kept_set st j.set) images)) e ∙ ih ∙ ap (λ x. is_kept_set st n && x) (sym (point false e)))
-    by_head false false b e f g ih = rw f (ih ∙ ap (λ x. is_kept_set st n && x) (sym (point false e)))
+  by_head : (c d b : Bool) → (i.set == n) ≡ c → is_kept_set st i.set ≡ d → is_kept_set st n ≡ b
+      → is_among n (sets_of (filter (λ j. is_kept_set st j.set) images)) ≡ (is_kept_set st n && is_some (point_in n images))
+      → is_among n (sets_of (if is_kept_set st i.set then i ∷ filter (λ j. is_kept_set st j.set) images else filter (λ j. is_kept_set st j.set) images))
+      ≡ (is_kept_set st n && is_some (point_in n (i ∷ images)))
+  by_head true true b e f g ih =
+      let kept_too : is_kept_set st n ≡ true = ap (is_kept_set st) (sym (number_is i.set n e)) ∙ f in
+      rw f (rw kept_too (among true (sets_of (filter (λ j. is_kept_set st j.set) images)) e ∙ sym (point true e)))
+  by_head true false b e f g ih =
+      let not_kept : is_kept_set st n ≡ false = ap (is_kept_set st) (sym (number_is i.set n e)) ∙ f in
+      rw f (ih ∙ rw not_kept refl)
+  by_head false true b e f g ih =
+      rw f (among false (sets_of (filter (λ j. is_kept_set st j.set) images)) e ∙ ih ∙ ap (λ x. is_kept_set st n && x) (sym (point false e)))
+  by_head false false b e f g ih = rw f (ih ∙ ap (λ x. is_kept_set st n && x) (sym (point false e)))
 
 -- ## every reply
 

@@ -19,7 +19,6 @@ last_restored ws point b (c ∷ bs) before = last_restored ws point b bs (if c =
     by_block false false e = refl
 
 -- these blocks are written once more as they were at a point, and the others stay
-pub some_restored : (ws : List Write) (point b : ℕ) (bs : List ℕ)
-    → content (ws ++ map (restoring ws point) bs) (length (ws ++ map (restoring ws point) bs)) b
+pub some_restored : (ws : List Write) (point b : ℕ) (bs : List ℕ) → content (ws ++ map (restoring ws point) bs) (length (ws ++ map (restoring ws point) bs)) b
     ≡ (if is_among b bs then content ws point b else content ws (length ws) b)
 some_restored ws point b bs = grind (arith, take-length, last_append, last_restored)

@@ -68,11 +68,10 @@ module _ (s : Plan) (so_far : List Act) where
   cause_of : (event : Event) (mark : Mark) (x : State) (o : Option SetRow) → in_progress st ≡ o → after s st (record { event = event; mark = mark }) ≡ x
       → set_fails o x ≡ true → gives_cause s st event mark ≡ true
   cause_of event mark x None e h f = absurd cc
-  cause_of event mark x (Some r) e h f = by_row (row_of x r.number) refl f
-    where
-      by_row : (q : Option SetRow) → row_of x r.number ≡ q → row_fails q ≡ true → gives_cause s st event mark ≡ true
-      by_row None g i = absurd cc
-      by_row (Some q) g i = (fails_for_cause s so_far (record { event = event; mark = mark })).only r q e (ap (λ (y : State). row_of y r.number) h ∙ g) i
+  cause_of event mark x (Some r) e h f = by_row (row_of x r.number) refl f where
+    by_row : (q : Option SetRow) → row_of x r.number ≡ q → row_fails q ≡ true → gives_cause s st event mark ≡ true
+    by_row None g i = absurd cc
+    by_row (Some q) g i = (fails_for_cause s so_far (record { event = event; mark = mark })).only r q e (ap (λ (y : State). row_of y r.number) h ∙ g) i
 
   no_cause : (event : Event) (mark : Mark) (x : State) → after s st (record { event = event; mark = mark }) ≡ x → gives_cause s st event mark ≡ false → falls_in x ≡ false
   no_cause event mark x h e = grind (arith, false_from_ne_true, true_not_false, cause_of)
@@ -188,20 +187,19 @@ module _ (s : Plan) (so_far : List Act) where
   answer_rows : (w : ℕ) (answer : Answer) (mark : Mark) → after s st (record { event = AnswerEvent w answer; mark = mark }) ≡ answered w (said_of answer) st
       → Told (says_answer w answer) (answered w (said_of answer) st)
   unfolding answered
-  answer_rows w answer mark i = by_refusal (refuses (order_of_writer st w) (said_of answer)) refl (comes_answered w (said_of answer) st.clock st.course)
-    where
-      by_refusal : (b : Bool) → refuses (order_of_writer st w) (said_of answer) ≡ b
-          → Comes (says_answer w answer) (refuses (order_of_writer st w) (said_of answer)) st.course (course_answered w (said_of answer) st.clock st.course)
-          → Told (says_answer w answer) (followed (runs st) (course_answered w (said_of answer) st.clock st.course) st)
-      by_refusal true e h =
-          with_set (in_progress st) (Told (says_answer w answer) (followed (runs st) (course_answered w (said_of answer) st.clock st.course) st))
-          (is_busy (order_busy (order_of_writer st w) (said_of answer) e (λ p f d. busy_order st.course.agenda p (now_open (is_asked w (left_now st)) (order_now (left_now st)) p f) d)))
-          (λ r f. loud_course (says_answer w answer) (runs st) (course_answered w (said_of answer) st.clock st.course) st r f refl refl
-          (refused_fails w answer st.clock st.course (refused_is (order_of_writer st w) answer ∙ e))
-          (subst (λ c. Comes (says_answer w answer) c st.course (course_answered w (said_of answer) st.clock st.course)) e h))
-      by_refusal false e h =
-          quiet_course (says_answer w answer) (AnswerEvent w answer) mark (runs st) (course_answered w (said_of answer) st.clock st.course) st (refused_is (order_of_writer st w) answer ∙ e)
-          (subst (λ c. Comes (says_answer w answer) c st.course (course_answered w (said_of answer) st.clock st.course)) e h) i
+  answer_rows w answer mark i = by_refusal (refuses (order_of_writer st w) (said_of answer)) refl (comes_answered w (said_of answer) st.clock st.course) where
+    by_refusal : (b : Bool) → refuses (order_of_writer st w) (said_of answer) ≡ b
+        → Comes (says_answer w answer) (refuses (order_of_writer st w) (said_of answer)) st.course (course_answered w (said_of answer) st.clock st.course)
+        → Told (says_answer w answer) (followed (runs st) (course_answered w (said_of answer) st.clock st.course) st)
+    by_refusal true e h =
+        with_set (in_progress st) (Told (says_answer w answer) (followed (runs st) (course_answered w (said_of answer) st.clock st.course) st))
+        (is_busy (order_busy (order_of_writer st w) (said_of answer) e (λ p f d. busy_order st.course.agenda p (now_open (is_asked w (left_now st)) (order_now (left_now st)) p f) d)))
+        (λ r f. loud_course (says_answer w answer) (runs st) (course_answered w (said_of answer) st.clock st.course) st r f refl refl
+        (refused_fails w answer st.clock st.course (refused_is (order_of_writer st w) answer ∙ e))
+        (subst (λ c. Comes (says_answer w answer) c st.course (course_answered w (said_of answer) st.clock st.course)) e h))
+    by_refusal false e h =
+        quiet_course (says_answer w answer) (AnswerEvent w answer) mark (runs st) (course_answered w (said_of answer) st.clock st.course) st (refused_is (order_of_writer st w) answer ∙ e)
+        (subst (λ c. Comes (says_answer w answer) c st.course (course_answered w (said_of answer) st.clock st.course)) e h) i
 
   -- ## steps
 
@@ -241,11 +239,10 @@ module _ (s : Plan) (so_far : List Act) where
       with_set (in_progress st) ⊥ (set_there (in_progress st) e) (λ r f.
       true_not_false (has_failed (course_timed (st.clock + n) st.course).outcome)
       (timed_fails (st.clock + n) st.course (late_is_due s so_far (st.clock + n) (sym cause ∙ cause_of event mark x (in_progress st) refl i e)))
-      (calm (ap has_failed (outcome_is_running s so_far r f)))))
-    where
-      set_there : (o : Option SetRow) → set_fails o x ≡ true → is_some o ≡ true
-      set_there None e = absurd cc
-      set_there (Some r) e = refl
+      (calm (ap has_failed (outcome_is_running s so_far r f))))) where
+        set_there : (o : Option SetRow) → set_fails o x ≡ true → is_some o ≡ true
+        set_there None e = absurd cc
+        set_there (Some r) e = refl
 
   -- those are lost that a limit loses which is spent then
   abbrev spends : ℕ → Says
@@ -253,16 +250,15 @@ module _ (s : Plan) (so_far : List Act) where
 
   time_rows : (event : Event) (mark : Mark) (n : ℕ) → gives_cause s st event mark ≡ is_late st n → after s st (record { event = event; mark = mark }) ≡ ticked n st → Told (spends n) (ticked n st)
   unfolding ticked
-  time_rows event mark n cause i = by_result (over_timed (st.clock + n) st.course)
-    where
-      by_result : PassesOrFails (spends n) st.course (course_timed (st.clock + n) st.course) → Told (spends n) (followed (runs st) (course_timed (st.clock + n) st.course) (later n st))
-      by_result (inl h) =
-          told_none (spends n) (followed (runs st) (course_timed (st.clock + n) st.course) (later n st))
-          (time_passes event mark n (followed (runs st) (course_timed (st.clock + n) st.course) (later n st)) cause i h.calm)
-          (subst (λ (d : Course). Becomes (spends n) rows d.rows) (sym (course_followed (runs st) (course_timed (st.clock + n) st.course) (later n st))) h.stay)
-      by_result (inr h) =
-          with_set (in_progress st) (Told (spends n) (followed (runs st) (course_timed (st.clock + n) st.course) (later n st))) (is_busy h.busy)
-          (λ r f. loud_course (spends n) (runs st) (course_timed (st.clock + n) st.course) (later n st) r f refl refl h.failed h.rise)
+  time_rows event mark n cause i = by_result (over_timed (st.clock + n) st.course) where
+    by_result : PassesOrFails (spends n) st.course (course_timed (st.clock + n) st.course) → Told (spends n) (followed (runs st) (course_timed (st.clock + n) st.course) (later n st))
+    by_result (inl h) =
+        told_none (spends n) (followed (runs st) (course_timed (st.clock + n) st.course) (later n st))
+        (time_passes event mark n (followed (runs st) (course_timed (st.clock + n) st.course) (later n st)) cause i h.calm)
+        (subst (λ (d : Course). Becomes (spends n) rows d.rows) (sym (course_followed (runs st) (course_timed (st.clock + n) st.course) (later n st))) h.stay)
+    by_result (inr h) =
+        with_set (in_progress st) (Told (spends n) (followed (runs st) (course_timed (st.clock + n) st.course) (later n st))) (is_busy h.busy)
+        (λ r f. loud_course (spends n) (runs st) (course_timed (st.clock + n) st.course) (later n st) r f refl refl h.failed h.rise)
 
   -- ## in the words of the promise
 
@@ -297,32 +293,29 @@ module _ (s : Plan) (so_far : List Act) where
   lost_said : (l : Option RunningLimit) (w : ℕ) (r : WriterRow)
       → lost_by l st.course w r ≡ row_by (is_among w (lost_at l (order_now (left_now st)) (waits_now (left_now st)))) (row_said (order_of_writer st w) Lost) r
   lost_said None w r = refl
-  lost_said (Some l) w r = by_list (left_now st)
-    where
-      by_test : (p : Order) (b : Bool) → row_if b (row_after p Lost) r ≡ row_by b (row_said (order_if b (Some p)) Lost) r
-      by_test p true = said_is p Lost r
-      by_test p false = refl
+  lost_said (Some l) w r = by_list (left_now st) where
+    by_test : (p : Order) (b : Bool) → row_if b (row_after p Lost) r ≡ row_by b (row_said (order_if b (Some p)) Lost) r
+    by_test p true = said_is p Lost r
+    by_test p false = refl
 
-      by_group : (g : Group) (ws : List ℕ)
-          → say_to (order_of g) Lost ws w r
-          ≡ row_by (is_among w (lost_at (Some l) (order_of g) ws)) (row_said (order_if (is_orders g && is_among w ws) (order_of g)) Lost) r
-      by_group (Orders p) ws = by_test p (is_among w ws)
-      by_group _ ws = refl
+    by_group : (g : Group) (ws : List ℕ) → say_to (order_of g) Lost ws w r
+        ≡ row_by (is_among w (lost_at (Some l) (order_of g) ws)) (row_said (order_if (is_orders g && is_among w ws) (order_of g)) Lost) r
+    by_group (Orders p) ws = by_test p (is_among w ws)
+    by_group _ ws = refl
 
-      by_list : (os : List Open) → say_to (order_now os) Lost (waits_now os) w r ≡ row_by (is_among w (lost_at (Some l) (order_now os) (waits_now os))) (row_said (open_order os w) Lost) r
-      by_list [] = refl
-      by_list (o ∷ os) = by_group o.place.group o.waits
+    by_list : (os : List Open) → say_to (order_now os) Lost (waits_now os) w r ≡ row_by (is_among w (lost_at (Some l) (order_now os) (waits_now os))) (row_said (open_order os w) Lost) r
+    by_list [] = refl
+    by_list (o ∷ os) = by_group o.place.group o.waits
 
   answer_said : (u w : ℕ) (said : Said) (r : WriterRow) → say_to (order_of_writer st u) said (u ∷ []) w r ≡ row_by (u == w) (row_said (order_of_writer st w) said) r
-  answer_said u w said r = own (order_of_writer st u) (u == w) (or-false (u == w)) ∙ same_writer (u == w) refl
-    where
-      own : (o : Option Order) (b : Bool) → is_among w (u ∷ []) ≡ b → say_to o said (u ∷ []) w r ≡ row_by b (row_said o said) r
-      own None b e = nothing_said b said r
-      own (Some p) b e = ap (λ c. row_if c (row_after p said) r) e ∙ said_if b p said r
+  answer_said u w said r = own (order_of_writer st u) (u == w) (or-false (u == w)) ∙ same_writer (u == w) refl where
+    own : (o : Option Order) (b : Bool) → is_among w (u ∷ []) ≡ b → say_to o said (u ∷ []) w r ≡ row_by b (row_said o said) r
+    own None b e = nothing_said b said r
+    own (Some p) b e = ap (λ c. row_if c (row_after p said) r) e ∙ said_if b p said r
 
-      same_writer : (b : Bool) → (u == w) ≡ b → row_by b (row_said (order_of_writer st u) said) r ≡ row_by b (row_said (order_of_writer st w) said) r
-      same_writer true e = ap (λ x. row_said (order_of_writer st x) said r) (number_is u w e)
-      same_writer false e = refl
+    same_writer : (b : Bool) → (u == w) ≡ b → row_by b (row_said (order_of_writer st u) said) r ≡ row_by b (row_said (order_of_writer st w) said) r
+    same_writer true e = ap (λ x. row_said (order_of_writer st x) said r) (number_is u w e)
+    same_writer false e = refl
 
   -- ## every act
 

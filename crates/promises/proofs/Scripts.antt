@@ -20,29 +20,27 @@ use Rattle.vss_model.specs.Sessions.{has_no_volume, closed}
 use Rattle.vss_model.specs.Steps.{answered, step_made, is_flush, is_failed_step, stepped_as, stepped, ticked, later}
 use Rattle.promises.proofs.Truth.{not_itself, same_number}
 use Rattle.promises.proofs.BusyAgendas.{course_followed}
-use Rattle.promises.proofs.Heard.{same_group, passes}
+use Rattle.promises.proofs.Heard.{same_group}
 use Rattle.promises.proofs.Speaks.{Grows, grows_answered, grows_stepped, grows_timed}
 use Rattle.promises.proofs.Stages.{failed_stays, closed_stays, grown}
 use Rattle.scenario.proofs.Places.{number_is}
+use Rattle.vss_model.proofs.Gathered.{failed_agenda, filter_passes}
 
 -- ## who waits at a place does not begin to wait there
 
 pub kept_among : (f : ℕ → Bool) (x : ℕ) (xs : List ℕ) → f x ≡ true → is_among x xs ≡ true → is_among x (filter f xs) ≡ true
 kept_among f x [] e g = absurd cc
-kept_among f x (y ∷ xs) e g = by_head (y == x) refl g (kept_among f x xs e)
-  where
-    by_head : (c : Bool) → (y == x) ≡ c → (c || is_among x xs) ≡ true → (is_among x xs ≡ true → is_among x (filter f xs) ≡ true)
-        → is_among x (if f y then y ∷ filter f xs else filter f xs) ≡ true
-    by_head true h g ih = here (f y) (subst (λ z. f z ≡ true) (sym (number_is y x h)) e)
-      where
-        here : (b : Bool) → b ≡ true → is_among x (if b then y ∷ filter f xs else filter f xs) ≡ true
-        here true i = ap (λ c. c || is_among x (filter f xs)) h
-        here false i = absurd cc
-    by_head false h g ih = there (f y) (ih g)
-      where
-        there : (b : Bool) → is_among x (filter f xs) ≡ true → is_among x (if b then y ∷ filter f xs else filter f xs) ≡ true
-        there true i = ap (λ c. c || is_among x (filter f xs)) h ∙ i
-        there false i = i
+kept_among f x (y ∷ xs) e g = by_head (y == x) refl g (kept_among f x xs e) where
+  by_head : (c : Bool) → (y == x) ≡ c → (c || is_among x xs) ≡ true → (is_among x xs ≡ true → is_among x (filter f xs) ≡ true)
+      → is_among x (if f y then y ∷ filter f xs else filter f xs) ≡ true
+  by_head true h g ih = here (f y) (subst (λ z. f z ≡ true) (sym (number_is y x h)) e) where
+    here : (b : Bool) → b ≡ true → is_among x (if b then y ∷ filter f xs else filter f xs) ≡ true
+    here true i = ap (λ c. c || is_among x (filter f xs)) h
+    here false i = absurd cc
+  by_head false h g ih = there (f y) (ih g) where
+    there : (b : Bool) → is_among x (filter f xs) ≡ true → is_among x (if b then y ∷ filter f xs else filter f xs) ≡ true
+    there true i = ap (λ c. c || is_among x (filter f xs)) h ∙ i
+    there false i = i
 
 -- a test that fails no longer did not before
 was_not : (b c : Bool) → (b ≡ true → c ≡ true) → not c ≡ true → not b ≡ true
@@ -53,10 +51,10 @@ module _ (said : Said) (now : ℕ) (ws : List ℕ) (a : Agenda) (w : ℕ) where
   more = grown said now ws a
 
   fewer_members : (g : Group) (l : Option Level) → is_among w (members_of more g l) ≡ true → is_among w (members_of a g l) ≡ true
-  fewer_members g l e = grind (arith, kept_among, was_not, failed_stays, passes, among_filter)
+  fewer_members g l e = grind (arith, kept_among, was_not, failed_stays, filter_passes, among_filter)
 
   fewer_waits : (p : Place) → is_among w (waited_for more p) ≡ true → is_among w (waited_for a p) ≡ true
-  fewer_waits p e = grind (arith, kept_among, was_not, said_stays, passes, fewer_members, among_filter)
+  fewer_waits p e = grind (arith, kept_among, was_not, said_stays, filter_passes, fewer_members, among_filter)
 
 -- no place comes twice
 abbrev are_apart : List Place → Bool
@@ -73,33 +71,30 @@ Shrinks w os ps = same_place (open_place os) (open_place ps) ≡ true → is_amo
 open_among : (b : Agenda) (w : ℕ) (p : Place) (qs : List Place) → is_among w (waits_now (left_from b qs)) ≡ true → same_place p (open_place (left_from b qs)) ≡ true
     → list_any (same_place p) qs ≡ true
 open_among b w p [] e f = absurd cc
-open_among b w p (q ∷ qs) e f = at_group (waited_for b q) (open_among b w p qs) e f
-  where
-    at_group : (ws : List ℕ) → (is_among w (waits_now (left_from b qs)) ≡ true → same_place p (open_place (left_from b qs)) ≡ true → list_any (same_place p) qs ≡ true)
-        → is_among w (waits_now (with_group q ws (left_from b qs))) ≡ true → same_place p (open_place (with_group q ws (left_from b qs))) ≡ true
-        → (same_place p q || list_any (same_place p) qs) ≡ true
-    at_group [] ih e f = or_right (same_place p q) (list_any (same_place p) qs) (ih e f)
-    at_group (x ∷ ws) ih e f = or_left (same_place p q) (list_any (same_place p) qs) f
+open_among b w p (q ∷ qs) e f = at_group (waited_for b q) (open_among b w p qs) e f where
+  at_group : (ws : List ℕ) → (is_among w (waits_now (left_from b qs)) ≡ true → same_place p (open_place (left_from b qs)) ≡ true → list_any (same_place p) qs ≡ true)
+      → is_among w (waits_now (with_group q ws (left_from b qs))) ≡ true → same_place p (open_place (with_group q ws (left_from b qs))) ≡ true
+      → (same_place p q || list_any (same_place p) qs) ≡ true
+  at_group [] ih e f = or_right (same_place p q) (list_any (same_place p) qs) (ih e f)
+  at_group (x ∷ ws) ih e f = or_left (same_place p q) (list_any (same_place p) qs) f
 
 left_shrinks : (a b : Agenda) (w : ℕ) → ((p : Place) → waited_for a p ≡ [] → waited_for b p ≡ [])
     → ((p : Place) → is_among w (waited_for b p) ≡ true → is_among w (waited_for a p) ≡ true) → (ps : List Place) → are_apart ps ≡ true
     → Shrinks w (left_from a ps) (left_from b ps)
 left_shrinks a b w closed fewer [] e = λ same i. i
 left_shrinks a b w closed fewer (p ∷ ps) e = by_waits (waited_for a p) (waited_for b p) (closed p) (fewer p)
-    (left_shrinks a b w closed fewer ps (and_parts (not (list_any (same_place p) ps)) (are_apart ps) e).1)
-  where
-    elsewhere : same_place p (open_place (left_from b ps)) ≡ true → is_among w (waits_now (left_from b ps)) ≡ true → ⊥
-    elsewhere f g = not_itself (list_any (same_place p) ps) (open_among b w p ps g f) (and_parts (not (list_any (same_place p) ps)) (are_apart ps) e).0
+    (left_shrinks a b w closed fewer ps (and_parts (not (list_any (same_place p) ps)) (are_apart ps) e).1) where
+      elsewhere : same_place p (open_place (left_from b ps)) ≡ true → is_among w (waits_now (left_from b ps)) ≡ true → ⊥
+      elsewhere f g = not_itself (list_any (same_place p) ps) (open_among b w p ps g f) (and_parts (not (list_any (same_place p) ps)) (are_apart ps) e).0
 
-    by_waits : (xs ys : List ℕ) → (xs ≡ [] → ys ≡ []) → (is_among w ys ≡ true → is_among w xs ≡ true) → Shrinks w (left_from a ps) (left_from b ps)
-        → Shrinks w (with_group p xs (left_from a ps)) (with_group p ys (left_from b ps))
-    by_waits [] [] f g ih = ih
-    by_waits [] (y ∷ ys) f g ih = absurd (none (f refl))
-      where
+      by_waits : (xs ys : List ℕ) → (xs ≡ [] → ys ≡ []) → (is_among w ys ≡ true → is_among w xs ≡ true) → Shrinks w (left_from a ps) (left_from b ps)
+          → Shrinks w (with_group p xs (left_from a ps)) (with_group p ys (left_from b ps))
+      by_waits [] [] f g ih = ih
+      by_waits [] (y ∷ ys) f g ih = absurd (none (f refl)) where
         none : y ∷ ys ≡ [] → ⊥
         none e = cc
-    by_waits (x ∷ xs) (y ∷ ys) f g ih = λ same i. g i
-    by_waits (x ∷ xs) [] f g ih = λ same i. absurd (elsewhere same i)
+      by_waits (x ∷ xs) (y ∷ ys) f g ih = λ same i. g i
+      by_waits (x ∷ xs) [] f g ih = λ same i. absurd (elsewhere same i)
 
 -- ## the groups that open
 
@@ -115,11 +110,10 @@ module _ (w : ℕ) (o : Order) where
   more_if b n = if b then n + 1 else n
 
   no_group : (gs : List OrderGroup) → nth (gs ++ []) ≡ nth gs
-  no_group gs = ap nth (append_none gs)
-    where
-      append_none : (xs : List OrderGroup) → xs ++ [] ≡ xs
-      append_none [] = refl
-      append_none (x ∷ xs) = ap (λ ys. x ∷ ys) (append_none xs)
+  no_group gs = ap nth (append_none gs) where
+    append_none : (xs : List OrderGroup) → xs ++ [] ≡ xs
+    append_none [] = refl
+    append_none (x ∷ xs) = ap (λ ys. x ∷ ys) (append_none xs)
 
   one_group : (gs : List OrderGroup) (x : Order) (ws : List ℕ) (b : Bool) → (same_order x o && is_among w ws) ≡ b
       → nth (gs ++ record { order = x; members = ws } ∷ []) ≡ more_if b (nth gs)
@@ -127,11 +121,10 @@ module _ (w : ℕ) (o : Order) where
 
   new_group : (gs : List OrderGroup) (g : Group) (ws : List ℕ)
       → nth (gs ++ group_of_orders (order_of g) ws) ≡ more_if (is_owed o (order_if (is_orders g && is_among w ws) (order_of g)) && true) (nth gs)
-  new_group gs (Orders x) ws = one_group gs x ws (is_owed o (order_if (is_among w ws) (Some x)) && true) (by_among (is_among w ws) (same_order x o))
-    where
-      by_among : (b c : Bool) → (same_order x o && b) ≡ (is_owed o (order_if b (Some x)) && true)
-      by_among true c = refl
-      by_among false c = and-false (same_order x o)
+  new_group gs (Orders x) ws = one_group gs x ws (is_owed o (order_if (is_among w ws) (Some x)) && true) (by_among (is_among w ws) (same_order x o)) where
+    by_among : (b c : Bool) → (same_order x o && b) ≡ (is_owed o (order_if b (Some x)) && true)
+    by_among true c = refl
+    by_among false c = and-false (same_order x o)
   new_group gs _ ws = no_group gs
 
   -- at the same place nobody is asked anew
@@ -139,53 +132,51 @@ module _ (w : ℕ) (o : Order) where
       → is_owed o (open_order (x ∷ xs) w) ≡ true
   same_owed x p xs ps e h f =
       let group = same_group x.place.group p.place.group (and_parts (group_code x.place.group == group_code p.place.group) _ e).0 in
-      by_among p.place.group (is_among w p.waits) refl f group
-    where
-      by_among : (g : Group) (b : Bool) → is_among w p.waits ≡ b → is_owed o (order_if (is_orders g && b) (order_of g)) ≡ true → x.place.group ≡ g
-          → is_owed o (order_if (is_orders x.place.group && is_among w x.waits) (order_of x.place.group)) ≡ true
-      by_among g true i f group =
-          ap (λ c. is_owed o (order_if (is_orders x.place.group && c) (order_of x.place.group))) (h e i)
-          ∙ ap (λ y. is_owed o (order_if (is_orders y && true) (order_of y))) group ∙ f
-      by_among (Orders y) false i f group = absurd cc
-      by_among PreCommit false i f group = absurd cc
-      by_among Flush false i f group = absurd cc
-      by_among Hold false i f group = absurd cc
-      by_among Cut false i f group = absurd cc
-      by_among Commit false i f group = absurd cc
-      by_among Release false i f group = absurd cc
-      by_among PostCommit false i f group = absurd cc
+      by_among p.place.group (is_among w p.waits) refl f group where
+        by_among : (g : Group) (b : Bool) → is_among w p.waits ≡ b → is_owed o (order_if (is_orders g && b) (order_of g)) ≡ true → x.place.group ≡ g
+            → is_owed o (order_if (is_orders x.place.group && is_among w x.waits) (order_of x.place.group)) ≡ true
+        by_among g true i f group =
+            ap (λ c. is_owed o (order_if (is_orders x.place.group && c) (order_of x.place.group))) (h e i)
+            ∙ ap (λ y. is_owed o (order_if (is_orders y && true) (order_of y))) group ∙ f
+        by_among (Orders y) false i f group = absurd cc
+        by_among PreCommit false i f group = absurd cc
+        by_among Flush false i f group = absurd cc
+        by_among Hold false i f group = absurd cc
+        by_among Cut false i f group = absurd cc
+        by_among Commit false i f group = absurd cc
+        by_among Release false i f group = absurd cc
+        by_among PostCommit false i f group = absurd cc
 
   count_opens : (os ps : List Open) (gs : List OrderGroup) → Shrinks w os ps → nth (gs ++ opens os ps) ≡ more_if (anew os ps) (nth gs)
   count_opens os [] gs h = no_group gs
   count_opens [] (p ∷ ps) gs h = new_group gs p.place.group p.waits
-  count_opens (x ∷ xs) (p ∷ ps) gs h = by_same (same_place x.place p.place) refl
-    where
-      at_same : same_place x.place p.place ≡ true → opens (x ∷ xs) (p ∷ ps) ≡ []
-      at_same e = rw e refl
+  count_opens (x ∷ xs) (p ∷ ps) gs h = by_same (same_place x.place p.place) refl where
+    at_same : same_place x.place p.place ≡ true → opens (x ∷ xs) (p ∷ ps) ≡ []
+    at_same e = rw e refl
 
-      at_other : same_place x.place p.place ≡ false → opens (x ∷ xs) (p ∷ ps) ≡ group_of_orders (order_of p.place.group) p.waits
-      at_other e = rw e refl
+    at_other : same_place x.place p.place ≡ false → opens (x ∷ xs) (p ∷ ps) ≡ group_of_orders (order_of p.place.group) p.waits
+    at_other e = rw e refl
 
-      not_anew : (a b : Bool) → (a ≡ true → b ≡ true) → (a && not (b && true)) ≡ false
-      not_anew true b f = ap (λ c. not (c && true)) (f refl)
-      not_anew false b f = refl
+    not_anew : (a b : Bool) → (a ≡ true → b ≡ true) → (a && not (b && true)) ≡ false
+    not_anew true b f = ap (λ c. not (c && true)) (f refl)
+    not_anew false b f = refl
 
-      all_anew : (a b : Bool) → (a && true) ≡ (a && not (b && false))
-      all_anew true true = refl
-      all_anew true false = refl
-      all_anew false b = refl
+    all_anew : (a b : Bool) → (a && true) ≡ (a && not (b && false))
+    all_anew true true = refl
+    all_anew true false = refl
+    all_anew false b = refl
 
-      by_same : (c : Bool) → same_place x.place p.place ≡ c → nth (gs ++ opens (x ∷ xs) (p ∷ ps)) ≡ more_if (anew (x ∷ xs) (p ∷ ps)) (nth gs)
-      by_same true e =
-          ap (λ ys. nth (gs ++ ys)) (at_same e) ∙ no_group gs
-          ∙ ap (λ c. more_if c (nth gs))
-          (sym (ap (λ c. is_owed o (open_order (p ∷ ps) w) && not (is_owed o (open_order (x ∷ xs) w) && c)) e
-          ∙ not_anew (is_owed o (open_order (p ∷ ps) w)) (is_owed o (open_order (x ∷ xs) w)) (same_owed x p xs ps e h)))
-      by_same false e =
-          ap (λ ys. nth (gs ++ ys)) (at_other e) ∙ new_group gs p.place.group p.waits
-          ∙ ap (λ c. more_if c (nth gs))
-          (all_anew (is_owed o (open_order (p ∷ ps) w)) (is_owed o (open_order (x ∷ xs) w))
-          ∙ ap (λ c. is_owed o (open_order (p ∷ ps) w) && not (is_owed o (open_order (x ∷ xs) w) && c)) (sym e))
+    by_same : (c : Bool) → same_place x.place p.place ≡ c → nth (gs ++ opens (x ∷ xs) (p ∷ ps)) ≡ more_if (anew (x ∷ xs) (p ∷ ps)) (nth gs)
+    by_same true e =
+        ap (λ ys. nth (gs ++ ys)) (at_same e) ∙ no_group gs
+        ∙ ap (λ c. more_if c (nth gs))
+        (sym (ap (λ c. is_owed o (open_order (p ∷ ps) w) && not (is_owed o (open_order (x ∷ xs) w) && c)) e
+        ∙ not_anew (is_owed o (open_order (p ∷ ps) w)) (is_owed o (open_order (x ∷ xs) w)) (same_owed x p xs ps e h)))
+    by_same false e =
+        ap (λ ys. nth (gs ++ ys)) (at_other e) ∙ new_group gs p.place.group p.waits
+        ∙ ap (λ c. more_if c (nth gs))
+        (all_anew (is_owed o (open_order (p ∷ ps) w)) (is_owed o (open_order (x ∷ xs) w))
+        ∙ ap (λ c. is_owed o (open_order (p ∷ ps) w) && not (is_owed o (open_order (x ∷ xs) w) && c)) (sym e))
 
   -- ## courses
 
@@ -253,11 +244,10 @@ module _ (w : ℕ) (o : Order) where
   asks_grown c x news e h = asks_posted c x e (subst (λ y. Shrinks w (left c.agenda) (left y)) (posted_agenda c x) (shrinks_grows c.agenda c.outcome (posted c x).agenda (posted c x).outcome news h))
 
   asks_answered : (u : ℕ) (said : Said) (now : ℕ) (c : Course) → is_some (open_order (left c.agenda) u) ≡ true → Asks c (course_answered u said now c)
-  asks_answered u said now c e = by_order (open_order (left c.agenda) u) refl e
-    where
-      by_order : (x : Option Order) → open_order (left c.agenda) u ≡ x → is_some x ≡ true → Asks c (course_answered u said now c)
-      by_order None f e = absurd cc
-      by_order (Some x) f e = asks_grown c (answered_to (open_order (left c.agenda) u) u said now c) _ (opened_answered (open_order (left c.agenda) u) u said now c) (grows_answered u x said now c f)
+  asks_answered u said now c e = by_order (open_order (left c.agenda) u) refl e where
+    by_order : (x : Option Order) → open_order (left c.agenda) u ≡ x → is_some x ≡ true → Asks c (course_answered u said now c)
+    by_order None f e = absurd cc
+    by_order (Some x) f e = asks_grown c (answered_to (open_order (left c.agenda) u) u said now c) _ (opened_answered (open_order (left c.agenda) u) u said now c) (grows_answered u x said now c f)
 
   asks_stepped : (ok : Bool) (now : ℕ) (c : Course) → is_working (left c.agenda) ≡ true → Asks c (course_stepped ok now c)
   asks_stepped ok now c e = asks_grown c (course_stepped_as ok now c) _ (opened_stepped ok now c) (grows_stepped ok now c e)
@@ -274,10 +264,6 @@ module _ (w : ℕ) (o : Order) where
   asks_begun k ms vs now b c e f g = grind (arith, opened_settled, count_first)
 
 -- ## every act
-
-failed_agenda : (why : VssResult) (c : Course) → (course_failed why c).agenda ≡ None
-unfolding course_failed
-failed_agenda why c = refl
 
 released_agenda : (c : Course) → ((released c).agenda ≡ None) × ((released c).opened ≡ c.opened)
 unfolding released
@@ -332,11 +318,10 @@ module _ (s : Plan) (w : ℕ) (o : Order) (st : State) where
 
   on_steps : (mark : Mark) → is_working (left_now st) ≡ true → To (stepped mark st).course
   unfolding stepped
-  on_steps mark e = by_test (is_failed_step (is_flush (open_group (left_now st))) mark) (open_group (left_now st))
-    where
-      by_test : (b : Bool) (g : Option Group) → To (stepped_as b g st).course
-      by_test true g = on_followed (runs st) (course_stepped false st.clock st.course) st (asks_stepped w o false st.clock st.course e)
-      by_test false g = on_followed (runs st) (course_stepped true st.clock st.course) (step_made g st) (asks_stepped w o true st.clock st.course e)
+  on_steps mark e = by_test (is_failed_step (is_flush (open_group (left_now st))) mark) (open_group (left_now st)) where
+    by_test : (b : Bool) (g : Option Group) → To (stepped_as b g st).course
+    by_test true g = on_followed (runs st) (course_stepped false st.clock st.course) st (asks_stepped w o false st.clock st.course e)
+    by_test false g = on_followed (runs st) (course_stepped true st.clock st.course) (step_made g st) (asks_stepped w o true st.clock st.course e)
 
   begins : (k : Kind) (ms : List Member) (vs : List ℕ) (c : Course) → runs st ≡ false → c.agenda ≡ st.course.agenda → c.opened ≡ st.course.opened
       → To (followed true (begun k ms vs st.clock c) st).course
@@ -380,12 +365,11 @@ asked_is s w o st n (act ∷ acts) e =
 
 written_is : (rows : List Scripted) (o : Order) (n : ℕ) → scripted_answer rows o n ≡ written_in rows o n
 written_is [] o n = refl
-written_is (r ∷ rows) o n = by_test (same_order r.order o && (r.nth == n)) (written_is rows o n)
-  where
-    by_test : (b : Bool) → scripted_answer rows o n ≡ written_in rows o n
-        → answer_in (if b then Some r else find (is_row_for o n) rows) ≡ (if b then r.answer else written_in rows o n)
-    by_test true ih = refl
-    by_test false ih = ih
+written_is (r ∷ rows) o n = by_test (same_order r.order o && (r.nth == n)) (written_is rows o n) where
+  by_test : (b : Bool) → scripted_answer rows o n ≡ written_in rows o n
+      → answer_in (if b then Some r else find (is_row_for o n) rows) ≡ (if b then r.answer else written_in rows o n)
+  by_test true ih = refl
+  by_test false ih = ih
 
 module _ (s : Plan) (before : List Move) (m : Move) (w : ℕ) (e : m.actor ≡ Writer w) where
   abbrev st : State

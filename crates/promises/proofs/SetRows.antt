@@ -1,9 +1,8 @@
 -- The rows of sets go on: no act loses one, and one that is over stays as it is.
 use Rattle.scenario.proofs.Places.{number_is}
 use Rattle.std.proofs.lemmas.Bool.{or_left}
-use Rattle.promises.proofs.Words.{append_assoc, list_any-append, SetOutcome, Mark}
-use Rattle.promises.proofs.Words.{Plan, Event, State, SetRow, is_running, in_progress, row_changed, NumberedFrom, Act}
-use Rattle.promises.proofs.Words.{after, state, state-append, orderly, found_above, IsLaterRow, HasLaterRow, KeepsRows, some_same}
+use Rattle.promises.proofs.Words.{append_assoc, list_any-append, SetOutcome, Mark, Plan, Event, State, SetRow, is_running, in_progress, row_changed}
+use Rattle.promises.proofs.Words.{NumberedFrom, Act, after, state, state-append, orderly, found_above, IsLaterRow, HasLaterRow, KeepsRows, some_same}
 use Rattle.promises.proofs.Words.{append_nothing}
 use Rattle.std.proofs.Common.{◌≡◌, ◌∙◌, ℕ, ◌+◌, ◌==◌, ◌<◌, ◌≤◌, List, [], ◌∷◌, ◌++◌, Some, refl, Bool, true, false, ap, sym, subst, map, find, arith}
 use Rattle.std.specs.Prelude.{if◌then◌else◌}
@@ -61,28 +60,26 @@ pub go_on_found : (n : ℕ) (rs qs : List SetRow) (r : SetRow) (X : Type 0) → 
     → ((q : SetRow) → find (λ (x : SetRow). x.number == n) qs ≡ Some q → IsLaterRow r q → X) → X
 go_on_found n [] qs r X h e f = absurd cc
 go_on_found n (x ∷ rs) [] r X h e f = absurd h
-go_on_found n (x ∷ rs) (y ∷ qs) r X h e f = by_head (x.number == n) (y.number == n) (ap (λ k. k == n) h.0.number) e f (go_on_found n rs qs r X h.1)
-  where
-    by_head : (b c : Bool) → c ≡ b → (if b then Some x else find (λ (z : SetRow). z.number == n) rs) ≡ Some r
-        → ((q : SetRow) → (if c then Some y else find (λ (z : SetRow). z.number == n) qs) ≡ Some q → IsLaterRow r q → X)
-        → (find (λ (z : SetRow). z.number == n) rs ≡ Some r → ((q : SetRow) → find (λ (z : SetRow). z.number == n) qs ≡ Some q → IsLaterRow r q → X) → X) → X
-    by_head true true g e f ih = f y refl (subst (λ z. IsLaterRow z y) (some_same x r e) h.0)
-    by_head false false g e f ih = ih e f
-    by_head true false g e f ih = absurd cc
-    by_head false true g e f ih = absurd cc
+go_on_found n (x ∷ rs) (y ∷ qs) r X h e f = by_head (x.number == n) (y.number == n) (ap (λ k. k == n) h.0.number) e f (go_on_found n rs qs r X h.1) where
+  by_head : (b c : Bool) → c ≡ b → (if b then Some x else find (λ (z : SetRow). z.number == n) rs) ≡ Some r
+      → ((q : SetRow) → (if c then Some y else find (λ (z : SetRow). z.number == n) qs) ≡ Some q → IsLaterRow r q → X)
+      → (find (λ (z : SetRow). z.number == n) rs ≡ Some r → ((q : SetRow) → find (λ (z : SetRow). z.number == n) qs ≡ Some q → IsLaterRow r q → X) → X) → X
+  by_head true true g e f ih = f y refl (subst (λ z. IsLaterRow z y) (some_same x r e) h.0)
+  by_head false false g e f ih = ih e f
+  by_head true false g e f ih = absurd cc
+  by_head false true g e f ih = absurd cc
 
 -- ## a change of the set in progress
 
 unchanged : (k n : ℕ) (f : SetRow → SetRow) (rows : List SetRow) → NumberedFrom k rows → n < k → GoOn rows (map (row_changed n f) rows)
 unchanged k n f [] num l = tt
-unchanged k n f (r ∷ rows) num l = (by_case (r.number == n) (differs r.number k n num.0 l), unchanged (k + 1) n f rows num.1 (still_less k n l))
-  where
-    differs : (a k n : ℕ) → a ≡ k → n < k → (a == n) ≡ false
-    differs a k n e l = grind arith
+unchanged k n f (r ∷ rows) num l = (by_case (r.number == n) (differs r.number k n num.0 l), unchanged (k + 1) n f rows num.1 (still_less k n l)) where
+  differs : (a k n : ℕ) → a ≡ k → n < k → (a == n) ≡ false
+  differs a k n e l = grind arith
 
-    by_case : (b : Bool) → b ≡ false → IsLaterRow r (if b then f r else r)
-    by_case true e = absurd cc
-    by_case false e = same_row r
+  by_case : (b : Bool) → b ≡ false → IsLaterRow r (if b then f r else r)
+  by_case true e = absurd cc
+  by_case false e = same_row r
 
 pub changed_in_progress : (k : ℕ) (f : SetRow → SetRow) (rows : List SetRow) (r : SetRow) → NumberedFrom k rows → find (λ (q : SetRow). is_running q.result) rows ≡ Some r
     → ((q : SetRow) → is_running q.result ≡ true → IsLaterRow q (f q)) → GoOn rows (map (row_changed r.number f) rows)
@@ -113,7 +110,8 @@ changed_in_progress k f (q ∷ rows) r num e h = by_head (is_running q.result) r
 -- ## every act
 
 module _ (s : Plan) (st : State) (num : NumberedFrom 1 st.sets) where
-  changed : (f : SetRow → SetRow) (x : State) (n : ℕ) (r : SetRow) → x.sets ≡ st.sets → n ≡ r.number → in_progress st ≡ Some r → ((q : SetRow) → is_running q.result ≡ true → IsLaterRow q (f q)) → GoOn st.sets (map (row_changed n f) x.sets)
+  changed : (f : SetRow → SetRow) (x : State) (n : ℕ) (r : SetRow) → x.sets ≡ st.sets → n ≡ r.number → in_progress st ≡ Some r
+      → ((q : SetRow) → is_running q.result ≡ true → IsLaterRow q (f q)) → GoOn st.sets (map (row_changed n f) x.sets)
   changed f x n r same number found later =
       subst (λ rows. GoOn st.sets (map (row_changed n f) rows)) (sym same) (subst (λ k. GoOn st.sets (map (row_changed k f) st.sets)) (sym number) (changed_in_progress 1 f st.sets r num found later))
 
@@ -131,11 +129,11 @@ module _ (s : Plan) (st : State) (num : NumberedFrom 1 st.sets) where
 
 own_number : (rows : List SetRow) (n : ℕ) (r : SetRow) → find (λ (x : SetRow). x.number == n) rows ≡ Some r → r.number ≡ n
 own_number [] n r e = absurd cc
-own_number (q ∷ rows) n r e = by_head (q.number == n) refl e (own_number rows n r)
-  where
-    by_head : (b : Bool) → (q.number == n) ≡ b → (if b then Some q else find (λ (x : SetRow). x.number == n) rows) ≡ Some r → (find (λ (x : SetRow). x.number == n) rows ≡ Some r → r.number ≡ n) → r.number ≡ n
-    by_head true f e ih = subst (λ (x : SetRow). x.number ≡ n) (some_same q r e) (number_is q.number n f)
-    by_head false f e ih = ih e
+own_number (q ∷ rows) n r e = by_head (q.number == n) refl e (own_number rows n r) where
+  by_head : (b : Bool) → (q.number == n) ≡ b → (if b then Some q else find (λ (x : SetRow). x.number == n) rows) ≡ Some r
+      → (find (λ (x : SetRow). x.number == n) rows ≡ Some r → r.number ≡ n) → r.number ≡ n
+  by_head true f e ih = subst (λ (x : SetRow). x.number ≡ n) (some_same q r e) (number_is q.number n f)
+  by_head false f e ih = ih e
 
 pub later_row : (rows : List SetRow) (st : State) (n : ℕ) (r : SetRow) → GoOn rows st.sets → find (λ (x : SetRow). x.number == n) rows ≡ Some r → HasLaterRow st r
 later_row rows st n r g e =

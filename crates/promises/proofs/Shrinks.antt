@@ -1,9 +1,8 @@
 -- Volumes with fewer images use no more slots, and no write needs a slot there that needed none before.
 use Rattle.promises.proofs.Words.{Context, Backup, AppRollback, NasRollback, Image, History, dropped, after_set, Placed, used, needs_slot, gone_up_to, is_among, change_at, SetRow, images_dropped}
 use Rattle.promises.proofs.Words.{images_released, cut_if, cut_each, at, Each, each_map, each_change, each_gone, as_many_map, as_many_change, as_many_gone, as_many_cut}
-use Rattle.std.proofs.Common.{◌≡◌, ◌∙◌, ℕ, ◌+◌, ◌==◌, ◌≤◌, zero, suc, List, [], ◌∷◌, Option, Some, None, refl, Bool, true, map, filter, length}
+use Rattle.std.proofs.Common.{◌≡◌, ◌∙◌, ℕ, ◌+◌, ◌==◌, ◌≤◌, zero, suc, List, [], ◌∷◌, Option, Some, None, refl, Bool, true, map, filter, length, arith}
 use Rattle.std.specs.Prelude.{not, nat_lt}
-use Rattle.std.proofs.Common.{arith}
 use Rattle.promises.proofs.Truth.{no_less}
 use Rattle.promises.proofs.Used.{Rising, rising_fewer, rising_cut, fewer_used, fewer_need, cut_used}
 

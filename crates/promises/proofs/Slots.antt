@@ -37,7 +37,8 @@ within_placed k rows u = ap within (slice_get-map (placed k) rows u)
 
 -- ## each change
 
-module _ (s : Plan) (plan : IsPlan s) (st : State) (time : (v : ℕ) → AreInTime (length (at st.volumes v).writes) (at st.volumes v).images) (up : (v : ℕ) → UpTo (length st.sets) (at st.volumes v).images) where
+module _ (s : Plan) (plan : IsPlan s) (st : State) (time : (v : ℕ) → AreInTime (length (at st.volumes v).writes) (at st.volumes v).images)
+    (up : (v : ℕ) → UpTo (length st.sets) (at st.volumes v).images) where
   abbrev Fit : List History → Type 0
   Fit hs = (v : ℕ) → group_used (group_of s v) hs ≤ slots_of s v
 
@@ -246,23 +247,20 @@ fit_from s plan so_far (act ∷ acts) h =
 none_yet : (ps : List Placed) (rows : List VolumeRow) → group_used ps (map (λ _. fresh) rows) ≡ 0
 none_yet [] rows = refl
 none_yet (p ∷ ps) [] = refl
-none_yet (p ∷ ps) (r ∷ rows) = by_group p.within (none_yet ps rows)
-  where
-    by_group : (b : Bool) → group_used ps (map (λ _. fresh) rows) ≡ 0 → (if b then used p.blocks [] [] else 0) + group_used ps (map (λ _. fresh) rows) ≡ 0
-    by_group true e = ap (λ n. 0 + n) e
-    by_group false e = ap (λ n. 0 + n) e
+none_yet (p ∷ ps) (r ∷ rows) = by_group p.within (none_yet ps rows) where
+  by_group : (b : Bool) → group_used ps (map (λ _. fresh) rows) ≡ 0 → (if b then used p.blocks [] [] else 0) + group_used ps (map (λ _. fresh) rows) ≡ 0
+  by_group true e = ap (λ n. 0 + n) e
+  by_group false e = ap (λ n. 0 + n) e
 
 -- ## as many slots as copies
 
 joined : (xs ys : List Copy) → length (xs ++ ys) ≡ length xs + length ys
-joined [] ys = none_more (length ys)
-  where
-    none_more : (n : ℕ) → n ≡ 0 + n
-    none_more n = omega arith
-joined (x ∷ xs) ys = ap suc (joined xs ys) ∙ one_more (length xs) (length ys)
-  where
-    one_more : (a b : ℕ) → suc (a + b) ≡ suc a + b
-    one_more a b = omega arith
+joined [] ys = none_more (length ys) where
+  none_more : (n : ℕ) → n ≡ 0 + n
+  none_more n = omega arith
+joined (x ∷ xs) ys = ap suc (joined xs ys) ∙ one_more (length xs) (length ys) where
+  one_more : (a b : ℕ) → suc (a + b) ≡ suc a + b
+  one_more a b = omega arith
 
 as_long : (f : ℕ → Copy) (xs : List ℕ) → length (map f xs) ≡ length xs
 as_long f [] = refl
@@ -277,17 +275,16 @@ copies_of_are v n ws (i ∷ newer) =
 copies_are : (v : ℕ) (ps : List Placed) (hs : List History) → length (copies_from v ps hs) ≡ group_used ps hs
 copies_are v [] hs = refl
 copies_are v (p ∷ ps) [] = refl
-copies_are v (p ∷ ps) (h ∷ hs) = by_group p.within (copies_of_are v p.blocks h.writes h.images) (copies_are (v + 1) ps hs) (copies_are v ps hs)
-  where
-    none_more : (n : ℕ) → n ≡ 0 + n
-    none_more n = omega arith
+copies_are v (p ∷ ps) (h ∷ hs) = by_group p.within (copies_of_are v p.blocks h.writes h.images) (copies_are (v + 1) ps hs) (copies_are v ps hs) where
+  none_more : (n : ℕ) → n ≡ 0 + n
+  none_more n = omega arith
 
-    by_group : (b : Bool) → length (copies_of v p.blocks h.writes h.images) ≡ used p.blocks h.writes h.images
-        → length (copies_from (v + 1) ps hs) ≡ group_used ps hs → length (copies_from v ps hs) ≡ group_used ps hs
-        → length (if b then copies_of v p.blocks h.writes h.images ++ copies_from (v + 1) ps hs else copies_from v ps hs) ≡ (if b then used p.blocks h.writes h.images else 0) + group_used ps hs
-    by_group true e f g = joined (copies_of v p.blocks h.writes h.images) (copies_from (v + 1) ps hs) ∙ ap (λ k. k + length (copies_from (v + 1) ps hs)) e
-        ∙ ap (λ k. used p.blocks h.writes h.images + k) f
-    by_group false e f g = g ∙ none_more (group_used ps hs)
+  by_group : (b : Bool) → length (copies_of v p.blocks h.writes h.images) ≡ used p.blocks h.writes h.images
+      → length (copies_from (v + 1) ps hs) ≡ group_used ps hs → length (copies_from v ps hs) ≡ group_used ps hs
+      → length (if b then copies_of v p.blocks h.writes h.images ++ copies_from (v + 1) ps hs else copies_from v ps hs) ≡ (if b then used p.blocks h.writes h.images else 0) + group_used ps hs
+  by_group true e f g = joined (copies_of v p.blocks h.writes h.images) (copies_from (v + 1) ps hs) ∙ ap (λ k. k + length (copies_from (v + 1) ps hs)) e
+      ∙ ap (λ k. used p.blocks h.writes h.images + k) f
+  by_group false e f g = g ∙ none_more (group_used ps hs)
 
 pub slots_suffice : (s : Plan) (so_far : List Act) → SlotsSuffice s so_far
 slots_suffice s so_far plan v =

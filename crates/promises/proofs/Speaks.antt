@@ -1,15 +1,16 @@
 -- What a call does to a running agenda, with the deeds that it tells: the agenda stops and the set fails; or it rests, and nothing
 -- is told; or one member that is waited for, or all of them, say the same at the open place, and that is told.
 use Rattle.promises.proofs.Words.{Order, SetOutcome, VssResult, Said, Ok, Lost, is_ok, Group, Orders, PreCommit, Flush, Hold, Cut, Commit, Release, PostCommit, Limit, Place, Agenda, Entry, Open}
-use Rattle.promises.proofs.Words.{order_of, is_orders, with_group, waited_for, left_from, places, groups_left, left, open_group, open_place, is_asked, is_among, open_order}
+use Rattle.promises.proofs.Words.{order_of, is_orders, places, groups_left, left, open_group, open_place, is_asked, is_among, open_order}
 use Rattle.promises.proofs.Words.{order_now, waits_now, next_member, next_volume, is_done, is_working, at_place, all_say, Running as RunningLimit, running_limits, spent_of}
-use Rattle.promises.proofs.Words.{lost_order_if, Settles, Stops, asked_if, asked_waits, first_among, not_ok_of_ok, Deed, Spoke, Made, deeds_lost, now_if}
+use Rattle.promises.proofs.Words.{lost_order_if, Settles, Stops, asked_if, asked_waits, not_ok_of_ok, Deed, Spoke, Made, deeds_lost, now_if}
 use Rattle.std.proofs.Common.{◌≡◌, ◌∙◌, ℕ, List, [], ◌∷◌, ◌⊎◌, Option, Some, None, refl, Bool, true, false, ap, sym, subst, inl, inr, map, arith}
 use Rattle.std.specs.Prelude.{option_map, ◌&&◌, not}
 use Rattle.set_agenda.specs.declared.limit.Limit.TheVariants.{Hold as HoldLimit, Freeze as FreezeLimit, Answer as AnswerLimit}
-use Rattle.set_agenda.specs.Course.{Course, posted, failed as course_failed, settled_in, settled, is_decisive, told, decided, answered_to}
+use Rattle.set_agenda.specs.Course.{Course, posted, failed as course_failed, settled, is_decisive, told, decided, answered_to}
 use Rattle.set_agenda.specs.Course.{answered as course_answered, worked, stepped_as as course_stepped_as, stepped as course_stepped, freeze_limit, limits_now}
 use Rattle.set_agenda.specs.Course.{lost_at, lost_to, lost, fails_set, lost_decided, treated_as, treated, timed as course_timed}
+use Rattle.vss_model.proofs.CourseCalls.{head_waits, settles}
 
 -- ## deeds in a log
 
@@ -70,14 +71,6 @@ GrowsTo c d news = Grows c.agenda c.outcome d.agenda d.outcome news
 
 -- ## settled
 
-settles_in : (x : Option Agenda) (b : Agenda) (o : SetOutcome) (d : Course) → d.agenda ≡ x → x ≡ Some b → d.outcome ≡ o
-    → Settles (is_done (groups_left b)) b o (settled_in x d).agenda (settled_in x d).outcome
-settles_in x b o d e f g = grind arith
-
-settles : (b : Agenda) (o : SetOutcome) (d : Course) → d.agenda ≡ Some b → d.outcome ≡ o → Settles (is_done (groups_left b)) b o (settled d).agenda (settled d).outcome
-unfolding settled
-settles b o d e f = settles_in d.agenda b o d refl e f
-
 grows_posted : (before c d : Course) (news : List Deed) → GrowsTo c d news → GrowsTo c (posted before d) news
 unfolding posted
 grows_posted before c d news h = h
@@ -129,15 +122,6 @@ pub grows_answered : (w : ℕ) (o : Order) (said : Said) (now : ℕ) (c : Course
 grows_answered w o said now c e = grind (arith, grows_posted, grows_answered_at)
 
 -- ## a step
-
-pub head_waits : (a : Agenda) (ps : List Place) → is_working (left_from a ps) ≡ true → is_among (next_member (left_from a ps)) (waits_now (left_from a ps)) ≡ true
-head_waits a [] e = absurd cc
-head_waits a (p ∷ ps) e = at_group p (waited_for a p) (left_from a ps) (head_waits a ps) e
-  where
-    at_group : (p : Place) (ws : List ℕ) (later : List Open) → (is_working later ≡ true → is_among (next_member later) (waits_now later) ≡ true) → is_working (with_group p ws later) ≡ true
-        → is_among (next_member (with_group p ws later)) (waits_now (with_group p ws later)) ≡ true
-    at_group p [] later ih e = ih e
-    at_group p (w ∷ ws) later ih e = first_among w ws
 
 abbrev pub made_now : List Open → ℕ → Option Group → List Deed
 made_now os now None = []

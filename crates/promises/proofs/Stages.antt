@@ -177,11 +177,10 @@ From m (p ∷ ps) = (m ≤ place_stage p) × From (place_stage p) ps
 
 pub not_before : (a : Agenda) (m : ℕ) (ps : List Place) → From m ps → m ≤ open_stage (left_from a ps)
 not_before a m [] h = h
-not_before a m (p ∷ ps) h = at_group (waited_for a p) (left_from a ps) (not_before a (place_stage p) ps h.1)
-  where
-    at_group : (ws : List ℕ) (later : List Open) → place_stage p ≤ open_stage later → m ≤ open_stage (with_group p ws later)
-    at_group [] later l = chain m (place_stage p) (open_stage later) h.0 l
-    at_group (w ∷ ws) later l = h.0
+not_before a m (p ∷ ps) h = at_group (waited_for a p) (left_from a ps) (not_before a (place_stage p) ps h.1) where
+  at_group : (ws : List ℕ) (later : List Open) → place_stage p ≤ open_stage later → m ≤ open_stage (with_group p ws later)
+  at_group [] later l = chain m (place_stage p) (open_stage later) h.0 l
+  at_group (w ∷ ws) later l = h.0
 
 pub goes_up : (a b : Agenda) (m : ℕ) (ps : List Place) → From m ps → ((p : Place) → waited_for a p ≡ [] → waited_for b p ≡ []) → open_stage (left_from a ps) ≤ open_stage (left_from b ps)
 goes_up a b m [] h stays = no_less 15
@@ -191,10 +190,9 @@ goes_up a b m (p ∷ ps) h stays =
     at_group : (ws us : List ℕ) (later after : List Open) → (ws ≡ [] → us ≡ []) → place_stage p ≤ open_stage after → open_stage later ≤ open_stage after
         → open_stage (with_group p ws later) ≤ open_stage (with_group p us after)
     at_group [] [] later after f l ih = ih
-    at_group [] (u ∷ us) later after f l ih = absurd (none u us (f refl))
-      where
-        none : (u : ℕ) (us : List ℕ) → u ∷ us ≡ [] → ⊥
-        none u us e = cc
+    at_group [] (u ∷ us) later after f l ih = absurd (none u us (f refl)) where
+      none : (u : ℕ) (us : List ℕ) → u ∷ us ≡ [] → ⊥
+      none u us e = cc
     at_group (w ∷ ws) [] later after f l ih = l
     at_group (w ∷ ws) (u ∷ us) later after f l ih = no_less (place_stage p)
 
@@ -206,21 +204,19 @@ Closed a k (p ∷ ps) = (place_stage p < k → waited_for a p ≡ []) × Closed 
 pub none_below : (a : Agenda) (m k : ℕ) (ps : List Place) → From m ps → k ≤ m → Closed a k ps
 none_below a m k [] h l = tt
 none_below a m k (p ∷ ps) h l =
-    (λ i. absurd (over m (place_stage p) k h.0 l i), none_below a (place_stage p) k ps h.1 (chain k m (place_stage p) l h.0))
-  where
-    over : (m g k : ℕ) → m ≤ g → k ≤ m → g < k → ⊥
-    over m g k h l i = omega arith
+    (λ i. absurd (over m (place_stage p) k h.0 l i), none_below a (place_stage p) k ps h.1 (chain k m (place_stage p) l h.0)) where
+      over : (m g k : ℕ) → m ≤ g → k ≤ m → g < k → ⊥
+      over m g k h l i = omega arith
 
 pub closed_below : (a : Agenda) (m : ℕ) (ps : List Place) → From m ps → Closed a (open_stage (left_from a ps)) ps
 closed_below a m [] h = tt
-closed_below a m (p ∷ ps) h = at_group (waited_for a p) (left_from a ps) refl (closed_below a (place_stage p) ps h.1)
-  where
-    itself : (n : ℕ) → n < n → ⊥
-    itself n l = omega arith
+closed_below a m (p ∷ ps) h = at_group (waited_for a p) (left_from a ps) refl (closed_below a (place_stage p) ps h.1) where
+  itself : (n : ℕ) → n < n → ⊥
+  itself n l = omega arith
 
-    at_group : (ws : List ℕ) (later : List Open) → waited_for a p ≡ ws → Closed a (open_stage later) ps → Closed a (open_stage (with_group p ws later)) (p ∷ ps)
-    at_group [] later e c = (λ l. e, c)
-    at_group (w ∷ ws) later e c = (λ l. absurd (itself (place_stage p) l), none_below a (place_stage p) (place_stage p) ps h.1 (no_less (place_stage p)))
+  at_group : (ws : List ℕ) (later : List Open) → waited_for a p ≡ ws → Closed a (open_stage later) ps → Closed a (open_stage (with_group p ws later)) (p ∷ ps)
+  at_group [] later e c = (λ l. e, c)
+  at_group (w ∷ ws) later e c = (λ l. absurd (itself (place_stage p) l), none_below a (place_stage p) (place_stage p) ps h.1 (no_less (place_stage p)))
 
 pub snapshot_from : From 0 (places Snapshot)
 snapshot_from = grind arith

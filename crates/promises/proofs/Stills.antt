@@ -31,43 +31,41 @@ kind_told s so_far a (Some q) e f h =
 
 frozen_told : (log : List Entry) (w : ℕ) → has_frozen log w ≡ agreed Freeze w (map deed_in log)
 frozen_told [] w = refl
-frozen_told (e ∷ log) w = ap (λ b. b || has_frozen log w) (by_group e.place.group) ∙ ap (λ b. is_agreed Freeze w (deed_in e) || b) (frozen_told log w)
-  where
-    by_group : (g : Group) → (is_freeze g && is_ok e.said && (e.who == w)) ≡ is_agreed Freeze w (deed_at g e.who e.said e.time)
-    by_group (Orders Identify) = refl
-    by_group (Orders PrepareBackup) = refl
-    by_group (Orders PrepareSnapshot) = refl
-    by_group (Orders Freeze) = refl
-    by_group (Orders Thaw) = refl
-    by_group (Orders PostSnapshot) = refl
-    by_group (Orders BackupComplete) = refl
-    by_group PreCommit = refl
-    by_group Flush = refl
-    by_group Hold = refl
-    by_group Cut = refl
-    by_group Commit = refl
-    by_group Release = refl
-    by_group PostCommit = refl
+frozen_told (e ∷ log) w = ap (λ b. b || has_frozen log w) (by_group e.place.group) ∙ ap (λ b. is_agreed Freeze w (deed_in e) || b) (frozen_told log w) where
+  by_group : (g : Group) → (is_freeze g && is_ok e.said && (e.who == w)) ≡ is_agreed Freeze w (deed_at g e.who e.said e.time)
+  by_group (Orders Identify) = refl
+  by_group (Orders PrepareBackup) = refl
+  by_group (Orders PrepareSnapshot) = refl
+  by_group (Orders Freeze) = refl
+  by_group (Orders Thaw) = refl
+  by_group (Orders PostSnapshot) = refl
+  by_group (Orders BackupComplete) = refl
+  by_group PreCommit = refl
+  by_group Flush = refl
+  by_group Hold = refl
+  by_group Cut = refl
+  by_group Commit = refl
+  by_group Release = refl
+  by_group PostCommit = refl
 
 thawed_told : (log : List Entry) (w : ℕ) → has_thawed log w ≡ heard Thaw w (map deed_in log)
 thawed_told [] w = refl
-thawed_told (e ∷ log) w = ap (λ b. b || has_thawed log w) (by_group e.place.group) ∙ ap (λ b. is_heard Thaw w (deed_in e) || b) (thawed_told log w)
-  where
-    by_group : (g : Group) → (is_thaw g && (e.who == w)) ≡ is_heard Thaw w (deed_at g e.who e.said e.time)
-    by_group (Orders Identify) = refl
-    by_group (Orders PrepareBackup) = refl
-    by_group (Orders PrepareSnapshot) = refl
-    by_group (Orders Freeze) = refl
-    by_group (Orders Thaw) = refl
-    by_group (Orders PostSnapshot) = refl
-    by_group (Orders BackupComplete) = refl
-    by_group PreCommit = refl
-    by_group Flush = refl
-    by_group Hold = refl
-    by_group Cut = refl
-    by_group Commit = refl
-    by_group Release = refl
-    by_group PostCommit = refl
+thawed_told (e ∷ log) w = ap (λ b. b || has_thawed log w) (by_group e.place.group) ∙ ap (λ b. is_heard Thaw w (deed_in e) || b) (thawed_told log w) where
+  by_group : (g : Group) → (is_thaw g && (e.who == w)) ≡ is_heard Thaw w (deed_at g e.who e.said e.time)
+  by_group (Orders Identify) = refl
+  by_group (Orders PrepareBackup) = refl
+  by_group (Orders PrepareSnapshot) = refl
+  by_group (Orders Freeze) = refl
+  by_group (Orders Thaw) = refl
+  by_group (Orders PostSnapshot) = refl
+  by_group (Orders BackupComplete) = refl
+  by_group PreCommit = refl
+  by_group Flush = refl
+  by_group Hold = refl
+  by_group Cut = refl
+  by_group Commit = refl
+  by_group Release = refl
+  by_group PostCommit = refl
 
 step_told : (s : Plan) (a : Agenda) (g : Group) (v : ℕ) → ((said : Said) (now u : ℕ) → (u == v) ≡ true → is_made g (Some v) (deed_at g u said now) ≡ true) → Good s a
     → has_said a.log (plain g) v ≡ made g (Some v) (map deed_in a.log)
@@ -88,24 +86,22 @@ pub stands_still : (s : Plan) (so_far : List Act) → StandsStill s so_far
 stands_still s so_far = record {
   held = λ v. by_agenda (λ a. holds a v) (made Hold (Some v) ds && not (made Release (Some v) ds)) refl (λ a e h k. held_in s ds v a (is_step (progress s so_far).step BySnapshot) k h);
   frozen = λ w. by_agenda (λ a. freezes a w) (agreed Freeze w ds && not (heard Thaw w ds)) refl (λ a e h k. frozen_in s ds w a (is_step (progress s so_far).step BySnapshot) k h);
-}
-  where
-    ds : List Deed
-    ds = way s so_far
+} where
+  ds : List Deed
+  ds = way s so_far
 
-    step : Bool
-    step = is_step (progress s so_far).step BySnapshot
+  step : Bool
+  step = is_step (progress s so_far).step BySnapshot
 
-    by_agenda : (test : Option Agenda → Bool) (c : Bool) → test None ≡ false
-        → ((a : Agenda) → (state s so_far).course.agenda ≡ Some a → (a.kind ≡ Snapshot → (map deed_in a.log ≡ ds) × Good s a) → is_snapshot a.kind ≡ step → test (Some a) ≡ (step && c))
+  by_agenda : (test : Option Agenda → Bool) (c : Bool) → test None ≡ false
+      → ((a : Agenda) → (state s so_far).course.agenda ≡ Some a → (a.kind ≡ Snapshot → (map deed_in a.log ≡ ds) × Good s a) → is_snapshot a.kind ≡ step → test (Some a) ≡ (step && c))
+      → test (state s so_far).course.agenda ≡ (takes_snapshot s so_far && c)
+  by_agenda test c none some = at (state s so_far).course.agenda refl (along (Good s) (good_along s) s so_far) (orderly s so_far).agenda where
+    at : (x : Option Agenda) → (state s so_far).course.agenda ≡ x → Running (λ (a : Agenda). a.kind ≡ Snapshot → (map deed_in a.log ≡ ds) × Good s a) x
+        → IsAgendaOf (state s so_far).course.agenda (state s so_far).session
         → test (state s so_far).course.agenda ≡ (takes_snapshot s so_far && c)
-    by_agenda test c none some = at (state s so_far).course.agenda refl (along (Good s) (good_along s) s so_far) (orderly s so_far).agenda
-      where
-        at : (x : Option Agenda) → (state s so_far).course.agenda ≡ x → Running (λ (a : Agenda). a.kind ≡ Snapshot → (map deed_in a.log ≡ ds) × Good s a) x
-            → IsAgendaOf (state s so_far).course.agenda (state s so_far).session
-            → test (state s so_far).course.agenda ≡ (takes_snapshot s so_far && c)
-        at None e h own = ap test e ∙ none ∙ ap (λ (y : Option Agenda). (is_some y && step) && c) (sym e)
-        at (Some a) e h own =
-            ap test e
-            ∙ some a e h (kind_told s so_far a (state s so_far).session e refl (subst (λ y. IsAgendaOf y (state s so_far).session) e own))
-            ∙ ap (λ (y : Option Agenda). (is_some y && step) && c) (sym e)
+    at None e h own = ap test e ∙ none ∙ ap (λ (y : Option Agenda). (is_some y && step) && c) (sym e)
+    at (Some a) e h own =
+        ap test e
+        ∙ some a e h (kind_told s so_far a (state s so_far).session e refl (subst (λ y. IsAgendaOf y (state s so_far).session) e own))
+        ∙ ap (λ (y : Option Agenda). (is_some y && step) && c) (sym e)

@@ -68,26 +68,23 @@ pub record InTime (now : ℕ) (ds : List Deed) : Type 0 where
 
 same_below : (k : ℕ) (ds : List Deed) → AllAt k ds → Below k (map time_of ds)
 same_below k [] h = tt
-same_below k (d ∷ ds) h = (at_most (time_of d) k h.0, same_below k ds h.1)
-  where
-    at_most : (a b : ℕ) → a ≡ b → a ≤ b
-    at_most a b e = omega arith
+same_below k (d ∷ ds) h = (at_most (time_of d) k h.0, same_below k ds h.1) where
+  at_most : (a b : ℕ) → a ≡ b → a ≤ b
+  at_most a b e = omega arith
 
 same_rising : (k : ℕ) (ds : List Deed) → AllAt k ds → Rising (map time_of ds)
 same_rising k [] h = tt
 same_rising k (d ∷ []) h = tt
-same_rising k (d ∷ e ∷ ds) h = (not_more (time_of d) (time_of e) k h.0 h.1.0, same_rising k (e ∷ ds) h.1)
-  where
-    not_more : (a b k : ℕ) → a ≡ k → b ≡ k → a ≤ b
-    not_more a b k e f = omega arith
+same_rising k (d ∷ e ∷ ds) h = (not_more (time_of d) (time_of e) k h.0 h.1.0, same_rising k (e ∷ ds) h.1) where
+  not_more : (a b k : ℕ) → a ≡ k → b ≡ k → a ≤ b
+  not_more a b k e f = omega arith
 
 rising_with : (k : ℕ) (xs ys : List Deed) → Rising (map time_of xs) → Below k (map time_of xs) → AllAt k ys → Rising (map time_of (xs ++ ys))
 rising_with k [] ys r b h = same_rising k ys h
 rising_with k (x ∷ []) [] r b h = tt
-rising_with k (x ∷ []) (y ∷ ys) r b h = (not_more (time_of x) (time_of y) k b.0 h.0, same_rising k (y ∷ ys) h)
-  where
-    not_more : (a b k : ℕ) → a ≤ k → b ≡ k → a ≤ b
-    not_more a b k e f = omega arith
+rising_with k (x ∷ []) (y ∷ ys) r b h = (not_more (time_of x) (time_of y) k b.0 h.0, same_rising k (y ∷ ys) h) where
+  not_more : (a b k : ℕ) → a ≤ k → b ≡ k → a ≤ b
+  not_more a b k e f = omega arith
 rising_with k (x ∷ z ∷ xs) ys r b h = (r.0, rising_with k (z ∷ xs) ys r.1 b.1 h)
 
 below_with : (k : ℕ) (xs ys : List Deed) → Below k (map time_of xs) → AllAt k ys → Below k (map time_of (xs ++ ys))
@@ -95,21 +92,19 @@ below_with k [] ys b h = same_below k ys h
 below_with k (x ∷ xs) ys b h = (b.0, below_with k xs ys b.1 h)
 
 later_clock : (s : Plan) (st : State) (act : Act) → st.clock ≤ (after s st act).clock
-later_clock s st act = no_less st.clock (after s st act).clock (ticks_if (enabled s st act.event) st act.event) (clock_after s st act)
-  where
-    no_less : (a b c : ℕ) → b ≡ a + c → a ≤ b
-    no_less a b c e = omega arith
+later_clock s st act = no_less st.clock (after s st act).clock (ticks_if (enabled s st act.event) st act.event) (clock_after s st act) where
+  no_less : (a b c : ℕ) → b ≡ a + c → a ≤ b
+  no_less a b c e = omega arith
 
 in_time_after : (s : Plan) (st : State) (so_far : List Deed) (act : Act) → InTime st.clock so_far → InTime (after s st act).clock (way_after s st so_far act)
-in_time_after s st so_far act h = by_begin (begins_snapshot s st act)
-  where
-    by_begin : (b : Bool) → InTime (after s st act).clock (if b then [] else so_far ++ deeds s st act)
-    by_begin true = record { rising = tt; below = tt }
-    by_begin false =
-        let now = (after s st act).clock in
-        let under = below_more st.clock now (map time_of so_far) (later_clock s st act) h.below in
-        let new = at_deeds (enabled s st act.event) s st act in
-        record { rising = rising_with now so_far (deeds s st act) h.rising under new; below = below_with now so_far (deeds s st act) under new }
+in_time_after s st so_far act h = by_begin (begins_snapshot s st act) where
+  by_begin : (b : Bool) → InTime (after s st act).clock (if b then [] else so_far ++ deeds s st act)
+  by_begin true = record { rising = tt; below = tt }
+  by_begin false =
+      let now = (after s st act).clock in
+      let under = below_more st.clock now (map time_of so_far) (later_clock s st act) h.below in
+      let new = at_deeds (enabled s st act.event) s st act in
+      record { rising = rising_with now so_far (deeds s st act) h.rising under new; below = below_with now so_far (deeds s st act) under new }
 
 in_time_from : (s : Plan) (st : State) (so_far : List Deed) (acts : List Act) → InTime st.clock so_far → InTime (fold (after s) st acts).clock (way_from s st so_far acts)
 in_time_from s st so_far [] h = h
@@ -131,16 +126,15 @@ times log = map (λ (e : Entry). e.time) log
 passed_before : (limit now t : ℕ) (test : Entry → Bool) (log : List Entry) → Rising (t ∷ times log)
     → list_any (λ (e : Entry). test e && has_passed limit e.time now) log ≡ true → has_passed limit t now ≡ true
 passed_before limit now t test [] r e = absurd cc
-passed_before limit now t test (x ∷ log) r e = by_head (test x) (has_passed limit x.time now) refl e (passed_before limit now x.time test log r.1)
-  where
-    earlier : (l n a b : ℕ) → a ≤ b → nat_lt (b + l) n ≡ true → nat_lt (a + l) n ≡ true
-    earlier l n a b h e = grind arith
+passed_before limit now t test (x ∷ log) r e = by_head (test x) (has_passed limit x.time now) refl e (passed_before limit now x.time test log r.1) where
+  earlier : (l n a b : ℕ) → a ≤ b → nat_lt (b + l) n ≡ true → nat_lt (a + l) n ≡ true
+  earlier l n a b h e = grind arith
 
-    by_head : (b c : Bool) → has_passed limit x.time now ≡ c → ((b && c) || list_any (λ (e : Entry). test e && has_passed limit e.time now) log) ≡ true
-        → (list_any (λ (e : Entry). test e && has_passed limit e.time now) log ≡ true → has_passed limit x.time now ≡ true) → has_passed limit t now ≡ true
-    by_head true true f g ih = earlier limit now t x.time r.0 f
-    by_head true false f g ih = earlier limit now t x.time r.0 (ih g)
-    by_head false c f g ih = earlier limit now t x.time r.0 (ih g)
+  by_head : (b c : Bool) → has_passed limit x.time now ≡ c → ((b && c) || list_any (λ (e : Entry). test e && has_passed limit e.time now) log) ≡ true
+      → (list_any (λ (e : Entry). test e && has_passed limit e.time now) log ≡ true → has_passed limit x.time now ≡ true) → has_passed limit t now ≡ true
+  by_head true true f g ih = earlier limit now t x.time r.0 f
+  by_head true false f g ih = earlier limit now t x.time r.0 (ih g)
+  by_head false c f g ih = earlier limit now t x.time r.0 (ih g)
 
 first_passed : (now : ℕ) (log : List Entry) → Rising (times log) → list_any (λ (e : Entry). is_hold_step e.place.group && has_passed hold_limit e.time now) log ≡ true
     → passed_since now (find (λ (e : Entry). is_hold_step e.place.group) log) ≡ true
@@ -185,16 +179,14 @@ due_at now c a [] e r h = absurd cc
 due_at now c a (o ∷ os) e r h =
     by_parts (held_too_long now o.place.group a) (holds_volumes o.place.group && held_since_first now a) (frozen_too_long now o.place.group c a)
     (unanswered_too_long now o.place a)
-    (λ g. let parts = held_is_first now a o os e r g in and_from (holds_volumes o.place.group) (held_since_first now a) parts.0 parts.1) h
-  where
-    by_parts : (x y f u : Bool) → (x ≡ true → y ≡ true) → (x || f || u) ≡ true → (y || f || u) ≡ true
-    by_parts true true f u g i = refl
-    by_parts true false f u g i = absurd (differ (g refl))
-      where
+    (λ g. let parts = held_is_first now a o os e r g in and_from (holds_volumes o.place.group) (held_since_first now a) parts.0 parts.1) h where
+      by_parts : (x y f u : Bool) → (x ≡ true → y ≡ true) → (x || f || u) ≡ true → (y || f || u) ≡ true
+      by_parts true true f u g i = refl
+      by_parts true false f u g i = absurd (differ (g refl)) where
         differ : false ≡ true → ⊥
         differ e = cc
-    by_parts false true f u g i = refl
-    by_parts false false f u g i = i
+      by_parts false true f u g i = refl
+      by_parts false false f u g i = i
 
 due_in_agenda : (now : ℕ) (c : Course) (a : Option Agenda) → Running (λ (x : Agenda). x.kind ≡ Snapshot → Rising (times x.log)) a → is_late_in now c a ≡ true → is_due_in now c a ≡ true
 due_in_agenda now c None r h = absurd cc
@@ -211,5 +203,4 @@ logs_rise s acts = log_in_time s (way s acts) (state s acts).course.agenda (way_
 
 pub late_is_due : (s : Plan) (acts : List Act) (now : ℕ) → is_late_in now (state s acts).course (state s acts).course.agenda ≡ true
     → is_due_in now (state s acts).course (state s acts).course.agenda ≡ true
-late_is_due s acts now h =
-    due_in_agenda now (state s acts).course (state s acts).course.agenda (logs_rise s acts) h
+late_is_due s acts now h = due_in_agenda now (state s acts).course (state s acts).course.agenda (logs_rise s acts) h

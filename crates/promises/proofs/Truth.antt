@@ -1,12 +1,9 @@
 -- Truth values, and tests of numbers: what several proofs ask of them.
-use Rattle.std.proofs.Common.{◌≡◌, ℕ, ◌==◌, ◌≤◌, arith, Bool, true, false}
+use Rattle.std.proofs.Common.{◌≡◌, ℕ, ◌==◌, ◌≤◌, arith, Bool, true}
 use Rattle.std.specs.Prelude.{not}
 
 pub same_number : (a : ℕ) → (a == a) ≡ true
 same_number a = grind arith
-
-pub not_false : (b : Bool) → not b ≡ false → b ≡ true
-not_false b e = grind arith
 
 pub not_itself : (b : Bool) → b ≡ true → not b ≡ true → ⊥
 not_itself b e f = grind arith

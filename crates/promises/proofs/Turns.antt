@@ -81,7 +81,8 @@ module _ (s : Plan) (so_far : List Act) where
   no_set x f = grind (arith, outcome_is_running)
 
   -- from a state with the same session and the same failures; and with the same sets, where the course fails
-  module _ (c : Course) (y : State) (session : y.session ≡ st.session) (failures : (n : ℕ) → failure_at y.sets n ≡ failure_at st.sets n) (calm : CalmOrBusy st.course c) (sets : has_failed c.outcome ≡ true → y.sets ≡ st.sets) where
+  module _ (c : Course) (y : State) (session : y.session ≡ st.session) (failures : (n : ℕ) → failure_at y.sets n ≡ failure_at st.sets n)
+      (calm : CalmOrBusy st.course c) (sets : has_failed c.outcome ≡ true → y.sets ≡ st.sets) where
     abbrev z : State
     z = record y { course = c }
 
@@ -193,13 +194,12 @@ module _ (s : Plan) (so_far : List Act) where
   -- ## a set starts, or a volume is added
 
   pub none_started : (q : Session) (x : State) → st.session ≡ Some q → makes_set q.stage ≡ false → set_failure (in_progress st) x ≡ None
-  none_started q x f g = by_set (in_progress st) refl (orderly s so_far).session
-    where
-      by_set : (o : Option SetRow) → in_progress st ≡ o → IsOfSession st.session st.course.outcome (in_progress st) → set_failure o x ≡ None
-      by_set None e i = refl
-      by_set (Some r) e i =
-          let own : IsOfSession (Some q) st.course.outcome (Some r) = subst (λ o. IsOfSession (Some q) st.course.outcome o) e (subst (λ p. IsOfSession p st.course.outcome (in_progress st)) f i) in
-          absurd (true_not_false (makes_set q.stage) own.0 g)
+  none_started q x f g = by_set (in_progress st) refl (orderly s so_far).session where
+    by_set : (o : Option SetRow) → in_progress st ≡ o → IsOfSession st.session st.course.outcome (in_progress st) → set_failure o x ≡ None
+    by_set None e i = refl
+    by_set (Some r) e i =
+        let own : IsOfSession (Some q) st.course.outcome (Some r) = subst (λ o. IsOfSession (Some q) st.course.outcome o) e (subst (λ p. IsOfSession p st.course.outcome (in_progress st)) f i) in
+        absurd (true_not_false (makes_set q.stage) own.0 g)
 
   pub add_turn : (v : ℕ) (r : SetRow) → Turn st (change_set r.number (with_volume v) st) (runs st)
   add_turn v r = grind (arith, quiet_turn, failure_map, changed_number, changed_result)

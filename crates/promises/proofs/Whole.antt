@@ -13,7 +13,7 @@ use Rattle.promises.proofs.Levels.{Ascends, MembersOf, levels_are, members_ascen
 use Rattle.promises.proofs.Speaks.{deed_at, deed_in, said_at, Speaks, IsOne}
 use Rattle.promises.proofs.Stages.{deeds_in, deeds_append, any_more, any_said, group_stage, place_stage, leveled, IsOfLevel, open_stage, Below, below_more}
 use Rattle.promises.proofs.Stages.{below_append, rising_append, stages_more, closed_stays, goes_up, Closed, closed_below, snapshot_from}
-use Rattle.promises.proofs.Heard.{said_deed, place_of, volume_number, Good, good_unspoken, steps_plain, open_plain, passes, unsaid, order_member, heard_writer, made_volume, alone, is_step}
+use Rattle.promises.proofs.Heard.{said_deed, place_of, volume_number, Good, good_unspoken, steps_plain, open_plain, unsaid, order_member, heard_writer, made_volume, alone, is_step}
 use Rattle.promises.proofs.Once.{once_one, Apart, once_spoken, waits_apart, none_given, open_unleveled, level_some, is_order_place}
 use Rattle.promises.proofs.Orders.{agreed_at, post_group, heard_group, heard_agreed, all_among, heard_at, prepare_heard, freeze_heard, thaw_heard, of_group_level, levels_given, open_leveled}
 use Rattle.promises.proofs.Scripts.{kept_among}
@@ -21,6 +21,7 @@ use Rattle.scenario.proofs.Places.{number_is}
 use Rattle.set_agenda.proofs.Closings.{unless}
 use Rattle.vss_model.proofs.AtCut.{all_said}
 use Rattle.vss_model.proofs.CutLog.{either_way}
+use Rattle.vss_model.proofs.Gathered.{filter_passes}
 
 -- ## one more is said
 
@@ -30,13 +31,13 @@ waits_in ws a x2 w e = grind (arith, number_is)
 -- nobody is waited for where no group is left
 none_left : (os : List Open) (ws : List ℕ) → ((w : ℕ) → is_among w ws ≡ true → is_among w (waits_now os) ≡ true) → (ws ≡ []) ⊎ (open_stage os ≡ place_stage (open_place os))
 none_left [] [] h = inl refl
-none_left [] (w ∷ ws) h = absurd (no_one (h w (or_left (w == w) (is_among w ws) (same_number w))))
-  where
-    no_one : is_among w [] ≡ true → ⊥
-    no_one e = cc
+none_left [] (w ∷ ws) h = absurd (no_one (h w (or_left (w == w) (is_among w ws) (same_number w)))) where
+  no_one : is_among w [] ≡ true → ⊥
+  no_one e = cc
 none_left (o ∷ os) ws h = inr refl
 
-module _ (s : Plan) (said : Said) (now : ℕ) (ws : List ℕ) (a : Agenda) (k : a.kind ≡ Snapshot) (who : Speaks a ws) (mild : (fails_set (order_of (open_place (groups_left a)).group) && not (is_ok said)) ≡ false) (g : Good s a) where
+module _ (s : Plan) (said : Said) (now : ℕ) (ws : List ℕ) (a : Agenda) (k : a.kind ≡ Snapshot) (who : Speaks a ws)
+    (mild : (fails_set (order_of (open_place (groups_left a)).group) && not (is_ok said)) ≡ false) (g : Good s a) where
   abbrev more : Agenda
   more = all_say said now ws a
 
@@ -94,17 +95,15 @@ module _ (s : Plan) (said : Said) (now : ℕ) (ws : List ℕ) (a : Agenda) (k : 
   still test e = any_more test a.log (said_at os said now ws) ∙ or_left (list_any test (deeds_in a)) _ e
 
   newly : (test : Deed → Bool) (u : ℕ) → is_among u ws ≡ true → test (deed_at p.group u said now) ≡ true → list_any test (deeds_in more) ≡ true
-  newly test u e f = any_more test a.log (said_at os said now ws) ∙ or_right (list_any test (deeds_in a)) _ (told_one ws e)
-    where
-      told_one : (us : List ℕ) → is_among u us ≡ true → list_any test (map deed_in (map (at_place p said now) us)) ≡ true
-      told_one [] e = absurd cc
-      told_one (x ∷ us) e = by_head (x == u) refl e (told_one us)
-        where
-          by_head : (b : Bool) → (x == u) ≡ b → (b || is_among u us) ≡ true
-              → (is_among u us ≡ true → list_any test (map deed_in (map (at_place p said now) us)) ≡ true)
-              → (test (deed_at p.group x said now) || list_any test (map deed_in (map (at_place p said now) us))) ≡ true
-          by_head true i e ih = or_left (test (deed_at p.group x said now)) _ (subst (λ z. test (deed_at p.group z said now) ≡ true) (sym (number_is x u i)) f)
-          by_head false i e ih = or_right (test (deed_at p.group x said now)) _ (ih e)
+  newly test u e f = any_more test a.log (said_at os said now ws) ∙ or_right (list_any test (deeds_in a)) _ (told_one ws e) where
+    told_one : (us : List ℕ) → is_among u us ≡ true → list_any test (map deed_in (map (at_place p said now) us)) ≡ true
+    told_one [] e = absurd cc
+    told_one (x ∷ us) e = by_head (x == u) refl e (told_one us) where
+      by_head : (b : Bool) → (x == u) ≡ b → (b || is_among u us) ≡ true
+          → (is_among u us ≡ true → list_any test (map deed_in (map (at_place p said now) us)) ≡ true)
+          → (test (deed_at p.group x said now) || list_any test (map deed_in (map (at_place p said now) us))) ≡ true
+      by_head true i e ih = or_left (test (deed_at p.group x said now)) _ (subst (λ z. test (deed_at p.group z said now) ≡ true) (sym (number_is x u i)) f)
+      by_head false i e ih = or_right (test (deed_at p.group x said now)) _ (ih e)
 
   plain_place : is_orders p.group ≡ false → p ≡ plain p.group
   plain_place e = grind (arith, snapshot_left, open_plain, steps_plain)
@@ -119,12 +118,11 @@ module _ (s : Plan) (said : Said) (now : ℕ) (ws : List ℕ) (a : Agenda) (k : 
 
       said_one : (us : List ℕ) → is_among u us ≡ true → has_said (map (at_place p said now) us) p u ≡ true
       said_one [] e = absurd cc
-      said_one (x ∷ us) e = by_head (x == u) e (said_one us)
-        where
-          by_head : (b : Bool) → (b || is_among u us) ≡ true → (is_among u us ≡ true → has_said (map (at_place p said now) us) p u ≡ true)
-              → ((same_place p p && b) || has_said (map (at_place p said now) us) p u) ≡ true
-          by_head true e ih = or_left (same_place p p && true) _ (and_from (same_place p p) true (own_place p) refl)
-          by_head false e ih = or_right (same_place p p && false) _ (ih e)
+      said_one (x ∷ us) e = by_head (x == u) e (said_one us) where
+        by_head : (b : Bool) → (b || is_among u us) ≡ true → (is_among u us ≡ true → has_said (map (at_place p said now) us) p u ≡ true)
+            → ((same_place p p && b) || has_said (map (at_place p said now) us) p u) ≡ true
+        by_head true e ih = or_left (same_place p p && true) _ (and_from (same_place p p) true (own_place p) refl)
+        by_head false e ih = or_right (same_place p p && false) _ (ih e)
 
   logs : (h : Group) (v : Option ℕ) → made h v (deeds_in more) ≡ true → has_said more.log (plain h) (volume_number v) ≡ true
   logs h v e =
@@ -205,19 +203,17 @@ module _ (s : Plan) (said : Said) (now : ℕ) (ws : List ℕ) (a : Agenda) (k : 
       (λ f. still (is_agreed Thaw w) (g.told_after w f))
       (λ u f i.
       let post = post_group p.group w u said now i in
-      still (is_agreed Thaw w) (thaw_at u w f post.0 post.1 (none_left os ws (waits_in ws a who))))
-    where
-      thaw_at : (u w : ℕ) → is_among u ws ≡ true → p.group ≡ Orders PostSnapshot → u ≡ w → (ws ≡ []) ⊎ (open_stage os ≡ place_stage p) → agreed Thaw w (deeds_in a) ≡ true
-      thaw_at u w f e s (inl n) = absurd (no_one (subst (λ xs. is_among u xs ≡ true) n f))
-        where
+      still (is_agreed Thaw w) (thaw_at u w f post.0 post.1 (none_left os ws (waits_in ws a who)))) where
+        thaw_at : (u w : ℕ) → is_among u ws ≡ true → p.group ≡ Orders PostSnapshot → u ≡ w → (ws ≡ []) ⊎ (open_stage os ≡ place_stage p) → agreed Thaw w (deeds_in a) ≡ true
+        thaw_at u w f e s (inl n) = absurd (no_one (subst (λ xs. is_among u xs ≡ true) n f)) where
           no_one : is_among u [] ≡ true → ⊥
           no_one h = cc
-      thaw_at u w f e s (inr n) =
-          let member = subst (λ x. is_among x (members_of a (Orders PostSnapshot) p.level) ≡ true) s (subst (λ h. is_among u (members_of a h p.level) ≡ true) e (member_at u f)) in
-          let at : open_stage (left_from a (places Snapshot)) ≡ 14 = sym (ap open_stage (snapshot_left a k)) ∙ n ∙ ap (λ h. group_stage h p.level) e in
-          let closed = subst (λ m. Closed a m (places Snapshot)) at (closed_below a 0 (places Snapshot) snapshot_from) in
-          heard_agreed a.log w (unless (has_failed a.log w) (passes (λ x. not (has_failed a.log x)) w (writers_at a.members p.level) member))
-          (thaw_heard a 14 (omega arith) closed w (order_member PostSnapshot a p.level w member))
+        thaw_at u w f e s (inr n) =
+            let member = subst (λ x. is_among x (members_of a (Orders PostSnapshot) p.level) ≡ true) s (subst (λ h. is_among u (members_of a h p.level) ≡ true) e (member_at u f)) in
+            let at : open_stage (left_from a (places Snapshot)) ≡ 14 = sym (ap open_stage (snapshot_left a k)) ∙ n ∙ ap (λ h. group_stage h p.level) e in
+            let closed = subst (λ m. Closed a m (places Snapshot)) at (closed_below a 0 (places Snapshot) snapshot_from) in
+            heard_agreed a.log w (unless (has_failed a.log w) (filter_passes (λ x. not (has_failed a.log x)) w (writers_at a.members p.level) member))
+            (thaw_heard a 14 (omega arith) closed w (order_member PostSnapshot a p.level w member))
 
   says_good : Good s (all_say said now ws a)
   says_good =
@@ -239,17 +235,16 @@ module _ (s : Plan) (said : Said) (now : ℕ) (ws : List ℕ) (a : Agenda) (k : 
 
 same_failed : (log : List Entry) (w : ℕ) → has_failed log w ≡ failed w (map deed_in log)
 same_failed [] w = refl
-same_failed (x ∷ log) w = at_group x.place.group x.said x.who x.time ∙ ap (λ b. is_failure w (deed_in x) || b) (same_failed log w)
-  where
-    at_group : (h : Group) (said : Said) (u now : ℕ) → ((is_orders h && not (is_ok said) && (u == w)) || has_failed log w) ≡ (is_failure w (deed_at h u said now) || has_failed log w)
-    at_group (Orders o) said u now = refl
-    at_group PreCommit said u now = refl
-    at_group Flush said u now = refl
-    at_group Hold said u now = refl
-    at_group Cut said u now = refl
-    at_group Commit said u now = refl
-    at_group Release said u now = refl
-    at_group PostCommit said u now = refl
+same_failed (x ∷ log) w = at_group x.place.group x.said x.who x.time ∙ ap (λ b. is_failure w (deed_in x) || b) (same_failed log w) where
+  at_group : (h : Group) (said : Said) (u now : ℕ) → ((is_orders h && not (is_ok said) && (u == w)) || has_failed log w) ≡ (is_failure w (deed_at h u said now) || has_failed log w)
+  at_group (Orders o) said u now = refl
+  at_group PreCommit said u now = refl
+  at_group Flush said u now = refl
+  at_group Hold said u now = refl
+  at_group Cut said u now = refl
+  at_group Commit said u now = refl
+  at_group Release said u now = refl
+  at_group PostCommit said u now = refl
 
 post_heard : (a : Agenda) → Closed a 15 (places Snapshot) → (w : ℕ) → is_member a.members w ≡ true → failed w (deeds_in a) ≡ false → heard PostSnapshot w (deeds_in a) ≡ true
 post_heard a c w e f =

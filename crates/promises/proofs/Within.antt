@@ -18,11 +18,12 @@ use Rattle.vss_model.specs.Steps.{answered, step_made, is_flush, is_failed_step,
 use Rattle.vss_model.proofs.LogRule.{Running, unspoken}
 use Rattle.promises.proofs.Clock.{clock-made}
 use Rattle.promises.proofs.Limits.{is_due_in, due_in, spent_runs}
-use Rattle.promises.proofs.Speaks.{Speaks, now_group, head_waits}
+use Rattle.promises.proofs.Speaks.{Speaks, now_group}
 use Rattle.promises.proofs.Times.{late_is_due}
 use Rattle.promises.proofs.NotSpent.{at_once, none_both, unspent_if, is_mild, mild_order}
 use Rattle.promises.proofs.AllLost.{lost_in_time}
 use Rattle.promises.proofs.OneMore.{Ordered, Unspent, InTime, said_in_time}
+use Rattle.vss_model.proofs.CourseCalls.{head_waits}
 
 -- ## the course
 
@@ -50,11 +51,10 @@ keeps_settled now c h = keeps_settled_in now c.agenda c h
 -- what is said leaves time-outs as they are
 limit_stays : (o : Order) (said : Said) (test : ℕ → Bool) (k : ℕ) (rows : List WriterRow) (w : ℕ) → limit_of (slice_get (rows_where (row_after o said) test k rows) w) ≡ limit_of (slice_get rows w)
 limit_stays o said test k [] w = refl
-limit_stays o said test k (r ∷ rows) zero = by_test (test k)
-  where
-    by_test : (b : Bool) → (row_if b (row_after o said) r).limit ≡ r.limit
-    by_test true = refl
-    by_test false = refl
+limit_stays o said test k (r ∷ rows) zero = by_test (test k) where
+  by_test : (b : Bool) → (row_if b (row_after o said) r).limit ≡ r.limit
+  by_test true = refl
+  by_test false = refl
 limit_stays o said test k (r ∷ rows) (suc w) = limit_stays o said test (k + 1) rows w
 
 least_stays : (rows newer : List WriterRow) → ((w : ℕ) → limit_of (slice_get newer w) ≡ limit_of (slice_get rows w)) → (least : ℕ) (ms : List Member)
@@ -121,11 +121,10 @@ answers_order g e f = grind arith
 
 nobody_asked : (now f : ℕ) (x : Option Agenda) (l : RunningLimit) → spent_of now (running_limits f x) ≡ Some l → l.limit ≡ AnswerLimit → order_now (left x) ≡ None → ⊥
 nobody_asked now f None l e k i = none_and_some None l refl e
-nobody_asked now f (Some a) l e k i = at_list (groups_left a) e i
-  where
-    at_list : (os : List Open) → spent_of now (running_at f a os) ≡ Some l → order_now os ≡ None → ⊥
-    at_list [] e i = none_and_some None l refl e
-    at_list (o ∷ os) e i = answers_order o.place.group (asks now f a o os l e k) i
+nobody_asked now f (Some a) l e k i = at_list (groups_left a) e i where
+  at_list : (os : List Open) → spent_of now (running_at f a os) ≡ Some l → order_now os ≡ None → ⊥
+  at_list [] e i = none_and_some None l refl e
+  at_list (o ∷ os) e i = answers_order o.place.group (asks now f a o os l e k) i
 
 all_lost : (now f : ℕ) (x : Option Agenda) (o : Order) → order_now (left x) ≡ Some o → is_decisive o ≡ false → Running Ordered x
     → Running (InTime now f) (option_map (all_say Lost now (waits_now (left x))) x)

@@ -1,8 +1,9 @@
 -- What one more move adds to the state, the acts, the legality and the faults of a trail.
-use Rattle.std.proofs.Common.{◌≡◌, ◌+◌, List, [], ◌∷◌, ◌++◌, Option, refl, Bool, ap, sym, ◌∙◌, fold, cond, arith}
+use Rattle.std.proofs.Common.{◌≡◌, ◌+◌, List, [], ◌∷◌, ◌++◌, Option, refl, Bool, sym, ◌∙◌, fold, cond, arith}
 use Rattle.std.specs.Prelude.{◌&&◌}
-use Rattle.std.proofs.lemmas.List.{append_assoc}
+use Rattle.std.proofs.lemmas.List.{append_assoc, append-nil}
 use Rattle.std.proofs.lemmas.List.Sums.{fold-append, sum_by-append}
+use Rattle.std.proofs.lemmas.Grind.{common_steps}
 use Rattle.write_history.specs.declared.mark.Mark.{Mark}
 use Rattle.write_history.specs.declared.move_item.Move.{Move}
 use Rattle.scenario.specs.Plan.{Plan}
@@ -20,11 +21,7 @@ run-append s trail m = fold-append (moved s) (begin s) trail (m ∷ [])
 
 -- a run keeps its moves
 moves-run_from : (s : Plan) (r : Run) (ms : List Move) → (run_from s r ms).moves ≡ r.moves ++ ms
-moves-run_from s r [] = sym (append_nil r.moves)
-  where
-    append_nil : (xs : List Move) → xs ++ [] ≡ xs
-    append_nil [] = refl
-    append_nil (x ∷ xs) = ap (λ ys. x ∷ ys) (append_nil xs)
+moves-run_from s r [] = sym (append-nil r.moves)
 moves-run_from s r (m ∷ ms) = moves-run_from s (moved s r m) ms ∙ append_assoc r.moves (m ∷ []) ms
 
 pub moves-run : (s : Plan) (trail : List Move) → (run s trail).moves ≡ trail
@@ -36,24 +33,15 @@ after-acts_if s st event mark = grind arith
 
 fold-acts_from : (s : Plan) (r : Run) (ms : List Move) → fold (after s) r.state (acts_from s r ms) ≡ (run_from s r ms).state
 fold-acts_from s r [] = refl
-fold-acts_from s r (m ∷ ms) =
-    fold-append (after s) r.state (acts_if (event_of s r m.actor) m.mark) (acts_from s (moved s r m) ms)
-    ∙ ap (λ st. fold (after s) st (acts_from s (moved s r m) ms)) (after-acts_if s r.state (event_of s r m.actor) m.mark)
-    ∙ fold-acts_from s (moved s r m) ms
+fold-acts_from s r (m ∷ ms) = let ih = fold-acts_from s (moved s r m) ms in grind (arith, common_steps, fold-append, after-acts_if)
 
 pub state-run : (s : Plan) (trail : List Move) → (run s trail).state ≡ state s (acts s trail)
 state-run s trail = sym (fold-acts_from s (begin s) trail)
 
 -- the acts of one more move
-append_nothing : {X : Type 0} (xs : List X) → xs ++ [] ≡ xs
-append_nothing [] = refl
-append_nothing (x ∷ xs) = ap (λ ys. x ∷ ys) (append_nothing xs)
-
 acts_from-append : (s : Plan) (r : Run) (ms : List Move) (m : Move) → acts_from s r (ms ++ m ∷ []) ≡ acts_from s r ms ++ acts_if (event_of s (run_from s r ms) m.actor) m.mark
-acts_from-append s r [] m = append_nothing (acts_if (event_of s r m.actor) m.mark)
-acts_from-append s r (n ∷ ms) m =
-    ap (λ xs. acts_if (event_of s r n.actor) n.mark ++ xs) (acts_from-append s (moved s r n) ms m)
-    ∙ sym (append_assoc (acts_if (event_of s r n.actor) n.mark) (acts_from s (moved s r n) ms) (acts_if (event_of s (run_from s (moved s r n) ms) m.actor) m.mark))
+acts_from-append s r [] m = append-nil (acts_if (event_of s r m.actor) m.mark)
+acts_from-append s r (n ∷ ms) m = let ih = acts_from-append s (moved s r n) ms m in grind (arith, common_steps, append_assoc)
 
 pub acts-append : (s : Plan) (trail : List Move) (m : Move) → acts s (trail ++ m ∷ []) ≡ acts s trail ++ acts_if (event_of s (run s trail) m.actor) m.mark
 acts-append s trail m = acts_from-append s (begin s) trail m
@@ -65,9 +53,7 @@ and_assoc a b c = grind arith
 
 is_legal_from-append : (s : Plan) (r : Run) (ms : List Move) (m : Move) → is_legal_from s r (ms ++ m ∷ []) ≡ (is_legal_from s r ms && is_legal_move s (run_from s r ms) m)
 is_legal_from-append s r [] m = and-true (is_legal_move s r m)
-is_legal_from-append s r (n ∷ ms) m =
-    ap (λ b. is_legal_move s r n && b) (is_legal_from-append s (moved s r n) ms m)
-    ∙ and_assoc (is_legal_move s r n) (is_legal_from s (moved s r n) ms) (is_legal_move s (run_from s (moved s r n) ms) m)
+is_legal_from-append s r (n ∷ ms) m = let ih = is_legal_from-append s (moved s r n) ms m in grind (arith, common_steps, and_assoc)
 
 pub is_legal-append : (s : Plan) (trail : List Move) (m : Move) → is_legal s (trail ++ m ∷ []) ≡ (is_legal s trail && is_legal_move s (run s trail) m)
 is_legal-append s trail m = is_legal_from-append s (begin s) trail m

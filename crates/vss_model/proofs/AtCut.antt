@@ -13,7 +13,9 @@ use Rattle.set_agenda.specs.declared.kind.Kind.{Kind}
 use Rattle.set_agenda.specs.declared.kind.Kind.TheVariants.{Snapshot}
 use Rattle.set_agenda.specs.declared.member.Member.{Member}
 use Rattle.set_agenda.specs.declared.place.Place.{Place}
-use Rattle.set_agenda.specs.Agenda.{Agenda, Entry, Open, plain, at_level, places, group_code, level_code, is_freeze, is_thaw, has_said, has_frozen, has_thawed, is_at, writers_at, waited_for, with_group, left_from, left, open_group, is_among, is_snapshot, is_held as holds, is_frozen as freezes}
+use Rattle.set_agenda.specs.Agenda.{Agenda, Entry, Open, plain, at_level, places, group_code, level_code, is_freeze, is_thaw, has_said, has_frozen, has_thawed}
+use Rattle.set_agenda.specs.Agenda.{is_at, writers_at, waited_for, with_group, left_from, left, open_group, is_among, is_snapshot, is_held as holds}
+use Rattle.set_agenda.specs.Agenda.{is_frozen as freezes}
 use Rattle.set_agenda.specs.Course.{is_member}
 use Rattle.scenario.specs.Plan.{Plan}
 use Rattle.vss_model.specs.State.{State, SetRow, in_progress, left_now, is_held, is_frozen}
@@ -62,7 +64,8 @@ kind_at_cut k a h = grind arith
 
 -- ## held
 
-said_if : (b : Bool) (log : List Entry) (p : Place) (x who : ℕ) (xs rest : List ℕ) → has_said log p x ≡ b → (if not b then x ∷ rest else rest) ≡ [] → ((x == who) || is_among who xs) ≡ true → (rest ≡ [] → is_among who xs ≡ true → has_said log p who ≡ true) → has_said log p who ≡ true
+said_if : (b : Bool) (log : List Entry) (p : Place) (x who : ℕ) (xs rest : List ℕ) → has_said log p x ≡ b → (if not b then x ∷ rest else rest) ≡ []
+    → ((x == who) || is_among who xs) ≡ true → (rest ≡ [] → is_among who xs ≡ true → has_said log p who ≡ true) → has_said log p who ≡ true
 said_if b log p x who xs rest e f g ih = grind arith
 
 -- where nobody is waited for, all have said something

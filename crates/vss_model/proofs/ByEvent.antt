@@ -1,9 +1,10 @@
 -- The rule of events: what holds of each kind of act, each with what is known where it comes, holds of every act that is enabled.
-use Rattle.std.proofs.Common.{◌≡◌, ◌∙◌, ℕ, ◌==◌, List, [], Option, Some, None, refl, Bool, true, false, sym, subst, ap, arith}
+use Rattle.std.proofs.Common.{◌≡◌, ◌∙◌, ℕ, List, [], Option, Some, None, refl, Bool, true, false, sym, subst, ap, arith}
 use Rattle.std.specs.Prelude.{map, is_some, ◌&&◌, not, if◌then◌else◌}
+use Rattle.std.proofs.lemmas.Grind.{common_steps}
 use Rattle.vss_names.specs.declared.context.Context.{Context}
 use Rattle.vss_names.specs.declared.vss_result.VssResult.{VssResult}
-use Rattle.vss_names.specs.declared.vss_result.VssResult.TheVariants.{AsyncCancelled, BadState}
+use Rattle.vss_names.specs.declared.vss_result.VssResult.TheVariants.{AsyncCancelled}
 use Rattle.write_history.specs.declared.mark.Mark.{Mark}
 use Rattle.write_history.specs.History.{Write, dropped}
 use Rattle.writer_calls.specs.declared.answer.Answer.{Answer}
@@ -17,9 +18,9 @@ use Rattle.requestor.specs.declared.mode.Mode.{Mode}
 use Rattle.requestor.specs.declared.session_call.SessionCall.{SessionCall}
 use Rattle.requestor.specs.declared.session_call.SessionCall.TheVariants as call
 use Rattle.requestor.specs.declared.verdict.Verdict.{Verdict}
-use Rattle.requestor.specs.declared.verdict.Verdict.TheVariants.{Go, Blocked, Refused}
-use Rattle.requestor.specs.Session.{Session, context_of, opened, has_writers, makes_set}
-use Rattle.requestor.specs.Check.{check, check_begin, check_other, check_owner, owner_only, verdict_of, goes_beside_agenda, is_start, is_await, allows}
+use Rattle.requestor.specs.declared.verdict.Verdict.TheVariants.{Go, Refused}
+use Rattle.requestor.specs.Session.{Session, context_of, opened, makes_set}
+use Rattle.requestor.specs.Check.{check, check_begin, check_other, owner_only, verdict_of, goes_beside_agenda}
 use Rattle.scenario.specs.declared.op.Op.{Op}
 use Rattle.scenario.specs.declared.op.Op.TheVariants.{WriteFill, WriteStamp, Read, ImageDigest, ImageBlock, Query, Properties, Revert, DeleteSet, DeleteImage, Tick, Begin, Disable, Gather, Component, Document, Start, Add, Prepare, Snapshot, Await, Status, Complete, Abort, End}
 use Rattle.scenario.specs.Bounds.{begins_agenda}
@@ -127,10 +128,7 @@ owner_refuses : (b : Bool) (v : Verdict) (why : VssResult) → (v ≡ Refused wh
 owner_refuses b v why f e = grind arith
 
 other_refuses : (q : Option Session) (running : Bool) (lane : ℕ) (c : SessionCall) (why : VssResult) → check_other q running lane c ≡ Refused why → is_pending_code why ≡ false
-other_refuses None running lane c why e = other_reason BadState why refl e
-other_refuses (Some q) running lane c why e =
-    owner_refuses (q.owner == lane) (check_owner q running c) why
-    (verdict_refuses (is_start c && makes_set q.stage) (running && not (goes_beside_agenda c)) (allows q.stage (has_writers q.context) c) (is_await c && running) why) e
+other_refuses q running lane c why e = grind (arith, common_steps, other_reason, owner_refuses, verdict_refuses)
 
 begin_refuses : (q : Option Session) (lane : ℕ) (why : VssResult) → check_begin q lane ≡ Refused why → is_pending_code why ≡ false
 begin_refuses q lane why e = grind (arith, other_reason)
@@ -191,9 +189,7 @@ module _ (P : Event → Mark → Replied → Type 0) (s : Plan) (st : State) (k 
 
   on_judged : (v : Verdict) (lane : ℕ) (op : Op) (mark : Mark) → line_ticks op ≡ None → ((why : VssResult) → v ≡ Refused why → is_pending_code why ≡ false)
       → (v ≡ Go → P (Line lane op) mark (line_in s lane op st.session st)) → P (Line lane op) mark (judged v s lane op st)
-  on_judged Go lane op mark e refuses goes = goes refl
-  on_judged Blocked lane op mark e refuses goes = k.stays lane op mark (Coded BadState) e (refused_line op BadState refl)
-  on_judged (Refused why) lane op mark e refuses goes = k.stays lane op mark (Coded why) e (refused_line op why (refuses why refl))
+  on_judged v lane op mark e refuses goes = grind (arith, common_steps, refused_line)
 
   on_called : (c : SessionCall) (lane : ℕ) (op : Op) (mark : Mark) → line_ticks op ≡ None → ((why : VssResult) → check st.session (runs st) lane c ≡ Refused why → is_pending_code why ≡ false)
       → (check st.session (runs st) lane c ≡ Go → P (Line lane op) mark (line_in s lane op st.session st)) → P (Line lane op) mark (called c s lane op st)

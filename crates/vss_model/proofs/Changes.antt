@@ -1,8 +1,9 @@
 -- The state after an act is that after its changes, and what is known of each change where it comes: `e` and `m` are the event
 -- and the mark of the act, `st` the state before it, and `x` that to which the change is applied.
-use Rattle.std.proofs.Common.{◌≡◌, ◌∙◌, ℕ, List, [], ◌∷◌, ◌++◌, ◌+◌, fold, map, length, Option, Some, None, refl, Bool, true, false, sym, subst, ap, arith}
+use Rattle.std.proofs.Common.{◌≡◌, ◌∙◌, ℕ, List, [], ◌∷◌, ◌++◌, ◌+◌, fold, length, Option, Some, None, refl, Bool, true, false, sym, subst, ap, arith}
 use Rattle.std.specs.Prelude.{◌&&◌, not, if◌then◌else◌, option_map, is_some}
 use Rattle.std.proofs.lemmas.List.Sums.{fold-append}
+use Rattle.std.proofs.lemmas.Grind.{common_steps}
 use Rattle.vss_names.specs.declared.context.Context.{Context}
 use Rattle.vss_names.specs.declared.context.Context.TheVariants.{Backup, AppRollback, NasRollback}
 use Rattle.vss_names.specs.declared.order.Order.{Order}
@@ -13,7 +14,7 @@ use Rattle.vss_names.specs.declared.vss_result.VssResult.TheVariants.{AsyncCance
 use Rattle.block_data.specs.declared.payload.Payload.{Payload}
 use Rattle.block_data.specs.PayloadBytes.{payload_bytes}
 use Rattle.write_history.specs.declared.mark.Mark.{Mark}
-use Rattle.write_history.specs.declared.mark.Mark.TheVariants.{Clean, Fault, FaultAfter}
+use Rattle.write_history.specs.declared.mark.Mark.TheVariants.{Clean, FaultAfter}
 use Rattle.write_history.specs.History.{Write, History}
 use Rattle.writer_state.specs.declared.said.Said.{Said}
 use Rattle.writer_calls.specs.declared.answer.Answer.{Answer}
@@ -25,7 +26,7 @@ use Rattle.set_agenda.specs.Course.{Course, answered as course_answered, stepped
 use Rattle.component_doc.specs.Selection.{takers}
 use Rattle.requestor.specs.declared.session_call.SessionCall.{SessionCall}
 use Rattle.requestor.specs.declared.session_call.SessionCall.TheVariants as call
-use Rattle.requestor.specs.Session.{Session, makes_set, opened, agenda_ended, set_failed}
+use Rattle.requestor.specs.Session.{Session, makes_set, opened}
 use Rattle.scenario.specs.declared.line.Line.{Line as Does}
 use Rattle.scenario.specs.declared.line.Line.TheVariants as does
 use Rattle.scenario.specs.declared.op.Op.{Op}
@@ -36,17 +37,17 @@ use Rattle.vss_model.specs.declared.event.Event.{Event}
 use Rattle.vss_model.specs.declared.event.Event.TheVariants.{Line, Answer as AnswerEvent, Provider, Idle}
 use Rattle.vss_model.specs.Reply.{Reply}
 use Rattle.vss_model.specs.Replies.{leaves_all}
-use Rattle.vss_model.specs.State.{State, SetRow, Kept, is_running, in_progress, left_now, is_held, kept_image}
-use Rattle.vss_model.specs.Ending.{Ending, NothingEnds, AgendaEnds, SetFails, ending, row_settled, images_dropped, concluded, followed, runs, failed_in, failed}
-use Rattle.vss_model.specs.Images.{Replied, write, reverted_as, put, with_room_if, cleared, set_loses_image, is_in_set, reply_of_mark}
-use Rattle.vss_model.specs.Sessions.{is_disabled, selected, new_number, new_set, add_refusal, has_no_volume, volumes_of, images_released, closed}
+use Rattle.vss_model.specs.State.{State, SetRow, Kept, in_progress, left_now, is_held, kept_image}
+use Rattle.vss_model.specs.Ending.{Ending, SetFails, ending, images_dropped, concluded, followed, runs, failed_in, failed}
+use Rattle.vss_model.specs.Images.{Replied, write, reverted_as, put, with_room_if, is_in_set, reply_of_mark}
+use Rattle.vss_model.specs.Sessions.{is_disabled, selected, new_number, new_set, add_refusal, has_no_volume, volumes_of, closed}
 use Rattle.vss_model.specs.Steps.{cut_set, is_flush, is_failed_step, stepped_as, stepped, later, ticked, answered, row_cut}
 use Rattle.vss_model.specs.Lines.{does as line_does}
 use Rattle.vss_model.specs.Effects.{ticks_of}
 use Rattle.vss_model.specs.Acts.{Act, enabled, happens, reply, after, order_of_writer, idle_now, answer_reply, step_reply}
 use Rattle.vss_model.specs.Cut.{is_provider, is_cut_group}
 use Rattle.vss_model.specs.Laws.{LetsGo}
-use Rattle.vss_model.specs.Changes.{Change, Passes, SessionIs, Names, StartsSet, AddsVolume, IsCutAt, Settles, CourseIs, Writes, Cuts, Reverts, RevertsPart, DropsSet, Drops, apply, drops, ends, goes_on, fails, makes_room, puts, reverts, deletes, names, adds, releases, closes, calls, session_calls, passes, cuts, steps, does_change, event_changes, changes}
+use Rattle.vss_model.specs.Changes.{Change, Passes, SessionIs, Names, StartsSet, AddsVolume, IsCutAt, CourseIs, Writes, Cuts, Reverts, RevertsPart, DropsSet, Drops, apply, drops, ends, goes_on, fails, makes_room, puts, reverts, deletes, names, adds, releases, closes, calls, session_calls, passes, cuts, steps, does_change, event_changes, changes}
 use Rattle.vss_model.proofs.ByEvent.{Covers, covered, by_if, some_same, may_change, after_enabled, after_not_enabled}
 use Rattle.vss_model.proofs.Rows.{number-cut}
 use Rattle.vss_model.proofs.Orderly.{find-map}
@@ -172,13 +173,10 @@ come-append s e m st x (c ∷ cs) ds h g = (h.0, come-append s e m st (apply x c
 -- ## the course goes on
 
 dropped_is : (o : Option SetRow) (x : State) → fold apply x (drops o) ≡ record x { volumes = images_dropped o x.volumes }
-dropped_is None x = refl
-dropped_is (Some r) x = refl
+dropped_is o x = grind (arith, common_steps)
 
 ends_are : (e : Ending) (c : Course) (x : State) → fold apply (record x { course = c }) (ends e c.outcome x) ≡ concluded e (record x { course = c })
-ends_are NothingEnds c x = refl
-ends_are AgendaEnds c x = refl
-ends_are (SetFails why) c x = dropped_is (in_progress x) (record x { course = c; session = option_map (set_failed why) x.session; sets = map (row_settled c.outcome) x.sets })
+ends_are e c x = grind (arith, common_steps, dropped_is)
 
 goes_on_own : (ran : Bool) (c : Course) (x : State) → fold apply x (goes_on ran c x) ≡ followed ran c x
 unfolding followed
@@ -191,10 +189,7 @@ pub record IsAsBefore (x y : State) : Type 0 where
   pub set : drops (in_progress x) ≡ drops (in_progress y)
 
 same_ends : (e : Ending) (o : SetOutcome) (x y : State) → x.session ≡ y.session → drops (in_progress x) ≡ drops (in_progress y) → ends e o y ≡ ends e o x
-same_ends NothingEnds o x y f g = refl
-same_ends AgendaEnds o x y f g = ap (λ q. SessionIs (option_map agenda_ended q) ∷ Settles o ∷ []) (sym f)
-same_ends (SetFails why) o x y f g =
-    ap (λ q. SessionIs (option_map (set_failed why) q) ∷ Settles o ∷ drops (in_progress y)) (sym f) ∙ ap (λ ds. SessionIs (option_map (set_failed why) x.session) ∷ Settles o ∷ ds) (sym g)
+same_ends e o x y f g = grind (arith, common_steps)
 
 pub goes_on_is : (ran : Bool) (c : Course) (x y : State) → IsAsBefore x y → fold apply x (goes_on ran c y) ≡ followed ran c x
 goes_on_is ran c x y h =
@@ -203,34 +198,18 @@ goes_on_is ran c x y h =
 
 fails_is : (o : Option SetRow) (why : VssResult) (x y : State) → IsAsBefore x y → fold apply x (fails o why y) ≡ failed_in o why x
 unfolding course_failed
-fails_is None why x y h = refl
-fails_is (Some r) why x y h =
-    ap (λ (d : Course). fold apply x (CourseIs (course_failed why d) ∷ ends (SetFails why) (Failed why) y)) (sym h.course)
-    ∙ ap (λ ds. fold apply x (CourseIs (course_failed why x.course) ∷ ds)) (same_ends (SetFails why) (Failed why) x y h.session h.set) ∙ ends_are (SetFails why) (course_failed why x.course) x
+fails_is o why x y h = grind (arith, common_steps, same_ends, ends_are)
 
 as_before : (x : State) → IsAsBefore x x
 as_before x = record { course = refl; session = refl; set = refl }
 
 closes_is : (q : Session) (x : State) → fold apply x (closes q x) ≡ closed q x
 unfolding closed
-closes_is q x = by_context q.context q.set
-  where
-    by_context : (c : Context) (set : Option ℕ) → fold apply (record x { course = released x.course; session = None; explicit = [] }) (releases c set)
-        ≡ record x { session = None; explicit = []; course = released x.course; volumes = images_released c set x.volumes }
-    by_context Backup None = refl
-    by_context Backup (Some n) = refl
-    by_context AppRollback set = refl
-    by_context NasRollback set = refl
+closes_is q x = grind (arith, common_steps)
 
 module _ (s : Plan) (e : Event) (m : Mark) (st : State) where
   come_ends : (g : Ending) (o : SetOutcome) (x y : State) → Come s e m st x (ends g o y)
-  come_ends NothingEnds o x y = tt
-  come_ends AgendaEnds o x y = (tt, (tt, tt))
-  come_ends (SetFails why) o x y = (tt, (tt, dropped_come (apply (apply x (SessionIs (option_map (set_failed why) y.session))) (Settles o)) (in_progress y)))
-    where
-      dropped_come : (z : State) (r : Option SetRow) → Come s e m st z (drops r)
-      dropped_come z None = tt
-      dropped_come z (Some r) = (tt, tt)
+  come_ends g o x y = grind (arith, common_steps)
 
   come_on : (ran : Bool) (c : Course) (x y : State) → IsCalled s st x c → Come s e m st x (goes_on ran c y)
   come_on ran c x y i = (i, come_ends (ending y.course.outcome c.outcome ran c.agenda) c.outcome (record x { course = c }) y)
@@ -259,7 +238,7 @@ module _ (s : Plan) (e : Event) (m : Mark) (st : State) where
   makes_none = record { is = refl; come = tt }
 
   makes_on : (ran : Bool) (c : CourseCall) → IsDue st st.course c → Makes (followed ran (called s st c st.course) st) (goes_on ran (called s st c st.course) st)
-  makes_on ran c i = let next = called s st c st.course in record { is = sym (goes_on_own ran next st); come = come_on ran next st st (record { call = c; is = refl; due = i }) }
+  makes_on ran c i = grind (arith, common_steps, goes_on_own, come_on)
 
   makes_passes : (n : ℕ) → ticks_of st e ≡ Some n → Makes (ticked n st) (passes n st)
   unfolding ticked
@@ -278,56 +257,30 @@ module _ (s : Plan) (e : Event) (m : Mark) (st : State) where
       }
 
   room_is : (b : Bool) (hs : List History) → fold apply (record st { volumes = hs }) (if b then fails (in_progress st) InsufficientStorage st else []) ≡ with_room_if b (record st { volumes = hs })
-  room_is true hs = fails_is (in_progress st) InsufficientStorage (record st { volumes = hs }) st (record { course = refl; session = refl; set = refl })
-  room_is false hs = refl
+  room_is b hs = grind (arith, common_steps, fails_is)
 
   room_comes : (b : Bool) (x : State) → x.course ≡ st.course → Come s e m st x (if b then fails (in_progress st) InsufficientStorage st else [])
-  room_comes true x same = come_fails (in_progress st) InsufficientStorage x refl same
-  room_comes false x same = tt
+  room_comes b x same = grind (arith, common_steps, come_fails)
 
   puts_is : (k : Mark) (v : ℕ) (w : Write) (x : State) → fold apply x (puts v w k) ≡ put v w k x
-  puts_is Clean v w x = refl
-  puts_is Fault v w x = refl
-  puts_is (FaultAfter n) v w x = refl
+  puts_is k v w x = grind (arith, common_steps)
 
   puts_come : (v : ℕ) (w : Write) (x : State) → (m ≡ Clean → IsWrite e m st v w) → Come s e m st x (puts v w m)
-  puts_come v w x f = by_mark m refl
-    where
-      by_mark : (k : Mark) → m ≡ k → Come s e m st x (puts v w k)
-      by_mark Clean g = (f g, tt)
-      by_mark _ g = tt
+  puts_come v w x f = grind (arith, common_steps)
 
   makes_write : (v : ℕ) (w : Write) → (m ≡ Clean → IsWrite e m st v w) → Makes (write s v w m st).1 (makes_room s v w.block st ++ puts v w m)
   unfolding write
-  makes_write v w f =
-      let x = cleared s v w.block st in
-      let b = set_loses_image (in_progress st) st.volumes x.volumes in
-      let cs = makes_room s v w.block st in
-      record {
-        is = sym (fold-append apply st cs (puts v w m) ∙ ap (λ y. fold apply y (puts v w m)) (room_is b x.volumes) ∙ puts_is m v w (with_room_if b x));
-        come = come-append s e m st st cs (puts v w m) (tt, room_comes b x refl) (puts_come v w (fold apply st cs) f);
-      }
+  makes_write v w f = grind (arith, common_steps, fold-append, room_is, puts_is, come-append, room_comes, puts_come)
 
   makes_revert : (lane n v : ℕ) (k : Kept) → e ≡ Line lane (op.Revert n v) → kept_image st n v ≡ Some k → is_in_set v (in_progress st) ≡ false → Makes (reverted_as s v k m st).1 (reverts s v (Some k) m)
-  makes_revert lane n v k f g h = by_mark m refl
-    where
-      known : IsRevert e st v k.row.number k.point
-      known = record { lane = lane; set = n; event = f; image = k; kept = g; number = refl; point = refl; free = h }
-
-      by_mark : (l : Mark) → m ≡ l → Makes (reverted_as s v k l st).1 (reverts s v (Some k) l)
-      by_mark Clean i = record { is = refl; come = ((known, i), tt) }
-      by_mark Fault i = makes_none
-      by_mark (FaultAfter j) i = record { is = refl; come = ((known, i), tt) }
+  makes_revert lane n v k f g h = grind (arith, common_steps, makes_none)
 
   -- the Cut step
   drops_cut : (n now : ℕ) (o : Option SetRow) → drops (option_map (row_cut n now) o) ≡ drops o
   drops_cut n now o = grind (arith, number-cut)
 
   in_progress_cut : (n now : ℕ) (x : State) → drops (in_progress (apply x (IsCutAt n now))) ≡ drops (in_progress x)
-  in_progress_cut n now x = ap drops (find-map (row_cut n now) (running_cut n now) x.sets) ∙ drops_cut n now (in_progress x)
-    where
-      running_cut : (n now : ℕ) (r : SetRow) → is_running (row_cut n now r).result ≡ is_running r.result
-      running_cut n now r = grind arith
+  in_progress_cut n now x = grind (arith, common_steps, find-map, drops_cut)
 
   abbrev next_of : Bool → Course
   next_of ok = called s st (Steps ok) st.course
@@ -381,8 +334,7 @@ module _ (s : Plan) (st : State) where
   nothing b cs e = grind arith
 
   stays_quiet : (told : Reply) (lane : ℕ) (o : Op) (m : Mark) (b : Bool) → may_change o ≡ b → (may_change o ≡ true → leaves_all told ≡ true) → answered_by told (event_changes s st (Line lane o) m) ≡ []
-  stays_quiet told lane o m true e refused = ap (λ b. if not b then event_changes s st (Line lane o) m else []) (refused e)
-  stays_quiet told lane o m false e refused = nothing (leaves_all told) _ (quiet lane o m e)
+  stays_quiet told lane o m b e refused = grind (arith, common_steps, nothing, quiet)
 
   of_mark : (m : Mark) (cs : List Change) → answered_by (reply_of_mark m) cs ≡ cs
   of_mark m cs = grind arith
@@ -453,9 +405,7 @@ module _ (s : Plan) (st : State) where
   }
 
   made_if : (b : Bool) (act : Act) → enabled s st act.event ≡ b → Makes s act.event act.mark st (after s st act) (if b && not (leaves_all (reply s st act)) then event_changes s st act.event act.mark else [])
-  made_if true act e =
-      subst (λ x. Makes s act.event act.mark st x (answered_by (reply s st act) (event_changes s st act.event act.mark))) (sym (after_enabled s st act e)) (covered Happens s st covers act.event act.mark e refl)
-  made_if false act e = subst (λ x. Makes s act.event act.mark st x []) (sym (after_not_enabled s st act e)) (makes_none s act.event act.mark st)
+  made_if b act e = grind (arith, common_steps, after_enabled, covered, covers, after_not_enabled, makes_none)
 
   pub made : (act : Act) → Makes s act.event act.mark st (after s st act) (changes s st act)
   made act = made_if (enabled s st act.event) act refl

@@ -1,8 +1,9 @@
 -- A set that completes has its image on each of its volumes in that act.
 use Rattle.std.proofs.Common.{◌≡◌, ℕ, ◌+◌, ◌==◌, ◌<◌, zero, suc, List, [], ◌∷◌, ◌++◌, ◌⊎◌, Option, Some, None, refl, Bool, true, false, map, filter, length, ap, sym, ◌∙◌, subst, find, fold, inl, inr, arith}
-use Rattle.std.specs.Prelude.{is_some, ◌&&◌, ◌||◌, not, if◌then◌else◌}
+use Rattle.std.specs.Prelude.{is_some, ◌&&◌, not, if◌then◌else◌}
 use Rattle.std.proofs.lemmas.List.Folds.{list_any-append}
 use Rattle.std.proofs.lemmas.Bool.{and_parts, eq-eqb, or_parts}
+use Rattle.std.proofs.lemmas.Grind.{common_steps}
 use Rattle.vss_names.specs.declared.context.Context.{Context}
 use Rattle.vss_names.specs.declared.set_outcome.SetOutcome.{SetOutcome}
 use Rattle.vss_names.specs.declared.set_outcome.SetOutcome.TheVariants.{Running as RunningSet}
@@ -142,36 +143,20 @@ keeps_same n h e = e
 none_lost : (n m : ℕ) (ps : List Placed) (hs : List History) → has_lost_image n hs (gone_up_to m ps hs) ≡ false → Each (KeepsImage n) hs (gone_up_to m ps hs)
 none_lost n m [] hs e v f = f
 none_lost n m (p ∷ ps) [] e v f = f
-none_lost n m (p ∷ ps) (x ∷ hs) e zero f = here (has_image n x) (has_image n (at (gone_up_to m (p ∷ ps) (x ∷ hs)) 0)) (has_lost_image n hs (gone_up_to m ps hs)) e f
-  where
-    here : (a b c : Bool) → ((a && not b) || c) ≡ false → a ≡ true → b ≡ true
-    here true true c e f = refl
-    here true false c e f = absurd cc
-    here false b c e f = absurd cc
+none_lost n m (p ∷ ps) (x ∷ hs) e zero f = grind (arith, common_steps)
 none_lost n m (p ∷ ps) (x ∷ hs) e (suc v) f = none_lost n m ps hs (or_parts (has_image n x && not (has_image n (at (gone_up_to m (p ∷ ps) (x ∷ hs)) 0))) (has_lost_image n hs (gone_up_to m ps hs)) e).1 v f
 
 -- the images that the Cut step gives
 last_has : (images : List Image) (n p : ℕ) → is_some (point_in n (images ++ record { set = n; point = p } ∷ [])) ≡ true
-last_has [] n p = found (n == n) (eq-eqb n n refl)
-  where
-    found : (b : Bool) → b ≡ true → is_some (if b then Some p else None) ≡ true
-    found true e = refl
-    found false e = absurd cc
-last_has (i ∷ images) n p = by_head (i.set == n) (last_has images n p)
-  where
-    by_head : (b : Bool) → is_some (point_in n (images ++ record { set = n; point = p } ∷ [])) ≡ true → is_some (if b then Some i.point else point_in n (images ++ record { set = n; point = p } ∷ [])) ≡ true
-    by_head true h = refl
-    by_head false h = h
+last_has [] n p = grind (arith, common_steps, eq-eqb)
+last_has (i ∷ images) n p = let ih = last_has images n p in grind (arith, common_steps)
 
 cut_has : (b : Bool) (n : ℕ) (x : History) → b ≡ true → has_image n (image_cut_if b n x) ≡ true
 cut_has b n x e = grind (arith, last_has)
 
 cut_images : (n : ℕ) (vs : List ℕ) (u v : ℕ) (hs : List History) → is_among (u + v) vs ≡ true → v < length hs → has_image n (at (cut_each n vs u hs) v) ≡ true
 cut_images n vs u v [] e l = absurd (omega (arith, l))
-cut_images n vs u zero (x ∷ hs) e l = cut_has (is_among u vs) n x (subst (λ w. is_among w vs ≡ true) (less u) e)
-  where
-    less : (a : ℕ) → a + zero ≡ a
-    less a = omega arith
+cut_images n vs u zero (x ∷ hs) e l = grind (arith, common_steps, cut_has)
 cut_images n vs u (suc v) (x ∷ hs) e l = cut_images n vs (u + 1) v hs (subst (λ w. is_among w vs ≡ true) (shift u v) e) (fewer v (length hs) l)
   where
     shift : (a b : ℕ) → a + suc b ≡ (a + 1) + b
@@ -398,7 +383,9 @@ module _ (n : ℕ) (vs : List ℕ) where
   done_ticks k st run h images =
       done_followed (runs st) _ (later k st) h (λ f. images (completes_made true st.course.agenda st.course.outcome _ _ (λ x g. tt) run f (call_timed (st.clock + k) st.course)))
 
-  done_stepped_as : (fails : Bool) (g : Option Group) (st : State) → is_cut_group g ≡ false → is_cut_group (open_group (left_now st)) ≡ false → is_working (left_now st) ≡ true → st.course.outcome ≡ RunningSet → has_complete st.sets n ≡ false → (Made st.course.agenda → Imaged n vs st.volumes) → Done n vs (stepped_as fails g st)
+  done_stepped_as : (fails : Bool) (g : Option Group) (st : State) → is_cut_group g ≡ false → is_cut_group (open_group (left_now st)) ≡ false
+      → is_working (left_now st) ≡ true → st.course.outcome ≡ RunningSet → has_complete st.sets n ≡ false → (Made st.course.agenda → Imaged n vs st.volumes)
+      → Done n vs (stepped_as fails g st)
   done_stepped_as true g st e c w run h images =
       done_followed (runs st) _ st h (λ f. images (completes_made false st.course.agenda st.course.outcome _ _ (λ x i. no_cut_at st x c i) run f (call_stepped false st.clock st.course w)))
   done_stepped_as false g st e c w run h images =
@@ -410,11 +397,11 @@ module _ (n : ℕ) (vs : List ℕ) where
   done_steps mark st c w run h images = grind (arith, done_stepped_as)
 
 -- an agenda that begins does not complete the set
-begun_incomplete_if : (done : Bool) (k : Kind) (ms : List Member) (vs : List ℕ) (now : ℕ) (c : Course) → is_done (groups_left (unspoken k ms vs now)) ≡ done → c.outcome ≡ RunningSet
+pub begun_incomplete_if : (done : Bool) (k : Kind) (ms : List Member) (vs : List ℕ) (now : ℕ) (c : Course) → is_done (groups_left (unspoken k ms vs now)) ≡ done → c.outcome ≡ RunningSet
     → is_complete (settled_if done k (record c { agenda = Some (unspoken k ms vs now) })).outcome ≡ true → ⊥
 begun_incomplete_if done k ms vs now c d e f = grind arith
 
-begun_incomplete : (k : Kind) (ms : List Member) (vs : List ℕ) (now : ℕ) (c : Course) → c.outcome ≡ RunningSet → is_complete (begun k ms vs now c).outcome ≡ true → ⊥
+pub begun_incomplete : (k : Kind) (ms : List Member) (vs : List ℕ) (now : ℕ) (c : Course) → c.outcome ≡ RunningSet → is_complete (begun k ms vs now c).outcome ≡ true → ⊥
 unfolding begun posted settled
 begun_incomplete k ms vs now c e f = begun_incomplete_if (is_done (groups_left (unspoken k ms vs now))) k ms vs now c refl e f
 

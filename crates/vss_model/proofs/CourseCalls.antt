@@ -13,7 +13,9 @@ use Rattle.set_agenda.specs.declared.limit.Limit.{Limit}
 use Rattle.set_agenda.specs.declared.place.Place.{Place}
 use Rattle.set_agenda.specs.Agenda.{Agenda, Open, is_orders, is_freeze, waited_for, with_group, left_from, places, groups_left, left, open_place, is_asked, is_among, open_order, order_now, waits_now, next_member, is_done, is_working, all_say}
 use Rattle.set_agenda.specs.Limits.{Running as RunningLimit, running_limits, spent_of}
-use Rattle.set_agenda.specs.Course.{Course, posted, outcome_after, failed as course_failed, settled_in, settled, is_decisive, told, decided, answered_to, answered as course_answered, worked, stepped_as as course_stepped_as, stepped as course_stepped, freeze_limit, lost_to, fails_set, lost_decided, treated_as, treated, timed as course_timed}
+use Rattle.set_agenda.specs.Course.{Course, posted, outcome_after, failed as course_failed, settled_in, settled, is_decisive, told, decided, answered_to}
+use Rattle.set_agenda.specs.Course.{answered as course_answered, worked, stepped_as as course_stepped_as, stepped as course_stepped, freeze_limit, lost_to}
+use Rattle.set_agenda.specs.Course.{fails_set, lost_decided, treated_as, treated, timed as course_timed}
 use Rattle.vss_model.specs.Facts.{has_failed}
 pub use Rattle.set_agenda.proofs.CourseRule.{asked_if, asked_waits, one_alone}
 
@@ -76,7 +78,7 @@ pub first_among : (w : ℕ) (ws : List ℕ) → is_among w (w ∷ ws) ≡ true
 first_among w ws = grind arith
 
 -- of a group that is left somebody is waited for
-head_waits : (a : Agenda) (ps : List Place) → is_working (left_from a ps) ≡ true → is_among (next_member (left_from a ps)) (waits_now (left_from a ps)) ≡ true
+pub head_waits : (a : Agenda) (ps : List Place) → is_working (left_from a ps) ≡ true → is_among (next_member (left_from a ps)) (waits_now (left_from a ps)) ≡ true
 head_waits a [] e = absurd cc
 head_waits a (p ∷ ps) e = at_group p (waited_for a p) (left_from a ps) (head_waits a ps) e
   where
@@ -90,10 +92,10 @@ now_orders os o e = grind arith
 
 -- ## settled
 
-settles_in : (x : Option Agenda) (b : Agenda) (o : SetOutcome) (d : Course) → d.agenda ≡ x → x ≡ Some b → d.outcome ≡ o → Settles (is_done (groups_left b)) b o (settled_in x d).agenda (settled_in x d).outcome
+pub settles_in : (x : Option Agenda) (b : Agenda) (o : SetOutcome) (d : Course) → d.agenda ≡ x → x ≡ Some b → d.outcome ≡ o → Settles (is_done (groups_left b)) b o (settled_in x d).agenda (settled_in x d).outcome
 settles_in x b o d e f g = grind arith
 
-settles : (b : Agenda) (o : SetOutcome) (d : Course) → d.agenda ≡ Some b → d.outcome ≡ o → Settles (is_done (groups_left b)) b o (settled d).agenda (settled d).outcome
+pub settles : (b : Agenda) (o : SetOutcome) (d : Course) → d.agenda ≡ Some b → d.outcome ≡ o → Settles (is_done (groups_left b)) b o (settled d).agenda (settled d).outcome
 unfolding settled
 settles b o d e f = settles_in d.agenda b o d refl e f
 

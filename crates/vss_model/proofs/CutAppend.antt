@@ -1,6 +1,8 @@
 -- Where one more act leaves the cut of a set.
-use Rattle.std.proofs.Common.{◌≡◌, ℕ, List, [], ◌∷◌, ◌++◌, Option, Some, None, refl, Bool, ap, sym, fold, arith}
+use Rattle.std.proofs.Common.{◌≡◌, ℕ, List, [], ◌∷◌, ◌++◌, Option, Some, None, Bool, ap, sym, fold, arith}
 use Rattle.std.proofs.lemmas.List.{append_assoc}
+use Rattle.std.proofs.lemmas.Grind.{common_steps}
+pub use Rattle.std.proofs.lemmas.List.{append-nil as append_nothing}
 use Rattle.scenario.specs.Plan.{Plan}
 use Rattle.vss_model.specs.State.{State, start}
 use Rattle.vss_model.specs.Acts.{Act, after, state}
@@ -10,10 +12,6 @@ abbrev pub or_cut : Option (List Act) → Option (List Act) → Option (List Act
 or_cut None o = o
 or_cut (Some acts) o = Some acts
 
-pub append_nothing : (xs : List Act) → xs ++ [] ≡ xs
-append_nothing [] = refl
-append_nothing (x ∷ xs) = ap (λ ys. x ∷ ys) (append_nothing xs)
-
 cut_first : (b : Bool) (before : List Act) (x y : Option (List Act)) (z w : Option (List Act)) → x ≡ or_cut y z → z ≡ w → cut_if b before x ≡ or_cut (cut_if b before y) w
 cut_first b before x y z w e f = grind arith
 
@@ -21,9 +19,7 @@ cut_from-append : (s : Plan) (n : ℕ) (before : List Act) (st : State) (acts : 
     → cut_from s n before st (acts ++ act ∷ []) ≡ or_cut (cut_from s n before st acts) (cut_if (is_cut_of n (fold (after s) st acts) act) (before ++ acts) None)
 cut_from-append s n before st [] act = ap (λ x. cut_if (is_cut_of n st act) x None) (sym (append_nothing before))
 cut_from-append s n before st (a ∷ acts) act =
-    cut_first (is_cut_of n st a) before _ _ _ _
-    (cut_from-append s n (before ++ a ∷ []) (after s st a) acts act)
-    (ap (λ x. cut_if (is_cut_of n (fold (after s) (after s st a) acts) act) x None) (append_assoc before (a ∷ []) acts))
+    let ih = cut_from-append s n (before ++ a ∷ []) (after s st a) acts act in grind (arith, common_steps, cut_first, append_assoc)
 
 pub cut-append : (s : Plan) (n : ℕ) (acts : List Act) (act : Act) → cut s n (acts ++ act ∷ []) ≡ or_cut (cut s n acts) (cut_if (is_cut_of n (state s acts) act) acts None)
 cut-append s n acts act = cut_from-append s n [] (start s) acts act

@@ -1,9 +1,10 @@
 -- What the images of a volume show: each a beginning of its effective writes, namely those at its set's cut.
-use Rattle.std.proofs.Common.{◌≡◌, ℕ, ◌+◌, ◌-◌, ◌==◌, ◌<◌, ◌≤◌, zero, suc, List, [], ◌∷◌, ◌++◌, Option, Some, None, refl, Bool, true, false, map, filter, length, take, ap, sym, ◌∙◌, subst, arith}
+use Rattle.std.proofs.Common.{◌≡◌, ℕ, ◌+◌, ◌-◌, ◌==◌, ◌<◌, ◌≤◌, zero, suc, List, [], ◌∷◌, ◌++◌, Option, Some, None, refl, Bool, true, false, map, filter, length, take, ap, ◌∙◌, subst, arith}
 use Rattle.std.specs.Prelude.{not, if◌then◌else◌, nat_lt, slice_get}
 use Rattle.std.proofs.lemmas.List.{append_assoc}
 use Rattle.std.proofs.Math.Seq.{take-append-add}
 use Rattle.std.proofs.lemmas.Bool.{eqb-true, ltb-false, ltb-true}
+use Rattle.std.proofs.lemmas.Grind.{common_steps}
 use Rattle.write_history.specs.History.{Write, Image, History, point_in, up_to_set, after_set, dropped, written, reverted, reverted_in_part, cut}
 use Rattle.write_history.specs.Slots.{Placed, gone_up_to}
 use Rattle.set_agenda.specs.Course.{change_at}
@@ -100,10 +101,7 @@ above_point i n p (j ∷ js) h e = above_point_if (j.set == n) i j n p js h.1 e 
 
 later_within : (i : Image) (n p : ℕ) (js : List Image) → i.set ≡ n → Above i js → Within n p js
 later_within i n p [] e h = tt
-later_within i n p (j ∷ js) e h = ((λ f. absurd (past i.set n j.set e h.0 f)), later_within i n p js e h.2)
-  where
-    past : (a n b : ℕ) → a ≡ n → a < b → nat_lt n b ≡ false → ⊥
-    past a n b e l f = grind arith
+later_within i n p (j ∷ js) e h = let ih = later_within i n p js e h.2 in grind (arith, common_steps)
 
 within_if : (b : Bool) (i : Image) (n p : ℕ) (images : List Image) → (i.set == n) ≡ b → (if b then Some i.point else point_in n images) ≡ Some p → Above i images → (point_in n images ≡ Some p → Within n p images) → Within n p (i ∷ images)
 within_if b i n p images e f h ih = grind (arith, later_within, eqb-true, above_point)
@@ -114,11 +112,7 @@ within k v ws n p (i ∷ images) h e = within_if (i.set == n) i n p images refl 
 
 back : (k : Known) (v : ℕ) (ws : List Write) (n p : ℕ) (images : List Image) → Shown k v ws images → Within n p images → Shown k v (take p ws) (up_to_set n images)
 back k v ws n p [] h l = tt
-back k v ws n p (i ∷ images) h l =
-    shown_if (not (nat_lt n i.set)) k v (take p ws) i (up_to_set n images)
-    (λ e. in-take (k i.set) v i.point p ws (l.0 (unless (nat_lt n i.set) e)) h.0)
-    (above-filter (λ x. not (nat_lt n x.set)) i images h.1)
-    (back k v ws n p images h.2 l.1)
+back k v ws n p (i ∷ images) h l = let ih = back k v ws n p images h.2 l.1 in grind (arith, common_steps, shown_if, in-take, unless, above-filter)
 
 pub shown-reverted : (k : Known) (v n p : ℕ) (h : History) → point_in n h.images ≡ Some p → IsShown k v h → IsShown k v (reverted n p h)
 shown-reverted k v n p h e shown = back k v h.writes n p h.images shown (within k v h.writes n p h.images shown e)
@@ -159,11 +153,7 @@ along_known o p v point ws e h = subst (λ x. ShownIn x v point ws) e h
 
 shown_along : (k l : Known) (v : ℕ) (ws : List Write) (images : List Image) → ((n : ℕ) (hs : List History) → k n ≡ Some hs → l n ≡ Some hs) → Shown k v ws images → Shown l v ws images
 shown_along k l v ws [] same h = tt
-shown_along k l v ws (i ∷ images) same h = (in_along (k i.set) refl h.0, h.1, shown_along k l v ws images same h.2)
-  where
-    in_along : (o : Option (List History)) → k i.set ≡ o → ShownIn o v i.point ws → ShownIn (l i.set) v i.point ws
-    in_along None e g = absurd g
-    in_along (Some hs) e g = along_known (Some hs) (l i.set) v i.point ws (sym (same i.set hs e)) g
+shown_along k l v ws (i ∷ images) same h = let ih = shown_along k l v ws images same h.2 in grind (arith, common_steps, along_known)
 
 -- more may be known
 pub all_along : (k l : Known) → ((n : ℕ) (hs : List History) → k n ≡ Some hs → l n ≡ Some hs) → (v : ℕ) (hs : List History) → AllShown k v hs → AllShown l v hs
@@ -187,33 +177,15 @@ shown-append k v ws (i ∷ images) j h b e = (h.0, above-append i j images h.1 b
 
 -- no point is past the end
 pub no_greater : (o : Option (List History)) (v point : ℕ) (ws : List Write) → ShownIn o v point ws → point ≤ length ws
-no_greater None v point ws g = absurd g
-no_greater (Some hs) v point ws g = rw (sym g.0) (rw g.1.is (part (writes_at hs v) g.1.rest))
-  where
-    part : (xs ys : List Write) → length xs ≤ length (xs ++ ys)
-    part [] ys = omega arith
-    part (x ∷ xs) ys = step (length xs) (length (xs ++ ys)) (part xs ys)
-      where
-        step : (a b : ℕ) → a ≤ b → suc a ≤ suc b
-        step a b l = omega arith
+no_greater o v point ws g = grind (arith, common_steps)
 
 -- what is not known from n on was cut before n
 below : (k : Known) (v : ℕ) (ws : List Write) (n : ℕ) (images : List Image) → ((m : ℕ) → n ≤ m → k m ≡ None) → Shown k v ws images → Below images n (length ws)
 below k v ws n [] none h = tt
-below k v ws n (i ∷ images) none h = (earlier (nat_lt i.set n) refl (k i.set) refl h.0, no_greater (k i.set) v i.point ws h.0, below k v ws n images none h.2)
-  where
-    earlier : (b : Bool) → nat_lt i.set n ≡ b → (o : Option (List History)) → k i.set ≡ o → ShownIn o v i.point ws → i.set < n
-    earlier true e o f g = ltb-true i.set n e
-    earlier false e None f g = absurd g
-    earlier false e (Some hs) f g = absurd (clash (k i.set) hs (none i.set (ltb-false i.set n e)) f)
-      where
-        clash : (o : Option (List History)) (hs : List History) → o ≡ None → o ≡ Some hs → ⊥
-        clash None hs e f = cc
-        clash (Some x) hs e f = cc
+below k v ws n (i ∷ images) none h = let ih = below k v ws n images none h.2 in grind (arith, common_steps, no_greater, ltb-true, ltb-false)
 
 pub append_none : (ws : List Write) → ws ≡ ws ++ []
-append_none [] = refl
-append_none (w ∷ ws) = ap (λ x. w ∷ x) (append_none ws)
+append_none ws = grind (arith, common_steps)
 
 pub shown-cut : (k : Known) (v n : ℕ) (hs : List History) (h : History) → k n ≡ Some hs → writes_at hs v ≡ h.writes → Below h.images n (length h.writes) → IsShown k v h → IsShown k v (cut n h)
 shown-cut k v n hs h e f b shown = grind (arith, shown-append, along_known, append_none)
@@ -223,7 +195,9 @@ below-known k v n h none shown = below k v h.writes n h.images none shown
 
 -- ## the image of a set
 
-point_if : (b : Bool) (k : Known) (v n p : ℕ) (ws : List Write) (i : Image) (images : List Image) → (i.set == n) ≡ b → (if b then Some i.point else point_in n images) ≡ Some p → ShownIn (k i.set) v i.point ws → (point_in n images ≡ Some p → ShownIn (k n) v p ws) → ShownIn (k n) v p ws
+point_if : (b : Bool) (k : Known) (v n p : ℕ) (ws : List Write) (i : Image) (images : List Image) → (i.set == n) ≡ b
+    → (if b then Some i.point else point_in n images) ≡ Some p → ShownIn (k i.set) v i.point ws → (point_in n images ≡ Some p → ShownIn (k n) v p ws)
+    → ShownIn (k n) v p ws
 point_if b k v n p ws i images e f h ih = grind arith
 
 point_shown : (k : Known) (v n p : ℕ) (ws : List Write) (images : List Image) → point_in n images ≡ Some p → Shown k v ws images → ShownIn (k n) v p ws
@@ -231,15 +205,8 @@ point_shown k v n p ws [] e h = absurd cc
 point_shown k v n p ws (i ∷ images) e h = point_if (i.set == n) k v n p ws i images refl e h.0 (λ f. point_shown k v n p ws images f h.2)
 
 pub shown_at : (k : Known) (base v u n p : ℕ) (hs : List History) → u ≡ base + v → AllShown k base hs → point_in n (history_in (slice_get hs v)).images ≡ Some p → ShownIn (k n) u p (history_in (slice_get hs v)).writes
-shown_at k base v u n p [] e h f = absurd (nothing v f)
-  where
-    nothing : (v : ℕ) → point_in n (history_in (slice_get [] v)).images ≡ Some p → ⊥
-    nothing zero f = cc
-    nothing (suc v) f = cc
-shown_at k base zero u n p (x ∷ hs) e h f = subst (λ y. ShownIn (k n) y p x.writes) (rw e (zero_more base)) (point_shown k base n p x.writes x.images f h.0)
-  where
-    zero_more : (a : ℕ) → a ≡ a + zero
-    zero_more a = omega arith
+shown_at k base v u n p [] e h f = grind (arith, common_steps)
+shown_at k base zero u n p (x ∷ hs) e h f = grind (arith, common_steps, point_shown)
 shown_at k base (suc v) u n p (x ∷ hs) e h f = shown_at k (base + 1) v u n p hs (rw e (one_more base v)) h.1 f
   where
     one_more : (a b : ℕ) → a + suc b ≡ (a + 1) + b

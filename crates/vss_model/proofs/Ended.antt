@@ -1,6 +1,7 @@
 -- At the end of a legal and complete trail no session stands, so no set is in progress.
 use Rattle.std.proofs.Common.{◌≡◌, ℕ, zero, suc, ◌≤◌, List, [], ◌∷◌, Option, None, refl, true, ap, sym, ◌∙◌, length, drop, arith}
 use Rattle.std.specs.Prelude.{All, slice_get}
+use Rattle.std.proofs.lemmas.Grind.{common_steps}
 use Rattle.write_history.specs.declared.move_item.Move.{Move}
 use Rattle.requestor.specs.Session.{Session}
 use Rattle.scenario.specs.Bounds.{IsPlan, IsLane, ends_sessions}
@@ -29,10 +30,7 @@ plan_ends_sessions s h i = lane_of s s.lanes h.lanes i
 -- ## no session at the end
 
 nothing_left : (ls : List LaneLine) (k : ℕ) → length ls ≤ k → drop k ls ≡ []
-nothing_left [] zero h = refl
-nothing_left [] (suc k) h = refl
-nothing_left (l ∷ ls) zero h = absurd (omega (arith, h))
-nothing_left (l ∷ ls) (suc k) h = nothing_left ls k (omega (arith, h))
+nothing_left ls k h = grind (arith, common_steps)
 
 no_session : (s : Plan) (r : Run) (q : Option Session) → EndsLeft s r.moves q → ((i : ℕ) → length (lines_of s i) ≤ cursor r.moves i) → q ≡ None
 no_session s r q h e = grind (arith, nothing_left)

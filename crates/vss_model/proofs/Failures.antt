@@ -2,8 +2,10 @@
 use Rattle.std.proofs.Common.{◌≡◌, ℕ, ◌+◌, ◌==◌, ◌<◌, zero, suc, List, [], ◌∷◌, Some, None, refl, Bool, true, false, ◌∙◌, find, arith}
 use Rattle.std.specs.Prelude.{◌++◌, map, ◌&&◌, ◌||◌, not, if◌then◌else◌, slice_get}
 use Rattle.std.proofs.lemmas.List.Folds.{list_any-append}
+use Rattle.std.proofs.lemmas.Bool.{false_from_ne_true}
+use Rattle.std.proofs.lemmas.Grind.{common_steps}
 use Rattle.write_history.specs.History.{Write, Image, History, point_in}
-use Rattle.write_history.specs.Slots.{Copy, Placed, named, copy_of, copies_of, copies_from, copies}
+use Rattle.write_history.specs.Slots.{Copy, Placed, copy_of, copies_of, copies_from, copies}
 use Rattle.scenario.specs.Plan.{Plan}
 use Rattle.vss_model.specs.State.{State, SetRow, in_progress, row_of, history_in, history_of, is_held, is_frozen}
 use Rattle.vss_model.specs.Acts.{Act, state}
@@ -23,16 +25,7 @@ live_at rows (x ∷ hs) (suc v) h = live_at rows hs v h.1
 -- numbers below the first are of no row
 pub no_live_below : (k n : ℕ) (rows : List SetRow) → NumberedFrom k rows → n < k → is_live rows n ≡ false
 no_live_below k n [] h l = refl
-no_live_below k n (r ∷ rows) h l =
-    let head : (r.number == n) ≡ false = differs r.number n (rw h.0 l) in
-    or_false (r.number == n) (not (has_failed r.result)) (is_live rows n) head (no_live_below (k + 1) n rows h.1 (omega arith))
-  where
-    differs : (a b : ℕ) → b < a → (a == b) ≡ false
-    differs a b l = grind arith
-
-    or_false : (a b c : Bool) → a ≡ false → c ≡ false → ((a && b) || c) ≡ false
-    or_false true b c e f = absurd cc
-    or_false false b c e f = f
+no_live_below k n (r ∷ rows) h l = let ih = no_live_below (k + 1) n rows h.1 (omega arith) in grind (arith, common_steps)
 
 failed_head : (b : Bool) (k n : ℕ) (r q : SetRow) (rows : List SetRow) → (q.number == n) ≡ b → q.number ≡ k → NumberedFrom (k + 1) rows
     → (if b then Some q else find (λ x. x.number == n) rows) ≡ Some r → has_failed r.result ≡ true
@@ -76,9 +69,7 @@ none_of_volume : (rows : List SetRow) (n v blocks : ℕ) (ws : List Write) (imag
     → holds_for n (copies_of v blocks ws images) ≡ false
 none_of_volume rows n v blocks ws [] f h = refl
 none_of_volume rows n v blocks ws (i ∷ newer) f h =
-    none_in_either n (map (copy_of v ws i) (named blocks ws i newer)) (copies_of v blocks ws newer)
-    (none_mapped n v ws i (named blocks ws i newer) (other_set rows n i.set f h.0))
-    (none_of_volume rows n v blocks ws newer f h.1)
+    let ih = none_of_volume rows n v blocks ws newer f h.1 in grind (arith, common_steps, none_in_either, none_mapped, other_set)
 
 none_from_if : (b : Bool) (n : ℕ) (xs ys zs : List Copy) → holds_for n xs ≡ false → holds_for n ys ≡ false → holds_for n zs ≡ false
     → holds_for n (if b then xs ++ ys else zs) ≡ false
@@ -89,10 +80,7 @@ none_from : (rows : List SetRow) (n v : ℕ) (ps : List Placed) (hs : List Histo
 none_from rows n v [] hs f h = refl
 none_from rows n v (p ∷ ps) [] f h = refl
 none_from rows n v (p ∷ ps) (x ∷ hs) f h =
-    none_from_if p.within n (copies_of v p.blocks x.writes x.images) (copies_from (v + 1) ps hs) (copies_from v ps hs)
-    (none_of_volume rows n v p.blocks x.writes x.images f h.0)
-    (none_from rows n (v + 1) ps hs f h.1)
-    (none_from rows n v ps hs f h.1)
+    let ih = none_from rows n (v + 1) ps hs f h.1 in let ih1 = none_from rows n v ps hs f h.1 in grind (arith, common_steps, none_from_if, none_of_volume)
 
 pub failed_has_no_copy : (s : Plan) (acts : List Act) (n : ℕ) (r : SetRow) (group : List Placed) → row_of (state s acts) n ≡ Some r → has_failed r.result ≡ true
     → holds_for n (copies group (state s acts).volumes) ≡ false
@@ -103,14 +91,11 @@ failed_has_no_copy s acts n r group e f =
 
 -- ## while no set is in progress
 
-false_where_not_true : (b : Bool) → (b ≡ true → ⊥) → b ≡ false
-false_where_not_true b h = grind arith
-
 no_set : (st : State) → in_progress st ≡ None → RunsSnapshot st → ⊥
 no_set st e r = grind arith
 
 pub none_held : (s : Plan) (acts : List Act) (v : ℕ) → in_progress (state s acts) ≡ None → is_held (state s acts) v ≡ false
-none_held s acts v e = false_where_not_true (is_held (state s acts) v) (λ h. no_set (state s acts) e (held_means s acts v h))
+none_held s acts v e = false_from_ne_true (is_held (state s acts) v) (λ h. no_set (state s acts) e (held_means s acts v h))
 
 pub none_frozen : (s : Plan) (acts : List Act) (w : ℕ) → in_progress (state s acts) ≡ None → is_frozen (state s acts) w ≡ false
-none_frozen s acts w e = false_where_not_true (is_frozen (state s acts) w) (λ h. no_set (state s acts) e (frozen_means s acts w h))
+none_frozen s acts w e = false_from_ne_true (is_frozen (state s acts) w) (λ h. no_set (state s acts) e (frozen_means s acts w h))

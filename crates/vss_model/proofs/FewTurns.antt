@@ -2,6 +2,7 @@
 use Rattle.std.proofs.Common.{◌≡◌, ℕ, suc, ◌+◌, ◌≤◌, List, [], ◌∷◌, ◌++◌, Option, Some, None, refl, Bool, true, false, ap, sym, subst, map, length, arith}
 use Rattle.std.specs.Prelude.{if◌then◌else◌, nat_le, find, option_map}
 use Rattle.std.proofs.lemmas.List.{length-map}
+use Rattle.std.proofs.lemmas.Grind.{common_steps}
 use Rattle.vss_names.specs.declared.context.Context.{Context}
 use Rattle.vss_names.specs.declared.order.Order.{Order}
 use Rattle.vss_names.specs.declared.set_outcome.SetOutcome.{SetOutcome}
@@ -11,17 +12,17 @@ use Rattle.writer_state.specs.declared.said.Said.{Said}
 use Rattle.writer_state.specs.declared.writer_row.WriterRow.{WriterRow}
 use Rattle.writer_state.specs.WriterRow.{row_aborted, row_gathered, row_ended}
 use Rattle.write_history.specs.declared.mark.Mark.{Mark}
-use Rattle.set_agenda.specs.Course.{Course, posted, failed as course_failed, told, worked, released, rows_where, member_if, members_from, is_member}
+use Rattle.set_agenda.specs.Course.{Course, posted, failed as course_failed, told, worked, released, rows_where, members_from, is_member}
 use Rattle.scenario.specs.Bounds.{IsPlan}
 use Rattle.scenario.specs.Plan.{Plan}
 use Rattle.vss_model.specs.State.{State, SetRow, start, in_progress, is_running, row_changed}
 use Rattle.vss_model.specs.Ending.{row_settled}
 use Rattle.vss_model.specs.Sessions.{new_set, with_volume, add_refusal}
-use Rattle.vss_model.specs.Steps.{with_cut, row_cut, later}
+use Rattle.vss_model.specs.Steps.{row_cut, later}
 use Rattle.vss_model.specs.Acts.{Act, state}
 use Rattle.set_agenda.proofs.CourseRule.{IsKeptInCourse}
 use Rattle.vss_model.specs.declared.event.Event.{Event}
-use Rattle.vss_model.specs.Changes.{Change, StartsSet, AddsVolume, IsCutAt, Settles, apply}
+use Rattle.vss_model.specs.Changes.{Change, apply}
 use Rattle.vss_model.proofs.Changes.{Comes, by_all_changes}
 use Rattle.vss_model.proofs.CourseFacts.{IsKeptByCalls, of_course}
 use Rattle.vss_model.proofs.Orderly.{find-map, find-settled_over}
@@ -38,11 +39,7 @@ length-rows_where f test w (r ∷ rs) = ap suc (length-rows_where f test (w + 1)
 
 pub short_members : (test : ℕ → Bool) (w : ℕ) (rows : List WriterRow) → length (members_from test w rows) ≤ length rows
 short_members test w [] = omega arith
-short_members test w (r ∷ rs) = own (test w) (short_members test (w + 1) rs)
-  where
-    own : (b : Bool) → length (members_from test (w + 1) rs) ≤ length rs → length (member_if b w r ++ members_from test (w + 1) rs) ≤ length (r ∷ rs)
-    own true h = omega arith
-    own false h = omega arith
+short_members test w (r ∷ rs) = let ih = short_members test (w + 1) rs in grind (arith, common_steps)
 
 few_failed : (why : VssResult) (c : Course) → FewWriters c → FewWriters (course_failed why c)
 unfolding course_failed
@@ -95,7 +92,7 @@ few_row_settled o rows h = grind (arith, few_same, find-map, same_settled, few_m
 same_changed : (n : ℕ) (f : SetRow → SetRow) → ((r : SetRow) → (f r).result ≡ r.result) → (r : SetRow) → is_running (row_changed n f r).result ≡ is_running r.result
 same_changed n f same r = grind arith
 
-volumes_cut : (n now : ℕ) (r : SetRow) → (row_cut n now r).volumes ≡ r.volumes
+pub volumes_cut : (n now : ℕ) (r : SetRow) → (row_cut n now r).volumes ≡ r.volumes
 volumes_cut n now r = grind arith
 
 few_started : (rows : List SetRow) (n : ℕ) (c : Context) → FewVolumes (running_in rows) → FewVolumes (running_in (rows ++ new_set n c ∷ []))
@@ -107,8 +104,7 @@ few_started (r ∷ rows) n c h = own (is_running r.result) (few_started rows n c
     own false later g = later g
 
 length-more : (vs : List ℕ) (v : ℕ) → length (vs ++ v ∷ []) ≡ suc (length vs)
-length-more [] v = refl
-length-more (u ∷ vs) v = ap suc (length-more vs v)
+length-more vs v = grind (arith, common_steps)
 
 few_if_added : (a b d : Bool) (x y z : VssResult) (n : ℕ) → nat_le 64 n ≡ b → (if a then Some x else if b then Some y else if d then Some z else None) ≡ None → suc n ≤ 64
 few_if_added a b d x y z n e f = grind arith
@@ -136,13 +132,7 @@ few_rows : (g : SetRow → SetRow) → ((r : SetRow) → is_running (g r).result
 few_rows g same volumes rows h = few_same _ _ (find-map g same rows) (few_mapped g volumes (running_in rows) h)
 
 few_change : (s : Plan) (e : Event) (m : Mark) (st : State) (c : Change) (x : State) → Comes s e m st x c → FewVolumes (in_progress x) → FewVolumes (in_progress (apply x c))
-few_change s e m st (StartsSet r) x i h = subst (λ q. FewVolumes (running_in (x.sets ++ q ∷ []))) (sym i.row) (few_started x.sets _ _ h)
-few_change s e m st (AddsVolume n v) x i h =
-    subst (λ (y : State). FewVolumes (running_in (map (row_changed n (with_volume v)) y.sets))) (sym i.first)
-    (subst (λ k. FewVolumes (running_in (map (row_changed k (with_volume v)) st.sets))) (sym i.number) (few_added v i.row st i.found i.allowed))
-few_change s e m st (IsCutAt n now) x i h = few_rows (row_cut n now) (same_changed n (with_cut now) (λ r. refl)) (volumes_cut n now) x.sets h
-few_change s e m st (Settles o) x i h = few_row_settled o x.sets h
-few_change s e m st _ x i h = h
+few_change s e m st c x i h = grind (arith, common_steps, few_started, few_added, few_rows, same_changed, volumes_cut, few_row_settled)
 
 few_start : (s : Plan) → IsPlan s → FewWriters (start s).course
 few_start s h = grind (arith, length-map)

@@ -1,6 +1,7 @@
 -- Only the Cut step gives an image: after any other act each volume has no image of another set, and no more of them.
-use Rattle.std.proofs.Common.{◌≡◌, ◌∙◌, suc, List, [], ◌∷◌, Option, Some, None, refl, Bool, true, false, ap, map, length, fold, arith}
+use Rattle.std.proofs.Common.{◌≡◌, ◌∙◌, List, [], ◌∷◌, Option, Some, None, refl, Bool, true, false, map, length, fold, arith}
 use Rattle.std.specs.Prelude.{◌&&◌}
+use Rattle.std.proofs.lemmas.Grind.{common_steps}
 use Rattle.write_history.specs.declared.mark.Mark.{Mark}
 use Rattle.write_history.specs.History.{History, fresh, dropped, written, reverted, reverted_in_part}
 use Rattle.set_agenda.specs.Agenda.{open_group}
@@ -36,9 +37,7 @@ neither a b g h f = grind arith
 
 -- an act that is no Cut step cuts nothing
 pub no_cut : (s : Plan) (e : Event) (m : Mark) (st x : State) (c : Change) → (is_provider e && is_cut_group (open_group (left_now st))) ≡ false → Comes s e m st x c → is_cut c ≡ false
-no_cut s e m st x (IsCutAt n now) f i = neither (is_provider e) _ i.0.provider i.0.group f
-no_cut s e m st x (Cuts n vs) f i = neither (is_provider e) _ i.0.provider i.0.group f
-no_cut s e m st x _ f i = refl
+no_cut s e m st x c f i = grind (arith, common_steps, neither)
 
 pub fewer_after : (s : Plan) (st : State) (act : Act) → (is_provider act.event && is_cut_group (open_group (left_now st))) ≡ false → FewerIn st.volumes (after s st act).volumes
 fewer_after s st act f =
@@ -62,17 +61,14 @@ fewer_followed ran c st = fewer_concluded (ending st.course.outcome c.outcome ra
 -- ## as many volumes as at the start
 
 as_many_apply : (c : Change) (x : State) → length (apply x c).volumes ≡ length x.volumes
-as_many_apply (Cuts n vs) x = as_many_cut n vs 0 x.volumes
-as_many_apply (IsCutAt n now) x = refl
-as_many_apply c x = (fewer_apply c x refl).as_many
+as_many_apply c x = grind (arith, common_steps, as_many_cut, fewer_apply)
 
 as_many_from : (s : Plan) (st : State) (acts : List Act) → length (fold (after s) st acts).volumes ≡ length st.volumes
 as_many_from s st [] = refl
 as_many_from s st (act ∷ acts) = as_many_from s (after s st act) acts ∙ by_changes (λ x. length x.volumes ≡ length st.volumes) s st act (λ c x i h. as_many_apply c x ∙ h) refl
 
 as_many_rows : (rows : List VolumeRow) → length (map (λ _. fresh) rows) ≡ length rows
-as_many_rows [] = refl
-as_many_rows (r ∷ rows) = ap (λ n. suc n) (as_many_rows rows)
+as_many_rows rows = grind (arith, common_steps)
 
 -- there are always as many volumes as in the scenario
 pub as_many_volumes : (s : Plan) (acts : List Act) → length (state s acts).volumes ≡ length s.volumes

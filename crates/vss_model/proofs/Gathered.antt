@@ -15,6 +15,7 @@ use Rattle.component_doc.specs.Selection.{Pair, naming, Names, is_taker, takers,
 use Rattle.component_doc.specs.Over.{meta_at, is_selectable_of, names_selectable}
 use Rattle.std.specs.List.{list_all}
 use Rattle.std.proofs.lemmas.Bool.{and_parts, eqb-true, or_from, or_right}
+use Rattle.std.proofs.lemmas.Grind.{common_steps}
 use Rattle.set_agenda.specs.declared.group.Group.{Group}
 use Rattle.set_agenda.specs.declared.kind.Kind.{Kind}
 use Rattle.set_agenda.specs.declared.kind.Kind.TheVariants.{Gather, Prepare, Snapshot, Complete}
@@ -74,7 +75,7 @@ record IsGathered (s : Plan) (st : State) : Type 0 where
 
 -- ## what follows
 
-course-concluded : (e : Ending) (st : State) → (concluded e st).course ≡ st.course
+pub course-concluded : (e : Ending) (st : State) → (concluded e st).course ≡ st.course
 course-concluded e st = grind arith
 
 bare_concluded : (e : Ending) (st : State) → IsBare st → IsBare (concluded e st)
@@ -132,10 +133,7 @@ known_if b m e = grind arith
 pub known_at : (s : Plan) (st : State) (k : ℕ) (ps : List WriterPlan) (w : ℕ) → is_some (meta_at (slice_get (known_from s st k ps) w)) ≡ true → is_known s st (k + w) ≡ true
 known_at s st k [] zero e = absurd cc
 known_at s st k [] (suc w) e = absurd cc
-known_at s st k (p ∷ ps) zero e = ap (is_known s st) (plus k) ∙ known_if (is_known s st k) p.meta e
-  where
-    plus : (a : ℕ) → a + zero ≡ a
-    plus a = omega arith
+known_at s st k (p ∷ ps) zero e = grind (arith, common_steps, known_if)
 known_at s st k (p ∷ ps) (suc w) e = ap (is_known s st) (shift k w) ∙ known_at s st (k + 1) ps w e
   where
     shift : (a b : ℕ) → a + suc b ≡ (a + 1) + b
@@ -175,10 +173,7 @@ none_known_below (Some m ∷ ms) k n l = or_from (k == n) (list_any (λ x. x == 
 
 pub all_known : (ms : List (Option Meta)) (k n w : ℕ) → n ≡ k + w → list_any (λ x. x == n) (known_of k ms) ≡ true → is_some (meta_at (slice_get ms w)) ≡ true
 all_known [] k n w e f = absurd cc
-all_known (None ∷ ms) k n zero e f = absurd (true_not_false (list_any (λ x. x == n) (known_of (k + 1) ms)) f (none_known_below ms (k + 1) n (here n k e)))
-  where
-    here : (a b : ℕ) → a ≡ b + zero → a < b + 1
-    here a b e = omega (arith, e)
+all_known (None ∷ ms) k n zero e f = grind (arith, common_steps, true_not_false, none_known_below)
 all_known (None ∷ ms) k n (suc w) e f = all_known ms (k + 1) n w (shift n k w e) f
   where
     shift : (a b c : ℕ) → a ≡ b + suc c → a ≡ (b + 1) + c
@@ -204,7 +199,7 @@ taker_known All s st w over e = fit_of s st w (all_known (known_metas s st) 0 w 
     plus : (a : ℕ) → a ≡ 0 + a
     plus a = omega arith
 
-filter_passes : (test : ℕ → Bool) (w : ℕ) (xs : List ℕ) → is_among w (filter test xs) ≡ true → test w ≡ true
+pub filter_passes : (test : ℕ → Bool) (w : ℕ) (xs : List ℕ) → is_among w (filter test xs) ≡ true → test w ≡ true
 filter_passes test w [] e = absurd cc
 filter_passes test w (x ∷ xs) e = by_test (test x) refl e (filter_passes test w xs)
   where
@@ -306,7 +301,7 @@ on_steps s mark st h = on_stepped_as s (is_failed_step (is_flush (open_group (le
 
 -- ## failures and writes
 
-failed_agenda : (why : VssResult) (c : Course) → (course_failed why c).agenda ≡ None
+pub failed_agenda : (why : VssResult) (c : Course) → (course_failed why c).agenda ≡ None
 unfolding course_failed
 failed_agenda why c = refl
 

@@ -4,6 +4,7 @@ use Rattle.std.proofs.lemmas.List.Sums.{sum_by-append}
 use Rattle.std.specs.Prelude.{◌⊎◌, is_none, length, ◌&&◌, ◌||◌, not, slice_get}
 use Rattle.std.specs.List.{list_all, range_with_len}
 use Rattle.std.proofs.lemmas.Bool.{and_from, and_parts, eq-eqb, eqb-true}
+use Rattle.std.proofs.lemmas.Grind.{common_steps}
 use Rattle.vss_names.specs.declared.context.Context.{Context}
 use Rattle.vss_names.specs.declared.vss_result.VssResult.{VssResult}
 use Rattle.vss_names.specs.declared.vss_result.VssResult.TheVariants.{AsyncCancelled}
@@ -33,7 +34,9 @@ use Rattle.vss_model.specs.Lines.{called, line}
 use Rattle.vss_model.specs.Steps.{answered, step_made, stepped_as, stepped, ticked, later}
 use Rattle.vss_model.specs.Acts.{Act, after, enabled, line_enabled}
 use Rattle.vss_model.specs.Laws.{IsKeptByWrites}
-use Rattle.vss_model.specs.Trail.{Run, begin, is_lane, cursor, next_line, line_event, answer_event, script_event, event_of, act_of, after_event, moved, run_from, run, acts, event_enabled, can_act, none_can_act, may_move, allows as allows_mark, is_legal_move, is_legal_from, is_legal, is_used_up, is_complete}
+use Rattle.vss_model.specs.Trail.{Run, begin, is_lane, cursor, next_line, line_event, answer_event, script_event, event_of, act_of, after_event, moved}
+use Rattle.vss_model.specs.Trail.{run_from, run, event_enabled, can_act, none_can_act, may_move, allows as allows_mark, is_legal_move, is_legal_from}
+use Rattle.vss_model.specs.Trail.{is_legal, is_used_up, is_complete}
 use Rattle.scenario.specs.Bounds.{is_begin, is_end, has_end, ends_sessions}
 use Rattle.vss_model.specs.GoesOn.{EndsSessions, CanGoOn}
 use Rattle.vss_model.proofs.ByEvent.{after_enabled, by_if}
@@ -208,15 +211,12 @@ pub none_some : (x : Option Session) (q : Session) → x ≡ Some q → x ≡ No
 none_some x q e f = grind arith
 
 lane_left : (s : Plan) (moves : List Move) (m : Move) (i : ℕ) (l : LaneLine) → m.actor ≡ Lane i → slice_get (lines_of s i) (cursor moves i) ≡ Some l → rest_of s moves i ≡ l ∷ rest_of s (moves ++ m ∷ []) i
-lane_left s moves m i l e f =
-    drop_at (lines_of s i) (cursor moves i) l f
-    ∙ ap (λ n. l ∷ drop n (lines_of s i)) (sym (cursor_more moves m i (ap (is_lane i) e ∙ eq-eqb i i refl)))
+lane_left s moves m i l e f = grind (arith, common_steps, drop_at, cursor_more, eq-eqb)
 
 -- no session stood
 from_none : (b : Bool) (s : Plan) (moves : List Move) (m : Move) (st : State) (i : ℕ) (l : LaneLine) → is_begin l.op ≡ b → EndsSessions s → m.actor ≡ Lane i → slice_get (lines_of s i) (cursor moves i) ≡ Some l → st.session ≡ None
     → EndsLeft s (moves ++ m ∷ []) (after s st (act_of m.mark (Line i l.op))).session
-from_none false s moves m st i l b good e f g =
-    subst (EndsLeft s (moves ++ m ∷ [])) (sym (none_stays s st (act_of m.mark (Line i l.op)) (λ lane h. true_not_false (is_begin l.op) (and_parts (is_begin l.op) (i == lane) h).0 b) g)) tt
+from_none false s moves m st i l b good e f g = grind (arith, common_steps, none_stays, true_not_false, and_parts)
 from_none true s moves m st i l b good e f g = by_session (after s st act).session owned
   where
     act : Act
@@ -236,7 +236,9 @@ from_none true s moves m st i l b good e f g = by_session (after s st act).sessi
 other_lane : (a b : ℕ) → (b == a) ≡ false → (a == b) ≡ false
 other_lane a b e = grind arith
 
-from_own : (b : Bool) (s : Plan) (moves : List Move) (m : Move) (st : State) (q : Session) (l : LaneLine) → is_end l.op ≡ b → m.actor ≡ Lane q.owner → slice_get (lines_of s q.owner) (cursor moves q.owner) ≡ Some l → st.session ≡ Some q → enabled s st (Line q.owner l.op) ≡ true → has_end (rest_of s moves q.owner) ≡ true
+from_own : (b : Bool) (s : Plan) (moves : List Move) (m : Move) (st : State) (q : Session) (l : LaneLine) → is_end l.op ≡ b → m.actor ≡ Lane q.owner
+    → slice_get (lines_of s q.owner) (cursor moves q.owner) ≡ Some l → st.session ≡ Some q → enabled s st (Line q.owner l.op) ≡ true
+    → has_end (rest_of s moves q.owner) ≡ true
     → EndsLeft s (moves ++ m ∷ []) (after s st (act_of m.mark (Line q.owner l.op))).session
 from_own true s moves m st q l b e f g on h =
     subst (EndsLeft s (moves ++ m ∷ []))
@@ -370,14 +372,11 @@ quiet_goes s r e h f =
 
 -- ## where an agenda runs
 
-not_false : (b : Bool) → not b ≡ false → b ≡ true
+pub not_false : (b : Bool) → not b ≡ false → b ≡ true
 not_false b e = grind arith
 
 some_acts : (lanes writers provider : Bool) (s : Plan) (r : Run) → (lanes && writers && provider) ≡ false → (lanes ≡ false → CanGoOn s r) → (writers ≡ false → CanGoOn s r) → (provider ≡ false → CanGoOn s r) → CanGoOn s r
-some_acts false writers provider s r e f g h = f refl
-some_acts true false provider s r e f g h = g refl
-some_acts true true false s r e f g h = h refl
-some_acts true true true s r e f g h = absurd cc
+some_acts lanes writers provider s r e f g h = grind (arith, common_steps)
 
 idle_or_other : (b : Bool) (s : Plan) (r : Run) → none_can_act s r ≡ b → is_asking (left_now r.state) ≡ true → CanGoOn s r
 idle_or_other true s r e a = can_move s r IdleActor (and_from (can_act s r IdleActor) (none_can_act s r) a e)
@@ -395,13 +394,8 @@ running_goes s r (inl w) = can_move s r Advance w
 running_goes s r (inr a) = idle_or_other (none_can_act s r) s r refl a
 
 by_runs : (b : Bool) (s : Plan) (trail : List Move) → runs (run s trail).state ≡ b → EndsLeft s (run s trail).moves (run s trail).state.session → is_complete s trail ≡ false → CanGoOn s (run s trail)
-by_runs true s trail e h f =
-    running_goes s (run s trail)
-    (subst (λ st. (is_working (left_now st) ≡ true) ⊎ (is_asking (left_now st) ≡ true)) (sym (state-run s trail))
-    (working_or_asking s (acts s trail) (subst (λ st. runs st ≡ true) (state-run s trail) e)))
-by_runs false s trail e h f =
-    let r = run s trail in
-    quiet_goes s r (none_runs r.state.course.agenda e) h (running_off (list_all (is_used_up s r) (range_with_len 0 (length s.lanes))) (runs r.state) f e)
+by_runs true s trail e h f = grind (arith, common_steps, running_goes, state-run, working_or_asking)
+by_runs false s trail e h f = grind (arith, common_steps, quiet_goes, none_runs, running_off)
 
 pub can_go_on : (s : Plan) (trail : List Move) → EndsSessions s → is_legal s trail ≡ true → is_complete s trail ≡ false → CanGoOn s (run s trail)
 can_go_on s trail good e f = by_runs (runs (run s trail).state) s trail refl (legal_ends s (begin s) trail good tt e) f

@@ -1,8 +1,10 @@
 -- Every run keeps its promises, and a legal and complete trail makes each line once.
+use Rattle.std.proofs.lemmas.Option.{slice_get_within}
 use Rattle.std.proofs.Common.{◌≡◌, ℕ, zero, suc, ◌+◌, ◌==◌, ◌<◌, ◌≤◌, List, [], ◌∷◌, ◌++◌, Option, Some, None, refl, Bool, true, false, ap, ◌∙◌, subst, length, inl, inr, arith}
 use Rattle.std.specs.Prelude.{◌⊎◌, is_none, not, slice_get}
 use Rattle.std.specs.List.{list_all, range_with_len}
-use Rattle.std.proofs.lemmas.Bool.{and_parts, eqb-true}
+use Rattle.std.proofs.lemmas.Bool.{and_parts, eqb-true, cases_lt}
+use Rattle.std.proofs.lemmas.Grind.{common_steps}
 use Rattle.write_history.specs.History.{point_in}
 use Rattle.write_history.specs.declared.actor.Actor.{Actor}
 use Rattle.write_history.specs.declared.actor.Actor.TheVariants.{Lane}
@@ -37,17 +39,7 @@ use Rattle.vss_model.proofs.GoesOn.{cursor_more, cursor_same}
 at_cut : (s : Plan) (so_far : List Act) (n v p : ℕ) → point_in n (history_of (state s so_far) v).images ≡ Some p → (before : List Act) → cut s n so_far ≡ Some before
     → (o : Option SetRow) → in_progress (state s before) ≡ o → has_number n o ≡ true → is_cut_group (open_group (left_now (state s before))) ≡ true → ReadsAsAtTheCut s so_far n v p
 at_cut s so_far n v p h before e None f g i = absurd cc
-at_cut s so_far n v p h before e (Some r) f g i = record {
-  before = before;
-  is_cut = e;
-  reads = λ b. image_reads s so_far before n v p b h e;
-  set = r;
-  is_set = f;
-  number = eqb-true r.number n g;
-  volume = image_of_set s so_far n v p before r h e f;
-  held = λ u j. held_at_cut s before r u i f j;
-  frozen = λ w j. frozen_at_cut s before r w i f j;
-}
+at_cut s so_far n v p h before e (Some r) f g i = grind (arith, common_steps, image_reads, eqb-true, image_of_set, held_at_cut, frozen_at_cut)
 
 reads_as : (s : Plan) (so_far : List Act) (n v p : ℕ) → point_in n (history_of (state s so_far) v).images ≡ Some p → (o : Option (List Act)) → cut s n so_far ≡ o → IsShownAt s v p (history_of (state s so_far) v).writes o → ReadsAsAtTheCut s so_far n v p
 reads_as s so_far n v p h None e i = absurd i
@@ -86,29 +78,20 @@ leaves_nothing s so_far n r e f = grind (arith, failed_keeps_nothing, failed_has
 
 -- ## each line once
 
-within : (ls : List LaneLine) (k : ℕ) (l : LaneLine) → slice_get ls k ≡ Some l → k < length ls
-within [] zero l e = absurd cc
-within [] (suc k) l e = absurd cc
-within (x ∷ ls) zero l e = omega arith
-within (x ∷ ls) (suc k) l e = let h = within ls k l e in omega (arith, h)
-
 past : (ls : List LaneLine) (k : ℕ) → is_none (slice_get ls k) ≡ true → length ls ≤ k
 past [] k e = omega arith
 past (x ∷ ls) zero e = absurd cc
 past (x ∷ ls) (suc k) e = let h = past ls k e in omega (arith, h)
 
-zero_more : (x : ℕ) → 0 + x ≡ x
+pub zero_more : (x : ℕ) → 0 + x ≡ x
 zero_more x = omega arith
-
-lanes_or : (i n : ℕ) → (i < n) ⊎ (n ≤ i)
-lanes_or i n = grind arith
 
 -- no lane is past its end
 abbrev NonePast : Plan → List Move → Type 0
 NonePast s moves = (i : ℕ) → cursor moves i ≤ length (lines_of s i)
 
 has_line : (s : Plan) (r : Run) (j : ℕ) (o : Option LaneLine) → next_line s r j ≡ o → event_enabled s r (line_event j o) ≡ true → cursor r.moves j < length (lines_of s j)
-has_line s r j o e f = grind (arith, within)
+has_line s r j o e f = grind (arith, slice_get_within)
 
 lane_past : (s : Plan) (r : Run) (m : Move) (j i : ℕ) → m.actor ≡ Lane j → event_enabled s r (event_of s r (Lane j)) ≡ true → NonePast s r.moves → cursor (r.moves ++ m ∷ []) i ≤ length (lines_of s i)
 lane_past s r m j i e f h = own (j == i) refl
@@ -138,15 +121,9 @@ past_from s r (m ∷ ms) e h =
 -- a test that all numbers below n pass
 all_below : (p : ℕ → Bool) (a n i : ℕ) → list_all p (range_with_len a n) ≡ true → i < n → p (a + i) ≡ true
 all_below p a zero i e h = absurd (omega (arith, h))
-all_below p a (suc n) zero e h = subst (λ x. p x ≡ true) (none_more a) (and_parts (p a) (list_all p (range_with_len (a + 1) n)) e).0
-  where
-    none_more : (x : ℕ) → x ≡ x + 0
-    none_more x = omega arith
+all_below p a (suc n) zero e h = grind (arith, common_steps, and_parts)
 all_below p a (suc n) (suc i) e h =
-    subst (λ x. p x ≡ true) (shift a i) (all_below p (a + 1) n i (and_parts (p a) (list_all p (range_with_len (a + 1) n)) e).1 (omega (arith, h)))
-  where
-    shift : (x y : ℕ) → x + 1 + y ≡ x + suc y
-    shift x y = omega arith
+    let ih = all_below p (a + 1) n i (and_parts (p a) (list_all p (range_with_len (a + 1) n)) e).1 (omega (arith, h)) in grind (arith, common_steps, and_parts)
 
 no_lane : (lanes : List LanePlan) (i : ℕ) → length lanes ≤ i → length (lines_in (slice_get lanes i)) ≡ 0
 no_lane [] i h = refl
@@ -154,7 +131,7 @@ no_lane (l ∷ lanes) zero h = absurd (omega (arith, h))
 no_lane (l ∷ lanes) (suc i) h = no_lane lanes i (omega (arith, h))
 
 pub used_up : (s : Plan) (r : Run) → is_over s r ≡ true → (i : ℕ) → length (lines_of s i) ≤ cursor r.moves i
-used_up s r e i = own (lanes_or i (length s.lanes))
+used_up s r e i = own (cases_lt i (length s.lanes))
   where
     own : (i < length s.lanes) ⊎ (length s.lanes ≤ i) → length (lines_of s i) ≤ cursor r.moves i
     own (inl h) = past (lines_of s i) (cursor r.moves i) (subst (λ x. is_used_up s r x ≡ true) (zero_more i) (all_below (is_used_up s r) 0 (length s.lanes) i (and_parts (list_all (is_used_up s r) (range_with_len 0 (length s.lanes))) (not (runs r.state)) e).0 h))

@@ -1,10 +1,11 @@
 -- From the Cut until the volume's Release the image of the set in progress names no block: its point is the end of the
 -- volume's effective writes, and it uses no slot.
-use Rattle.std.proofs.Common.{◌≡◌, ◌⊎◌, ℕ, ◌+◌, ◌==◌, ◌<◌, ◌≤◌, zero, suc, List, [], ◌∷◌, ◌++◌, Option, Some, None, refl, Bool, true, false, map, filter, length, drop, ap, sym, ◌∙◌, subst, find, fold, inl, arith}
+use Rattle.std.proofs.Common.{◌≡◌, ◌⊎◌, ℕ, ◌+◌, ◌==◌, ◌<◌, zero, suc, List, [], ◌∷◌, ◌++◌, Option, Some, None, refl, Bool, true, false, map, filter, length, drop, ap, sym, ◌∙◌, subst, find, fold, inl, arith}
 use Rattle.std.specs.Prelude.{option_map, is_some, ◌&&◌, not, if◌then◌else◌, nat_lt, slice_get}
 use Rattle.std.specs.List.{range_with_len}
 use Rattle.std.proofs.Math.Seq.{drop-length}
 use Rattle.std.proofs.lemmas.Bool.{eq-eqb, eqb-true}
+use Rattle.std.proofs.lemmas.Grind.{common_steps}
 use Rattle.vss_names.specs.declared.context.Context.{Context}
 use Rattle.vss_names.specs.declared.vss_result.VssResult.TheVariants.{AsyncCancelled}
 use Rattle.vss_names.specs.declared.set_outcome.SetOutcome.{SetOutcome}
@@ -93,16 +94,8 @@ filter_head b t i n less rest f g = grind arith
 
 -- images that are kept by their sets
 point_in-filter : (test : ℕ → Bool) (n : ℕ) (images : List Image) → point_in n (filter (λ i. test i.set) images) ≡ (if test n then point_in n images else None)
-point_in-filter test n [] = by_test (test n)
-  where
-    nothing : Option ℕ
-    nothing = None
-
-    by_test : (b : Bool) → nothing ≡ (if b then nothing else nothing)
-    by_test true = refl
-    by_test false = refl
-point_in-filter test n (i ∷ images) =
-    filter_head (test i.set) (test n) i n (filter (λ j. test j.set) images) images (λ e. ap test (eqb-true i.set n e)) (point_in-filter test n images)
+point_in-filter test n [] = grind (arith, common_steps)
+point_in-filter test n (i ∷ images) = let ih = point_in-filter test n images in grind (arith, common_steps, filter_head, eqb-true)
 
 some_of : (b : Bool) (o less : Option ℕ) (p : ℕ) → less ≡ (if b then o else None) → less ≡ Some p → o ≡ Some p
 some_of b o less p e f = grind arith
@@ -213,23 +206,18 @@ with_volumes m v hs st f h = set_fewer m v st.course.agenda (in_progress st) (hi
 
 -- a set is started: it has no image
 found_no_image : (rows : List SetRow) (r : SetRow) (images : List Image) → point_in r.number images ≡ None → NoImage (find (λ q. is_running q.result) rows) images → NoImage (find (λ q. is_running q.result) (rows ++ r ∷ [])) images
-found_no_image [] r images e h = new_if (is_running r.result)
-  where
-    new_if : (b : Bool) → NoImage (if b then Some r else None) images
-    new_if true = e
-    new_if false = tt
+found_no_image [] r images e h = grind (arith, common_steps)
 found_no_image (q ∷ rows) r images e h = head_if (is_running q.result) h (found_no_image rows r images e)
   where
-    head_if : (b : Bool) → NoImage (if b then Some q else find (λ q. is_running q.result) rows) images → (NoImage (find (λ q. is_running q.result) rows) images → NoImage (find (λ q. is_running q.result) (rows ++ r ∷ [])) images) → NoImage (if b then Some q else find (λ q. is_running q.result) (rows ++ r ∷ [])) images
+    head_if : (b : Bool) → NoImage (if b then Some q else find (λ q. is_running q.result) rows) images
+        → (NoImage (find (λ q. is_running q.result) rows) images → NoImage (find (λ q. is_running q.result) (rows ++ r ∷ [])) images)
+        → NoImage (if b then Some q else find (λ q. is_running q.result) (rows ++ r ∷ [])) images
     head_if true h ih = h
     head_if false h ih = ih h
 
 unnumbered : (n m : ℕ) (images : List Image) → UpTo m images → m < n → point_in n images ≡ None
 unnumbered n m [] h l = refl
-unnumbered n m (i ∷ images) h l = rw (differs i.set n m h.0 l) (unnumbered n m images h.1 l)
-  where
-    differs : (a n m : ℕ) → a ≤ m → m < n → (a == n) ≡ false
-    differs a n m e l = grind arith
+unnumbered n m (i ∷ images) h l = let ih = unnumbered n m images h.1 l in grind (arith, common_steps)
 
 on_starts : (m : Bool) (v : ℕ) (q : Session) (st : State) → runs st ≡ false → IsOrderly st → Unused m v st → Unused m v (start_set q st).1
 on_starts m v q st e o h = grind (arith, no_image_any, found_no_image, unnumbered, images_up_to, quiet_no_image)
@@ -323,10 +311,7 @@ cut_head b n vs v h e = grind arith
 cut_each_at : (n : ℕ) (vs : List ℕ) (base : ℕ) (hs : List History) (v u : ℕ) → u ≡ base + v → IsCutHistory n vs u (history_in (slice_get hs v)) (history_in (slice_get (cut_each n vs base hs) v))
 cut_each_at n vs base [] zero u e = inl refl
 cut_each_at n vs base [] (suc v) u e = inl refl
-cut_each_at n vs base (x ∷ hs) zero u e = subst (λ y. IsCutHistory n vs y x (cut_if (is_among base vs) n x)) (first base u e) (cut_head (is_among base vs) n vs base x refl)
-  where
-    first : (a b : ℕ) → b ≡ a + zero → a ≡ b
-    first a b e = omega arith
+cut_each_at n vs base (x ∷ hs) zero u e = grind (arith, common_steps, cut_head)
 cut_each_at n vs base (x ∷ hs) (suc v) u e = cut_each_at n vs (base + 1) hs v u (shift base v u e)
   where
     shift : (a b u : ℕ) → u ≡ a + suc b → u ≡ (a + 1) + b

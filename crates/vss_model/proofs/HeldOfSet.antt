@@ -1,6 +1,7 @@
 -- A running snapshot agenda is that of the one set in progress, with its volumes and participants.
-use Rattle.std.proofs.Common.{◌≡◌, ℕ, ◌+◌, ◌==◌, List, [], ◌∷◌, Option, Some, None, refl, Bool, true, false, map, ap, sym, subst, find, fold, arith}
+use Rattle.std.proofs.Common.{◌≡◌, ℕ, ◌+◌, List, [], ◌∷◌, Option, Some, None, refl, Bool, true, false, map, sym, subst, find, fold, arith}
 use Rattle.std.specs.Prelude.{option_map, if◌then◌else◌}
+use Rattle.std.proofs.lemmas.Grind.{common_steps}
 use Rattle.vss_names.specs.declared.context.Context.{Context}
 use Rattle.vss_names.specs.declared.order.Order.{Order}
 use Rattle.vss_names.specs.declared.vss_result.VssResult.{VssResult}
@@ -171,8 +172,7 @@ find_if test b c f r found other e h = grind arith
 -- the set in progress is found by its result, which a cut leaves
 pub find-row_cut : (n now : ℕ) (rows : List SetRow) → find (λ r. is_running r.result) (map (row_cut n now) rows) ≡ option_map (row_cut n now) (find (λ r. is_running r.result) rows)
 find-row_cut n now [] = refl
-find-row_cut n now (r ∷ rows) =
-    find_if (λ q. is_running q.result) (is_running r.result) (is_running (row_cut n now r).result) (row_cut n now) r _ _ (ap is_running (result-row_cut_if (r.number == n) now r)) (find-row_cut n now rows)
+find-row_cut n now (r ∷ rows) = let ih = find-row_cut n now rows in grind (arith, common_steps, find_if, result-row_cut_if)
 
 tied-row_cut : (a : Option Agenda) (ms : List Member) (n now : ℕ) (o : Option SetRow) → Tied a ms o → Tied a ms (option_map (row_cut n now) o)
 tied-row_cut a ms n now o h = grind arith

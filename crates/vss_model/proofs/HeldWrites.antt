@@ -1,6 +1,7 @@
 -- The effective writes of a volume change by writes and reverts of it alone; so those of a volume of the set in progress do not
 -- change while it is held.
 use Rattle.std.proofs.Common.{◌≡◌, ◌∙◌, ℕ, ◌==◌, List, Some, refl, Bool, true, false, ap, arith}
+use Rattle.std.proofs.lemmas.Grind.{common_steps}
 use Rattle.write_history.specs.declared.mark.Mark.{Mark}
 use Rattle.write_history.specs.History.{History, written, dropped, reverted, reverted_in_part}
 use Rattle.set_agenda.specs.Agenda.{is_among}
@@ -38,10 +39,7 @@ pub apart : (test : ℕ → Bool) (u v : ℕ) → test u ≡ false → test v �
 apart test u v e f = grind arith
 
 held_elsewhere : (s : Plan) (e : Event) (m : Mark) (st x : State) (v : ℕ) → is_in_set v (in_progress st) ≡ true → is_held st v ≡ true → (c : Change) → Comes s e m st x c → rewrites v c ≡ false
-held_elsewhere s e m st x v f g (Writes u w) i = apart (is_held st) u v i.free g
-held_elsewhere s e m st x v f g (Reverts u n p) i = apart (λ y. is_in_set y (in_progress st)) u v i.0.free f
-held_elsewhere s e m st x v f g (RevertsPart u blocks n p k) i = apart (λ y. is_in_set y (in_progress st)) u v i.0.free f
-held_elsewhere s e m st x v f g _ i = refl
+held_elsewhere s e m st x v f g c i = grind (arith, common_steps, apart)
 
 pub held_keeps : (s : Plan) (acts : List Act) (act : Act) (r : SetRow) (v : ℕ) → in_progress (state s acts) ≡ Some r → is_among v r.volumes ≡ true → is_held (state s acts) v ≡ true
     → (history_of (after s (state s acts) act) v).writes ≡ (history_of (state s acts) v).writes

@@ -1,10 +1,10 @@
 -- The writers whose metadata the session has do not change once they are gathered, and only they are asked to take part.
 use Rattle.std.proofs.Common.{◌≡◌, ℕ, ◌+◌, zero, suc, List, [], ◌∷◌, Option, Some, None, refl, Bool, true, false, ap, sym, ◌∙◌, subst, arith}
 use Rattle.std.specs.Prelude.{slice_get}
+use Rattle.std.proofs.lemmas.Grind.{common_steps}
 use Rattle.vss_names.specs.declared.order.Order.{Order}
-use Rattle.vss_names.specs.declared.order.Order.TheVariants.{Identify, PrepareBackup, PrepareSnapshot, Freeze, Thaw, PostSnapshot, BackupComplete}
+use Rattle.vss_names.specs.declared.order.Order.TheVariants.{Identify, PrepareBackup, BackupComplete}
 use Rattle.vss_names.specs.declared.level.Level.{Level}
-use Rattle.vss_names.specs.declared.level.Level.TheVariants.{System, BackEnd, FrontEnd}
 use Rattle.vss_names.specs.declared.vss_result.VssResult.{VssResult}
 use Rattle.vss_names.specs.declared.writer_state.WriterState.{WriterState}
 use Rattle.vss_names.specs.declared.writer_state.WriterState.TheVariants as state
@@ -12,13 +12,13 @@ use Rattle.writer_state.specs.declared.said.Said.{Said}
 use Rattle.writer_state.specs.declared.writer_row.WriterRow.{WriterRow}
 use Rattle.writer_state.specs.WriterRow.{row_after, row_aborted}
 use Rattle.set_agenda.specs.declared.group.Group.{Group}
-use Rattle.set_agenda.specs.declared.group.Group.TheVariants.{Orders, PreCommit, Flush, Hold, Cut, Commit, Release, PostCommit}
+use Rattle.set_agenda.specs.declared.group.Group.TheVariants.{Orders}
 use Rattle.set_agenda.specs.declared.kind.Kind.{Kind}
 use Rattle.set_agenda.specs.declared.kind.Kind.TheVariants.{Gather, Prepare, Snapshot, Complete}
 use Rattle.set_agenda.specs.declared.place.Place.{Place}
 use Rattle.set_agenda.specs.declared.member.Member.{Member}
-use Rattle.set_agenda.specs.Agenda.{Agenda, Open, plain, at_level, places, order_of, is_orders, members_of, waited_for, with_group, left_from, groups_left, open_place, is_among, order_now, waits_now}
-use Rattle.set_agenda.specs.Course.{Course, row_if, rows_where, is_member, posted, failed as course_failed, settled_if, settled_in, settled, told, answered as course_answered, worked, stepped as course_stepped, timed as course_timed}
+use Rattle.set_agenda.specs.Agenda.{Agenda, Open, plain, places, order_of, is_orders, members_of, waited_for, with_group, left_from, groups_left, open_place, is_among, order_now, waits_now}
+use Rattle.set_agenda.specs.Course.{Course, rows_where, is_member, posted, failed as course_failed, settled_if, settled_in, settled, told, answered as course_answered, worked, stepped as course_stepped, timed as course_timed}
 use Rattle.vss_model.specs.Sessions.{is_identify_failure, has_failed_identify}
 use Rattle.set_agenda.proofs.CourseRule.{IsAsked, IsKeptFrom, from_answered, from_timed, IsKeptInCourse, course_answered as kept_answered, course_timed as kept_timed}
 use Rattle.vss_model.proofs.CourseCalls.{now_orders}
@@ -40,14 +40,7 @@ fit_where : (f : WriterRow → WriterRow) (test : ℕ → Bool) (k : ℕ) (rows 
     → is_unfit (rows_where f test k rows) w ≡ is_unfit rows w
 fit_where f test k [] zero g = refl
 fit_where f test k [] (suc w) g = refl
-fit_where f test k (r ∷ rows) zero g = here (test k) refl
-  where
-    here : (b : Bool) → test k ≡ b → is_identify_failure (row_if b f r).state ≡ is_identify_failure r.state
-    here true e = g r (ap test (plus k) ∙ e)
-      where
-        plus : (a : ℕ) → a + zero ≡ a
-        plus a = omega arith
-    here false e = refl
+fit_where f test k (r ∷ rows) zero g = grind (arith, common_steps)
 fit_where f test k (r ∷ rows) (suc w) g = fit_where f test (k + 1) rows w (λ q e. g q (ap test (shift k w) ∙ e))
   where
     shift : (a b : ℕ) → a + suc b ≡ (a + 1) + b
@@ -57,11 +50,7 @@ fit_where f test k (r ∷ rows) (suc w) g = fit_where f test (k + 1) rows w (λ 
 fit_each : (f : WriterRow → WriterRow) → ((r : WriterRow) → is_identify_failure (f r).state ≡ is_identify_failure r.state) → (test : ℕ → Bool) (k : ℕ) (rows : List WriterRow) → AsFit rows (rows_where f test k rows)
 fit_each f same test k [] zero = refl
 fit_each f same test k [] (suc w) = refl
-fit_each f same test k (r ∷ rows) zero = here (test k)
-  where
-    here : (b : Bool) → is_identify_failure (row_if b f r).state ≡ is_identify_failure r.state
-    here true = same r
-    here false = refl
+fit_each f same test k (r ∷ rows) zero = grind (arith, common_steps)
 fit_each f same test k (r ∷ rows) (suc w) = fit_each f same test (k + 1) rows w
 
 row_fit_aborted : (r : WriterRow) → is_identify_failure (row_aborted r).state ≡ is_identify_failure r.state
@@ -98,22 +87,7 @@ later_in : (k : Kind) (a : Agenda) → is_gathering k ≡ false → LaterNow (le
 later_in Gather a e = absurd cc
 later_in Prepare a e = later_pass (plain (Orders PrepareBackup)) (waited_for a (plain (Orders PrepareBackup))) [] (later_order PrepareBackup refl) no_order
 later_in Complete a e = later_pass (plain (Orders BackupComplete)) (waited_for a (plain (Orders BackupComplete))) [] (later_order BackupComplete refl) no_order
-later_in Snapshot a e =
-    later_pass (plain (Orders PrepareSnapshot)) (waited_for a (plain (Orders PrepareSnapshot))) _ (later_order PrepareSnapshot refl)
-    (later_pass (at_level Freeze FrontEnd) (waited_for a (at_level Freeze FrontEnd)) _ (later_order Freeze refl)
-    (later_pass (at_level Freeze BackEnd) (waited_for a (at_level Freeze BackEnd)) _ (later_order Freeze refl)
-    (later_pass (at_level Freeze System) (waited_for a (at_level Freeze System)) _ (later_order Freeze refl)
-    (later_pass (plain PreCommit) (waited_for a (plain PreCommit)) _ no_order
-    (later_pass (plain Flush) (waited_for a (plain Flush)) _ no_order
-    (later_pass (plain Hold) (waited_for a (plain Hold)) _ no_order
-    (later_pass (plain Cut) (waited_for a (plain Cut)) _ no_order
-    (later_pass (plain Commit) (waited_for a (plain Commit)) _ no_order
-    (later_pass (plain Release) (waited_for a (plain Release)) _ no_order
-    (later_pass (plain PostCommit) (waited_for a (plain PostCommit)) _ no_order
-    (later_pass (at_level Thaw System) (waited_for a (at_level Thaw System)) _ (later_order Thaw refl)
-    (later_pass (at_level Thaw BackEnd) (waited_for a (at_level Thaw BackEnd)) _ (later_order Thaw refl)
-    (later_pass (at_level Thaw FrontEnd) (waited_for a (at_level Thaw FrontEnd)) _ (later_order Thaw refl)
-    (later_pass (plain (Orders PostSnapshot)) (waited_for a (plain (Orders PostSnapshot))) [] (later_order PostSnapshot refl) no_order))))))))))))))
+later_in Snapshot a e = grind (arith, common_steps, later_pass, later_order, no_order)
 
 order_members : (g : Group) (a : Agenda) (l : Option Level) (w : ℕ) → is_orders g ≡ true → is_among w (members_of a g l) ≡ true → is_member a.members w ≡ true
 order_members g a l w e h = grind (arith, among_members, among_filter)

@@ -1,8 +1,9 @@
 -- A call that lets time go by fails the set only where something takes too long, in the words of the causes.
-use Rattle.std.proofs.Common.{◌≡◌, ℕ, ◌+◌, List, [], ◌∷◌, Option, Some, None, refl, Bool, true, false, min, fold, filter, sym, ◌∙◌, subst, arith}
-use Rattle.std.specs.Prelude.{nat_lt, ◌&&◌, ◌||◌, not, if◌then◌else◌, slice_get}
+use Rattle.std.proofs.Common.{◌≡◌, ℕ, List, [], ◌∷◌, Option, Some, None, refl, Bool, true, false, min, fold, filter, sym, ◌∙◌, subst, arith}
+use Rattle.std.specs.Prelude.{◌&&◌, ◌||◌, not, if◌then◌else◌, slice_get}
 use Rattle.std.specs.List.{list_any}
 use Rattle.std.proofs.lemmas.Bool.{and_from, or_right}
+use Rattle.std.proofs.lemmas.Grind.{common_steps}
 use Rattle.vss_names.specs.declared.order.Order.{Order}
 use Rattle.writer_state.specs.declared.writer_row.WriterRow.{WriterRow}
 use Rattle.tick_limits.specs.Time.{answer_limit, hold_limit, default_freeze, is_spent}
@@ -39,12 +40,7 @@ consent g e f = grind arith
 
 last_time_is : (test : Entry → Bool) (t : ℕ) (log : List Entry) → last_time t (filter test log) ≡ fold (λ t (e : Entry). if test e then e.time else t) t log
 last_time_is test t [] = refl
-last_time_is test t (e ∷ log) = by_test (test e) (last_time_is test e.time log) (last_time_is test t log)
-  where
-    by_test : (b : Bool) → last_time e.time (filter test log) ≡ fold (λ t (x : Entry). if test x then x.time else t) e.time log → last_time t (filter test log) ≡ fold (λ t (x : Entry). if test x then x.time else t) t log
-        → last_time t (if b then e ∷ filter test log else filter test log) ≡ fold (λ t (x : Entry). if test x then x.time else t) (if b then e.time else t) log
-    by_test true f g = f
-    by_test false f g = g
+last_time_is test t (e ∷ log) = let ih = last_time_is test e.time log in let ih1 = last_time_is test t log in grind (arith, common_steps)
 
 -- a fold by tests that agree
 fold_along : (f g : Entry → Bool) → ((e : Entry) → f e ≡ g e) → (t : ℕ) (log : List Entry) → fold (λ t (e : Entry). if f e then e.time else t) t log ≡ fold (λ t (e : Entry). if g e then e.time else t) t log
@@ -100,25 +96,9 @@ hold_late now g a (Some since) l e f =
 
 least_passed : (now since least : ℕ) (rows : List WriterRow) (ms : List Member) → is_spent now since (fold (λ l (m : Member). min l (limit_of (slice_get rows m.writer))) least ms) ≡ true
     → (has_passed least since now || list_any (λ (m : Member). has_passed (limit_of (slice_get rows m.writer)) since now) ms) ≡ true
-least_passed now since least rows [] e = or_left (has_passed least since now) (spent_passed now since least e)
-  where
-    or_left : (a : Bool) → a ≡ true → (a || false) ≡ true
-    or_left true e = refl
-    or_left false e = absurd cc
+least_passed now since least rows [] e = grind (arith, common_steps, spent_passed)
 least_passed now since least rows (m ∷ ms) e =
-    by_min (limit_of (slice_get rows m.writer)) (list_any (λ (x : Member). has_passed (limit_of (slice_get rows x.writer)) since now) ms) (least_passed now since (min least (limit_of (slice_get rows m.writer))) rows ms e)
-  where
-    by_min : (n : ℕ) (rest : Bool) → (has_passed (min least n) since now || rest) ≡ true → (has_passed least since now || (has_passed n since now || rest)) ≡ true
-    by_min n true e = either (has_passed least since now) (has_passed n since now)
-      where
-        either : (a b : Bool) → (a || (b || true)) ≡ true
-        either true b = refl
-        either false true = refl
-        either false false = refl
-    by_min n false e = least_of least n since now e
-      where
-        least_of : (a b t x : ℕ) → (nat_lt (t + min a b) x || false) ≡ true → (nat_lt (t + a) x || (nat_lt (t + b) x || false)) ≡ true
-        least_of a b t x e = grind arith
+    let ih = least_passed now since (min least (limit_of (slice_get rows m.writer))) rows ms e in grind (arith, common_steps)
 
 pub freeze_late : (now : ℕ) (g : Group) (c : Course) (a : Agenda) (l : Running) → spent_of now (runs_if (freeze_runs g) FreezeLimit (freeze_opened_at a) (freeze_limit c)) ≡ Some l → frozen_too_long now g c a ≡ true
 freeze_late now g c a l e =

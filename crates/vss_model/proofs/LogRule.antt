@@ -15,7 +15,7 @@ use Rattle.scenario.specs.Plan.{Plan}
 use Rattle.vss_model.specs.State.{State, start}
 use Rattle.vss_model.specs.Steps.{step_made}
 use Rattle.vss_model.specs.Acts.{Act, state}
-use Rattle.vss_model.proofs.Changes.{CourseCall, Answers, Steps, Times, Gathers, Prepares, Snapshots, Completes, Disables, Fails, Releases, called, IsDue}
+use Rattle.vss_model.proofs.Changes.{CourseCall, Answers, Steps, Times, Gathers, Prepares, Snapshots, Completes, Disables, called, IsDue}
 use Rattle.vss_model.proofs.CourseFacts.{of_calls}
 use Rattle.vss_model.proofs.CourseCalls.{Call, call_answered, call_stepped, call_timed}
 
@@ -57,8 +57,7 @@ module _ (P : Agenda → Type 0) (k : IsKeptInLog P) where
   on_called s st Snapshots c i h = on_begun Snapshot _ _ st.clock _
   on_called s st Completes c i h = on_begun Complete _ [] st.clock _
   on_called s st (Disables w) c i h = h
-  on_called s st (Fails why) c i h = tt
-  on_called s st Releases c i h = tt
+  on_called s st _ c i h = tt
 
   pub in_log : (s : Plan) (acts : List Act) → Running P (state s acts).course.agenda
   in_log s acts = of_calls (λ c. Running P c.agenda) s (on_called s) (start s) acts tt

@@ -1,7 +1,8 @@
 -- The image of the set in progress is the newest of its volume: no set has a greater number, and images rise in set.
-use Rattle.std.proofs.Common.{◌≡◌, ℕ, ◌+◌, ◌==◌, ◌<◌, ◌≤◌, zero, suc, List, [], ◌∷◌, Some, refl, Bool, true, length, ap, ◌∙◌, arith}
+use Rattle.std.proofs.Common.{◌≡◌, ℕ, ◌+◌, ◌==◌, ◌<◌, ◌≤◌, suc, List, [], ◌∷◌, Some, refl, Bool, true, length, ap, ◌∙◌, arith}
 use Rattle.std.specs.Prelude.{◌&&◌, ◌||◌, not, if◌then◌else◌, slice_get}
 use Rattle.std.proofs.lemmas.Bool.{eqb-true}
+use Rattle.std.proofs.lemmas.Grind.{common_steps}
 use Rattle.write_history.specs.History.{Image, History, point_in, AreLater, AreInTime}
 use Rattle.scenario.specs.Plan.{Plan}
 use Rattle.vss_model.specs.State.{SetRow, in_progress, history_in, history_of}
@@ -9,6 +10,7 @@ use Rattle.vss_model.specs.Acts.{Act, state}
 use Rattle.vss_model.specs.Facts.{NumberedFrom, has_failed, is_live, AreLive, AllLive, IsNewest}
 use Rattle.vss_model.proofs.OrderlyActs.{orderly}
 use Rattle.vss_model.proofs.OneCut.{newest_number, images_in_time}
+use Rattle.vss_model.proofs.Failures.{live_at}
 
 -- ## numbers of images
 
@@ -38,12 +40,6 @@ up_to : (n : ℕ) (rows : List SetRow) → ((m : ℕ) → is_live rows m ≡ tru
 up_to n rows most [] h = tt
 up_to n rows most (i ∷ images) h = (most i.set h.0, up_to n rows most images h.1)
 
-live_at : (rows : List SetRow) (hs : List History) (v : ℕ) → AllLive rows hs → AreLive rows (history_in (slice_get hs v)).images
-live_at rows [] zero h = tt
-live_at rows [] (suc v) h = tt
-live_at rows (x ∷ hs) zero h = h.0
-live_at rows (x ∷ hs) (suc v) h = live_at rows hs v h.1
-
 -- every image is of a set that was started
 pub images_up_to : (rows : List SetRow) (hs : List History) (v : ℕ) → NumberedFrom 1 rows → AllLive rows hs → UpTo (length rows) (history_in (slice_get hs v)).images
 images_up_to rows hs v h live = grind (arith, up_to, live_number, live_at)
@@ -58,10 +54,7 @@ image_is i n p e f = ap (λ x. image_of x i.point) e ∙ ap (λ y. image_of n y)
 
 last_one : (i : Image) (n p : ℕ) (images : List Image) → i.set ≡ n → i.point ≡ p → AreLater i images → UpTo n images → IsNewest n p (i ∷ images)
 last_one i n p [] e f h u = record { older = []; is = ap (λ x. x ∷ []) (image_is i n p e f) }
-last_one i n p (j ∷ images) e f h u = absurd (past i.set j.set n e h.0 u.0)
-  where
-    past : (a b n : ℕ) → a ≡ n → a < b → b ≤ n → ⊥
-    past a b n e l m = omega arith
+last_one i n p (j ∷ images) e f h u = grind (arith, common_steps)
 
 after_one : (i : Image) (n p : ℕ) (images : List Image) → IsNewest n p images → IsNewest n p (i ∷ images)
 after_one i n p images h = record { older = i ∷ h.older; is = ap (λ xs. i ∷ xs) h.is }

@@ -3,6 +3,7 @@ use Rattle.std.proofs.Common.{◌≡◌, ℕ, ◌+◌, ◌==◌, zero, suc, List
 use Rattle.std.specs.Prelude.{is_some, ◌&&◌, if◌then◌else◌}
 use Rattle.std.proofs.lemmas.List.{append_assoc}
 use Rattle.std.proofs.lemmas.Bool.{and_from, eqb-true}
+use Rattle.std.proofs.lemmas.Grind.{common_steps}
 use Rattle.write_history.specs.History.{Image, History, fresh, point_in}
 use Rattle.set_agenda.specs.Agenda.{open_group, is_among}
 use Rattle.set_agenda.specs.Course.{stepped as course_stepped}
@@ -27,11 +28,7 @@ use Rattle.vss_model.proofs.FewerImages.{fewer_after, fewer_followed}
 
 -- a new image at the end is that of the set, or none
 last_image : (images : List Image) (m n p : ℕ) → is_some (point_in n (images ++ record { set = m; point = p } ∷ [])) ≡ true → (is_some (point_in n images) ≡ true) ⊎ ((m == n) ≡ true)
-last_image [] m n p e = by_set (m == n) e
-  where
-    by_set : (b : Bool) → is_some (if b then Some p else None) ≡ true → (false ≡ true) ⊎ (b ≡ true)
-    by_set true e = inr refl
-    by_set false e = absurd cc
+last_image [] m n p e = grind (arith, common_steps)
 last_image (i ∷ images) m n p e = by_head (i.set == n) e (last_image images m n p)
   where
     by_head : (b : Bool) → is_some (if b then Some i.point else point_in n (images ++ record { set = m; point = p } ∷ [])) ≡ true
@@ -49,16 +46,8 @@ cut_here b m vs n v x e f = grind (arith, last_image, and_from)
 
 cut_there : (m : ℕ) (vs : List ℕ) (n u v : ℕ) (hs : List History) → has_image n (at (cut_each m vs u hs) v) ≡ true → WasOrIs m vs n (u + v) (has_image n (at hs v))
 cut_there m vs n u v [] e = inl e
-cut_there m vs n u zero (x ∷ hs) e =
-    subst (λ w. WasOrIs m vs n w (has_image n x)) (more u) (cut_here (is_among u vs) m vs n u x refl e)
-  where
-    more : (a : ℕ) → a ≡ a + zero
-    more a = omega arith
-cut_there m vs n u (suc v) (x ∷ hs) e =
-    subst (λ w. WasOrIs m vs n w (has_image n (at hs v))) (more u v) (cut_there m vs n (u + 1) v hs e)
-  where
-    more : (a b : ℕ) → (a + 1) + b ≡ a + suc b
-    more a b = omega arith
+cut_there m vs n u zero (x ∷ hs) e = grind (arith, common_steps, cut_here)
+cut_there m vs n u (suc v) (x ∷ hs) e = let ih = cut_there m vs n (u + 1) v hs e in grind (arith, common_steps)
 
 -- ## each act
 

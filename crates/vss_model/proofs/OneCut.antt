@@ -3,8 +3,9 @@ use Rattle.std.proofs.Common.{◌≡◌, ℕ, ◌+◌, ◌==◌, ◌<◌, ◌≤
 use Rattle.std.specs.Prelude.{option_map, is_some, ◌&&◌, if◌then◌else◌, slice_get}
 use Rattle.std.proofs.lemmas.List.Folds.{list_any-append}
 use Rattle.std.proofs.Math.Seq.{take-append_seam}
-use Rattle.std.proofs.lemmas.List.{length_push}
+use Rattle.std.proofs.lemmas.List.{length_push, length-map}
 use Rattle.std.proofs.lemmas.Bool.{eqb-true, ltb-true}
+use Rattle.std.proofs.lemmas.Grind.{common_steps}
 use Rattle.vss_names.specs.declared.context.Context.{Context}
 use Rattle.vss_names.specs.declared.context.Context.TheVariants.{Backup, AppRollback, NasRollback}
 use Rattle.vss_names.specs.declared.vss_result.VssResult.{VssResult}
@@ -23,7 +24,7 @@ use Rattle.set_agenda.specs.Course.{Course, posted, settled_in, settled, worked,
 use Rattle.requestor.specs.Session.{Session}
 use Rattle.scenario.specs.Plan.{Plan, blocks_of}
 use Rattle.scenario.specs.declared.volume_row.VolumeRow.{VolumeRow}
-use Rattle.vss_model.specs.State.{State, SetRow, Kept, start, is_running, in_progress, row_of, row_changed, history_in, history_of, left_now, kept_of, kept_image}
+use Rattle.vss_model.specs.State.{State, SetRow, Kept, start, is_running, in_progress, row_of, history_in, history_of, left_now, kept_of, kept_image}
 use Rattle.vss_model.specs.Ending.{Ending, NothingEnds, ending, row_settled, images_dropped, concluded, followed, runs, failed_in, failed}
 use Rattle.vss_model.specs.Images.{put, reverted_as}
 use Rattle.vss_model.specs.Sessions.{begin_in, has_no_volume, start_set, new_set, with_volume, change_set, images_released, closed}
@@ -89,10 +90,6 @@ uncut_concluded : (k : Known) (e : Ending) (st : State) → Uncut k (in_progress
 uncut_concluded k NothingEnds st h = h
 uncut_concluded k _ st h = uncut_settled_at k st.course.outcome st.sets h
 
-length-map : (f : SetRow → SetRow) (rows : List SetRow) → length (map f rows) ≡ length rows
-length-map f [] = refl
-length-map f (r ∷ rows) = ap (λ n. suc n) (length-map f rows)
-
 fresh_length : (k : Known) (m n : ℕ) → m ≡ n → ((i : ℕ) → n < i → k i ≡ None) → (i : ℕ) → m < i → k i ≡ None
 fresh_length k m n e h i l = h i (subst (λ x. x < i) e l)
 
@@ -135,11 +132,9 @@ IdleProgress k (Some a) o = Unit {0}
 
 progress_at : (k : Known) (a b : Option Agenda) (c : Course) (st : State) → Moves a st.course.outcome b c.outcome → IdleProgress k a (in_progress st) → GoesFrom k b (in_progress st) → PlainUncut k a (in_progress st)
     → Progress k b (in_progress (concluded (ending st.course.outcome c.outcome (is_some a) b) (record st { course = c })))
-progress_at k None None c st m h g u =
-    subst (λ x. Progress k None (in_progress (concluded x (record st { course = c })))) (sym (ending_idle st.course.outcome c.outcome m)) h
+progress_at k None None c st m h g u = grind (arith, common_steps, ending_idle)
 progress_at k None (Some b) c st m h g u = absurd m
-progress_at k (Some a) (Some b) c st m h g u =
-    subst (λ x. Progress k (Some b) (in_progress (concluded x (record st { course = c })))) (sym (ending_on st.course.outcome c.outcome true b m.1)) g
+progress_at k (Some a) (Some b) c st m h g u = grind (arith, common_steps, ending_on)
 progress_at k (Some a) None c st m h g u =
     uncut_progress k None _
     (subst (Uncut k) (sym (ends_settle st.course.outcome c.outcome (record st { course = c })))
@@ -148,18 +143,7 @@ progress_at k (Some a) None c st m h g u =
 cut_followed : (k : Known) (c : Course) (st : State) → MovesOn st.course c → IdleProgress k st.course.agenda (in_progress st) → GoesFrom k c.agenda (in_progress st) → PlainUncut k st.course.agenda (in_progress st)
     → AllShown k 0 st.volumes → ((n : ℕ) → length st.sets < n → k n ≡ None) → IsCut k (followed (runs st) c st)
 unfolding followed
-cut_followed k c st m i g u shown fresh =
-    let e = ending st.course.outcome c.outcome (runs st) c.agenda in
-    let x : State = record st { course = c } in
-    record {
-      shown = shown_concluded k e x shown;
-      progress = subst (λ a. Progress k a (in_progress (concluded e x))) (sym (agenda-concluded e x)) (progress_at k st.course.agenda c.agenda c st m i g u);
-      fresh = fresh_concluded k e x fresh;
-    }
-  where
-    agenda-concluded : (e : Ending) (x : State) → (concluded e x).course.agenda ≡ x.course.agenda
-    agenda-concluded NothingEnds x = refl
-    agenda-concluded _ x = refl
+cut_followed k c st m i g u shown fresh = grind (arith, common_steps, shown_concluded, progress_at, fresh_concluded)
 
 idle_progress : (k : Known) (a : Option Agenda) (o : Option SetRow) → Progress k a o → IdleProgress k a o
 idle_progress k a o h = grind arith
@@ -210,14 +194,12 @@ on_begins k lane all c st h = grind arith
 
 -- a set is started: it was not cut
 found_append : (k : Known) (a : Option Agenda) (rows : List SetRow) (r : SetRow) → k r.number ≡ None → Progress k a (find (λ q. is_running q.result) rows) → Progress k a (find (λ q. is_running q.result) (rows ++ r ∷ []))
-found_append k a [] r e h = new_if (is_running r.result)
-  where
-    new_if : (b : Bool) → Progress k a (if b then Some r else None)
-    new_if true = made_in_none (k r.number) e a
-    new_if false = tt
+found_append k a [] r e h = grind (arith, common_steps, made_in_none)
 found_append k a (q ∷ rows) r e h = head_if (is_running q.result) h (found_append k a rows r e)
   where
-    head_if : (b : Bool) → Progress k a (if b then Some q else find (λ q. is_running q.result) rows) → (Progress k a (find (λ q. is_running q.result) rows) → Progress k a (find (λ q. is_running q.result) (rows ++ r ∷ []))) → Progress k a (if b then Some q else find (λ q. is_running q.result) (rows ++ r ∷ []))
+    head_if : (b : Bool) → Progress k a (if b then Some q else find (λ q. is_running q.result) rows)
+        → (Progress k a (find (λ q. is_running q.result) rows) → Progress k a (find (λ q. is_running q.result) (rows ++ r ∷ [])))
+        → Progress k a (if b then Some q else find (λ q. is_running q.result) (rows ++ r ∷ []))
     head_if true h ih = h
     head_if false h ih = ih h
 
@@ -246,8 +228,7 @@ rows_change : (k : Known) (f : SetRow → SetRow) → ((r : SetRow) → (f r).nu
 rows_change k f number result st h = grind (arith, find-map, progress_same, fresh_length, length-map)
 
 on_adds : (k : Known) (v n : ℕ) (st : State) → IsCut k st → IsCut k (change_set n (with_volume v) st)
-on_adds k v n st h =
-    rows_change k (row_changed n (with_volume v)) (λ r. changed_number (r.number == n) (with_volume v) r refl) (λ r. changed_result (r.number == n) (with_volume v) r refl) st h
+on_adds k v n st h = grind (arith, common_steps, rows_change, changed_number, changed_result)
 
 shown_released : (k : Known) (c : Context) (set : Option ℕ) (hs : List History) → AllShown k 0 hs → AllShown k 0 (images_released c set hs)
 shown_released k Backup None hs h = h
@@ -336,11 +317,7 @@ not_cut_now k st act n e = or_none (k n) ∙ ap (λ b. or_else (k n) (now_if b s
 -- the number of the set in progress is the newest
 pub newest_number : (m : ℕ) (rows : List SetRow) (r : SetRow) → NumberedFrom m rows → OverButNewest rows → find (λ q. is_running q.result) rows ≡ Some r → r.number + 1 ≡ m + length rows
 newest_number m [] r h o e = absurd cc
-newest_number m (q ∷ []) r h o e = own_if (is_running q.result) e
-  where
-    own_if : (b : Bool) → (if b then Some q else None) ≡ Some r → r.number + 1 ≡ m + 1
-    own_if true f = let same : q ≡ r = cc in ap (λ (x : SetRow). x.number + 1) (sym same) ∙ ap (λ n. n + 1) h.0
-    own_if false f = absurd cc
+newest_number m (q ∷ []) r h o e = grind (arith, common_steps)
 newest_number m (q ∷ p ∷ rows) r h o e =
     newest_number (m + 1) (p ∷ rows) r h.1 o.1 (rest_if (is_running q.result) o.0 e) ∙ shift m (length (p ∷ rows))
   where
@@ -444,7 +421,7 @@ on_cut k act st r p g w c e o h =
     (says_from l _ (in_progress x) (says_stepped st.clock st.course c.agenda c.runs c.kind c.at))
     (plain_none l x.course.agenda c.agenda (in_progress x) c.runs c.kind)
     (shown_cut_each k l r.number r.volumes st.volumes 0 st.volumes new.none (known_stays k st act) (cut_now k st act r p g e (new.none r.number (own r.number))) (λ j. ap (slice_get st.volumes) (zero_plus j)) h.shown)
-    (fresh_length l (length x.sets) (length st.sets) (length-map (row_cut r.number st.clock) st.sets) (λ m i. later_unknown k st act r m e (along r.number (length st.sets) m new.number i) (h.fresh m i)))
+    (fresh_length l (length x.sets) (length st.sets) (length-map st.sets (row_cut r.number st.clock)) (λ m i. later_unknown k st act r m e (along r.number (length st.sets) m new.number i) (h.fresh m i)))
   where
     own : (a : ℕ) → a ≤ a
     own a = omega arith

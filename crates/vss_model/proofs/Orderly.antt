@@ -1,6 +1,7 @@
 -- The facts that every act keeps together.
-use Rattle.std.proofs.Common.{◌≡◌, ℕ, ◌+◌, ◌==◌, zero, suc, List, [], ◌∷◌, ◌++◌, Option, Some, None, refl, Bool, true, false, map, filter, ap, sym, ◌∙◌, subst, find, length, arith}
+use Rattle.std.proofs.Common.{◌≡◌, ℕ, ◌+◌, ◌==◌, zero, suc, List, [], ◌∷◌, ◌++◌, Option, Some, None, refl, Bool, true, false, map, filter, ◌∙◌, find, length, arith}
 use Rattle.std.specs.Prelude.{option_map, ◌&&◌, ◌||◌, not, if◌then◌else◌}
+use Rattle.std.proofs.lemmas.Grind.{common_steps}
 use Rattle.vss_names.specs.declared.set_outcome.SetOutcome.{SetOutcome}
 use Rattle.vss_names.specs.declared.set_outcome.SetOutcome.TheVariants.{Running}
 use Rattle.write_history.specs.History.{Image, History, dropped, without_set}
@@ -38,10 +39,7 @@ find-map f same (r ∷ rows) = find_head (is_running r.result) (is_running (f r)
 
 pub live-map : (f : SetRow → SetRow) → IsSameRow f → (rows : List SetRow) (n : ℕ) → is_live (map f rows) n ≡ is_live rows n
 live-map f same [] n = refl
-live-map f same (r ∷ rows) n =
-    let head : ((f r).number == n && not (has_failed (f r).result)) ≡ (r.number == n && not (has_failed r.result)) =
-    ap (λ k. k == n && not (has_failed (f r).result)) (same.number r) ∙ ap (λ b. r.number == n && not b) (same.failed r) in
-    ap (λ b. b || is_live (map f rows) n) head ∙ ap (λ b. (r.number == n && not (has_failed r.result)) || b) (live-map f same rows n)
+live-map f same (r ∷ rows) n = let ih = live-map f same rows n in grind (arith, common_steps)
 
 -- ## live images
 
@@ -77,7 +75,7 @@ all_live-change_at f rows keeps (suc v) (x ∷ hs) h = (h.0, all_live-change_at 
 
 -- ## a set that ends
 
-number-settled_if : (b : Bool) (p : SetOutcome) (r : SetRow) → (if b then record r { result = p } else r).number ≡ r.number
+pub number-settled_if : (b : Bool) (p : SetOutcome) (r : SetRow) → (if b then record r { result = p } else r).number ≡ r.number
 number-settled_if b p r = grind arith
 
 pub numbered-settled : (p : SetOutcome) (n : ℕ) (rows : List SetRow) → NumberedFrom n rows → NumberedFrom n (map (row_settled p) rows)
@@ -99,13 +97,14 @@ none_if c x other e h = grind arith
 -- where the outcome is no longer Running, no set is in progress any more
 pub find-settled_over : (p : SetOutcome) → is_running p ≡ false → (rows : List SetRow) → find (λ r. is_running r.result) (map (row_settled p) rows) ≡ None
 find-settled_over p e [] = refl
-find-settled_over p e (r ∷ rows) =
-    none_if (is_running (row_settled p r).result) (row_settled p r) _ (settled_over (is_running r.result) p r e refl) (find-settled_over p e rows)
+find-settled_over p e (r ∷ rows) = let ih = find-settled_over p e rows in grind (arith, common_steps, none_if, settled_over)
 
 abbrev with_result : SetOutcome → SetRow → SetRow
 with_result p r = record r { result = p }
 
-running_step : (b : Bool) (r : SetRow) (found other : Option SetRow) → is_running r.result ≡ b → other ≡ option_map (with_result Running) found → (if is_running (if b then record r { result = Running } else r).result then Some (if b then record r { result = Running } else r) else other) ≡ option_map (with_result Running) (if b then Some r else found)
+running_step : (b : Bool) (r : SetRow) (found other : Option SetRow) → is_running r.result ≡ b → other ≡ option_map (with_result Running) found
+    → (if is_running (if b then record r { result = Running } else r).result then Some (if b then record r { result = Running } else r) else other)
+    ≡ option_map (with_result Running) (if b then Some r else found)
 running_step b r found other e h = grind arith
 
 -- where it still is, the set in progress is the same
@@ -137,13 +136,7 @@ live_fails_at : (b : Bool) (p : SetOutcome) (r : SetRow) (rows : List SetRow) (n
     → (IsOther n (find (λ q. is_running q.result) rows) → is_live rows n ≡ true → is_live (map (row_settled p) rows) n ≡ true)
     → is_live (r ∷ rows) n ≡ true
     → (((if b then record r { result = p } else r).number == n && not (has_failed (if b then record r { result = p } else r).result)) || is_live (map (row_settled p) rows) n) ≡ true
-live_fails_at false p r rows n e o other ih h = or_both (r.number == n && not (has_failed r.result)) (is_live rows n) _ _ (λ g. g) (ih other) h
-live_fails_at true p r [] n e o other ih h = absurd (true_not_false _ h (no_head (r.number == n) (not (has_failed r.result)) other))
-  where
-    no_head : (a b : Bool) → a ≡ false → ((a && b) || false) ≡ false
-    no_head true b e = absurd cc
-    no_head false b e = refl
-live_fails_at true p r (q ∷ rows) n e o other ih h = absurd (true_not_false _ e o.0)
+live_fails_at b p r rows n e o other ih h = grind (arith, common_steps, or_both, true_not_false)
 
 over_rest : (r : SetRow) (rows : List SetRow) → OverButNewest (r ∷ rows) → OverButNewest rows
 over_rest r rows o = grind arith
@@ -163,10 +156,7 @@ kept_where_other b new i images head tail = grind arith
 are_live_without : (p : SetOutcome) (rows : List SetRow) (q : SetRow) → OverButNewest rows → find (λ r. is_running r.result) rows ≡ Some q → (images : List Image) → AreLive rows images → AreLive (map (row_settled p) rows) (without_set q.number images)
 are_live_without p rows q o e [] h = tt
 are_live_without p rows q o e (i ∷ images) h =
-    let Q : Option SetRow → Type 0 = λ x. IsOther i.set x in
-    kept_where_other (i.set == q.number) (map (row_settled p) rows) i (without_set q.number images)
-    (λ f. live-fails p rows i.set o (subst Q (sym e) (other_way i.set q.number f)) h.0)
-    (are_live_without p rows q o e images h.1)
+    let ih = are_live_without p rows q o e images h.1 in grind (arith, common_steps, kept_where_other, live-fails, other_way)
 
 all_live_without : (p : SetOutcome) (rows : List SetRow) (q : SetRow) → OverButNewest rows → find (λ r. is_running r.result) rows ≡ Some q → (hs : List History) → AllLive rows hs → AllLive (map (row_settled p) rows) (map (dropped q.number) hs)
 all_live_without p rows q o e [] h = tt
@@ -174,9 +164,7 @@ all_live_without p rows q o e (x ∷ hs) h = (are_live_without p rows q o e x.im
 
 pub all_live-fails : (p : SetOutcome) (rows : List SetRow) (found : Option SetRow) → OverButNewest rows → find (λ r. is_running r.result) rows ≡ found → (hs : List History) → AllLive rows hs → AllLive (map (row_settled p) rows) (images_dropped found hs)
 all_live-fails p rows (Some q) o e hs h = all_live_without p rows q o e hs h
-all_live-fails p rows None o e hs h =
-    let Q : Option SetRow → ℕ → Type 0 = λ x n. IsOther n x in
-    all_live_along rows (map (row_settled p) rows) (λ n g. live-fails p rows n o (subst (λ x. Q x n) (sym e) tt) g) hs h
+all_live-fails p rows None o e hs h = grind (arith, common_steps, all_live_along, live-fails)
 
 -- ## a set that starts
 
@@ -203,13 +191,14 @@ find-append_new [] r e f = rw f refl
 find-append_new (q ∷ rows) r e f = append_if (is_running q.result) q r _ _ e (find-append_new rows r (none_tail (is_running q.result) q _ e) f)
 
 pub live_append : (rows : List SetRow) (r : SetRow) (n : ℕ) → is_live rows n ≡ true → is_live (rows ++ r ∷ []) n ≡ true
-live_append [] r n h = absurd cc
-live_append (q ∷ rows) r n h = or_both (q.number == n && not (has_failed q.result)) (is_live rows n) _ _ (λ g. g) (live_append rows r n) h
+live_append rows r n h = grind (arith, common_steps, or_both)
 
 pub all_live-append : (rows : List SetRow) (r : SetRow) (hs : List History) → AllLive rows hs → AllLive (rows ++ r ∷ []) hs
 all_live-append rows r hs h = all_live_along rows (rows ++ r ∷ []) (λ n g. live_append rows r n g) hs h
 
-live_found_if : (b : Bool) (q r : SetRow) (rows : List SetRow) → is_running q.result ≡ b → (if b then Some q else find (λ x. is_running x.result) rows) ≡ Some r → (find (λ x. is_running x.result) rows ≡ Some r → is_live rows r.number ≡ true) → ((q.number == r.number && not (has_failed q.result)) || is_live rows r.number) ≡ true
+live_found_if : (b : Bool) (q r : SetRow) (rows : List SetRow) → is_running q.result ≡ b → (if b then Some q else find (λ x. is_running x.result) rows) ≡ Some r
+    → (find (λ x. is_running x.result) rows ≡ Some r → is_live rows r.number ≡ true)
+    → ((q.number == r.number && not (has_failed q.result)) || is_live rows r.number) ≡ true
 live_found_if b q r rows f e ih = grind arith
 
 pub live_found : (rows : List SetRow) (r : SetRow) → find (λ q. is_running q.result) rows ≡ Some r → is_live rows r.number ≡ true

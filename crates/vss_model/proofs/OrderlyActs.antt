@@ -3,6 +3,7 @@ use Rattle.std.proofs.Common.{◌≡◌, ℕ, ◌+◌, ◌==◌, List, [], ◌�
 use Rattle.std.specs.Prelude.{option_map, is_some, ◌⊎◌, not, if◌then◌else◌}
 use Rattle.std.proofs.lemmas.Bool.{and_parts}
 use Rattle.std.proofs.Common.{arith}
+use Rattle.std.proofs.lemmas.Grind.{common_steps}
 use Rattle.vss_names.specs.declared.context.Context.{Context}
 use Rattle.vss_names.specs.declared.context.Context.TheVariants.{Backup, AppRollback, NasRollback}
 use Rattle.vss_names.specs.declared.order.Order.{Order}
@@ -40,7 +41,9 @@ use Rattle.vss_model.specs.Facts.{is_early, IsOfStage, IsOfSession, snapshot_sta
 use Rattle.set_agenda.proofs.CourseRule.{IsKeptFrom, from_answered, from_stepped, from_timed}
 use Rattle.vss_model.proofs.Rows.{none_runs}
 use Rattle.vss_model.proofs.Rule.{on_after}
-use Rattle.vss_model.proofs.Orderly.{IsSameRow, numbered-map, newest-map, find-map, live-map, all_live_along, live-filter, live-append, all_live-map, all_live-change_at, numbered-settled, newest-settled, find-settled_over, find-settled_running, live-settled, all_live-fails, numbered-append, newest-append, find-append_new, all_live-append, live_found, true_not_false}
+use Rattle.vss_model.proofs.Orderly.{IsSameRow, numbered-map, newest-map, find-map, live-map, all_live_along, live-filter, live-append, all_live-map}
+use Rattle.vss_model.proofs.Orderly.{all_live-change_at, numbered-settled, newest-settled, find-settled_over, find-settled_running, live-settled}
+use Rattle.vss_model.proofs.Orderly.{all_live-fails, numbered-append, newest-append, find-append_new, all_live-append, live_found, true_not_false}
 use Rattle.vss_model.proofs.ByEvent.{by_if}
 
 -- ## what calls do to the agenda and the outcome
@@ -153,7 +156,8 @@ session_back : (q : Option Session) (s : Session) (o : SetOutcome) (found : Opti
 session_back q s o found e h = let Q : Option Session → Type 0 = λ x. IsOfSession (option_map agenda_ended x) o found in subst Q (sym e) h
 
 -- the agenda ends, and the set was not over
-ends_running : (k : Kind) (c : Course) (st : State) (q : Session) → st.session ≡ Some q → WaitsFor k q.context q.stage → c.agenda ≡ None → st.course.outcome ≡ Running → c.outcome ≡ outcome_after k Running → IsOrderly st → IsOrderly (concluded AgendaEnds (record st { course = c }))
+ends_running : (k : Kind) (c : Course) (st : State) (q : Session) → st.session ≡ Some q → WaitsFor k q.context q.stage → c.agenda ≡ None
+    → st.course.outcome ≡ Running → c.outcome ≡ outcome_after k Running → IsOrderly st → IsOrderly (concluded AgendaEnds (record st { course = c }))
 ends_running k c st q e w f g i h =
     let was : IsOfStage q.stage q.set Running (in_progress st) =
     (let R : SetOutcome → Type 0 = λ o. IsOfStage q.stage q.set o (in_progress st) in subst R g (session_along st.session q st.course.outcome (in_progress st) e h.session)) in
@@ -203,7 +207,8 @@ fails_at : (p : SetOutcome) (c : Course) (st : State) (q : Session) → c.outcom
 fails_at (FailedSet why) c st q d g e f h = fails why c st q e f (ap has_failed d) h
 fails_at _ c st q d g e f h = absurd (true_not_false false g refl)
 
-ends_at : (o : SetOutcome) (k : Kind) (c : Course) (st : State) (q : Session) → st.course.outcome ≡ o → EndsIn k o c.outcome → st.session ≡ Some q → WaitsFor k q.context q.stage → c.agenda ≡ None → IsOrderly st → IsOrderly (concluded (ending o c.outcome true None) (record st { course = c }))
+ends_at : (o : SetOutcome) (k : Kind) (c : Course) (st : State) (q : Session) → st.course.outcome ≡ o → EndsIn k o c.outcome → st.session ≡ Some q
+    → WaitsFor k q.context q.stage → c.agenda ≡ None → IsOrderly st → IsOrderly (concluded (ending o c.outcome true None) (record st { course = c }))
 ends_at Running k c st q d (inl i) e w f h =
     let Q : SetOutcome → Type 0 = λ p. IsOrderly (concluded (ending Running p true None) (record st { course = c })) in
     let R : Ending → Type 0 = λ x. IsOrderly (concluded x (record st { course = c })) in
@@ -212,7 +217,8 @@ ends_at Running k c st q d (inr g) e w f h = fails_at c.outcome c st q refl g e 
 ends_at CompleteSet k c st q d i e w f h = ends_over k c st q e w f (ap is_running d) (outcome_over k CompleteSet c.outcome refl i) h
 ends_at (FailedSet why) k c st q d i e w f h = ends_over k c st q e w f (ap is_running d) (outcome_over k (FailedSet why) c.outcome refl i) h
 
-ends_well : (k : Kind) (c : Course) (st : State) (q : Session) → EndsIn k st.course.outcome c.outcome → st.session ≡ Some q → WaitsFor k q.context q.stage → c.agenda ≡ None → IsOrderly st → IsOrderly (concluded (ending st.course.outcome c.outcome true None) (record st { course = c }))
+ends_well : (k : Kind) (c : Course) (st : State) (q : Session) → EndsIn k st.course.outcome c.outcome → st.session ≡ Some q → WaitsFor k q.context q.stage
+    → c.agenda ≡ None → IsOrderly st → IsOrderly (concluded (ending st.course.outcome c.outcome true None) (record st { course = c }))
 ends_well k c st q i e w f h = ends_at st.course.outcome k c st q refl i e w f h
 
 -- ## the course goes on to another
@@ -226,19 +232,15 @@ ending_on o p ran b e = grind arith
 agenda_along : (a b : Agenda) (q : Option Session) → b.kind ≡ a.kind → IsAgendaOf (Some a) q → IsAgendaOf (Some b) q
 agenda_along a b q e h = grind arith
 
-ends_session : (q : Option Session) (a : Agenda) (c : Course) (st : State) → st.session ≡ q → IsAgendaOf (Some a) q → EndsIn a.kind st.course.outcome c.outcome → c.agenda ≡ None → IsOrderly st → IsOrderly (concluded (ending st.course.outcome c.outcome true None) (record st { course = c }))
+ends_session : (q : Option Session) (a : Agenda) (c : Course) (st : State) → st.session ≡ q → IsAgendaOf (Some a) q → EndsIn a.kind st.course.outcome c.outcome
+    → c.agenda ≡ None → IsOrderly st → IsOrderly (concluded (ending st.course.outcome c.outcome true None) (record st { course = c }))
 ends_session None a c st e w i f h = absurd w
 ends_session (Some q) a c st e w i f h = ends_well a.kind c st q i e w f h
 
 orderly_at : (a b : Option Agenda) (c : Course) (st : State) → st.course.agenda ≡ a → c.agenda ≡ b → Moves a st.course.outcome b c.outcome → IsOrderly st → IsOrderly (concluded (ending st.course.outcome c.outcome (is_some a) b) (record st { course = c }))
-orderly_at None None c st e f m h =
-    let R : Ending → Type 0 = λ x. IsOrderly (concluded x (record st { course = c })) in
-    subst R (sym (ending_idle st.course.outcome c.outcome m)) (goes_on c st m (agenda_none c.agenda st.session f) h)
+orderly_at None None c st e f m h = grind (arith, common_steps, ending_idle, goes_on, agenda_none)
 orderly_at None (Some b) c st e f m h = absurd m
-orderly_at (Some a) (Some b) c st e f m h =
-    let R : Ending → Type 0 = λ x. IsOrderly (concluded x (record st { course = c })) in
-    let A : Option Agenda → Type 0 = λ x. IsAgendaOf x st.session in
-    subst R (sym (ending_on st.course.outcome c.outcome true b m.1)) (goes_on c st m.1 (subst A (sym f) (agenda_along a b st.session m.0 (subst A e h.agenda))) h)
+orderly_at (Some a) (Some b) c st e f m h = grind (arith, common_steps, goes_on, ending_on, agenda_along)
 orderly_at (Some a) None c st e f m h =
     let A : Option Agenda → Type 0 = λ x. IsAgendaOf x st.session in
     ends_session st.session a c st refl (subst A e h.agenda) m f h
@@ -254,13 +256,7 @@ begun_at : (done : Bool) (a : Agenda) (before d : Course) (st : State) (q : Sess
 unfolding posted
 begun_at true a before d st q e f g w h =
     ends_well a.kind (posted before (settled_if true a.kind d)) st q (inl (ap (λ o. outcome_after a.kind o) f)) g w refl h
-begun_at false a before d st q e f g w h =
-    let R : Ending → Type 0 = λ x. IsOrderly (concluded x (record st { course = posted before d })) in
-    let B : Option Agenda → Type 0 = λ x. ending st.course.outcome d.outcome true x ≡ NothingEnds in
-    let A : Option Agenda → Type 0 = λ x. IsAgendaOf x st.session in
-    let S : Option Session → Type 0 = λ x. IsAgendaOf (Some a) x in
-    subst R (sym (subst B (sym e) (ending_on st.course.outcome d.outcome true a f)))
-    (goes_on (posted before d) st f (subst A (sym e) (subst S (sym g) w)) h)
+begun_at false a before d st q e f g w h = grind (arith, common_steps, ending_on, goes_on)
 
 begun_well : (k : Kind) (ms : List Member) (vs : List ℕ) (now : ℕ) (c : Course) (st : State) (q : Session) → c.outcome ≡ st.course.outcome → st.session ≡ Some q → WaitsFor k q.context q.stage → IsOrderly st → IsOrderly (followed true (begun k ms vs now c) st)
 unfolding followed begun posted settled
@@ -270,13 +266,13 @@ begun_well k ms vs now c st q f g w h =
 
 -- ## what the table of calls says
 
-is_opened : (s : Stage) → is_stage s Opened ≡ true → s ≡ Opened
+pub is_opened : (s : Stage) → is_stage s Opened ≡ true → s ≡ Opened
 is_opened s e = grind arith
 
-is_started : (s : Stage) → is_stage s Started ≡ true → s ≡ Started
+pub is_started : (s : Stage) → is_stage s Started ≡ true → s ≡ Started
 is_started s e = grind arith
 
-is_done_stage : (s : Stage) → is_stage s Done ≡ true → s ≡ Done
+pub is_done_stage : (s : Stage) → is_stage s Done ≡ true → s ≡ Done
 is_done_stage s e = grind arith
 
 snapshot_allowed : (w : Bool) (s : Stage) → (if w then is_stage s Prepared else is_stage s Started) ≡ true → s ≡ snapshot_stage w
@@ -416,7 +412,13 @@ kept_by_changes = record {
   ticks = on_ticks;
   fails = λ why st h. on_failed_in (in_progress st) why st refl h;
   gathers = λ s q st g h. begun_well Gather _ [] st.clock _ st q refl g.stands (is_opened q.stage (and_parts (is_stage q.stage Opened) (has_writers q.context) g.allowed).0) h;
-  prepares = λ s q st g h. by_if (λ r. IsOrderly r.1) (has_no_volume (in_progress st)) _ _ h (begun_well Prepare _ [] st.clock _ st q refl g.stands (is_started q.stage (and_parts (is_stage q.stage Started) (has_writers q.context) g.allowed).0, (and_parts (is_stage q.stage Started) (has_writers q.context) g.allowed).1) h);
+  prepares = λ s q st g h. by_if (λ r. IsOrderly r.1) (has_no_volume (in_progress st)) _ _ h
+      (begun_well Prepare _ [] st.clock _ st q refl g.stands (
+        is_started q.stage
+            (and_parts (is_stage q.stage Started) (has_writers q.context) g.allowed).0,
+        (and_parts (is_stage q.stage Started) (has_writers q.context) g.allowed).1,
+      )
+      h);
   snapshots = λ q st g h. by_if (λ r. IsOrderly r.1) (has_no_volume (in_progress st)) _ _ h (begun_well Snapshot st.course.members _ st.clock st.course st q refl g.stands (snapshot_allowed (has_writers q.context) q.stage g.allowed) h);
   completes = λ q st g h. begun_well Complete _ [] st.clock _ st q refl g.stands (is_done_stage q.stage (and_parts (is_stage q.stage Done) (has_writers q.context) g.allowed).0) h;
   clears = λ s v b st h. volumes_orderly _ st (live_gone _ st.sets _ st.volumes h.live) h;

@@ -5,6 +5,7 @@ use Rattle.std.specs.Prelude.{option_map, ◌&&◌, if◌then◌else◌, nat_le}
 use Rattle.std.proofs.lemmas.List.{append_assoc, length-append}
 use Rattle.std.proofs.lemmas.List.Folds.{list_any-append}
 use Rattle.std.proofs.lemmas.Bool.{eq-eqb, eqb-true}
+use Rattle.std.proofs.lemmas.Grind.{common_steps}
 use Rattle.vss_names.specs.declared.set_outcome.SetOutcome.{SetOutcome}
 use Rattle.vss_names.specs.declared.vss_result.VssResult.{VssResult}
 use Rattle.write_history.specs.declared.mark.Mark.{Mark}
@@ -60,20 +61,12 @@ roomy_settled k hs p rows h = grind (arith, find-settled_running, roomy_same, fi
 
 -- a new set has no volume yet
 roomy_append : (k : Cuts) (hs : List History) (rows : List SetRow) (r : SetRow) → r.volumes ≡ [] → Roomy k hs (find (λ q. is_running q.result) rows) → Roomy k hs (find (λ q. is_running q.result) (rows ++ r ∷ []))
-roomy_append k hs [] r e h = new_if (is_running r.result)
-  where
-    nothing : (v : ℕ) → is_among v r.volumes ≡ true → place_for (k r.number) + length (at hs v).images ≤ most_images
-    nothing v g = absurd (none v (subst (λ vs. is_among v vs ≡ true) e g))
-      where
-        none : (v : ℕ) → is_among v [] ≡ true → ⊥
-        none v g = cc
-
-    new_if : (b : Bool) → Roomy k hs (if b then Some r else None)
-    new_if true = λ v g. nothing v g
-    new_if false = tt
+roomy_append k hs [] r e h = grind (arith, common_steps)
 roomy_append k hs (q ∷ rows) r e h = head_if (is_running q.result) h (roomy_append k hs rows r e)
   where
-    head_if : (b : Bool) → Roomy k hs (if b then Some q else find (λ q. is_running q.result) rows) → (Roomy k hs (find (λ q. is_running q.result) rows) → Roomy k hs (find (λ q. is_running q.result) (rows ++ r ∷ []))) → Roomy k hs (if b then Some q else find (λ q. is_running q.result) (rows ++ r ∷ []))
+    head_if : (b : Bool) → Roomy k hs (if b then Some q else find (λ q. is_running q.result) rows)
+        → (Roomy k hs (find (λ q. is_running q.result) rows) → Roomy k hs (find (λ q. is_running q.result) (rows ++ r ∷ [])))
+        → Roomy k hs (if b then Some q else find (λ q. is_running q.result) (rows ++ r ∷ []))
     head_if true h ih = h
     head_if false h ih = ih h
 
@@ -107,9 +100,7 @@ module _ (k : Cuts) where
   added_room v r st e f h = grind (arith, fewer_than, room_if, find-map, changed_result, roomy_added)
 
   on_add : (st x : State) (n v : ℕ) → IsAdd st x n v → HasRoom k x → HasRoom k (apply x (change.AddsVolume n v))
-  on_add st x n v i h =
-      subst (λ y. HasRoom k (apply y (change.AddsVolume n v))) (sym i.first)
-      (subst (λ m. HasRoom k (apply st (change.AddsVolume m v))) (sym i.number) (added_room v i.row st i.found i.allowed (subst (HasRoom k) i.first h)))
+  on_add st x n v i h = grind (arith, common_steps, added_room)
 
   on_fewer : (c : Change) (x : State) → is_cut c ≡ false → Roomy k x.volumes (in_progress x) → Roomy k (apply x c).volumes (in_progress x)
   on_fewer c x e h = roomy_fewer k x.volumes (apply x c).volumes (in_progress x) (fewer_apply c x e) h

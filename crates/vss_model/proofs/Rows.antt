@@ -3,6 +3,7 @@ use Rattle.std.proofs.Common.{◌≡◌, ℕ, ◌+◌, ◌==◌, ◌<◌, ◌≤
 use Rattle.std.specs.Prelude.{option_map, ◌&&◌, ◌||◌, not, is_some, if◌then◌else◌}
 use Rattle.std.specs.List.{list_any}
 use Rattle.std.proofs.lemmas.Bool.{and_left, and_right, or_left, or_parts, or_from, ne_eqb, eq-eqb, cond-true, cond-false}
+use Rattle.std.proofs.lemmas.Grind.{common_steps}
 use Rattle.vss_names.specs.declared.set_outcome.SetOutcome.{SetOutcome}
 use Rattle.vss_model.specs.State.{SetRow, is_running, is_complete}
 use Rattle.vss_model.specs.Ending.{row_settled}
@@ -12,6 +13,7 @@ use Rattle.set_agenda.specs.Agenda.{Agenda, is_snapshot}
 use Rattle.vss_model.specs.Effects.{ended_of}
 use Rattle.vss_model.specs.Facts.{NumberedFrom}
 use Rattle.vss_model.proofs.ByEvent.{some_same}
+use Rattle.vss_model.proofs.Orderly.{number-settled_if}
 
 pub running_found : (rows : List SetRow) (r : SetRow) → find (λ q. is_running q.result) rows ≡ Some r → is_running r.result ≡ true
 running_found [] r e = absurd cc
@@ -46,19 +48,9 @@ row_running m (q ∷ rows) r h e = by_head (is_running q.result) e (row_running 
 
 -- ## rows that settle
 
-pub number-settled : (b : Bool) (p : SetOutcome) (r : SetRow) → (if b then record r { result = p } else r).number ≡ r.number
-number-settled b p r = grind arith
-
 pub row_settles : (p : SetOutcome) (n : ℕ) (rows : List SetRow) → find (λ q. q.number == n) (map (row_settled p) rows) ≡ option_map (row_settled p) (find (λ q. q.number == n) rows)
 row_settles p n [] = refl
-row_settles p n (r ∷ rows) = by_head (r.number == n) ((row_settled p r).number == n) (ap (λ k. k == n) (number-settled (is_running r.result) p r)) (row_settles p n rows)
-  where
-    by_head : (b c : Bool) → c ≡ b → find (λ q. q.number == n) (map (row_settled p) rows) ≡ option_map (row_settled p) (find (λ q. q.number == n) rows)
-        → (if c then Some (row_settled p r) else find (λ q. q.number == n) (map (row_settled p) rows)) ≡ option_map (row_settled p) (if b then Some r else find (λ q. q.number == n) rows)
-    by_head true true e ih = refl
-    by_head false false e ih = ih
-    by_head true false e ih = absurd cc
-    by_head false true e ih = absurd cc
+row_settles p n (r ∷ rows) = let ih = row_settles p n rows in grind (arith, common_steps, number-settled_if)
 
 pub result-settled : (b : Bool) (p : SetOutcome) (r : SetRow) → b ≡ true → (if b then record r { result = p } else r).result ≡ p
 result-settled b p r e = grind arith
@@ -77,8 +69,7 @@ apart_back a b l = ne_eqb b a (λ e. omega (arith, l, e))
 
 pub none_below : (k n : ℕ) (rows : List SetRow) → NumberedFrom k rows → n < k → has_complete rows n ≡ false
 none_below k n [] h l = refl
-none_below k n (r ∷ rows) h l =
-    or_from ((r.number == n) && is_complete r.result) (has_complete rows n) (and_left (r.number == n) (is_complete r.result) (apart_back n r.number (let e = h.0 in omega (arith, e, l)))) (none_below (k + 1) n rows h.1 (omega (arith, l)))
+none_below k n (r ∷ rows) h l = let ih = none_below (k + 1) n rows h.1 (omega (arith, l)) in grind (arith, common_steps, or_from, and_left, apart_back)
 
 running_not_complete : (o : SetOutcome) → is_running o ≡ true → is_complete o ≡ false
 running_not_complete o e = grind arith
@@ -119,10 +110,7 @@ incomplete_map f number result n (r ∷ rows) h =
     (ap (λ k. (k == n) && is_complete (f r).result) (number r) ∙ ap (λ o. (r.number == n) && is_complete o) (result r) ∙ parts.0) (incomplete_map f number result n rows parts.1)
 
 pub incomplete_append : (rows : List SetRow) (r : SetRow) (n : ℕ) → is_complete r.result ≡ false → has_complete rows n ≡ false → has_complete (rows ++ r ∷ []) n ≡ false
-incomplete_append [] r n e h = or_from ((r.number == n) && is_complete r.result) false (and_right (r.number == n) (is_complete r.result) e) refl
-incomplete_append (q ∷ rows) r n e h =
-    let parts = or_parts ((q.number == n) && is_complete q.result) (has_complete rows n) h in
-    or_from ((q.number == n) && is_complete q.result) (has_complete (rows ++ r ∷ []) n) parts.0 (incomplete_append rows r n e parts.1)
+incomplete_append rows r n e h = grind (arith, common_steps, or_from, and_right, or_parts)
 
 -- a row that was found and is complete says so
 pub complete_found : (k n : ℕ) (rows : List SetRow) (r : SetRow) → find (λ q. q.number == n) rows ≡ Some r → is_complete r.result ≡ true → has_complete rows n ≡ true
@@ -142,8 +130,7 @@ is_over_row n q = (q.number == n) && not (is_running q.result)
 -- all rows from a number on are of greater ones
 pub none_later : (m n : ℕ) (rows : List SetRow) → NumberedFrom m rows → n < m → find (is_over_row n) rows ≡ None
 none_later m n [] h l = refl
-none_later m n (q ∷ rows) h l =
-    cond-false _ _ _ (and_left (q.number == n) (not (is_running q.result)) (apart_back n q.number (let e = h.0 in omega (arith, e, l)))) ∙ none_later (m + 1) n rows h.1 (omega (arith, l))
+none_later m n (q ∷ rows) h l = let ih = none_later (m + 1) n rows h.1 (omega (arith, l)) in grind (arith, common_steps, cond-false, and_left, apart_back)
 
 -- the set in progress is not over
 pub none_over : (m : ℕ) (rows : List SetRow) (r : SetRow) → NumberedFrom m rows → find (λ q. is_running q.result) rows ≡ Some r → find (is_over_row r.number) rows ≡ None
@@ -187,14 +174,13 @@ settled_row m o over (q ∷ rows) r h e = by_head (is_running q.result) refl e (
         ap (λ (x : SetRow). if is_over_row r.number x then Some x else find (is_over_row r.number) (map (row_settled o) rows)) is ∙ cond-true _ _ _ own
     by_head false f e ih =
         let above = found_above (m + 1) rows r h.1 e in
-        let number = number-settled (is_running q.result) o q in
+        let number = number-settled_if (is_running q.result) o q in
         cond-false _ _ _ (and_left ((row_settled o q).number == r.number) (not (is_running (row_settled o q).result)) (apart (row_settled o q).number r.number (let g = h.0 in omega (arith, g, above, number)))) ∙ ih e
 
 -- ## other facts of rows
 
 pub some_rows : (p : SetRow → Bool) (rows : List SetRow) (r : SetRow) → find p rows ≡ Some r → 0 < length rows
-some_rows p [] r e = absurd cc
-some_rows p (q ∷ rows) r e = omega arith
+some_rows p rows r e = grind (arith, common_steps)
 
 pub number-cut : (b : Bool) (now : ℕ) (r : SetRow) → (if b then record r { cut_at = Some now } else r).number ≡ r.number
 number-cut b now r = grind arith

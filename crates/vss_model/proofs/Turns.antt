@@ -4,6 +4,7 @@ use Rattle.std.proofs.Common.{◌≡◌, ℕ, ◌+◌, ◌*◌, ◌==◌, ◌<�
 use Rattle.std.specs.Prelude.{is_some, ◌||◌, not, if◌then◌else◌, option_map}
 use Rattle.std.proofs.lemmas.List.{length-map}
 use Rattle.std.proofs.lemmas.Bool.{eqb-true}
+use Rattle.std.proofs.lemmas.Grind.{common_steps}
 use Rattle.vss_names.specs.declared.level.Level.{Level}
 use Rattle.vss_names.specs.declared.level.Level.TheVariants.{System, BackEnd, FrontEnd}
 use Rattle.vss_names.specs.declared.order.Order.{Order}
@@ -16,7 +17,7 @@ use Rattle.set_agenda.specs.declared.limit.Limit.{Limit}
 use Rattle.set_agenda.specs.declared.member.Member.{Member}
 use Rattle.set_agenda.specs.declared.place.Place.{Place}
 use Rattle.set_agenda.specs.Agenda.{Agenda, Open, all_say, with_group, writers_at, is_at, members_of, waited_for, left_from, places, groups_left, left, order_now, is_among, open_order, is_asking, is_working, next_member, waits_now, is_done, has_said}
-use Rattle.set_agenda.specs.Advance.{advance, asks_unfailed, others_if, unasked, unasked_if}
+use Rattle.set_agenda.specs.Advance.{advance, others_if, unasked, unasked_if}
 use Rattle.set_agenda.specs.Limits.{Running, spent_of}
 use Rattle.set_agenda.specs.Course.{Course, posted, failed as course_failed, settled_in, settled, begun, told, decided, answered_to, answered as course_answered, worked, stepped as course_stepped, limits_now, lost_to, lost_decided, treated_as, treated, timed as course_timed, released}
 use Rattle.set_agenda.proofs.GroupsLeft.{groups_left-all_say}
@@ -27,11 +28,7 @@ use Rattle.vss_model.proofs.Waiting.{WaitsWell, waits-left_from}
 
 pub short_filter : {X : Type 0} (p : X → Bool) (xs : List X) → length (filter p xs) ≤ length xs
 short_filter p [] = omega arith
-short_filter p (x ∷ xs) = own (p x) (short_filter p xs)
-  where
-    own : (b : Bool) → length (filter p xs) ≤ length xs → length (if b then x ∷ filter p xs else filter p xs) ≤ length (x ∷ xs)
-    own true h = omega arith
-    own false h = omega arith
+short_filter p (x ∷ xs) = let ih = short_filter p xs in grind (arith, common_steps)
 
 -- a filter that lets one go is shorter
 filter_lets_go : (p : ℕ → Bool) (x : ℕ) (xs : List ℕ) → is_among x xs ≡ true → p x ≡ false → length (filter p xs) < length xs
@@ -60,11 +57,7 @@ short_others_if b whos xs = grind (arith, short_filter)
 
 waiting-unasked : (whos : List ℕ) (os : List Open) → waiting (unasked whos os) ≤ waiting os
 waiting-unasked whos [] = omega arith
-waiting-unasked whos (o ∷ os) =
-    let e = waiting-with_group o.place (others_if (asks_unfailed o.place.group) whos o.waits) (unasked whos os) in
-    let a = short_others_if (asks_unfailed o.place.group) whos o.waits in
-    let b = waiting-unasked whos os in
-    omega arith
+waiting-unasked whos (o ∷ os) = let ih = waiting-unasked whos os in grind (arith, common_steps, waiting-with_group, short_others_if)
 
 waiting-unasked_if : (b : Bool) (whos : List ℕ) (os : List Open) → waiting (unasked_if b whos os) ≤ waiting os
 waiting-unasked_if b whos os = grind (arith, waiting-unasked)
@@ -198,11 +191,7 @@ members_at a (p ∷ ps) = length (members_of a p.group p.level) + members_at a p
 
 waiting-left_from : (a : Agenda) (ps : List Place) → waiting (left_from a ps) ≤ members_at a ps
 waiting-left_from a [] = omega arith
-waiting-left_from a (p ∷ ps) =
-    let e = waiting-with_group p (waited_for a p) (left_from a ps) in
-    let b = short_waited a p in
-    let d = waiting-left_from a ps in
-    omega arith
+waiting-left_from a (p ∷ ps) = let ih = waiting-left_from a ps in grind (arith, common_steps, waiting-with_group, short_waited)
 
 short_writers : (ms : List Member) (l : Option Level) → length (writers_at ms l) ≤ length ms
 short_writers ms l = grind (arith, length-map, short_filter)
@@ -210,12 +199,7 @@ short_writers ms l = grind (arith, length-map, short_filter)
 -- each member is of one level
 three_levels : (ms : List Member) → length (filter (λ (m : Member). is_at (Some FrontEnd) m.level) ms) + length (filter (λ (m : Member). is_at (Some BackEnd) m.level) ms) + length (filter (λ (m : Member). is_at (Some System) m.level) ms) ≡ length ms
 three_levels [] = refl
-three_levels (m ∷ ms) = own m.level refl (three_levels ms)
-  where
-    own : (l : Level) → m.level ≡ l → length (filter (λ (m : Member). is_at (Some FrontEnd) m.level) ms) + length (filter (λ (m : Member). is_at (Some BackEnd) m.level) ms) + length (filter (λ (m : Member). is_at (Some System) m.level) ms) ≡ length ms → length (filter (λ (m : Member). is_at (Some FrontEnd) m.level) (m ∷ ms)) + length (filter (λ (m : Member). is_at (Some BackEnd) m.level) (m ∷ ms)) + length (filter (λ (m : Member). is_at (Some System) m.level) (m ∷ ms)) ≡ length (m ∷ ms)
-    own System e h = rw e (omega (arith, h))
-    own BackEnd e h = rw e (omega (arith, h))
-    own FrontEnd e h = rw e (omega (arith, h))
+three_levels (m ∷ ms) = let ih = three_levels ms in grind (arith, common_steps)
 
 levels_of : (ms : List Member) → length (writers_at ms (Some FrontEnd)) + length (writers_at ms (Some BackEnd)) + length (writers_at ms (Some System)) ≡ length ms
 levels_of ms =

@@ -1,6 +1,7 @@
 -- What a change of the volumes does to the history at each place, and that most changes leave fewer images.
 use Rattle.std.proofs.Common.{◌≡◌, ℕ, ◌+◌, ◌==◌, ◌≤◌, zero, suc, List, [], ◌∷◌, Some, refl, Bool, true, false, map, filter, length, ap, ◌∙◌, arith}
 use Rattle.std.specs.Prelude.{is_some, not, if◌then◌else◌, nat_lt, slice_get}
+use Rattle.std.proofs.lemmas.Grind.{common_steps}
 use Rattle.write_history.specs.History.{Write, Image, History, fresh, point_in, dropped, written, reverted, reverted_in_part, after_set, cut as history_cut}
 use Rattle.write_history.specs.Slots.{Placed, gone_up_to}
 use Rattle.set_agenda.specs.Agenda.{is_among}
@@ -89,17 +90,7 @@ sets_filter test (i ∷ images) n e = by_test (test i) e (sets_filter test image
 
 count_filter : (test : Image → Bool) (images : List Image) → length (filter test images) ≤ length images
 count_filter test [] = omega arith
-count_filter test (i ∷ images) = by_test (test i) (count_filter test images)
-  where
-    step : (a b : ℕ) → a ≤ b → suc a ≤ suc b
-    step a b e = omega (arith, e)
-
-    more : (a b : ℕ) → a ≤ b → a ≤ suc b
-    more a b e = omega (arith, e)
-
-    by_test : (b : Bool) → length (filter test images) ≤ length images → length (if b then i ∷ filter test images else filter test images) ≤ length (i ∷ images)
-    by_test true e = step (length (filter test images)) (length images) e
-    by_test false e = more (length (filter test images)) (length images) e
+count_filter test (i ∷ images) = let ih = count_filter test images in grind (arith, common_steps)
 
 fewer_filter : (test : Image → Bool) (h : History) (ws : List Write) → Fewer h (record { writes = ws; images = filter test h.images })
 fewer_filter test h ws = record { sets = λ n e. sets_filter test h.images n e; count = count_filter test h.images }
@@ -122,8 +113,7 @@ fewer_gone m h = fewer_filter (λ i. nat_lt m i.set) h h.writes
 -- ## all volumes
 
 pub as_many_map : (f : History → History) (hs : List History) → length (map f hs) ≡ length hs
-as_many_map f [] = refl
-as_many_map f (x ∷ hs) = ap (λ n. suc n) (as_many_map f hs)
+as_many_map f hs = grind (arith, common_steps)
 
 pub as_many_change : (f : History → History) (u : ℕ) (hs : List History) → length (change_at u f hs) ≡ length hs
 as_many_change f u [] = refl

@@ -2,11 +2,11 @@
 -- a limit runs, which an idle stretch spends.
 use Rattle.std.proofs.Common.{◌≡◌, ℕ, ◌+◌, ◌-◌, List, [], ◌∷◌, Option, Some, None, refl, Bool, true, false, sym, subst, arith}
 use Rattle.std.specs.Prelude.{◌⊎◌, is_some, if◌then◌else◌}
+use Rattle.std.proofs.lemmas.Grind.{common_steps}
 use Rattle.vss_names.specs.declared.order.Order.{Order}
 use Rattle.vss_names.specs.declared.vss_result.VssResult.{VssResult}
 use Rattle.writer_state.specs.declared.said.Said.{Said}
 use Rattle.set_agenda.specs.declared.kind.Kind.{Kind}
-use Rattle.set_agenda.specs.declared.kind.Kind.TheVariants.{Gather, Prepare, Snapshot, Complete}
 use Rattle.set_agenda.specs.declared.limit.Limit.{Limit}
 use Rattle.set_agenda.specs.declared.member.Member.{Member}
 use Rattle.set_agenda.specs.declared.place.Place.{Place}
@@ -19,7 +19,7 @@ use Rattle.vss_model.specs.State.{State, start, left_now}
 use Rattle.vss_model.specs.Ending.{runs}
 use Rattle.vss_model.specs.Steps.{later}
 use Rattle.vss_model.specs.Acts.{Act, state, order_of_writer, idle_now}
-use Rattle.vss_model.proofs.Changes.{CourseCall, Answers, Steps, Times, Gathers, Prepares, Snapshots, Completes, Disables, Fails, Releases, called}
+use Rattle.vss_model.proofs.Changes.{CourseCall, called}
 use Rattle.vss_model.proofs.CourseFacts.{of_calls}
 
 -- ## an agenda that runs is not done
@@ -78,16 +78,7 @@ open_begun k ms vs now c = open_posted c _ (open_settled (record c { agenda = So
 
 open_called : (s : Plan) (st : State) (call : CourseCall) (c : Course) → IsOpen c.agenda → IsOpen (called s st call c).agenda
 unfolding released
-open_called s st (Answers w said) c h = open_answered w said st.clock c h
-open_called s st (Steps ok) c h = open_stepped ok st.clock c
-open_called s st (Times now) c h = open_timed now c h
-open_called s st Gathers c h = open_begun Gather _ [] st.clock _
-open_called s st (Prepares q) c h = open_begun Prepare _ [] st.clock _
-open_called s st Snapshots c h = open_begun Snapshot _ _ st.clock _
-open_called s st Completes c h = open_begun Complete _ [] st.clock _
-open_called s st (Disables w) c h = h
-open_called s st (Fails why) c h = open_failed why c
-open_called s st Releases c h = tt
+open_called s st call c h = grind (arith, common_steps, open_answered, open_stepped, open_timed, open_begun, open_failed)
 
 stays_open : (s : Plan) (acts : List Act) → IsOpen (state s acts).course.agenda
 stays_open s acts = of_calls (λ c. IsOpen c.agenda) s (λ st call c i h. open_called s st call c h) (start s) acts tt
@@ -136,8 +127,7 @@ one_at : (freeze : ℕ) (a : Agenda) (os : List Open) → is_asking os ≡ true 
 one_at freeze a os e = grind arith
 
 spends_in : (now freeze : ℕ) (x : Option Agenda) → is_asking (left x) ≡ true → is_some (spent_of (now + ticks_to_spend now (running_limits freeze x)) (running_limits freeze x)) ≡ true
-spends_in now freeze None e = absurd cc
-spends_in now freeze (Some a) e = let h = one_at freeze a (groups_left a) e in spends_at now (running_at freeze a (groups_left a)) h.one h.is
+spends_in now freeze x e = grind (arith, common_steps, one_at, spends_at)
 
 pub idle_spends : (s : Plan) (acts : List Act) → is_asking (left_now (state s acts)) ≡ true → is_some (spent_of ((state s acts).clock + idle_now (state s acts)) (limits_now (state s acts).course)) ≡ true
 idle_spends s acts e = let st = state s acts in spends_in st.clock (freeze_limit st.course) st.course.agenda e

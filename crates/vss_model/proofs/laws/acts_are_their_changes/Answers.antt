@@ -1,4 +1,4 @@
-use Rattle.vss_model.proofs.Changes.{Makes, made}
+use Rattle.vss_model.proofs.Changes.{made}
 use Rattle.vss_model.proofs.laws.acts_are_their_changes.Goals as goal
 
 pub returns : goal.returns
