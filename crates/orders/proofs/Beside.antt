@@ -11,19 +11,18 @@ use Rattle.cow_volume.specs.Calls.{NeverFails}
 use Rattle.cow_volume.proofs.Uncounted.{no_rise}
 use Rattle.scenario.specs.Plan.{Plan}
 use Rattle.vss_model.specs.Trail.{is_legal, is_complete, is_fault, faults}
-use Rattle.vss_report.specs.ReadBack.{reading_back}
 use Rattle.vss_report.specs.ToldReport.{told_report}
 use Rattle.vss_play.specs.declared.play_fault.PlayFault.{PlayFault}
 use Rattle.vss_play.specs.Played.{Played, IsFresh}
 use Rattle.orders.specs.declared.replayed.Replayed.{Replayed}
 use Rattle.orders.specs.declared.replayed.Replayed.TheVariants.{Same, Differs, ScenarioRefused, DeviceFault, OutOfMemory}
-use Rattle.orders.specs.Again.{AreTold, IsRead, IsFollowedFar, IsReplayed, IsCompared, IsAgain, IsAgainOver, IsReplayOver, IsSame, IsSameOver, without_marks}
+use Rattle.orders.specs.Again.{IsRead, IsFollowedFar, IsReplayed, IsCompared, IsAgain, IsAgainOver, IsReplayOver, IsSame, IsSameOver, without_marks}
 use Rattle.orders.specs.Followed.{IsEndedInTurn}
 use Rattle.orders.specs.Runs.{IsOfTrail}
 use Rattle.orders.specs.Told.{OtherLine, first_other}
 use Rattle.orders.proofs.OneDrawn.{parts}
 use Rattle.orders.proofs.OtherLines.{same_text, none_of_report}
-use Rattle.orders.proofs.Replay.{reads_back, replays_it}
+use Rattle.orders.proofs.Replay.{moves_back, replays_it}
 use Rattle.orders.proofs.Reporting.{StandsAt, in_turn_as, of_trail_in_turn, none_marked, both_none}
 
 -- ## to the report
@@ -50,23 +49,6 @@ pub replayed_if : {D : Type 0} (ghosts : Ghosts D) (tells : Bool) (s : Plan) (mo
     → IfOk result (λ text. IsReplayed ghosts.count tells s moves text.bytes)
 replayed_if ghosts tells s moves p q (Ok text) fresh far h = replayed ghosts tells s moves p q text fresh far h
 replayed_if ghosts tells s moves p q (Err e) fresh far h = tt
-
--- ## the moves of a text
-
-abbrev result_of : ℕ → Result (List Move) ℕ
-result_of line = Err line
-
-no_moves : (line : ℕ) (moves : List Move) → result_of line ≡ Ok moves → ⊥
-no_moves line moves e = cc
-
-same_moves_read : (reading : Result (List Move) ℕ) (one other : List Move) → reading ≡ Ok one → reading ≡ Ok other → one ≡ other
-same_moves_read reading one other e f = cc
-
-pub told_of_trail : (s : Plan) (text : List ℕ) (moves : List Move) → reading_back s text ≡ Ok moves → AreTold s text moves
-told_of_trail s text moves read = λ other again. same_moves_read (reading_back s text) moves other read again
-
-pub told_of_bad : (s : Plan) (text : List ℕ) (line : ℕ) (moves : List Move) → reading_back s text ≡ Err line → AreTold s text moves
-told_of_bad s text line moves bad = λ other read. absurd (no_moves line other (sym bad ∙ read))
 
 -- ## beside the text
 
@@ -131,7 +113,7 @@ over_so {D} count tells text given s told moves before after result read is h = 
       same = same_over g.report g.same;
       first = g.first;
       none = λ never tell trail legal complete clean legible given_is.
-          let of_text : told ≡ trail = read.told trail (reads_back s given trail read.plan read.names legible given_is) in
+          let of_text : told ≡ trail = read.told ∙ moves_back s given trail read.plan read.names legible given_is in
           let moves_are : without_marks told ≡ trail = ap without_marks of_text ∙ clean_same trail clean in
           no_report s (without_marks told) trail given g.report line wanted.bytes g.first
           (g.exact never tell (subst (λ (ms : List Move). is_legal s ms ≡ true) (sym moves_are) legal) (subst (λ (ms : List Move). is_complete s ms ≡ true) (sym moves_are) complete)) moves_are
@@ -152,7 +134,7 @@ again_so count text given s moves (Differs line wanted) read never h = record {
   reported = record { plan = s; is_scenario = read.is_scenario; trail = h.same.trail; legal = h.same.reported.legal; complete = h.same.reported.complete; is = h.same.reported.only refl };
   first = h.first;
   none = λ trail legal complete any legible given_is.
-      let of_text : moves ≡ trail = read.told trail (reads_back s given trail read.plan read.names legible given_is) in
+      let of_text : moves ≡ trail = read.told ∙ moves_back s given trail read.plan read.names legible given_is in
       no_report s moves trail given h.report line wanted.bytes h.first
       (h.exact never refl (subst (λ (ms : List Move). is_legal s ms ≡ true) (sym of_text) legal) (subst (λ (ms : List Move). is_complete s ms ≡ true) (sym of_text) complete)) of_text given_is;
 }

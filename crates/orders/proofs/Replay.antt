@@ -11,9 +11,10 @@ use Rattle.scenario.specs.Named.{HasNames}
 use Rattle.scenario.specs.Plan.{Plan}
 use Rattle.vss_model.specs.Trail.{run, next_line, may_move, is_legal, is_complete}
 use Rattle.vss_report.specs.Legible.{IsLegibleTrail}
-use Rattle.vss_report.specs.ReadBack.{reading_back}
+use Rattle.vss_report.specs.ReadBack.{moves_told}
 use Rattle.vss_report.specs.Report.{IsReport}
 use Rattle.vss_report.specs.ToldReport.{all_tell, told_report}
+use Rattle.vss_report.proofs.MovesTold.{moves_are}
 use Rattle.vss_report.proofs.ReadTrail.{report_back}
 use Rattle.vss_report.proofs.ScenarioNames.{named_legible}
 use Rattle.vss_report.proofs.Telling.{is_told_report}
@@ -52,9 +53,9 @@ nothing_more s trail (m ∷ ms) complete h = absurd (moves (sym (none_found (λ 
     moves : None ≡ Some m.actor → ⊥
     moves e = cc
 
-pub reads_back : (s : Plan) (given : List ℕ) (trail : List Move) → IsPlan s → HasNames s → IsLegibleTrail s (all_tell s) trail → given ≡ told_report s trail → reading_back s given ≡ Ok trail
-reads_back s given trail plan names legible is =
-    report_back s (all_tell s) trail given (named_legible s plan names) legible (subst (λ xs. IsReport s (all_tell s) trail xs) (sym is) (is_told_report s trail))
+pub moves_back : (s : Plan) (given : List ℕ) (trail : List Move) → IsPlan s → HasNames s → IsLegibleTrail s (all_tell s) trail → given ≡ told_report s trail → moves_told s given ≡ trail
+moves_back s given trail plan names legible is = moves_are s given trail
+    (report_back s (all_tell s) trail given (named_legible s plan names) legible (subst (λ xs. IsReport s (all_tell s) trail xs) (sym is) (is_told_report s trail)))
 
 -- the replay of a legal and complete trail reports it
 pub replays_it : {D : Type 0} (count : D → ℕ) (tells : Bool) (s : Plan) (trail : List Move) (text : List ℕ) → IsReplayed count tells s trail text → NeverFails count → IsTrue tells

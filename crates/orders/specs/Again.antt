@@ -12,7 +12,7 @@ use Rattle.scenario.specs.Plan.{Plan}
 use Rattle.scenario.specs.Grammar.{reading_of, IsScenario, IsBad}
 use Rattle.vss_model.specs.Trail.{is_legal_move, is_legal, is_complete, faults}
 use Rattle.vss_report.specs.Legible.{IsLegibleTrail}
-use Rattle.vss_report.specs.ReadBack.{reading_back}
+use Rattle.vss_report.specs.ReadBack.{moves_told}
 use Rattle.vss_report.specs.ToldReport.{all_tell, told_report}
 use Rattle.vss_play.specs.Played.{Played, run_of, tells_in, Stays, IsMovedOn, AreInTurn}
 use Rattle.orders.specs.declared.replayed.Replayed.{Replayed}
@@ -22,16 +22,12 @@ use Rattle.orders.specs.Told.{first_other}
 
 -- ## the moves of a text
 
--- of a text that is read back, its moves
-abbrev pub AreTold : Plan → List ℕ → List Move → Type 0
-AreTold s text moves = (other : List Move) → reading_back s text ≡ Ok other → moves ≡ other
-
 -- a scenario, and the moves that a text tells as a report of it
 pub record IsRead (text given : List ℕ) (s : Plan) (moves : List Move) : Type 0 where
   pub is_scenario : reading_of text ≡ IsScenario s
   pub plan : IsPlan s
   pub names : HasNames s
-  pub told : AreTold s given moves
+  pub told : moves ≡ moves_told s given
 
 -- why there is none
 abbrev pub IsUnread : List ℕ → Replayed → Type 0
@@ -169,7 +165,7 @@ pub record IsReportOfTold (text given report : List ℕ) : Type 0 where
   pub plan : Plan
   pub is_scenario : reading_of text ≡ IsScenario plan
   pub moves : List Move
-  pub told : AreTold plan given moves
+  pub told : moves ≡ moves_told plan given
   pub first : List Move
   pub rest : List Move
   pub legal : is_legal plan (first ++ rest) ≡ true

@@ -8,16 +8,17 @@ use crate::comparing::first_other;
 use crate::playing::report_of_replay;
 use crate::replayed::Replayed;
 use crate::sure_maker::SureMaker;
-use crate::telling::{MOST_BYTES, told_moves, unmarked};
+use crate::telling::{MOST_BYTES, unmarked};
 use scenario::{Refused, Scenario, parse};
 use std::alloc::Global;
 use std::thread::Threads;
 use volume_device::{Maker, Store};
 use vss_names::Text;
 use vss_play::PlayFault;
+use vss_report::moves_told;
 use write_history::{Move, Trail};
 
-/// A scenario, and the moves that a text tells as a report of it.
+/// A scenario, and the moves that a text tells as a report of it, up to its first bad line.
 #[derive(Drop)]
 struct Told {
     scenario: Scenario,
@@ -39,7 +40,7 @@ fn read(alloc: Global, text: &[u8], report: &[u8]) -> Result<Told, Replayed>
         Err(Refused::OutOfMemory) => return Err(Replayed::OutOfMemory),
     };
     let _facts = scenario.volumes();
-    match told_moves(alloc, &scenario, report) {
+    match moves_told(alloc, &scenario, report) {
         Ok(trail) => Ok(Told { scenario, trail }),
         Err(_) => Err(Replayed::OutOfMemory),
     }
@@ -121,8 +122,8 @@ pub fn run_again<R: Threads + Sync>(rt: &R, alloc: Global, text: &[u8], report: 
     replay(rt, alloc, scenario, trail.moves(), report, &mut maker)
 }
 
-/// The report of a run that begins with the moves that a text tells as a report of a scenario, as far as they may come, and goes on in
-/// turn, over devices in memory of which no call fails.
+/// The report of a run that begins with the moves that a text tells as a report of a scenario, up to its first bad line and as far as
+/// they may come, and goes on in turn, over devices in memory of which no call fails.
 pub fn report_of_told<R: Threads + Sync>(
     rt: &R,
     alloc: Global,

@@ -13,6 +13,7 @@ pub mod ReadStates
 pub mod ReadReplies
 pub mod ReadLines
 pub mod ReadTrail
+pub mod MovesTold
 pub mod LaneReplies
 pub mod ToldLegible
 pub mod RowCodes

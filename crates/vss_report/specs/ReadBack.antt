@@ -38,7 +38,36 @@ after_first s (line ∷ rest) = if bytes_eq line (codes "report 1") && not (is_o
 unfoldable pub reading_back : Plan → List ℕ → Result (List Step) ℕ
 reading_back s text = after_first s (pieces 10 text)
 
--- why a text tells no trail; want of memory says nothing of it
+-- ## the moves before the first bad line
+
+abbrev pub tells_on : List Step → (List Step → List Step) → LineKind → List Step
+tells_on moves more (Move m) = more (moves ++ m ∷ [])
+tells_on moves more Effect = more moves
+tells_on moves more End = moves
+tells_on moves more Bad = moves
+
+-- these moves, with those that these pieces of a text tell before the first that is no line of the form
+abbrev pub moves_from : Plan → List Step → List (List ℕ) → List Step
+moves_from s moves [] = moves
+moves_from s moves (line ∷ rest) =
+    if is_over rest then moves else tells_on moves (λ all. moves_from s all rest) (kind_of s (next_number moves) line)
+
+abbrev pub moves_after_first : Plan → List (List ℕ) → List Step
+moves_after_first s [] = []
+moves_after_first s (line ∷ rest) = if bytes_eq line (codes "report 1") && not (is_over rest) then moves_from s [] rest else []
+
+-- the moves that any text tells before its first bad line, or its `end` line
+unfoldable pub moves_told : Plan → List ℕ → List Step
+moves_told s text = moves_after_first s (pieces 10 text)
+
+-- ## why a text tells no trail
+
+-- its first bad line; want of memory says nothing of it
 abbrev pub IsBadAt : Result (List Step) ℕ → ReportFault → Type 0
 IsBadAt reading (BadLine line) = reading ≡ Err line
 IsBadAt reading OutOfMemory = Unit {0}
+
+-- the moves of what was read; where memory was wanted, they are left open
+abbrev pub AreTold : Result Unit ReportFault → List Step → List Step → Type 0
+AreTold (Err OutOfMemory) moves told = Unit {0}
+AreTold _ moves told = moves ≡ told

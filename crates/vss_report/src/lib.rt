@@ -34,6 +34,6 @@ mod state_words;
 mod words;
 
 pub use lines::{closing_line, most_bytes, move_lines, opening_line};
-pub use read_back::trail_of;
+pub use read_back::{moves_told, trail_of};
 pub use report_fault::ReportFault;
 pub use vss_model::{ClosingRow, Evicted, Lists, Outcome, Told};
