@@ -16,7 +16,6 @@ use Rattle.set_agenda.specs.Agenda.{is_held, is_held_now, is_snapshot, is_waited
 use Rattle.set_agenda.specs.Agenda.{left_from, next_member, open_place, places, plain, same_place, waited_for, waits_now, with_group}
 use Rattle.set_agenda.specs.WriterSet.{is_nil}
 use Rattle.set_agenda.proofs.GroupsLeft.{any-among, any-append, any-map, left_from-waits}
-use Rattle.set_agenda.proofs.WriterSets.{or-false}
 use Rattle.set_agenda.specs.Cursor.{first_place, fresh, here, is_held_in, left_fresh, left_here, left_of}
 
 -- ## who is waited for at a place
@@ -111,8 +110,7 @@ by_parts m h r e = grind arith
 abbrev any_of : Place → ℕ → Agenda → List Place → Bool
 any_of p v a qs = list_any (λ q. same_place q p && is_among v (waited_for a q)) qs
 
-held-said : (a : Agenda) (v : ℕ) (k : Kind) → HoldsOwn a
-    → (any_of (plain Release) v a (places k) && not (any_of (plain Hold) v a (places k)))
+held-said : (a : Agenda) (v : ℕ) (k : Kind) → HoldsOwn a → (any_of (plain Release) v a (places k) && not (any_of (plain Hold) v a (places k)))
     ≡ (is_snapshot k && has_said a.log (plain Hold) v && not (has_said a.log (plain Release) v))
 held-said a v k own = grind (arith, among-filtered, by_parts)
 
@@ -130,12 +128,11 @@ waits-own a v p at e = grind (arith, hold_group, and_parts, among-filtered)
 
 left-own : (a : Agenda) (v : ℕ) (ps : List Place) → is_among v (waits_now (left_from a ps)) ≡ true → same_place (open_place (left_from a ps)) (plain Hold) ≡ true → is_among v a.volumes ≡ true
 left-own a v [] e at = cc
-left-own a v (p ∷ ps) e at = by_waits (left-own a v ps) (waited_for a p) refl e at
-  where
-    by_waits : (is_among v (waits_now (left_from a ps)) ≡ true → same_place (open_place (left_from a ps)) (plain Hold) ≡ true → is_among v a.volumes ≡ true) → (ws : List ℕ) → ws ≡ waited_for a p
-        → is_among v (waits_now (with_group p ws (left_from a ps))) ≡ true → same_place (open_place (with_group p ws (left_from a ps))) (plain Hold) ≡ true → is_among v a.volumes ≡ true
-    by_waits rest [] is e at = rest e at
-    by_waits rest (w ∷ ws) is e at = waits-own a v p at (ap (is_among v) (sym is) ∙ e)
+left-own a v (p ∷ ps) e at = by_waits (left-own a v ps) (waited_for a p) refl e at where
+  by_waits : (is_among v (waits_now (left_from a ps)) ≡ true → same_place (open_place (left_from a ps)) (plain Hold) ≡ true → is_among v a.volumes ≡ true) → (ws : List ℕ) → ws ≡ waited_for a p
+      → is_among v (waits_now (with_group p ws (left_from a ps))) ≡ true → same_place (open_place (with_group p ws (left_from a ps))) (plain Hold) ≡ true → is_among v a.volumes ≡ true
+  by_waits rest [] is e at = rest e at
+  by_waits rest (w ∷ ws) is e at = waits-own a v p at (ap (is_among v) (sym is) ∙ e)
 
 either : (x y z : Bool) (P : Type 0) → (x || (y && z)) ≡ true → (x ≡ true → P) → (y ≡ true → z ≡ true → P) → P
 either x y z x3 e f g = grind arith
@@ -145,17 +142,13 @@ pub own-said : (said : Said) (now : ℕ) (whos : List ℕ) (a : Agenda) → ((v 
     → HoldsOwn a → HoldsOwn (all_say said now whos a)
 own-said said now whos a waited own v e =
     either (has_said a.log (plain Hold) v) (same_place (open_place (groups_left a)) (plain Hold)) (is_among v whos) (is_among v a.volumes ≡ true) (sym more ∙ e) (own v)
-    (λ at among. left-own a v (places a.kind) (waited v among) at)
-  where
-    more : has_said (all_say said now whos a).log (plain Hold) v ≡ (has_said a.log (plain Hold) v || (same_place (open_place (groups_left a)) (plain Hold) && is_among v whos))
-    more =
-        any-append (λ (x : Entry). same_place x.place (plain Hold) && (x.who == v)) a.log (map (at_place (open_place (groups_left a)) said now) whos)
-        ∙ ap (λ (b : Bool). has_said a.log (plain Hold) v || b)
-        (any-map (λ (x : Entry). same_place x.place (plain Hold) && (x.who == v)) (at_place (open_place (groups_left a)) said now) whos
-        ∙ any-among (same_place (open_place (groups_left a)) (plain Hold)) v whos)
-
-pub one-waited : (w v : ℕ) (xs : List ℕ) → is_among w xs ≡ true → is_among v (w ∷ []) ≡ true → is_among v xs ≡ true
-one-waited w v xs h e = ap (λ (n : ℕ). is_among n xs) (sym (eqb-true w v (sym (or-false (w == v)) ∙ e))) ∙ h
+    (λ at among. left-own a v (places a.kind) (waited v among) at) where
+      more : has_said (all_say said now whos a).log (plain Hold) v ≡ (has_said a.log (plain Hold) v || (same_place (open_place (groups_left a)) (plain Hold) && is_among v whos))
+      more =
+          any-append (λ (x : Entry). same_place x.place (plain Hold) && (x.who == v)) a.log (map (at_place (open_place (groups_left a)) said now) whos)
+          ∙ ap (λ (b : Bool). has_said a.log (plain Hold) v || b)
+          (any-map (λ (x : Entry). same_place x.place (plain Hold) && (x.who == v)) (at_place (open_place (groups_left a)) said now) whos
+          ∙ any-among (same_place (open_place (groups_left a)) (plain Hold)) v whos)
 
 pub asked-waited : (w : ℕ) (os : List Open) → is_asked w os ≡ true → is_among w (waits_now os) ≡ true
 asked-waited w os e = grind arith

@@ -14,21 +14,19 @@ same_running x y e = cc
 -- the first limit of the list that is spent is one of these
 pub first_found : (now : ℕ) (xs ys : List Running) (l : Running) → spent_of now xs ≡ Some l → spent_of now (xs ++ ys) ≡ Some l
 first_found now [] ys l e = absurd cc
-first_found now (x ∷ xs) ys l e = by_test (is_spent now x.since x.ticks) e (first_found now xs ys l)
-  where
-    by_test : (b : Bool) → (if b then Some x else spent_of now xs) ≡ Some l → (spent_of now xs ≡ Some l → spent_of now (xs ++ ys) ≡ Some l)
-        → (if b then Some x else spent_of now (xs ++ ys)) ≡ Some l
-    by_test true e ih = e
-    by_test false e ih = ih e
+first_found now (x ∷ xs) ys l e = by_test (is_spent now x.since x.ticks) e (first_found now xs ys l) where
+  by_test : (b : Bool) → (if b then Some x else spent_of now xs) ≡ Some l → (spent_of now xs ≡ Some l → spent_of now (xs ++ ys) ≡ Some l)
+      → (if b then Some x else spent_of now (xs ++ ys)) ≡ Some l
+  by_test true e ih = e
+  by_test false e ih = ih e
 
 pub later_found : (now : ℕ) (xs ys : List Running) → spent_of now xs ≡ None → spent_of now (xs ++ ys) ≡ spent_of now ys
 later_found now [] ys e = refl
-later_found now (x ∷ xs) ys e = by_test (is_spent now x.since x.ticks) e (later_found now xs ys)
-  where
-    by_test : (b : Bool) → (if b then Some x else spent_of now xs) ≡ None → (spent_of now xs ≡ None → spent_of now (xs ++ ys) ≡ spent_of now ys)
-        → (if b then Some x else spent_of now (xs ++ ys)) ≡ spent_of now ys
-    by_test true e ih = absurd cc
-    by_test false e ih = ih e
+later_found now (x ∷ xs) ys e = by_test (is_spent now x.since x.ticks) e (later_found now xs ys) where
+  by_test : (b : Bool) → (if b then Some x else spent_of now xs) ≡ None → (spent_of now xs ≡ None → spent_of now (xs ++ ys) ≡ spent_of now ys)
+      → (if b then Some x else spent_of now (xs ++ ys)) ≡ spent_of now ys
+  by_test true e ih = absurd cc
+  by_test false e ih = ih e
 
 pub none_and_some : {X : Type 0} (o : Option Running) (l : Running) → o ≡ None → o ≡ Some l → X
 none_and_some o l e f = grind arith

@@ -112,26 +112,25 @@ imaged_along n vs hs ks e keeps h v f l = keeps v (h v f (subst (λ m. v < m) e 
 -- the images of another set go
 other_dropped : (m n : ℕ) (images : List Image) → (m == n) ≡ false → is_some (point_in n images) ≡ true → is_some (point_in n (filter (λ i. not (i.set == m)) images)) ≡ true
 other_dropped m n [] e f = f
-other_dropped m n (i ∷ images) e f = by_test (i.set == m) (i.set == n) refl refl f (other_dropped m n images e)
-  where
-    apart_from : (a m n : ℕ) → (a == m) ≡ true → (a == n) ≡ true → (m == n) ≡ false → ⊥
-    apart_from a m n e f g = grind arith
+other_dropped m n (i ∷ images) e f = by_test (i.set == m) (i.set == n) refl refl f (other_dropped m n images e) where
+  apart_from : (a m n : ℕ) → (a == m) ≡ true → (a == n) ≡ true → (m == n) ≡ false → ⊥
+  apart_from a m n e f g = grind arith
 
-    found : (b : Bool) → b ≡ true → is_some (if b then Some i.point else point_in n (filter (λ i. not (i.set == m)) images)) ≡ true
-    found true e = refl
-    found false e = absurd cc
+  found : (b : Bool) → b ≡ true → is_some (if b then Some i.point else point_in n (filter (λ i. not (i.set == m)) images)) ≡ true
+  found true e = refl
+  found false e = absurd cc
 
-    later_found : (b : Bool) → is_some (point_in n (filter (λ i. not (i.set == m)) images)) ≡ true → is_some (if b then Some i.point else point_in n (filter (λ i. not (i.set == m)) images)) ≡ true
-    later_found true h = refl
-    later_found false h = h
+  later_found : (b : Bool) → is_some (point_in n (filter (λ i. not (i.set == m)) images)) ≡ true → is_some (if b then Some i.point else point_in n (filter (λ i. not (i.set == m)) images)) ≡ true
+  later_found true h = refl
+  later_found false h = h
 
-    by_test : (b c : Bool) → (i.set == m) ≡ b → (i.set == n) ≡ c → is_some (if c then Some i.point else point_in n images) ≡ true
-        → (is_some (point_in n images) ≡ true → is_some (point_in n (filter (λ i. not (i.set == m)) images)) ≡ true)
-        → is_some (point_in n (if not b then i ∷ filter (λ i. not (i.set == m)) images else filter (λ i. not (i.set == m)) images)) ≡ true
-    by_test true true g h f ih = absurd (apart_from i.set m n g h e)
-    by_test true false g h f ih = ih f
-    by_test false true g h f ih = found (i.set == n) h
-    by_test false false g h f ih = later_found (i.set == n) (ih f)
+  by_test : (b c : Bool) → (i.set == m) ≡ b → (i.set == n) ≡ c → is_some (if c then Some i.point else point_in n images) ≡ true
+      → (is_some (point_in n images) ≡ true → is_some (point_in n (filter (λ i. not (i.set == m)) images)) ≡ true)
+      → is_some (point_in n (if not b then i ∷ filter (λ i. not (i.set == m)) images else filter (λ i. not (i.set == m)) images)) ≡ true
+  by_test true true g h f ih = absurd (apart_from i.set m n g h e)
+  by_test true false g h f ih = ih f
+  by_test false true g h f ih = found (i.set == n) h
+  by_test false false g h f ih = later_found (i.set == n) (ih f)
 
 keeps_dropped : (m n : ℕ) → (m == n) ≡ false → (h : History) → KeepsImage n h (dropped m h)
 keeps_dropped m n e h f = other_dropped m n h.images e f
@@ -157,13 +156,12 @@ cut_has b n x e = grind (arith, last_has)
 cut_images : (n : ℕ) (vs : List ℕ) (u v : ℕ) (hs : List History) → is_among (u + v) vs ≡ true → v < length hs → has_image n (at (cut_each n vs u hs) v) ≡ true
 cut_images n vs u v [] e l = absurd (omega (arith, l))
 cut_images n vs u zero (x ∷ hs) e l = grind (arith, common_steps, cut_has)
-cut_images n vs u (suc v) (x ∷ hs) e l = cut_images n vs (u + 1) v hs (subst (λ w. is_among w vs ≡ true) (shift u v) e) (fewer v (length hs) l)
-  where
-    shift : (a b : ℕ) → a + suc b ≡ (a + 1) + b
-    shift a b = omega arith
+cut_images n vs u (suc v) (x ∷ hs) e l = cut_images n vs (u + 1) v hs (subst (λ w. is_among w vs ≡ true) (shift u v) e) (fewer v (length hs) l) where
+  shift : (a b : ℕ) → a + suc b ≡ (a + 1) + b
+  shift a b = omega arith
 
-    fewer : (a b : ℕ) → suc a < suc b → a < b
-    fewer a b l = omega (arith, l)
+  fewer : (a b : ℕ) → suc a < suc b → a < b
+  fewer a b l = omega (arith, l)
 
 imaged_cut : (n : ℕ) (vs : List ℕ) (hs : List History) → Imaged n vs (cut_each n vs 0 hs)
 imaged_cut n vs hs v e l = grind (arith, cut_images, as_many_cut)

@@ -80,12 +80,11 @@ first_among w ws = grind arith
 -- of a group that is left somebody is waited for
 pub head_waits : (a : Agenda) (ps : List Place) → is_working (left_from a ps) ≡ true → is_among (next_member (left_from a ps)) (waits_now (left_from a ps)) ≡ true
 head_waits a [] e = absurd cc
-head_waits a (p ∷ ps) e = at_group p (waited_for a p) (left_from a ps) (head_waits a ps) e
-  where
-    at_group : (p : Place) (ws : List ℕ) (later : List Open) → (is_working later ≡ true → is_among (next_member later) (waits_now later) ≡ true) → is_working (with_group p ws later) ≡ true
-        → is_among (next_member (with_group p ws later)) (waits_now (with_group p ws later)) ≡ true
-    at_group p [] later ih e = ih e
-    at_group p (w ∷ ws) later ih e = first_among w ws
+head_waits a (p ∷ ps) e = at_group p (waited_for a p) (left_from a ps) (head_waits a ps) e where
+  at_group : (p : Place) (ws : List ℕ) (later : List Open) → (is_working later ≡ true → is_among (next_member later) (waits_now later) ≡ true) → is_working (with_group p ws later) ≡ true
+      → is_among (next_member (with_group p ws later)) (waits_now (with_group p ws later)) ≡ true
+  at_group p [] later ih e = ih e
+  at_group p (w ∷ ws) later ih e = first_among w ws
 
 pub now_orders : (os : List Open) (o : Order) → order_now os ≡ Some o → is_orders (open_place os).group ≡ true
 now_orders os o e = grind arith

@@ -27,11 +27,10 @@ pub record IsKeptByCalls (P : Course → Type 0) : Type 0 where
 
 -- what each call keeps, where it is due
 pub of_calls : (P : Course → Type 0) (s : Plan) → ((st : State) (call : CourseCall) (c : Course) → IsDue st c call → P c → P (called s st call c)) → (st : State) (acts : List Act) → P st.course → P (fold (after s) st acts).course
-of_calls P s keeps st acts h = by_all_changes (λ x. P x.course) s by_change st acts h
-  where
-    by_change : (e : Event) (m : Mark) (old : State) (c : Change) (x : State) → Comes s e m old x c → P x.course → P (apply x c).course
-    by_change e m old (CourseIs c) x i h = subst P (sym i.is) (keeps old i.call x.course i.due h)
-    by_change e m old _ x i h = h
+of_calls P s keeps st acts h = by_all_changes (λ x. P x.course) s by_change st acts h where
+  by_change : (e : Event) (m : Mark) (old : State) (c : Change) (x : State) → Comes s e m old x c → P x.course → P (apply x c).course
+  by_change e m old (CourseIs c) x i h = subst P (sym i.is) (keeps old i.call x.course i.due h)
+  by_change e m old _ x i h = h
 
 module _ (P : Course → Type 0) (k : IsKeptByCalls P) where
   by_call : (s : Plan) (st : State) (call : CourseCall) (c : Course) → P c → P (called s st call c)

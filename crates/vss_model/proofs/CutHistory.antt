@@ -79,10 +79,9 @@ begins-take first ws n l h = record {
   is = ap (take n) h.is
       ∙ ap (λ m. take m (first ++ h.rest)) (split (length first) n l)
       ∙ take-append-add first h.rest (n - length first);
-}
-  where
-    split : (a b : ℕ) → a ≤ b → b ≡ a + (b - a)
-    split a b l = omega arith
+} where
+  split : (a b : ℕ) → a ≤ b → b ≡ a + (b - a)
+  split a b l = omega arith
 
 in-take : (o : Option (List History)) (v point n : ℕ) (ws : List Write) → point ≤ n → ShownIn o v point ws → ShownIn o v point (take n ws)
 in-take o v point n ws l h = grind (arith, begins-take)
@@ -207,7 +206,6 @@ point_shown k v n p ws (i ∷ images) e h = point_if (i.set == n) k v n p ws i i
 pub shown_at : (k : Known) (base v u n p : ℕ) (hs : List History) → u ≡ base + v → AllShown k base hs → point_in n (history_in (slice_get hs v)).images ≡ Some p → ShownIn (k n) u p (history_in (slice_get hs v)).writes
 shown_at k base v u n p [] e h f = grind (arith, common_steps)
 shown_at k base zero u n p (x ∷ hs) e h f = grind (arith, common_steps, point_shown)
-shown_at k base (suc v) u n p (x ∷ hs) e h f = shown_at k (base + 1) v u n p hs (rw e (one_more base v)) h.1 f
-  where
-    one_more : (a b : ℕ) → a + suc b ≡ (a + 1) + b
-    one_more a b = omega arith
+shown_at k base (suc v) u n p (x ∷ hs) e h f = shown_at k (base + 1) v u n p hs (rw e (one_more base v)) h.1 f where
+  one_more : (a b : ℕ) → a + suc b ≡ (a + 1) + b
+  one_more a b = omega arith

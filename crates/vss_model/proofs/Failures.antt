@@ -36,8 +36,7 @@ failed_head b k n r q rows e f g h i ih = grind (arith, no_live_below)
 -- a set that has failed is not live
 pub failed_not_live : (k n : ℕ) (rows : List SetRow) (r : SetRow) → NumberedFrom k rows → find (λ x. x.number == n) rows ≡ Some r → has_failed r.result ≡ true → is_live rows n ≡ false
 failed_not_live k n [] r h e f = absurd cc
-failed_not_live k n (q ∷ rows) r h e f =
-    failed_head (q.number == n) k n r q rows refl h.0 h.1 e f (λ g. failed_not_live (k + 1) n rows r h.1 g f)
+failed_not_live k n (q ∷ rows) r h e f = failed_head (q.number == n) k n r q rows refl h.0 h.1 e f (λ g. failed_not_live (k + 1) n rows r h.1 g f)
 
 none_point_if : (b : Bool) (rows : List SetRow) (n : ℕ) (i : Image) (images : List Image) → (i.set == n) ≡ b → is_live rows n ≡ false → is_live rows i.set ≡ true → point_in n images ≡ None → (if b then Some i.point else point_in n images) ≡ None
 none_point_if b rows n i images e f g h = grind arith

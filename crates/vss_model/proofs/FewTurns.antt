@@ -97,11 +97,10 @@ volumes_cut n now r = grind arith
 
 few_started : (rows : List SetRow) (n : ℕ) (c : Context) → FewVolumes (running_in rows) → FewVolumes (running_in (rows ++ new_set n c ∷ []))
 few_started [] n c h = omega arith
-few_started (r ∷ rows) n c h = own (is_running r.result) (few_started rows n c) h
-  where
-    own : (b : Bool) → (FewVolumes (running_in rows) → FewVolumes (running_in (rows ++ new_set n c ∷ []))) → FewVolumes (if b then Some r else running_in rows) → FewVolumes (if b then Some r else running_in (rows ++ new_set n c ∷ []))
-    own true later g = g
-    own false later g = later g
+few_started (r ∷ rows) n c h = own (is_running r.result) (few_started rows n c) h where
+  own : (b : Bool) → (FewVolumes (running_in rows) → FewVolumes (running_in (rows ++ new_set n c ∷ []))) → FewVolumes (if b then Some r else running_in rows) → FewVolumes (if b then Some r else running_in (rows ++ new_set n c ∷ []))
+  own true later g = g
+  own false later g = later g
 
 length-more : (vs : List ℕ) (v : ℕ) → length (vs ++ v ∷ []) ≡ suc (length vs)
 length-more vs v = grind (arith, common_steps)

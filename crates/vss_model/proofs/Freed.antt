@@ -118,11 +118,10 @@ idle_after s so_far act r q e f g =
     let st = state s so_far in
     let live = live_found st.sets r e in
     let runs = outcome_running st.session st.course.outcome r (subst (λ o. IsOfSession st.session st.course.outcome o) e (orderly s so_far).session) in
-    by_cases (after_covered (LiveOrIdle r.number) s st (idle_at r.number s st r e runs live) (inl live) act)
-  where
-    by_cases : LiveOrIdle r.number (after s (state s so_far) act) → (after s (state s so_far) act).course.agenda ≡ None
-    by_cases (inl h) = absurd (true_not_false (is_live (after s (state s so_far) act).sets r.number) h (failed_not_live 1 r.number (after s (state s so_far) act).sets q (numbered_after s so_far act) f g))
-    by_cases (inr h) = h
+    by_cases (after_covered (LiveOrIdle r.number) s st (idle_at r.number s st r e runs live) (inl live) act) where
+      by_cases : LiveOrIdle r.number (after s (state s so_far) act) → (after s (state s so_far) act).course.agenda ≡ None
+      by_cases (inl h) = absurd (true_not_false (is_live (after s (state s so_far) act).sets r.number) h (failed_not_live 1 r.number (after s (state s so_far) act).sets q (numbered_after s so_far act) f g))
+      by_cases (inr h) = h
 
 pub not_held_after : (s : Plan) (so_far : List Act) (act : Act) (r q : SetRow) (v : ℕ) → in_progress (state s so_far) ≡ Some r → row_of (after s (state s so_far) act) r.number ≡ Some q → has_failed q.result ≡ true
     → is_held (after s (state s so_far) act) v ≡ false

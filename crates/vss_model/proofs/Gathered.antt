@@ -134,10 +134,9 @@ pub known_at : (s : Plan) (st : State) (k : ℕ) (ps : List WriterPlan) (w : ℕ
 known_at s st k [] zero e = absurd cc
 known_at s st k [] (suc w) e = absurd cc
 known_at s st k (p ∷ ps) zero e = grind (arith, common_steps, known_if)
-known_at s st k (p ∷ ps) (suc w) e = ap (is_known s st) (shift k w) ∙ known_at s st (k + 1) ps w e
-  where
-    shift : (a b : ℕ) → a + suc b ≡ (a + 1) + b
-    shift a b = omega arith
+known_at s st k (p ∷ ps) (suc w) e = ap (is_known s st) (shift k w) ∙ known_at s st (k + 1) ps w e where
+  shift : (a b : ℕ) → a + suc b ≡ (a + 1) + b
+  shift a b = omega arith
 
 fit_if_known : (a b : Bool) → (not a && not b) ≡ true → b ≡ false
 fit_if_known a b e = grind arith
@@ -159,10 +158,9 @@ named_known ms (p ∷ ps) w e f = by_head (p.writer == w) refl f (named_known ms
 -- the writers that are known, from number k on
 none_known_below : (ms : List (Option Meta)) (k n : ℕ) → n < k → list_any (λ x. x == n) (known_of k ms) ≡ false
 none_known_below [] k n l = refl
-none_known_below (None ∷ ms) k n l = none_known_below ms (k + 1) n (next n k l)
-  where
-    next : (a b : ℕ) → a < b → a < b + 1
-    next a b l = omega (arith, l)
+none_known_below (None ∷ ms) k n l = none_known_below ms (k + 1) n (next n k l) where
+  next : (a b : ℕ) → a < b → a < b + 1
+  next a b l = omega (arith, l)
 none_known_below (Some m ∷ ms) k n l = or_from (k == n) (list_any (λ x. x == n) (known_of (k + 1) ms)) (differs k n l) (none_known_below ms (k + 1) n (next n k l))
   where
     next : (a b : ℕ) → a < b → a < b + 1
@@ -174,10 +172,9 @@ none_known_below (Some m ∷ ms) k n l = or_from (k == n) (list_any (λ x. x == 
 pub all_known : (ms : List (Option Meta)) (k n w : ℕ) → n ≡ k + w → list_any (λ x. x == n) (known_of k ms) ≡ true → is_some (meta_at (slice_get ms w)) ≡ true
 all_known [] k n w e f = absurd cc
 all_known (None ∷ ms) k n zero e f = grind (arith, common_steps, true_not_false, none_known_below)
-all_known (None ∷ ms) k n (suc w) e f = all_known ms (k + 1) n w (shift n k w e) f
-  where
-    shift : (a b c : ℕ) → a ≡ b + suc c → a ≡ (b + 1) + c
-    shift a b c e = omega (arith, e)
+all_known (None ∷ ms) k n (suc w) e f = all_known ms (k + 1) n w (shift n k w e) f where
+  shift : (a b c : ℕ) → a ≡ b + suc c → a ≡ (b + 1) + c
+  shift a b c e = omega (arith, e)
 all_known (Some m ∷ ms) k n zero e f = refl
 all_known (Some m ∷ ms) k n (suc w) e f = all_known ms (k + 1) n w (shift n k w e) (rest (k == n) (list_any (λ x. x == n) (known_of (k + 1) ms)) (differs n k w e) f)
   where
@@ -194,34 +191,31 @@ all_known (Some m ∷ ms) k n (suc w) e f = all_known ms (k + 1) n w (shift n k 
 taker_known : (mode : Mode) (s : Plan) (st : State) (w : ℕ) → AreOver (known_metas s st) st.explicit → is_taker (selected_in mode s st) w ≡ true → is_unfit st.course.rows w ≡ false
 taker_known Components s st w over e =
     fit_of s st w (named_known (known_metas s st) st.explicit w (and_parts (list_all (names_selectable (known_metas s st)) st.explicit) _ over).0 e)
-taker_known All s st w over e = fit_of s st w (all_known (known_metas s st) 0 w w (plus w) e)
-  where
-    plus : (a : ℕ) → a ≡ 0 + a
-    plus a = omega arith
+taker_known All s st w over e = fit_of s st w (all_known (known_metas s st) 0 w w (plus w) e) where
+  plus : (a : ℕ) → a ≡ 0 + a
+  plus a = omega arith
 
 pub filter_passes : (test : ℕ → Bool) (w : ℕ) (xs : List ℕ) → is_among w (filter test xs) ≡ true → test w ≡ true
 filter_passes test w [] e = absurd cc
-filter_passes test w (x ∷ xs) e = by_test (test x) refl e (filter_passes test w xs)
-  where
-    by_head : (b : Bool) → (x == w) ≡ b → test x ≡ true → (b || is_among w (filter test xs)) ≡ true → (is_among w (filter test xs) ≡ true → test w ≡ true) → test w ≡ true
-    by_head true f g h ih = subst (λ y. test y ≡ true) (eqb-true x w f) g
-    by_head false f g h ih = ih h
+filter_passes test w (x ∷ xs) e = by_test (test x) refl e (filter_passes test w xs) where
+  by_head : (b : Bool) → (x == w) ≡ b → test x ≡ true → (b || is_among w (filter test xs)) ≡ true → (is_among w (filter test xs) ≡ true → test w ≡ true) → test w ≡ true
+  by_head true f g h ih = subst (λ y. test y ≡ true) (eqb-true x w f) g
+  by_head false f g h ih = ih h
 
-    by_test : (b : Bool) → test x ≡ b → is_among w (if b then x ∷ filter test xs else filter test xs) ≡ true → (is_among w (filter test xs) ≡ true → test w ≡ true) → test w ≡ true
-    by_test true g h ih = by_head (x == w) refl g h ih
-    by_test false g h ih = ih h
+  by_test : (b : Bool) → test x ≡ b → is_among w (if b then x ∷ filter test xs else filter test xs) ≡ true → (is_among w (filter test xs) ≡ true → test w ≡ true) → test w ≡ true
+  by_test true g h ih = by_head (x == w) refl g h ih
+  by_test false g h ih = ih h
 
 pub member_passes : (test : ℕ → Bool) (k : ℕ) (rows : List WriterRow) (w : ℕ) → is_member (members_from test k rows) w ≡ true → test w ≡ true
 member_passes test k [] w e = absurd cc
-member_passes test k (r ∷ rows) w e = by_test (test k) refl e (member_passes test (k + 1) rows w)
-  where
-    by_head : (b : Bool) → (k == w) ≡ b → test k ≡ true → (b || is_member (members_from test (k + 1) rows) w) ≡ true → (is_member (members_from test (k + 1) rows) w ≡ true → test w ≡ true) → test w ≡ true
-    by_head true f g h ih = subst (λ y. test y ≡ true) (eqb-true k w f) g
-    by_head false f g h ih = ih h
+member_passes test k (r ∷ rows) w e = by_test (test k) refl e (member_passes test (k + 1) rows w) where
+  by_head : (b : Bool) → (k == w) ≡ b → test k ≡ true → (b || is_member (members_from test (k + 1) rows) w) ≡ true → (is_member (members_from test (k + 1) rows) w ≡ true → test w ≡ true) → test w ≡ true
+  by_head true f g h ih = subst (λ y. test y ≡ true) (eqb-true k w f) g
+  by_head false f g h ih = ih h
 
-    by_test : (b : Bool) → test k ≡ b → is_member (member_if b k r ++ members_from test (k + 1) rows) w ≡ true → (is_member (members_from test (k + 1) rows) w ≡ true → test w ≡ true) → test w ≡ true
-    by_test true g h ih = by_head (k == w) refl g h ih
-    by_test false g h ih = ih h
+  by_test : (b : Bool) → test k ≡ b → is_member (member_if b k r ++ members_from test (k + 1) rows) w ≡ true → (is_member (members_from test (k + 1) rows) w ≡ true → test w ≡ true) → test w ≡ true
+  by_test true g h ih = by_head (k == w) refl g h ih
+  by_test false g h ih = ih h
 
 -- the participants that `prepare` fixes
 abbrev participants : Plan → Mode → State → List Member
@@ -366,15 +360,14 @@ on_prepare s q st g x4 = grind (arith, gathered_prepared, over_nothing, prepares
 -- an agenda of some of the participants
 pub filter_member : (test : Member → Bool) (ms : List Member) (w : ℕ) → is_member (filter test ms) w ≡ true → is_member ms w ≡ true
 filter_member test [] w e = e
-filter_member test (m ∷ ms) w e = by_test (test m) e (filter_member test ms w)
-  where
-    or_along : (a b c : Bool) → (b ≡ true → c ≡ true) → (a || b) ≡ true → (a || c) ≡ true
-    or_along true b c f e = refl
-    or_along false b c f e = f e
+filter_member test (m ∷ ms) w e = by_test (test m) e (filter_member test ms w) where
+  or_along : (a b c : Bool) → (b ≡ true → c ≡ true) → (a || b) ≡ true → (a || c) ≡ true
+  or_along true b c f e = refl
+  or_along false b c f e = f e
 
-    by_test : (b : Bool) → is_member (if b then m ∷ filter test ms else filter test ms) w ≡ true → (is_member (filter test ms) w ≡ true → is_member ms w ≡ true) → ((m.writer == w) || is_member ms w) ≡ true
-    by_test true e ih = or_along (m.writer == w) (is_member (filter test ms) w) (is_member ms w) ih e
-    by_test false e ih = or_right (m.writer == w) (is_member ms w) (ih e)
+  by_test : (b : Bool) → is_member (if b then m ∷ filter test ms else filter test ms) w ≡ true → (is_member (filter test ms) w ≡ true → is_member ms w ≡ true) → ((m.writer == w) || is_member ms w) ≡ true
+  by_test true e ih = or_along (m.writer == w) (is_member (filter test ms) w) (is_member ms w) ih e
+  by_test false e ih = or_right (m.writer == w) (is_member ms w) (ih e)
 
 on_part : (s : Plan) (k : Kind) (test : Member → Bool) (vs : List ℕ) (st : State) → is_gathering k ≡ false → NamesKnown s st → NamesKnown s (followed true (begun k (filter test st.course.members) vs st.clock st.course) st)
 on_part s k test vs st e x6 = grind (arith, bare_begun, gathered_begun, filter_member)

@@ -217,20 +217,19 @@ lane_left s moves m i l e f = grind (arith, common_steps, drop_at, cursor_more, 
 from_none : (b : Bool) (s : Plan) (moves : List Move) (m : Move) (st : State) (i : ℕ) (l : LaneLine) → is_begin l.op ≡ b → EndsSessions s → m.actor ≡ Lane i → slice_get (lines_of s i) (cursor moves i) ≡ Some l → st.session ≡ None
     → EndsLeft s (moves ++ m ∷ []) (after s st (act_of m.mark (Line i l.op))).session
 from_none false s moves m st i l b good e f g = grind (arith, common_steps, none_stays, true_not_false, and_parts)
-from_none true s moves m st i l b good e f g = by_session (after s st act).session owned
-  where
-    act : Act
-    act = act_of m.mark (Line i l.op)
+from_none true s moves m st i l b good e f g = by_session (after s st act).session owned where
+  act : Act
+  act = act_of m.mark (Line i l.op)
 
-    owned : Owned i (after s st act)
-    owned = owned_after i s st act (λ lane h x. sym (eqb-true i lane (and_parts (is_begin l.op) (i == lane) h).1)) (subst (IsOf i) (sym g) tt)
+  owned : Owned i (after s st act)
+  owned = owned_after i s st act (λ lane h x. sym (eqb-true i lane (and_parts (is_begin l.op) (i == lane) h).1)) (subst (IsOf i) (sym g) tt)
 
-    by_session : (x : Option Session) → IsOf i x → EndsLeft s (moves ++ m ∷ []) x
-    by_session None o = tt
-    by_session (Some q) o =
-        subst (λ n. has_end (rest_of s (moves ++ m ∷ []) n) ≡ true) (sym o)
-        (begin_has_end l (rest_of s (moves ++ m ∷ []) i) b
-        (subst (λ x. ends_sessions x ≡ true) (lane_left s moves m i l e f) (ends_drop (lines_of s i) (cursor moves i) (good i))))
+  by_session : (x : Option Session) → IsOf i x → EndsLeft s (moves ++ m ∷ []) x
+  by_session None o = tt
+  by_session (Some q) o =
+      subst (λ n. has_end (rest_of s (moves ++ m ∷ []) n) ≡ true) (sym o)
+      (begin_has_end l (rest_of s (moves ++ m ∷ []) i) b
+      (subst (λ x. ends_sessions x ≡ true) (lane_left s moves m i l e f) (ends_drop (lines_of s i) (cursor moves i) (good i))))
 
 -- a session stood
 other_lane : (a b : ℕ) → (b == a) ≡ false → (a == b) ≡ false
@@ -247,37 +246,35 @@ from_own true s moves m st q l b e f g on h =
     end_op : (op : Op) → is_end op ≡ true → op ≡ End
     end_op End e = refl
     end_op _ e = absurd cc
-from_own false s moves m st q l b e f g on h = by_session (after s st act).session owned
-  where
-    act : Act
-    act = act_of m.mark (Line q.owner l.op)
+from_own false s moves m st q l b e f g on h = by_session (after s st act).session owned where
+  act : Act
+  act = act_of m.mark (Line q.owner l.op)
 
-    owned : Owned q.owner (after s st act)
-    owned = owned_after q.owner s st act (λ lane i x. absurd (none_some st.session q g x)) (subst (IsOf q.owner) (sym g) refl)
+  owned : Owned q.owner (after s st act)
+  owned = owned_after q.owner s st act (λ lane i x. absurd (none_some st.session q g x)) (subst (IsOf q.owner) (sym g) refl)
 
-    by_session : (x : Option Session) → IsOf q.owner x → EndsLeft s (moves ++ m ∷ []) x
-    by_session None o = tt
-    by_session (Some p) o =
-        subst (λ n. has_end (rest_of s (moves ++ m ∷ []) n) ≡ true) (sym o)
-        (end_left l (rest_of s (moves ++ m ∷ []) q.owner) b (subst (λ x. has_end x ≡ true) (lane_left s moves m q.owner l e f) h))
+  by_session : (x : Option Session) → IsOf q.owner x → EndsLeft s (moves ++ m ∷ []) x
+  by_session None o = tt
+  by_session (Some p) o =
+      subst (λ n. has_end (rest_of s (moves ++ m ∷ []) n) ≡ true) (sym o)
+      (end_left l (rest_of s (moves ++ m ∷ []) q.owner) b (subst (λ x. has_end x ≡ true) (lane_left s moves m q.owner l e f) h))
 
 lane_move : (x : Option Session) (s : Plan) (moves : List Move) (m : Move) (st : State) (i : ℕ) (l : LaneLine) → st.session ≡ x → EndsSessions s → m.actor ≡ Lane i → slice_get (lines_of s i) (cursor moves i) ≡ Some l → enabled s st (Line i l.op) ≡ true → EndsLeft s moves x
     → EndsLeft s (moves ++ m ∷ []) (after s st (act_of m.mark (Line i l.op))).session
 lane_move None s moves m st i l g good e f on h = from_none (is_begin l.op) s moves m st i l refl good e f g
-lane_move (Some q) s moves m st i l g good e f on h = by_owner (q.owner == i) refl
-  where
-    act : Act
-    act = act_of m.mark (Line i l.op)
+lane_move (Some q) s moves m st i l g good e f on h = by_owner (q.owner == i) refl where
+  act : Act
+  act = act_of m.mark (Line i l.op)
 
-    by_owner : (b : Bool) → (q.owner == i) ≡ b → EndsLeft s (moves ++ m ∷ []) (after s st act).session
-    by_owner true j =
-        let same : q.owner ≡ i = eqb-true q.owner i j in
-        subst (λ n. EndsLeft s (moves ++ m ∷ []) (after s st (act_of m.mark (Line n l.op))).session) same
-        (from_own (is_end l.op) s moves m st q l refl (e ∙ ap Lane (sym same)) (subst (λ n. slice_get (lines_of s n) (cursor moves n) ≡ Some l) (sym same) f) g (subst (λ n. enabled s st (Line n l.op) ≡ true) (sym same) on) h)
-    by_owner false j =
-        keeps_of s moves m q (after s st act).session
-        (owned_after q.owner s st act (λ lane k x. absurd (none_some st.session q g x)) (subst (IsOf q.owner) (sym g) refl))
-        (ap (is_lane q.owner) e ∙ other_lane i q.owner j) h
+  by_owner : (b : Bool) → (q.owner == i) ≡ b → EndsLeft s (moves ++ m ∷ []) (after s st act).session
+  by_owner true j =
+      let same : q.owner ≡ i = eqb-true q.owner i j in
+      subst (λ n. EndsLeft s (moves ++ m ∷ []) (after s st (act_of m.mark (Line n l.op))).session) same
+      (from_own (is_end l.op) s moves m st q l refl (e ∙ ap Lane (sym same)) (subst (λ n. slice_get (lines_of s n) (cursor moves n) ≡ Some l) (sym same) f) g (subst (λ n. enabled s st (Line n l.op) ≡ true) (sym same) on) h)
+  by_owner false j =
+      keeps_of s moves m q (after s st act).session
+      (owned_after q.owner s st act (λ lane k x. absurd (none_some st.session q g x)) (subst (IsOf q.owner) (sym g) refl))
+      (ap (is_lane q.owner) e ∙ other_lane i q.owner j) h
 
 -- ## every legal trail
 
@@ -347,11 +344,10 @@ record FailsAt (test : ℕ → Bool) : Type 0 where
 
 not_all : (test : ℕ → Bool) (xs : List ℕ) → list_all test xs ≡ false → FailsAt test
 not_all test [] e = absurd cc
-not_all test (x ∷ xs) e = by_head (test x) refl e (not_all test xs)
-  where
-    by_head : (b : Bool) → test x ≡ b → (b && list_all test xs) ≡ false → (list_all test xs ≡ false → FailsAt test) → FailsAt test
-    by_head true f g ih = ih g
-    by_head false f g ih = record { at = x; is = f }
+not_all test (x ∷ xs) e = by_head (test x) refl e (not_all test xs) where
+  by_head : (b : Bool) → test x ≡ b → (b && list_all test xs) ≡ false → (list_all test xs ≡ false → FailsAt test) → FailsAt test
+  by_head true f g ih = ih g
+  by_head false f g ih = record { at = x; is = f }
 
 own_session : (x : Option Session) (q p : Session) → x ≡ Some q → x ≡ Some p → p.owner ≡ q.owner
 own_session x q p e f = grind arith

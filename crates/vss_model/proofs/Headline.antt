@@ -94,17 +94,16 @@ has_line : (s : Plan) (r : Run) (j : ℕ) (o : Option LaneLine) → next_line s 
 has_line s r j o e f = grind (arith, slice_get_within)
 
 lane_past : (s : Plan) (r : Run) (m : Move) (j i : ℕ) → m.actor ≡ Lane j → event_enabled s r (event_of s r (Lane j)) ≡ true → NonePast s r.moves → cursor (r.moves ++ m ∷ []) i ≤ length (lines_of s i)
-lane_past s r m j i e f h = own (j == i) refl
-  where
-    own : (b : Bool) → (j == i) ≡ b → cursor (r.moves ++ m ∷ []) i ≤ length (lines_of s i)
-    own true g =
-        let more = cursor_more r.moves m i (ap (is_lane i) e ∙ g) in
-        let here : cursor r.moves i < length (lines_of s i) = subst (λ x. cursor r.moves x < length (lines_of s x)) (eqb-true j i g) (has_line s r j (next_line s r j) refl f) in
-        omega (arith, more, here)
-    own false g =
-        let less = cursor_same r.moves m i (ap (is_lane i) e ∙ g) in
-        let here = h i in
-        omega (arith, less, here)
+lane_past s r m j i e f h = own (j == i) refl where
+  own : (b : Bool) → (j == i) ≡ b → cursor (r.moves ++ m ∷ []) i ≤ length (lines_of s i)
+  own true g =
+      let more = cursor_more r.moves m i (ap (is_lane i) e ∙ g) in
+      let here : cursor r.moves i < length (lines_of s i) = subst (λ x. cursor r.moves x < length (lines_of s x)) (eqb-true j i g) (has_line s r j (next_line s r j) refl f) in
+      omega (arith, more, here)
+  own false g =
+      let less = cursor_same r.moves m i (ap (is_lane i) e ∙ g) in
+      let here = h i in
+      omega (arith, less, here)
 
 other_past : (s : Plan) (r : Run) (m : Move) (i : ℕ) → is_lane i m.actor ≡ false → NonePast s r.moves → cursor (r.moves ++ m ∷ []) i ≤ length (lines_of s i)
 other_past s r m i e h = let less = cursor_same r.moves m i e in let here = h i in omega (arith, less, here)
@@ -131,11 +130,10 @@ no_lane (l ∷ lanes) zero h = absurd (omega (arith, h))
 no_lane (l ∷ lanes) (suc i) h = no_lane lanes i (omega (arith, h))
 
 pub used_up : (s : Plan) (r : Run) → is_over s r ≡ true → (i : ℕ) → length (lines_of s i) ≤ cursor r.moves i
-used_up s r e i = own (cases_lt i (length s.lanes))
-  where
-    own : (i < length s.lanes) ⊎ (length s.lanes ≤ i) → length (lines_of s i) ≤ cursor r.moves i
-    own (inl h) = past (lines_of s i) (cursor r.moves i) (subst (λ x. is_used_up s r x ≡ true) (zero_more i) (all_below (is_used_up s r) 0 (length s.lanes) i (and_parts (list_all (is_used_up s r) (range_with_len 0 (length s.lanes))) (not (runs r.state)) e).0 h))
-    own (inr h) = let g = no_lane s.lanes i h in omega (arith, g)
+used_up s r e i = own (cases_lt i (length s.lanes)) where
+  own : (i < length s.lanes) ⊎ (length s.lanes ≤ i) → length (lines_of s i) ≤ cursor r.moves i
+  own (inl h) = past (lines_of s i) (cursor r.moves i) (subst (λ x. is_used_up s r x ≡ true) (zero_more i) (all_below (is_used_up s r) 0 (length s.lanes) i (and_parts (list_all (is_used_up s r) (range_with_len 0 (length s.lanes))) (not (runs r.state)) e).0 h))
+  own (inr h) = let g = no_lane s.lanes i h in omega (arith, g)
 
 pub each_line_once : (s : Plan) (trail : List Move) → is_legal s trail ≡ true → is_complete s trail ≡ true → MakesEachLineOnce s trail
 each_line_once s trail e f i =

@@ -207,13 +207,12 @@ with_volumes m v hs st f h = set_fewer m v st.course.agenda (in_progress st) (hi
 -- a set is started: it has no image
 found_no_image : (rows : List SetRow) (r : SetRow) (images : List Image) → point_in r.number images ≡ None → NoImage (find (λ q. is_running q.result) rows) images → NoImage (find (λ q. is_running q.result) (rows ++ r ∷ [])) images
 found_no_image [] r images e h = grind (arith, common_steps)
-found_no_image (q ∷ rows) r images e h = head_if (is_running q.result) h (found_no_image rows r images e)
-  where
-    head_if : (b : Bool) → NoImage (if b then Some q else find (λ q. is_running q.result) rows) images
-        → (NoImage (find (λ q. is_running q.result) rows) images → NoImage (find (λ q. is_running q.result) (rows ++ r ∷ [])) images)
-        → NoImage (if b then Some q else find (λ q. is_running q.result) (rows ++ r ∷ [])) images
-    head_if true h ih = h
-    head_if false h ih = ih h
+found_no_image (q ∷ rows) r images e h = head_if (is_running q.result) h (found_no_image rows r images e) where
+  head_if : (b : Bool) → NoImage (if b then Some q else find (λ q. is_running q.result) rows) images
+      → (NoImage (find (λ q. is_running q.result) rows) images → NoImage (find (λ q. is_running q.result) (rows ++ r ∷ [])) images)
+      → NoImage (if b then Some q else find (λ q. is_running q.result) (rows ++ r ∷ [])) images
+  head_if true h ih = h
+  head_if false h ih = ih h
 
 unnumbered : (n m : ℕ) (images : List Image) → UpTo m images → m < n → point_in n images ≡ None
 unnumbered n m [] h l = refl
@@ -267,14 +266,13 @@ on_puts : (m : Bool) (v u : ℕ) (w : Write) (mark : Mark) (st x : State) → is
 on_puts m v u w mark st x e free h = grind (arith, on_put)
 
 on_reverted : (m : Bool) (v u : ℕ) (f : History → History) (st : State) → ((h : History) → Fewer false h (f h)) → is_in_set u (in_progress st) ≡ false → Unused m v st → Unused m v (record st { volumes = change_at u f st.volumes })
-on_reverted m v u f st less e h = by_cases (u == v) refl
-  where
-    by_cases : (b : Bool) → (u == v) ≡ b → Unused m v (record st { volumes = change_at u f st.volumes })
-    by_cases true g =
-        no_image_any m v st.course.agenda (in_progress st) _
-        (no_image_fewer false (in_progress st) (history_of st v) _ (each_change (Fewer false) (fewer_same false) f less u st.volumes v)
-        (outside_no_image m v st.course.agenda (in_progress st) (history_of st v) (subst (λ x. is_in_set x (in_progress st) ≡ false) (eqb-true u v g) e) h))
-    by_cases false g = on_other m v u f st g h
+on_reverted m v u f st less e h = by_cases (u == v) refl where
+  by_cases : (b : Bool) → (u == v) ≡ b → Unused m v (record st { volumes = change_at u f st.volumes })
+  by_cases true g =
+      no_image_any m v st.course.agenda (in_progress st) _
+      (no_image_fewer false (in_progress st) (history_of st v) _ (each_change (Fewer false) (fewer_same false) f less u st.volumes v)
+      (outside_no_image m v st.course.agenda (in_progress st) (history_of st v) (subst (λ x. is_in_set x (in_progress st) ≡ false) (eqb-true u v g) e) h))
+  by_cases false g = on_other m v u f st g h
 
 on_reverts : (m : Bool) (v : ℕ) (s : Plan) (u : ℕ) (k : Kept) (mark : Mark) (st : State) → is_in_set u (in_progress st) ≡ false → Unused m v st → Unused m v (reverted_as s u k mark st).1
 on_reverts m v s u k mark st e h = grind (arith, on_reverted, fewer_reverted, fewer_reverted_in_part)
@@ -312,18 +310,16 @@ cut_each_at : (n : ℕ) (vs : List ℕ) (base : ℕ) (hs : List History) (v u : 
 cut_each_at n vs base [] zero u e = inl refl
 cut_each_at n vs base [] (suc v) u e = inl refl
 cut_each_at n vs base (x ∷ hs) zero u e = grind (arith, common_steps, cut_head)
-cut_each_at n vs base (x ∷ hs) (suc v) u e = cut_each_at n vs (base + 1) hs v u (shift base v u e)
-  where
-    shift : (a b u : ℕ) → u ≡ a + suc b → u ≡ (a + 1) + b
-    shift a b u e = omega arith
+cut_each_at n vs base (x ∷ hs) (suc v) u e = cut_each_at n vs (base + 1) hs v u (shift base v u e) where
+  shift : (a b u : ℕ) → u ≡ a + suc b → u ≡ (a + 1) + b
+  shift a b u e = omega arith
 
 point_in-append : (n p : ℕ) (images : List Image) → point_in n images ≡ None → point_in n (images ++ image_of n p ∷ []) ≡ Some p
 point_in-append n p [] e = rw (eq-eqb n n refl) refl
-point_in-append n p (i ∷ images) e = by_cases (i.set == n) e (point_in-append n p images)
-  where
-    by_cases : (b : Bool) → (if b then Some i.point else point_in n images) ≡ None → (point_in n images ≡ None → point_in n (images ++ image_of n p ∷ []) ≡ Some p) → (if b then Some i.point else point_in n (images ++ image_of n p ∷ [])) ≡ Some p
-    by_cases true f ih = absurd cc
-    by_cases false f ih = ih f
+point_in-append n p (i ∷ images) e = by_cases (i.set == n) e (point_in-append n p images) where
+  by_cases : (b : Bool) → (if b then Some i.point else point_in n images) ≡ None → (point_in n images ≡ None → point_in n (images ++ image_of n p ∷ []) ≡ Some p) → (if b then Some i.point else point_in n (images ++ image_of n p ∷ [])) ≡ Some p
+  by_cases true f ih = absurd cc
+  by_cases false f ih = ih f
 
 pub held_parts : (a b c : Bool) → (a && b && not c) ≡ true → (a ≡ true) × (b ≡ true) × (c ≡ false)
 held_parts a b c e = grind arith
@@ -344,14 +340,13 @@ cut_unused s past v r g c e =
     (subst (λ o. SetUnused true v (Some c.agenda) o k) (sym (find-row_cut r.number st.clock st.sets ∙ ap (option_map (row_cut r.number st.clock)) e))
     (image_of_row true v c.agenda r q k (number (r.number == r.number) st.clock) (volumes-row_cut_if (r.number == r.number) st.clock r)
     (cut_image v c.agenda r (history_of st v) k (λ f. subst (λ a. holds a v ≡ true) c.runs (held_at_cut s past r v g e f)) (cut_each_at r.number r.volumes 0 st.volumes v v (zero_plus v))
-    (not_some (point_in r.number (history_of st v).images) (λ p f. uncut_at_cut s past r v p c e f)))))
-  where
-    number : (b : Bool) (now : ℕ) → (if b then record r { cut_at = Some now } else r).number ≡ r.number
-    number true now = refl
-    number false now = refl
+    (not_some (point_in r.number (history_of st v).images) (λ p f. uncut_at_cut s past r v p c e f))))) where
+      number : (b : Bool) (now : ℕ) → (if b then record r { cut_at = Some now } else r).number ≡ r.number
+      number true now = refl
+      number false now = refl
 
-    zero_plus : (a : ℕ) → a ≡ 0 + a
-    zero_plus a = omega arith
+      zero_plus : (a : ℕ) → a ≡ 0 + a
+      zero_plus a = omega arith
 
 -- ## every act
 

@@ -41,10 +41,9 @@ fit_where : (f : WriterRow → WriterRow) (test : ℕ → Bool) (k : ℕ) (rows 
 fit_where f test k [] zero g = refl
 fit_where f test k [] (suc w) g = refl
 fit_where f test k (r ∷ rows) zero g = grind (arith, common_steps)
-fit_where f test k (r ∷ rows) (suc w) g = fit_where f test (k + 1) rows w (λ q e. g q (ap test (shift k w) ∙ e))
-  where
-    shift : (a b : ℕ) → a + suc b ≡ (a + 1) + b
-    shift a b = omega arith
+fit_where f test k (r ∷ rows) (suc w) g = fit_where f test (k + 1) rows w (λ q e. g q (ap test (shift k w) ∙ e)) where
+  shift : (a b : ℕ) → a + suc b ≡ (a + 1) + b
+  shift a b = omega arith
 
 -- a change of each row that keeps whether it has failed so
 fit_each : (f : WriterRow → WriterRow) → ((r : WriterRow) → is_identify_failure (f r).state ≡ is_identify_failure r.state) → (test : ℕ → Bool) (k : ℕ) (rows : List WriterRow) → AsFit rows (rows_where f test k rows)
@@ -124,10 +123,9 @@ keeps_told o said now ws c e fit = record {
   disabled = refl;
   members = refl;
   fit = λ w. fit_where (row_after o said) (λ x. is_among x ws) 0 c.rows w (λ r f. row_fit_after o said r e ∙ sym (fit w (subst (λ x. is_among x ws ≡ true) (zero_plus w) f)));
-}
-  where
-    zero_plus : (a : ℕ) → 0 + a ≡ a
-    zero_plus a = omega arith
+} where
+  zero_plus : (a : ℕ) → 0 + a ≡ a
+  zero_plus a = omega arith
 
 pub keeps_failed : (why : VssResult) (c : Course) → Keeps c (course_failed why c)
 unfolding course_failed

@@ -73,18 +73,17 @@ spent_one b limit since ticks now l e = grind arith
 
 first_passed : (now since : ℕ) (log : List Entry) → first_time (filter (λ e. is_hold e.place.group) log) ≡ Some since → has_passed hold_limit since now ≡ true → list_any (λ (e : Entry). is_hold_step e.place.group && has_passed hold_limit e.time now) log ≡ true
 first_passed now since [] e f = absurd cc
-first_passed now since (x ∷ log) e f = by_test (is_hold x.place.group) refl e (first_passed now since log)
-  where
-    both_left : (a b c : Bool) → a ≡ true → b ≡ true → ((a && b) || c) ≡ true
-    both_left true true c e f = refl
-    both_left true false c e f = absurd cc
-    both_left false b c e f = absurd cc
+first_passed now since (x ∷ log) e f = by_test (is_hold x.place.group) refl e (first_passed now since log) where
+  both_left : (a b c : Bool) → a ≡ true → b ≡ true → ((a && b) || c) ≡ true
+  both_left true true c e f = refl
+  both_left true false c e f = absurd cc
+  both_left false b c e f = absurd cc
 
-    by_test : (b : Bool) → is_hold x.place.group ≡ b → first_time (if b then x ∷ filter (λ e. is_hold e.place.group) log else filter (λ e. is_hold e.place.group) log) ≡ Some since
-        → (first_time (filter (λ e. is_hold e.place.group) log) ≡ Some since → has_passed hold_limit since now ≡ true → list_any (λ (e : Entry). is_hold_step e.place.group && has_passed hold_limit e.time now) log ≡ true)
-        → ((is_hold_step x.place.group && has_passed hold_limit x.time now) || list_any (λ (e : Entry). is_hold_step e.place.group && has_passed hold_limit e.time now) log) ≡ true
-    by_test true g e ih = both_left (is_hold_step x.place.group) (has_passed hold_limit x.time now) _ (sym (same_hold_step x.place.group) ∙ g) (subst (λ t. has_passed hold_limit t now ≡ true) (sym (some_same x.time since e)) f)
-    by_test false g e ih = or_right (is_hold_step x.place.group && has_passed hold_limit x.time now) _ (ih e f)
+  by_test : (b : Bool) → is_hold x.place.group ≡ b → first_time (if b then x ∷ filter (λ e. is_hold e.place.group) log else filter (λ e. is_hold e.place.group) log) ≡ Some since
+      → (first_time (filter (λ e. is_hold e.place.group) log) ≡ Some since → has_passed hold_limit since now ≡ true → list_any (λ (e : Entry). is_hold_step e.place.group && has_passed hold_limit e.time now) log ≡ true)
+      → ((is_hold_step x.place.group && has_passed hold_limit x.time now) || list_any (λ (e : Entry). is_hold_step e.place.group && has_passed hold_limit e.time now) log) ≡ true
+  by_test true g e ih = both_left (is_hold_step x.place.group) (has_passed hold_limit x.time now) _ (sym (same_hold_step x.place.group) ∙ g) (subst (λ t. has_passed hold_limit t now ≡ true) (sym (some_same x.time since e)) f)
+  by_test false g e ih = or_right (is_hold_step x.place.group && has_passed hold_limit x.time now) _ (ih e f)
 
 pub hold_late : (now : ℕ) (g : Group) (a : Agenda) (o : Option ℕ) (l : Running) → first_hold a.log ≡ o → spent_of now (hold_running g o) ≡ Some l → held_too_long now g a ≡ true
 hold_late now g a None l e f = absurd cc
@@ -129,13 +128,12 @@ Decides _ o = Unit {0}
 
 late_open : (now : ℕ) (c : Course) (a : Agenda) (o : Open) (os : List Open) (l : Running) → spent_of now (running_at (freeze_limit c) a (o ∷ os)) ≡ Some l → Decides l.limit (order_of o.place.group)
     → is_late_at now c a (o ∷ os) ≡ true
-late_open now c a o os l e d = by_limit l.limit d (spent_here now (freeze_limit c) a o os l e)
-  where
-    by_limit : (x : Limit) → Decides x (order_of o.place.group) → IsSpentHere now (freeze_limit c) a o l x → is_late_at now c a (o ∷ os) ≡ true
-    by_limit HoldLimit d h =
-        or_first (held_too_long now o.place.group a) (frozen_too_long now o.place.group c a) (unanswered_too_long now o.place a) (hold_late now o.place.group a (first_hold a.log) l refl h)
-    by_limit FreezeLimit d h = or_second (held_too_long now o.place.group a) (frozen_too_long now o.place.group c a) (unanswered_too_long now o.place a) (freeze_late now o.place.group c a l h.1)
-    by_limit AnswerLimit d h = or_third (held_too_long now o.place.group a) (frozen_too_long now o.place.group c a) (unanswered_too_long now o.place a) (answer_late now a o l h.2 d)
+late_open now c a o os l e d = by_limit l.limit d (spent_here now (freeze_limit c) a o os l e) where
+  by_limit : (x : Limit) → Decides x (order_of o.place.group) → IsSpentHere now (freeze_limit c) a o l x → is_late_at now c a (o ∷ os) ≡ true
+  by_limit HoldLimit d h =
+      or_first (held_too_long now o.place.group a) (frozen_too_long now o.place.group c a) (unanswered_too_long now o.place a) (hold_late now o.place.group a (first_hold a.log) l refl h)
+  by_limit FreezeLimit d h = or_second (held_too_long now o.place.group a) (frozen_too_long now o.place.group c a) (unanswered_too_long now o.place a) (freeze_late now o.place.group c a l h.1)
+  by_limit AnswerLimit d h = or_third (held_too_long now o.place.group a) (frozen_too_long now o.place.group c a) (unanswered_too_long now o.place a) (answer_late now a o l h.2 d)
 
 late_left : (now : ℕ) (c : Course) (a : Agenda) (os : List Open) (l : Running) → spent_of now (running_at (freeze_limit c) a os) ≡ Some l → Decides l.limit (order_now os) → is_late_at now c a os ≡ true
 late_left now c a [] l e d = absurd cc

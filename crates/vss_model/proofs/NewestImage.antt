@@ -23,13 +23,12 @@ live_number m n [] h e = absurd cc
 live_number m n (r ∷ rows) h e =
     either_number (r.number == n) (not (has_failed r.result)) (is_live rows n) n (m + suc (length rows)) e
     (λ f. own m r.number n (length rows) h.0 f)
-    (λ f. later m n (length rows) (live_number (m + 1) n rows h.1 f))
-  where
-    own : (m a n k : ℕ) → a ≡ m → (a == n) ≡ true → n < m + suc k
-    own m a n k e f = grind arith
+    (λ f. later m n (length rows) (live_number (m + 1) n rows h.1 f)) where
+      own : (m a n k : ℕ) → a ≡ m → (a == n) ≡ true → n < m + suc k
+      own m a n k e f = grind arith
 
-    later : (m n k : ℕ) → n < (m + 1) + k → n < m + suc k
-    later m n k l = omega arith
+      later : (m n k : ℕ) → n < (m + 1) + k → n < m + suc k
+      later m n k l = omega arith
 
 -- none of these is of a set after n
 abbrev pub UpTo : ℕ → List Image → Type 0
@@ -74,7 +73,6 @@ newest_image s acts r v p e f =
     let o = orderly s acts in
     newest_in r.number p (length (history_of st v).writes) (history_of st v).images (images_in_time s acts v)
     (rw (number r.number (length st.sets) (newest_number 1 st.sets r o.numbered o.newest e)) (images_up_to st.sets st.volumes v o.numbered o.live))
-    f
-  where
-    number : (a b : ℕ) → a + 1 ≡ 1 + b → a ≡ b
-    number a b e = omega arith
+    f where
+      number : (a b : ℕ) → a + 1 ≡ 1 + b → a ≡ b
+      number a b e = omega arith

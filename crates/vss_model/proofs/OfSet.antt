@@ -29,13 +29,12 @@ use Rattle.vss_model.proofs.FewerImages.{fewer_after, fewer_followed}
 -- a new image at the end is that of the set, or none
 last_image : (images : List Image) (m n p : ℕ) → is_some (point_in n (images ++ record { set = m; point = p } ∷ [])) ≡ true → (is_some (point_in n images) ≡ true) ⊎ ((m == n) ≡ true)
 last_image [] m n p e = grind (arith, common_steps)
-last_image (i ∷ images) m n p e = by_head (i.set == n) e (last_image images m n p)
-  where
-    by_head : (b : Bool) → is_some (if b then Some i.point else point_in n (images ++ record { set = m; point = p } ∷ [])) ≡ true
-        → (is_some (point_in n (images ++ record { set = m; point = p } ∷ [])) ≡ true → (is_some (point_in n images) ≡ true) ⊎ ((m == n) ≡ true))
-        → (is_some (if b then Some i.point else point_in n images) ≡ true) ⊎ ((m == n) ≡ true)
-    by_head true e ih = inl refl
-    by_head false e ih = ih e
+last_image (i ∷ images) m n p e = by_head (i.set == n) e (last_image images m n p) where
+  by_head : (b : Bool) → is_some (if b then Some i.point else point_in n (images ++ record { set = m; point = p } ∷ [])) ≡ true
+      → (is_some (point_in n (images ++ record { set = m; point = p } ∷ [])) ≡ true → (is_some (point_in n images) ≡ true) ⊎ ((m == n) ≡ true))
+      → (is_some (if b then Some i.point else point_in n images) ≡ true) ⊎ ((m == n) ≡ true)
+  by_head true e ih = inl refl
+  by_head false e ih = ih e
 
 -- after a cut of set m on volumes vs
 abbrev WasOrIs : ℕ → List ℕ → ℕ → ℕ → Bool → Type 0
@@ -76,24 +75,22 @@ cut_now s past act r e f c g h n v i =
     let x : State = followed (runs st) (course_stepped true st.clock st.course) (cut_set (Some r) st) in
     let same : after s st act ≡ x = after_cut s st act e f ∙ ap (λ o. followed (runs st) (course_stepped true st.clock st.course) (cut_set o st)) g in
     let fewer = (fewer_followed (runs st) (course_stepped true st.clock st.course) (cut_set (Some r) st)).each v in
-    by_image (cut_there r.number r.volumes n 0 v st.volumes (fewer.sets n (subst (λ (y : State). has_image n (history_of y v) ≡ true) same i)))
-  where
-    zero_plus : (a : ℕ) → 0 + a ≡ a
-    zero_plus a = omega arith
+    by_image (cut_there r.number r.volumes n 0 v st.volumes (fewer.sets n (subst (λ (y : State). has_image n (history_of y v) ≡ true) same i))) where
+      zero_plus : (a : ℕ) → 0 + a ≡ a
+      zero_plus a = omega arith
 
-    by_image : WasOrIs r.number r.volumes n (0 + v) (has_image n (history_of (state s past) v)) → CutWith s v (or_cut (cut s n past) (cut_if (is_cut_of n (state s past) act) past None))
-    by_image (inl j) = stays_cut s v (cut s n past) _ (h n v j)
-    by_image (inr j) =
-        let st = state s past in
-        let parts = both (r.number == n) (is_among (0 + v) r.volumes) j in
-        now_cut s v past (is_cut_of n st act) (cut s n past)
-        (subst (λ m. cut s m past ≡ None) (eqb-true r.number n parts.0) (not_cut_yet s past r c g))
-        (all_three (is_provider act.event) (is_cut_group (open_group (left_now st))) (is_set n (in_progress st)) e f (ap (is_set n) g ∙ parts.0))
-        (ap (is_in_set v) g ∙ subst (λ u. is_among u r.volumes ≡ true) (zero_plus v) parts.1)
+      by_image : WasOrIs r.number r.volumes n (0 + v) (has_image n (history_of (state s past) v)) → CutWith s v (or_cut (cut s n past) (cut_if (is_cut_of n (state s past) act) past None))
+      by_image (inl j) = stays_cut s v (cut s n past) _ (h n v j)
+      by_image (inr j) =
+          let st = state s past in
+          let parts = both (r.number == n) (is_among (0 + v) r.volumes) j in
+          now_cut s v past (is_cut_of n st act) (cut s n past)
+          (subst (λ m. cut s m past ≡ None) (eqb-true r.number n parts.0) (not_cut_yet s past r c g))
+          (all_three (is_provider act.event) (is_cut_group (open_group (left_now st))) (is_set n (in_progress st)) e f (ap (is_set n) g ∙ parts.0))
+          (ap (is_in_set v) g ∙ subst (λ u. is_among u r.volumes ≡ true) (zero_plus v) parts.1)
 
 on_act_if : (b : Bool) (s : Plan) (past : List Act) (act : Act) → (is_provider act.event && is_cut_group (open_group (left_now (state s past)))) ≡ b → AllOfSets s past → AllOfSets s (past ++ act ∷ [])
-on_act_if false s past act e h =
-    along s past act (λ n v f. stays_cut s v (cut s n past) _ (h n v (((fewer_after s (state s past) act e).each v).sets n f)))
+on_act_if false s past act e h = along s past act (λ n v f. stays_cut s v (cut s n past) _ (h n v (((fewer_after s (state s past) act e).each v).sets n f)))
 on_act_if true s past act e h =
     let parts = both (is_provider act.event) (is_cut_group (open_group (left_now (state s past)))) e in
     let c = cuts s past parts.1 in

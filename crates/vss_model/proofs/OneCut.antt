@@ -195,13 +195,12 @@ on_begins k lane all c st h = grind arith
 -- a set is started: it was not cut
 found_append : (k : Known) (a : Option Agenda) (rows : List SetRow) (r : SetRow) → k r.number ≡ None → Progress k a (find (λ q. is_running q.result) rows) → Progress k a (find (λ q. is_running q.result) (rows ++ r ∷ []))
 found_append k a [] r e h = grind (arith, common_steps, made_in_none)
-found_append k a (q ∷ rows) r e h = head_if (is_running q.result) h (found_append k a rows r e)
-  where
-    head_if : (b : Bool) → Progress k a (if b then Some q else find (λ q. is_running q.result) rows)
-        → (Progress k a (find (λ q. is_running q.result) rows) → Progress k a (find (λ q. is_running q.result) (rows ++ r ∷ [])))
-        → Progress k a (if b then Some q else find (λ q. is_running q.result) (rows ++ r ∷ []))
-    head_if true h ih = h
-    head_if false h ih = ih h
+found_append k a (q ∷ rows) r e h = head_if (is_running q.result) h (found_append k a rows r e) where
+  head_if : (b : Bool) → Progress k a (if b then Some q else find (λ q. is_running q.result) rows)
+      → (Progress k a (find (λ q. is_running q.result) rows) → Progress k a (find (λ q. is_running q.result) (rows ++ r ∷ [])))
+      → Progress k a (if b then Some q else find (λ q. is_running q.result) (rows ++ r ∷ []))
+  head_if true h ih = h
+  head_if false h ih = ih h
 
 on_starts : (k : Known) (q : Session) (st : State) → IsCut k st → IsCut k (start_set q st).1
 on_starts k q st h =
@@ -210,13 +209,12 @@ on_starts k q st h =
       shown = h.shown;
       progress = found_append k st.course.agenda st.sets (new_set n q.context) (h.fresh n (more (length st.sets))) h.progress;
       fresh = λ m l. h.fresh m (less (length st.sets) (length (st.sets ++ new_set n q.context ∷ [])) m (length_push st.sets (new_set n q.context)) l);
-    }
-  where
-    more : (a : ℕ) → a < a + 1
-    more a = omega arith
+    } where
+      more : (a : ℕ) → a < a + 1
+      more a = omega arith
 
-    less : (a b m : ℕ) → b ≡ a + 1 → b < m → a < m
-    less a b m e l = omega arith
+      less : (a b m : ℕ) → b ≡ a + 1 → b < m → a < m
+      less a b m e l = omega arith
 
 pub changed_number : (b : Bool) (f : SetRow → SetRow) (r : SetRow) → (f r).number ≡ r.number → (if b then f r else r).number ≡ r.number
 changed_number b f r e = grind arith
@@ -246,11 +244,10 @@ on_puts k v w _ x h = h
 
 pub row_number : (n : ℕ) (rows : List SetRow) (r : SetRow) → find (λ q. q.number == n) rows ≡ Some r → r.number ≡ n
 row_number n [] r e = absurd cc
-row_number n (q ∷ rows) r e = head_if (q.number == n) refl e (row_number n rows r)
-  where
-    head_if : (b : Bool) → (q.number == n) ≡ b → (if b then Some q else find (λ q. q.number == n) rows) ≡ Some r → (find (λ q. q.number == n) rows ≡ Some r → r.number ≡ n) → r.number ≡ n
-    head_if true f g ih = let same : q ≡ r = cc in subst (λ x. x.number ≡ n) same (eqb-true q.number n f)
-    head_if false f g ih = ih g
+row_number n (q ∷ rows) r e = head_if (q.number == n) refl e (row_number n rows r) where
+  head_if : (b : Bool) → (q.number == n) ≡ b → (if b then Some q else find (λ q. q.number == n) rows) ≡ Some r → (find (λ q. q.number == n) rows ≡ Some r → r.number ≡ n) → r.number ≡ n
+  head_if true f g ih = let same : q ≡ r = cc in subst (λ x. x.number ≡ n) same (eqb-true q.number n f)
+  head_if false f g ih = ih g
 
 pub kept_point : (n : ℕ) (o : Option SetRow) (p : Option ℕ) (x : Kept) → ((r : SetRow) → o ≡ Some r → r.number ≡ n) → kept_of o p ≡ Some x → (x.row.number ≡ n) × (p ≡ Some x.point)
 kept_point n o p x number e = grind arith
@@ -319,14 +316,13 @@ pub newest_number : (m : ℕ) (rows : List SetRow) (r : SetRow) → NumberedFrom
 newest_number m [] r h o e = absurd cc
 newest_number m (q ∷ []) r h o e = grind (arith, common_steps)
 newest_number m (q ∷ p ∷ rows) r h o e =
-    newest_number (m + 1) (p ∷ rows) r h.1 o.1 (rest_if (is_running q.result) o.0 e) ∙ shift m (length (p ∷ rows))
-  where
-    rest_if : (b : Bool) → b ≡ false → (if b then Some q else find (λ x. is_running x.result) (p ∷ rows)) ≡ Some r → find (λ x. is_running x.result) (p ∷ rows) ≡ Some r
-    rest_if true f g = absurd cc
-    rest_if false f g = g
+    newest_number (m + 1) (p ∷ rows) r h.1 o.1 (rest_if (is_running q.result) o.0 e) ∙ shift m (length (p ∷ rows)) where
+      rest_if : (b : Bool) → b ≡ false → (if b then Some q else find (λ x. is_running x.result) (p ∷ rows)) ≡ Some r → find (λ x. is_running x.result) (p ∷ rows) ≡ Some r
+      rest_if true f g = absurd cc
+      rest_if false f g = g
 
-    shift : (a b : ℕ) → (a + 1) + b ≡ a + suc b
-    shift a b = omega arith
+      shift : (a b : ℕ) → (a + 1) + b ≡ a + suc b
+      shift a b = omega arith
 
 -- ## the images of the cut
 
@@ -342,13 +338,12 @@ shown_cut_each k l n vs all v (x ∷ hs) none more e at h =
       shown_cut_if (is_among v vs) l v n all x e (ap (λ o. (history_in o).writes) (ap (slice_get all) (plus_zero v) ∙ at 0)) shown
           (λ g f. shown-cut l v n all x e (ap (λ o. (history_in o).writes) (ap (slice_get all) (plus_zero v) ∙ at 0)) (below-known k v n x none h.0) g),
       shown_cut_each k l n vs all (v + 1) hs none more e (λ j. ap (slice_get all) (shift v j) ∙ at (suc j)) h.1,
-    )
-  where
-    plus_zero : (a : ℕ) → a ≡ a + 0
-    plus_zero a = omega arith
+    ) where
+      plus_zero : (a : ℕ) → a ≡ a + 0
+      plus_zero a = omega arith
 
-    shift : (a b : ℕ) → (a + 1) + b ≡ a + suc b
-    shift a b = omega arith
+      shift : (a b : ℕ) → (a + 1) + b ≡ a + suc b
+      shift a b = omega arith
 
 -- ## what the Cut step says
 
@@ -511,13 +506,12 @@ uncut_at_cut s acts r v p c e f =
     let st = state s acts in
     let k = known_from s nothing_known (start s) acts in
     subst (λ o. ShownIn o v p (history_of st v).writes) ((newest k st r c e (orderly s acts) (cut_all s acts)).none r.number (own r.number))
-    (shown_at k 0 v v r.number p st.volumes (zero_plus v) (cut_all s acts).shown f)
-  where
-    own : (a : ℕ) → a ≤ a
-    own a = omega arith
+    (shown_at k 0 v v r.number p st.volumes (zero_plus v) (cut_all s acts).shown f) where
+      own : (a : ℕ) → a ≤ a
+      own a = omega arith
 
-    zero_plus : (a : ℕ) → a ≡ 0 + a
-    zero_plus a = omega arith
+      zero_plus : (a : ℕ) → a ≡ 0 + a
+      zero_plus a = omega arith
 
 -- where the Cut step is the next one, the set in progress was not cut yet
 pub not_cut_yet : (s : Plan) (acts : List Act) (r : SetRow) → CutsNow (state s acts) → in_progress (state s acts) ≡ Some r → cut s r.number acts ≡ None
@@ -542,10 +536,9 @@ image_shown s acts n v p e =
     let k = known_from s nothing_known (start s) acts in
     shown_by s v p (history_of st v).writes (cut s n acts)
     (subst (λ o. ShownIn o v p (history_of st v).writes) (known_is s [] nothing_known n acts)
-    (shown_at k 0 v v n p st.volumes (zero_plus v) (cut_all s acts).shown e))
-  where
-    zero_plus : (a : ℕ) → a ≡ 0 + a
-    zero_plus a = omega arith
+    (shown_at k 0 v v n p st.volumes (zero_plus v) (cut_all s acts).shown e)) where
+      zero_plus : (a : ℕ) → a ≡ 0 + a
+      zero_plus a = omega arith
 
 -- ## where a set was cut
 

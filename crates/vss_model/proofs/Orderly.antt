@@ -143,8 +143,7 @@ over_rest r rows o = grind arith
 
 pub live-fails : (p : SetOutcome) (rows : List SetRow) (n : ℕ) → OverButNewest rows → IsOther n (find (λ r. is_running r.result) rows) → is_live rows n ≡ true → is_live (map (row_settled p) rows) n ≡ true
 live-fails p [] n o other h = h
-live-fails p (r ∷ rows) n o other h =
-    live_fails_at (is_running r.result) p r rows n refl o other (λ f g. live-fails p rows n (over_rest r rows o) f g) h
+live-fails p (r ∷ rows) n o other h = live_fails_at (is_running r.result) p r rows n refl o other (λ f g. live-fails p rows n (over_rest r rows o) f g) h
 
 -- its images go
 pub other_way : (a b : ℕ) → (a == b) ≡ false → (b == a) ≡ false

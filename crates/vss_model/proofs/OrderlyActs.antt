@@ -254,8 +254,7 @@ orderly_followed c st m h = orderly_at st.course.agenda c.agenda c st refl refl 
 begun_at : (done : Bool) (a : Agenda) (before d : Course) (st : State) (q : Session) → d.agenda ≡ Some a → d.outcome ≡ st.course.outcome → st.session ≡ Some q → WaitsFor a.kind q.context q.stage → IsOrderly st
     → IsOrderly (concluded (ending st.course.outcome (settled_if done a.kind d).outcome true (settled_if done a.kind d).agenda) (record st { course = posted before (settled_if done a.kind d) }))
 unfolding posted
-begun_at true a before d st q e f g w h =
-    ends_well a.kind (posted before (settled_if true a.kind d)) st q (inl (ap (λ o. outcome_after a.kind o) f)) g w refl h
+begun_at true a before d st q e f g w h = ends_well a.kind (posted before (settled_if true a.kind d)) st q (inl (ap (λ o. outcome_after a.kind o) f)) g w refl h
 begun_at false a before d st q e f g w h = grind (arith, common_steps, ending_on, goes_on)
 
 begun_well : (k : Kind) (ms : List Member) (vs : List ℕ) (now : ℕ) (c : Course) (st : State) (q : Session) → c.outcome ≡ st.course.outcome → st.session ≡ Some q → WaitsFor k q.context q.stage → IsOrderly st → IsOrderly (followed true (begun k ms vs now c) st)

@@ -62,13 +62,12 @@ roomy_settled k hs p rows h = grind (arith, find-settled_running, roomy_same, fi
 -- a new set has no volume yet
 roomy_append : (k : Cuts) (hs : List History) (rows : List SetRow) (r : SetRow) → r.volumes ≡ [] → Roomy k hs (find (λ q. is_running q.result) rows) → Roomy k hs (find (λ q. is_running q.result) (rows ++ r ∷ []))
 roomy_append k hs [] r e h = grind (arith, common_steps)
-roomy_append k hs (q ∷ rows) r e h = head_if (is_running q.result) h (roomy_append k hs rows r e)
-  where
-    head_if : (b : Bool) → Roomy k hs (if b then Some q else find (λ q. is_running q.result) rows)
-        → (Roomy k hs (find (λ q. is_running q.result) rows) → Roomy k hs (find (λ q. is_running q.result) (rows ++ r ∷ [])))
-        → Roomy k hs (if b then Some q else find (λ q. is_running q.result) (rows ++ r ∷ []))
-    head_if true h ih = h
-    head_if false h ih = ih h
+roomy_append k hs (q ∷ rows) r e h = head_if (is_running q.result) h (roomy_append k hs rows r e) where
+  head_if : (b : Bool) → Roomy k hs (if b then Some q else find (λ q. is_running q.result) rows)
+      → (Roomy k hs (find (λ q. is_running q.result) rows) → Roomy k hs (find (λ q. is_running q.result) (rows ++ r ∷ [])))
+      → Roomy k hs (if b then Some q else find (λ q. is_running q.result) (rows ++ r ∷ []))
+  head_if true h ih = h
+  head_if false h ih = ih h
 
 -- a volume that is added has room
 room_if : (a b c : Bool) (x y z : VssResult) → (if a then Some x else if b then Some y else if c then Some z else None) ≡ None → c ≡ false
@@ -150,11 +149,10 @@ at_cut s past act r e f g h =
 
     one_longer : (n : ℕ) (vs : List ℕ) (u v : ℕ) (hs : List History) → length (at (cut_each n vs u hs) v).images ≤ length (at hs v).images + 1
     one_longer n vs u v [] = omega arith
-    one_longer n vs u zero (x ∷ hs) = by_test (is_among u vs)
-      where
-        by_test : (b : Bool) → length (image_cut_if b n x).images ≤ length x.images + 1
-        by_test true = let long = length-append x.images (record { set = n; point = length x.writes } ∷ []) in omega (arith, long)
-        by_test false = omega arith
+    one_longer n vs u zero (x ∷ hs) = by_test (is_among u vs) where
+      by_test : (b : Bool) → length (image_cut_if b n x).images ≤ length x.images + 1
+      by_test true = let long = length-append x.images (record { set = n; point = length x.writes } ∷ []) in omega (arith, long)
+      by_test false = omega arith
     one_longer n vs u (suc v) (x ∷ hs) = one_longer n vs (u + 1) v hs
 
     fits : (a b c : ℕ) → a ≤ b + 1 → 1 + b ≤ c → 0 + a ≤ c
@@ -201,10 +199,9 @@ room_before_cut s acts r v e f g = less (length (history_of (state s acts) v).im
     less a c l = omega (arith, l)
 
 pub room_with_image : (s : Plan) (acts : List Act) (r : SetRow) (v : ℕ) → in_progress (state s acts) ≡ Some r → is_among v r.volumes ≡ true → length (history_of (state s acts) v).images ≤ most_images
-room_with_image s acts r v e g = less (place_for (cut s r.number acts)) (length (history_of (state s acts) v).images) most_images (room_in s acts r v e g)
-  where
-    less : (p a c : ℕ) → p + a ≤ c → a ≤ c
-    less p a c l = omega (arith, l)
+room_with_image s acts r v e g = less (place_for (cut s r.number acts)) (length (history_of (state s acts) v).images) most_images (room_in s acts r v e g) where
+  less : (p a c : ℕ) → p + a ≤ c → a ≤ c
+  less p a c l = omega (arith, l)
 
 pub room_at_cut : (s : Plan) (acts : List Act) (r : SetRow) (v : ℕ) → is_cut_group (open_group (left_now (state s acts))) ≡ true → in_progress (state s acts) ≡ Some r → is_among v r.volumes ≡ true → length (history_of (state s acts) v).images < most_images
 room_at_cut s acts r v e f g = room_before_cut s acts r v f (not_cut_yet s acts r (cuts s acts e) f) g

@@ -17,34 +17,31 @@ use Rattle.vss_model.proofs.Orderly.{number-settled_if}
 
 pub running_found : (rows : List SetRow) (r : SetRow) → find (λ q. is_running q.result) rows ≡ Some r → is_running r.result ≡ true
 running_found [] r e = absurd cc
-running_found (q ∷ rows) r e = by_head (is_running q.result) refl e (running_found rows r)
-  where
-    by_head : (b : Bool) → is_running q.result ≡ b → (if b then Some q else find (λ x. is_running x.result) rows) ≡ Some r → (find (λ x. is_running x.result) rows ≡ Some r → is_running r.result ≡ true) → is_running r.result ≡ true
-    by_head true f e ih = subst (λ x. is_running x.result ≡ true) (some_same q r e) f
-    by_head false f e ih = ih e
+running_found (q ∷ rows) r e = by_head (is_running q.result) refl e (running_found rows r) where
+  by_head : (b : Bool) → is_running q.result ≡ b → (if b then Some q else find (λ x. is_running x.result) rows) ≡ Some r → (find (λ x. is_running x.result) rows ≡ Some r → is_running r.result ≡ true) → is_running r.result ≡ true
+  by_head true f e ih = subst (λ x. is_running x.result ≡ true) (some_same q r e) f
+  by_head false f e ih = ih e
 
 pub found_above : (m : ℕ) (rows : List SetRow) (r : SetRow) → NumberedFrom m rows → find (λ q. is_running q.result) rows ≡ Some r → m ≤ r.number
 found_above m [] r h e = absurd cc
-found_above m (q ∷ rows) r h e = by_head (is_running q.result) e (found_above (m + 1) rows r h.1)
-  where
-    by_head : (b : Bool) → (if b then Some q else find (λ x. is_running x.result) rows) ≡ Some r → (find (λ x. is_running x.result) rows ≡ Some r → m + 1 ≤ r.number) → m ≤ r.number
-    by_head true e ih = subst (λ x. m ≤ x.number) (some_same q r e) (let g = h.0 in omega (arith, g))
-    by_head false e ih = let g = ih e in omega (arith, g)
+found_above m (q ∷ rows) r h e = by_head (is_running q.result) e (found_above (m + 1) rows r h.1) where
+  by_head : (b : Bool) → (if b then Some q else find (λ x. is_running x.result) rows) ≡ Some r → (find (λ x. is_running x.result) rows ≡ Some r → m + 1 ≤ r.number) → m ≤ r.number
+  by_head true e ih = subst (λ x. m ≤ x.number) (some_same q r e) (let g = h.0 in omega (arith, g))
+  by_head false e ih = let g = ih e in omega (arith, g)
 
 -- the row of its number is the row of the set in progress
 pub row_running : (m : ℕ) (rows : List SetRow) (r : SetRow) → NumberedFrom m rows → find (λ q. is_running q.result) rows ≡ Some r → find (λ q. q.number == r.number) rows ≡ Some r
 row_running m [] r h e = absurd cc
-row_running m (q ∷ rows) r h e = by_head (is_running q.result) e (row_running (m + 1) rows r h.1) (found_above (m + 1) rows r h.1)
-  where
-    below : (a b c : ℕ) → a ≡ b → b + 1 ≤ c → (a == c) ≡ false
-    below a b c e f = grind arith
+row_running m (q ∷ rows) r h e = by_head (is_running q.result) e (row_running (m + 1) rows r h.1) (found_above (m + 1) rows r h.1) where
+  below : (a b c : ℕ) → a ≡ b → b + 1 ≤ c → (a == c) ≡ false
+  below a b c e f = grind arith
 
-    by_head : (b : Bool) → (if b then Some q else find (λ x. is_running x.result) rows) ≡ Some r → (find (λ x. is_running x.result) rows ≡ Some r → find (λ x. x.number == r.number) rows ≡ Some r)
-        → (find (λ x. is_running x.result) rows ≡ Some r → m + 1 ≤ r.number) → (if q.number == r.number then Some q else find (λ x. x.number == r.number) rows) ≡ Some r
-    by_head true e ih above =
-        let same = some_same q r e in
-        cond-true _ _ _ (subst (λ x. (q.number == x.number) ≡ true) same (eq-eqb q.number q.number refl)) ∙ ap (λ x. Some x) same
-    by_head false e ih above = cond-false _ _ _ (below q.number m r.number h.0 (above e)) ∙ ih e
+  by_head : (b : Bool) → (if b then Some q else find (λ x. is_running x.result) rows) ≡ Some r → (find (λ x. is_running x.result) rows ≡ Some r → find (λ x. x.number == r.number) rows ≡ Some r)
+      → (find (λ x. is_running x.result) rows ≡ Some r → m + 1 ≤ r.number) → (if q.number == r.number then Some q else find (λ x. x.number == r.number) rows) ≡ Some r
+  by_head true e ih above =
+      let same = some_same q r e in
+      cond-true _ _ _ (subst (λ x. (q.number == x.number) ≡ true) same (eq-eqb q.number q.number refl)) ∙ ap (λ x. Some x) same
+  by_head false e ih above = cond-false _ _ _ (below q.number m r.number h.0 (above e)) ∙ ih e
 
 -- ## rows that settle
 
@@ -77,15 +74,14 @@ running_not_complete o e = grind arith
 -- a set whose row is not complete is not complete
 row_not_complete : (k n : ℕ) (rows : List SetRow) (r : SetRow) → NumberedFrom k rows → find (λ q. q.number == n) rows ≡ Some r → is_complete r.result ≡ false → has_complete rows n ≡ false
 row_not_complete k n [] r h e f = refl
-row_not_complete k n (q ∷ rows) r h e f = by_head (q.number == n) refl e (row_not_complete (k + 1) n rows r h.1)
-  where
-    equal_below : (a b c : ℕ) → (a == b) ≡ true → a ≡ c → b < c + 1
-    equal_below a b c e f = grind arith
+row_not_complete k n (q ∷ rows) r h e f = by_head (q.number == n) refl e (row_not_complete (k + 1) n rows r h.1) where
+  equal_below : (a b c : ℕ) → (a == b) ≡ true → a ≡ c → b < c + 1
+  equal_below a b c e f = grind arith
 
-    by_head : (b : Bool) → (q.number == n) ≡ b → (if b then Some q else find (λ x. x.number == n) rows) ≡ Some r → (find (λ x. x.number == n) rows ≡ Some r → is_complete r.result ≡ false → has_complete rows n ≡ false) → ((b && is_complete q.result) || has_complete rows n) ≡ false
-    by_head true g e ih =
-        or_from (is_complete q.result) (has_complete rows n) (subst (λ x. is_complete x.result ≡ false) (sym (some_same q r e)) f) (none_below (k + 1) n rows h.1 (equal_below q.number n k g h.0))
-    by_head false g e ih = ih e f
+  by_head : (b : Bool) → (q.number == n) ≡ b → (if b then Some q else find (λ x. x.number == n) rows) ≡ Some r → (find (λ x. x.number == n) rows ≡ Some r → is_complete r.result ≡ false → has_complete rows n ≡ false) → ((b && is_complete q.result) || has_complete rows n) ≡ false
+  by_head true g e ih =
+      or_from (is_complete q.result) (has_complete rows n) (subst (λ x. is_complete x.result ≡ false) (sym (some_same q r e)) f) (none_below (k + 1) n rows h.1 (equal_below q.number n k g h.0))
+  by_head false g e ih = ih e f
 
 pub running_incomplete : (rows : List SetRow) (r : SetRow) → NumberedFrom 1 rows → find (λ q. is_running q.result) rows ≡ Some r → has_complete rows r.number ≡ false
 running_incomplete rows r h e = row_not_complete 1 r.number rows r h (row_running 1 rows r h e) (running_not_complete r.result (running_found rows r e))
@@ -115,11 +111,10 @@ incomplete_append rows r n e h = grind (arith, common_steps, or_from, and_right,
 -- a row that was found and is complete says so
 pub complete_found : (k n : ℕ) (rows : List SetRow) (r : SetRow) → find (λ q. q.number == n) rows ≡ Some r → is_complete r.result ≡ true → has_complete rows n ≡ true
 complete_found k n [] r e f = absurd cc
-complete_found k n (q ∷ rows) r e f = by_head (q.number == n) e (complete_found k n rows r)
-  where
-    by_head : (b : Bool) → (if b then Some q else find (λ x. x.number == n) rows) ≡ Some r → (find (λ x. x.number == n) rows ≡ Some r → is_complete r.result ≡ true → has_complete rows n ≡ true) → ((b && is_complete q.result) || has_complete rows n) ≡ true
-    by_head true e ih = or_left (is_complete q.result) (has_complete rows n) (subst (λ x. is_complete x.result ≡ true) (sym (some_same q r e)) f)
-    by_head false e ih = ih e f
+complete_found k n (q ∷ rows) r e f = by_head (q.number == n) e (complete_found k n rows r) where
+  by_head : (b : Bool) → (if b then Some q else find (λ x. x.number == n) rows) ≡ Some r → (find (λ x. x.number == n) rows ≡ Some r → is_complete r.result ≡ true → has_complete rows n ≡ true) → ((b && is_complete q.result) || has_complete rows n) ≡ true
+  by_head true e ih = or_left (is_complete q.result) (has_complete rows n) (subst (λ x. is_complete x.result ≡ true) (sym (some_same q r e)) f)
+  by_head false e ih = ih e f
 
 -- ## rows that are over
 
@@ -135,16 +130,15 @@ none_later m n (q ∷ rows) h l = let ih = none_later (m + 1) n rows h.1 (omega 
 -- the set in progress is not over
 pub none_over : (m : ℕ) (rows : List SetRow) (r : SetRow) → NumberedFrom m rows → find (λ q. is_running q.result) rows ≡ Some r → find (is_over_row r.number) rows ≡ None
 none_over m [] r h e = refl
-none_over m (q ∷ rows) r h e = by_head (is_running q.result) refl e (none_over (m + 1) rows r h.1)
-  where
-    by_head : (b : Bool) → is_running q.result ≡ b → (if b then Some q else find (λ x. is_running x.result) rows) ≡ Some r → (find (λ x. is_running x.result) rows ≡ Some r → find (is_over_row r.number) rows ≡ None)
-        → (if is_over_row r.number q then Some q else find (is_over_row r.number) rows) ≡ None
-    by_head true f e ih =
-        let number = ap (λ (x : SetRow). x.number) (some_same q r e) in
-        cond-false _ _ _ (and_right (q.number == r.number) (not (is_running q.result)) (ap not f)) ∙ none_later (m + 1) r.number rows h.1 (let g = h.0 in omega (arith, g, number))
-    by_head false f e ih =
-        let above = found_above (m + 1) rows r h.1 e in
-        cond-false _ _ _ (and_left (q.number == r.number) (not (is_running q.result)) (apart q.number r.number (let g = h.0 in omega (arith, g, above)))) ∙ ih e
+none_over m (q ∷ rows) r h e = by_head (is_running q.result) refl e (none_over (m + 1) rows r h.1) where
+  by_head : (b : Bool) → is_running q.result ≡ b → (if b then Some q else find (λ x. is_running x.result) rows) ≡ Some r → (find (λ x. is_running x.result) rows ≡ Some r → find (is_over_row r.number) rows ≡ None)
+      → (if is_over_row r.number q then Some q else find (is_over_row r.number) rows) ≡ None
+  by_head true f e ih =
+      let number = ap (λ (x : SetRow). x.number) (some_same q r e) in
+      cond-false _ _ _ (and_right (q.number == r.number) (not (is_running q.result)) (ap not f)) ∙ none_later (m + 1) r.number rows h.1 (let g = h.0 in omega (arith, g, number))
+  by_head false f e ih =
+      let above = found_above (m + 1) rows r h.1 e in
+      cond-false _ _ _ (and_left (q.number == r.number) (not (is_running q.result)) (apart q.number r.number (let g = h.0 in omega (arith, g, above)))) ∙ ih e
 
 none_by : (rows : List SetRow) (o : Option SetRow) → NumberedFrom 1 rows → find (λ q. is_running q.result) rows ≡ o → ended_of o rows ≡ None
 none_by rows None h e = refl
@@ -161,21 +155,20 @@ settled_running o r e = ap (λ (b : Bool). if b then record r { result = o } els
 pub settled_row : (m : ℕ) (o : SetOutcome) → is_running o ≡ false → (rows : List SetRow) (r : SetRow) → NumberedFrom m rows → find (λ q. is_running q.result) rows ≡ Some r
     → find (is_over_row r.number) (map (row_settled o) rows) ≡ Some (record r { result = o })
 settled_row m o over [] r h e = absurd cc
-settled_row m o over (q ∷ rows) r h e = by_head (is_running q.result) refl e (settled_row (m + 1) o over rows r h.1)
-  where
-    own : is_over_row r.number (record r { result = o }) ≡ true
-    own = ap (λ (b : Bool). b && not (is_running o)) (eq-eqb r.number r.number refl) ∙ ap not over
+settled_row m o over (q ∷ rows) r h e = by_head (is_running q.result) refl e (settled_row (m + 1) o over rows r h.1) where
+  own : is_over_row r.number (record r { result = o }) ≡ true
+  own = ap (λ (b : Bool). b && not (is_running o)) (eq-eqb r.number r.number refl) ∙ ap not over
 
-    by_head : (b : Bool) → is_running q.result ≡ b → (if b then Some q else find (λ x. is_running x.result) rows) ≡ Some r
-        → (find (λ x. is_running x.result) rows ≡ Some r → find (is_over_row r.number) (map (row_settled o) rows) ≡ Some (record r { result = o }))
-        → (if is_over_row r.number (row_settled o q) then Some (row_settled o q) else find (is_over_row r.number) (map (row_settled o) rows)) ≡ Some (record r { result = o })
-    by_head true f e ih =
-        let is : row_settled o q ≡ record r { result = o } = settled_running o q f ∙ ap (λ (x : SetRow). record x { result = o }) (some_same q r e) in
-        ap (λ (x : SetRow). if is_over_row r.number x then Some x else find (is_over_row r.number) (map (row_settled o) rows)) is ∙ cond-true _ _ _ own
-    by_head false f e ih =
-        let above = found_above (m + 1) rows r h.1 e in
-        let number = number-settled_if (is_running q.result) o q in
-        cond-false _ _ _ (and_left ((row_settled o q).number == r.number) (not (is_running (row_settled o q).result)) (apart (row_settled o q).number r.number (let g = h.0 in omega (arith, g, above, number)))) ∙ ih e
+  by_head : (b : Bool) → is_running q.result ≡ b → (if b then Some q else find (λ x. is_running x.result) rows) ≡ Some r
+      → (find (λ x. is_running x.result) rows ≡ Some r → find (is_over_row r.number) (map (row_settled o) rows) ≡ Some (record r { result = o }))
+      → (if is_over_row r.number (row_settled o q) then Some (row_settled o q) else find (is_over_row r.number) (map (row_settled o) rows)) ≡ Some (record r { result = o })
+  by_head true f e ih =
+      let is : row_settled o q ≡ record r { result = o } = settled_running o q f ∙ ap (λ (x : SetRow). record x { result = o }) (some_same q r e) in
+      ap (λ (x : SetRow). if is_over_row r.number x then Some x else find (is_over_row r.number) (map (row_settled o) rows)) is ∙ cond-true _ _ _ own
+  by_head false f e ih =
+      let above = found_above (m + 1) rows r h.1 e in
+      let number = number-settled_if (is_running q.result) o q in
+      cond-false _ _ _ (and_left ((row_settled o q).number == r.number) (not (is_running (row_settled o q).result)) (apart (row_settled o q).number r.number (let g = h.0 in omega (arith, g, above, number)))) ∙ ih e
 
 -- ## other facts of rows
 

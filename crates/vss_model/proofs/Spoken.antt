@@ -47,15 +47,13 @@ new_frozen p said now who (w ∷ ws) e = by_head (is_freeze p.group) (is_ok said
 
 pub among_filter : (test : ℕ → Bool) (x : ℕ) (xs : List ℕ) → is_among x (filter test xs) ≡ true → is_among x xs ≡ true
 among_filter test x [] e = absurd cc
-among_filter test x (y ∷ xs) e = by_test (test y) e (among_filter test x xs)
-  where
-    by_test : (b : Bool) → is_among x (if b then y ∷ filter test xs else filter test xs) ≡ true → (is_among x (filter test xs) ≡ true → is_among x xs ≡ true) → ((y == x) || is_among x xs) ≡ true
-    by_test true e ih = head (y == x) (is_among x (filter test xs)) (is_among x xs) e ih
-      where
-        head : (a b c : Bool) → (a || b) ≡ true → (b ≡ true → c ≡ true) → (a || c) ≡ true
-        head true b c e f = refl
-        head false b c e f = f e
-    by_test false e ih = or_right (y == x) (is_among x xs) (ih e)
+among_filter test x (y ∷ xs) e = by_test (test y) e (among_filter test x xs) where
+  by_test : (b : Bool) → is_among x (if b then y ∷ filter test xs else filter test xs) ≡ true → (is_among x (filter test xs) ≡ true → is_among x xs ≡ true) → ((y == x) || is_among x xs) ≡ true
+  by_test true e ih = head (y == x) (is_among x (filter test xs)) (is_among x xs) e ih where
+    head : (a b c : Bool) → (a || b) ≡ true → (b ≡ true → c ≡ true) → (a || c) ≡ true
+    head true b c e f = refl
+    head false b c e f = f e
+  by_test false e ih = or_right (y == x) (is_among x xs) (ih e)
 
 -- the open place has the open group, and of its members those are waited for
 pub waits_members : (a : Agenda) (ps : List Place) (x : ℕ) → is_among x (waits_now (left_from a ps)) ≡ true → is_among x (members_of a (open_place (left_from a ps)).group (open_place (left_from a ps)).level) ≡ true
@@ -96,15 +94,13 @@ holds_own = record {
 
 pub among_members : (test : Member → Bool) (w : ℕ) (ms : List Member) → is_among w (map (λ (m : Member). m.writer) (filter test ms)) ≡ true → is_member ms w ≡ true
 among_members test w [] e = absurd cc
-among_members test w (m ∷ ms) e = by_test (test m) e (among_members test w ms)
-  where
-    by_test : (b : Bool) → is_among w (map (λ (m : Member). m.writer) (if b then m ∷ filter test ms else filter test ms)) ≡ true → (is_among w (map (λ (m : Member). m.writer) (filter test ms)) ≡ true → is_member ms w ≡ true) → ((m.writer == w) || is_member ms w) ≡ true
-    by_test true e ih = head (m.writer == w) (is_among w (map (λ (m : Member). m.writer) (filter test ms))) (is_member ms w) e ih
-      where
-        head : (a b c : Bool) → (a || b) ≡ true → (b ≡ true → c ≡ true) → (a || c) ≡ true
-        head true b c e f = refl
-        head false b c e f = f e
-    by_test false e ih = or_right (m.writer == w) (is_member ms w) (ih e)
+among_members test w (m ∷ ms) e = by_test (test m) e (among_members test w ms) where
+  by_test : (b : Bool) → is_among w (map (λ (m : Member). m.writer) (if b then m ∷ filter test ms else filter test ms)) ≡ true → (is_among w (map (λ (m : Member). m.writer) (filter test ms)) ≡ true → is_member ms w ≡ true) → ((m.writer == w) || is_member ms w) ≡ true
+  by_test true e ih = head (m.writer == w) (is_among w (map (λ (m : Member). m.writer) (filter test ms))) (is_member ms w) e ih where
+    head : (a b c : Bool) → (a || b) ≡ true → (b ≡ true → c ≡ true) → (a || c) ≡ true
+    head true b c e f = refl
+    head false b c e f = f e
+  by_test false e ih = or_right (m.writer == w) (is_member ms w) (ih e)
 
 freeze_members : (g : Group) (a : Agenda) (l : Option Level) (w : ℕ) → is_freeze g ≡ true → is_among w (members_of a g l) ≡ true → is_member a.members w ≡ true
 freeze_members g a l w e h = grind (arith, among_members)
@@ -133,14 +129,13 @@ HoldsFirst a = is_cut_made a.log ≡ true → waited_for a (plain Hold) ≡ []
 -- who is not waited for will not be
 pub fewer_wait : (log new : List Entry) (p : Place) (xs : List ℕ) → filter (λ x. not (has_said log p x)) xs ≡ [] → filter (λ x. not (has_said (log ++ new) p x)) xs ≡ []
 fewer_wait log new p [] e = refl
-fewer_wait log new p (x ∷ xs) e = by_head (has_said log p x) (has_said (log ++ new) p x) (said_stays log new p x) e (fewer_wait log new p xs)
-  where
-    by_head : (b c : Bool) → (b ≡ true → c ≡ true) → (if not b then x ∷ filter (λ x. not (has_said log p x)) xs else filter (λ x. not (has_said log p x)) xs) ≡ []
-        → (filter (λ x. not (has_said log p x)) xs ≡ [] → filter (λ x. not (has_said (log ++ new) p x)) xs ≡ [])
-        → (if not c then x ∷ filter (λ x. not (has_said (log ++ new) p x)) xs else filter (λ x. not (has_said (log ++ new) p x)) xs) ≡ []
-    by_head true true f e ih = ih e
-    by_head true false f e ih = absurd (true_not_false false (f refl) refl)
-    by_head false c f e ih = absurd cc
+fewer_wait log new p (x ∷ xs) e = by_head (has_said log p x) (has_said (log ++ new) p x) (said_stays log new p x) e (fewer_wait log new p xs) where
+  by_head : (b c : Bool) → (b ≡ true → c ≡ true) → (if not b then x ∷ filter (λ x. not (has_said log p x)) xs else filter (λ x. not (has_said log p x)) xs) ≡ []
+      → (filter (λ x. not (has_said log p x)) xs ≡ [] → filter (λ x. not (has_said (log ++ new) p x)) xs ≡ [])
+      → (if not c then x ∷ filter (λ x. not (has_said (log ++ new) p x)) xs else filter (λ x. not (has_said (log ++ new) p x)) xs) ≡ []
+  by_head true true f e ih = ih e
+  by_head true false f e ih = absurd (true_not_false false (f refl) refl)
+  by_head false c f e ih = absurd cc
 
 pub cut_open : (os : List Open) → same_place (open_place os) (plain Cut) ≡ true → is_cut_group (open_group os) ≡ true
 cut_open os e = grind arith

@@ -178,35 +178,31 @@ earlier_lane x i actor e h = ap (is_lane x) e ∙ apart_back x i h
 
 lanes_less : (moves : List Move) (m : Move) (j : ℕ) (lanes : List LanePlan) (k : ℕ) (l : LaneLine) → m.actor ≡ Lane (j + k) → slice_get (lines_in (slice_get lanes k)) (cursor moves (j + k)) ≡ Some l
     → turns_of_lanes moves j lanes ≡ turns_of_line l + turns_of_lanes (moves ++ m ∷ []) j lanes
-lanes_less moves m j [] zero l e f = absurd (nothing (cursor moves (j + 0)) f)
-  where
-    nothing : (n : ℕ) → slice_get (lines_in None) n ≡ Some l → ⊥
-    nothing zero g = cc
-    nothing (suc n) g = cc
-lanes_less moves m j [] (suc k) l e f = absurd (nothing (cursor moves (j + suc k)) f)
-  where
-    nothing : (n : ℕ) → slice_get (lines_in None) n ≡ Some l → ⊥
-    nothing zero g = cc
-    nothing (suc n) g = cc
+lanes_less moves m j [] zero l e f = absurd (nothing (cursor moves (j + 0)) f) where
+  nothing : (n : ℕ) → slice_get (lines_in None) n ≡ Some l → ⊥
+  nothing zero g = cc
+  nothing (suc n) g = cc
+lanes_less moves m j [] (suc k) l e f = absurd (nothing (cursor moves (j + suc k)) f) where
+  nothing : (n : ℕ) → slice_get (lines_in None) n ≡ Some l → ⊥
+  nothing zero g = cc
+  nothing (suc n) g = cc
 lanes_less moves m j (p ∷ ps) zero l e f =
     let own : m.actor ≡ Lane j = e ∙ ap Lane (add_none j) in
     let line : slice_get p.lines (cursor moves j) ≡ Some l = subst (λ n. slice_get p.lines (cursor moves n) ≡ Some l) (add_none j) f in
     let a = drop_turns p.lines (cursor moves j) l line in
     let b = ap (λ n. turns_of_lines (drop n p.lines)) (cursor_more moves m j (is_own_lane j m.actor own)) in
     let d = lanes_same moves m (j + 1) ps (λ x g. not_lane x j m.actor own (omega (arith, g))) in
-    omega (arith, a, b, d)
-  where
-    add_none : (n : ℕ) → n + 0 ≡ n
-    add_none n = omega arith
+    omega (arith, a, b, d) where
+      add_none : (n : ℕ) → n + 0 ≡ n
+      add_none n = omega arith
 lanes_less moves m j (p ∷ ps) (suc k) l e f =
     let moved_on : m.actor ≡ Lane (j + 1 + k) = e ∙ ap Lane (shift j k) in
     let line : slice_get (lines_in (slice_get ps k)) (cursor moves (j + 1 + k)) ≡ Some l = subst (λ n. slice_get (lines_in (slice_get ps k)) (cursor moves n) ≡ Some l) (shift j k) f in
     let a = lanes_less moves m (j + 1) ps k l moved_on line in
     let b = ap (λ n. turns_of_lines (drop n p.lines)) (cursor_same moves m j (earlier_lane j (j + 1 + k) m.actor moved_on (omega arith))) in
-    omega (arith, a, b)
-  where
-    shift : (j k : ℕ) → j + suc k ≡ j + 1 + k
-    shift j k = omega arith
+    omega (arith, a, b) where
+      shift : (j k : ℕ) → j + suc k ≡ j + 1 + k
+      shift j k = omega arith
 
 -- ## one move
 
@@ -230,13 +226,12 @@ none_more n = omega arith
 
 -- the lanes have as many turns fewer as the move's event takes
 lanes_of_event : (s : Plan) (r : Run) (m : Move) (actor : Actor) (event : Event) → m.actor ≡ actor → event_of s r actor ≡ Some event → turns_of_lanes r.moves 0 s.lanes ≡ turns_of_event event + turns_of_lanes (r.moves ++ m ∷ []) 0 s.lanes
-lanes_of_event s r m (Lane i) event e f = of_line (next_line s r i) refl f
-  where
-    of_line : (o : Option LaneLine) → next_line s r i ≡ o → line_event i o ≡ Some event → turns_of_lanes r.moves 0 s.lanes ≡ turns_of_event event + turns_of_lanes (r.moves ++ m ∷ []) 0 s.lanes
-    of_line None g h = absurd cc
-    of_line (Some l) g h =
-        let same : Line i l.op ≡ event = cc in
-        subst (λ x. turns_of_lanes r.moves 0 s.lanes ≡ turns_of_event x + turns_of_lanes (r.moves ++ m ∷ []) 0 s.lanes) same (lanes_less r.moves m 0 s.lanes i l (e ∙ ap Lane (sym (none_more i))) (subst (λ n. slice_get (lines_of s i) (cursor r.moves n) ≡ Some l) (sym (none_more i)) g))
+lanes_of_event s r m (Lane i) event e f = of_line (next_line s r i) refl f where
+  of_line : (o : Option LaneLine) → next_line s r i ≡ o → line_event i o ≡ Some event → turns_of_lanes r.moves 0 s.lanes ≡ turns_of_event event + turns_of_lanes (r.moves ++ m ∷ []) 0 s.lanes
+  of_line None g h = absurd cc
+  of_line (Some l) g h =
+      let same : Line i l.op ≡ event = cc in
+      subst (λ x. turns_of_lanes r.moves 0 s.lanes ≡ turns_of_event x + turns_of_lanes (r.moves ++ m ∷ []) 0 s.lanes) same (lanes_less r.moves m 0 s.lanes i l (e ∙ ap Lane (sym (none_more i))) (subst (λ n. slice_get (lines_of s i) (cursor r.moves n) ≡ Some l) (sym (none_more i)) g))
 lanes_of_event s r m (Writer w) event e f =
     let a = lanes_same r.moves m 0 s.lanes (λ x g. ap (is_lane x) e) in
     let b = no_turns_of_order (order_of_writer r.state w) s r.state w event f in
@@ -293,11 +288,10 @@ turns_of_count [] = refl
 turns_of_count (l ∷ ls) =
     let h = turns_of_count ls in
     let e = sum_by-cons (λ (x : LaneLine). cond (begins_agenda x.op) 1 0) l ls in
-    own (begins_agenda l.op) h e
-  where
-    own : (b : Bool) → turns_of_lines ls ≡ length ls + 521 * agenda_lines ls → agenda_lines (l ∷ ls) ≡ cond b 1 0 + agenda_lines ls → (1 + turns_of_agenda b) + turns_of_lines ls ≡ length (l ∷ ls) + 521 * agenda_lines (l ∷ ls)
-    own true h e = omega (arith, h, e)
-    own false h e = omega (arith, h, e)
+    own (begins_agenda l.op) h e where
+      own : (b : Bool) → turns_of_lines ls ≡ length ls + 521 * agenda_lines ls → agenda_lines (l ∷ ls) ≡ cond b 1 0 + agenda_lines ls → (1 + turns_of_agenda b) + turns_of_lines ls ≡ length (l ∷ ls) + 521 * agenda_lines (l ∷ ls)
+      own true h e = omega (arith, h, e)
+      own false h e = omega (arith, h, e)
 
 turns_at_start : (j : ℕ) (lanes : List LanePlan) → turns_of_lanes [] j lanes ≡ sum (map (λ (l : LanePlan). length l.lines) lanes) + 521 * sum (map (λ (l : LanePlan). agenda_lines l.lines) lanes)
 turns_at_start j [] = refl

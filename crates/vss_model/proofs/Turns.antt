@@ -33,19 +33,18 @@ short_filter p (x ∷ xs) = let ih = short_filter p xs in grind (arith, common_s
 -- a filter that lets one go is shorter
 filter_lets_go : (p : ℕ → Bool) (x : ℕ) (xs : List ℕ) → is_among x xs ≡ true → p x ≡ false → length (filter p xs) < length xs
 filter_lets_go p x [] e f = absurd cc
-filter_lets_go p x (y ∷ ys) e f = at (y == x) refl (filter_lets_go p x ys)
-  where
-    first : (b : Bool) → b ≡ false → length (if b then y ∷ filter p ys else filter p ys) < length (y ∷ ys)
-    first true g = absurd cc
-    first false g = let h = short_filter p ys in omega arith
+filter_lets_go p x (y ∷ ys) e f = at (y == x) refl (filter_lets_go p x ys) where
+  first : (b : Bool) → b ≡ false → length (if b then y ∷ filter p ys else filter p ys) < length (y ∷ ys)
+  first true g = absurd cc
+  first false g = let h = short_filter p ys in omega arith
 
-    rest : (b : Bool) → length (filter p ys) < length ys → length (if b then y ∷ filter p ys else filter p ys) < length (y ∷ ys)
-    rest true g = omega arith
-    rest false g = omega arith
+  rest : (b : Bool) → length (filter p ys) < length ys → length (if b then y ∷ filter p ys else filter p ys) < length (y ∷ ys)
+  rest true g = omega arith
+  rest false g = omega arith
 
-    at : (b : Bool) → (y == x) ≡ b → (is_among x ys ≡ true → p x ≡ false → length (filter p ys) < length ys) → length (filter p (y ∷ ys)) < length (y ∷ ys)
-    at true g later = first (p y) (ap p (eqb-true y x g) ∙ f)
-    at false g later = rest (p y) (later (subst (λ b. (b || is_among x ys) ≡ true) g e) f)
+  at : (b : Bool) → (y == x) ≡ b → (is_among x ys ≡ true → p x ≡ false → length (filter p ys) < length ys) → length (filter p (y ∷ ys)) < length (y ∷ ys)
+  at true g later = first (p y) (ap p (eqb-true y x g) ∙ f)
+  at false g later = rest (p y) (later (subst (λ b. (b || is_among x ys) ≡ true) g e) f)
 
 -- ## groups
 

@@ -54,10 +54,9 @@ change_other f u [] v e = refl
 change_other f zero (x ∷ hs) zero e = absurd cc
 change_other f zero (x ∷ hs) (suc v) e = refl
 change_other f (suc u) (x ∷ hs) zero e = refl
-change_other f (suc u) (x ∷ hs) (suc v) e = change_other f u hs v (one_less u v e)
-  where
-    one_less : (a b : ℕ) → (suc a == suc b) ≡ false → (a == b) ≡ false
-    one_less a b e = grind arith
+change_other f (suc u) (x ∷ hs) (suc v) e = change_other f u hs v (one_less u v e) where
+  one_less : (a b : ℕ) → (suc a == suc b) ≡ false → (a == b) ≡ false
+  one_less a b e = grind arith
 
 -- ## fewer images
 
@@ -74,19 +73,18 @@ fewer_still h k l f g = grind arith
 
 sets_filter : (test : Image → Bool) (images : List Image) (n : ℕ) → is_some (point_in n (filter test images)) ≡ true → is_some (point_in n images) ≡ true
 sets_filter test [] n e = e
-sets_filter test (i ∷ images) n e = by_test (test i) e (sets_filter test images n)
-  where
-    by_set : (b : Bool) → is_some (if b then Some i.point else point_in n (filter test images)) ≡ true → (is_some (point_in n (filter test images)) ≡ true → is_some (point_in n images) ≡ true) → is_some (if b then Some i.point else point_in n images) ≡ true
-    by_set true e ih = refl
-    by_set false e ih = ih e
+sets_filter test (i ∷ images) n e = by_test (test i) e (sets_filter test images n) where
+  by_set : (b : Bool) → is_some (if b then Some i.point else point_in n (filter test images)) ≡ true → (is_some (point_in n (filter test images)) ≡ true → is_some (point_in n images) ≡ true) → is_some (if b then Some i.point else point_in n images) ≡ true
+  by_set true e ih = refl
+  by_set false e ih = ih e
 
-    later : (b : Bool) → is_some (point_in n images) ≡ true → is_some (if b then Some i.point else point_in n images) ≡ true
-    later true e = refl
-    later false e = e
+  later : (b : Bool) → is_some (point_in n images) ≡ true → is_some (if b then Some i.point else point_in n images) ≡ true
+  later true e = refl
+  later false e = e
 
-    by_test : (b : Bool) → is_some (point_in n (if b then i ∷ filter test images else filter test images)) ≡ true → (is_some (point_in n (filter test images)) ≡ true → is_some (point_in n images) ≡ true) → is_some (if i.set == n then Some i.point else point_in n images) ≡ true
-    by_test true e ih = by_set (i.set == n) e ih
-    by_test false e ih = later (i.set == n) (ih e)
+  by_test : (b : Bool) → is_some (point_in n (if b then i ∷ filter test images else filter test images)) ≡ true → (is_some (point_in n (filter test images)) ≡ true → is_some (point_in n images) ≡ true) → is_some (if i.set == n then Some i.point else point_in n images) ≡ true
+  by_test true e ih = by_set (i.set == n) e ih
+  by_test false e ih = later (i.set == n) (ih e)
 
 count_filter : (test : Image → Bool) (images : List Image) → length (filter test images) ≤ length images
 count_filter test [] = omega arith
