@@ -206,7 +206,7 @@ class Damage:
             fcntl.flock(held, how)
             for words in refused + allowed:
                 got, want = self.run(*words), 10 if words in refused else 0
-                if got.returncode != want or want and got.stderr != b"images: F: in use by another process\n":
+                if got.returncode != want or want and got.stderr != b"images: F: in use by another process; images --wait SECONDS waits\n":
                     sys.exit(f"{words} beside another: {got.returncode} {got.stderr}")
                 self.tried += 1
             fcntl.flock(held, fcntl.LOCK_UN)

@@ -135,7 +135,9 @@ def compared(program, folder, number, calls_of):
         status, out, line = drawing.plain.answer(words)
         got = ran([program, *words], cwd=room)
         told = b"" if line is None else f"images: {line}\n".encode()
-        if (status, out, told) != (got.returncode, got.stdout, got.stderr):
+        # (of words that ask for nothing the first mistake is named too)
+        said = got.stderr[: len(told) - 1] + b"\n" if status == 2 else got.stderr
+        if (status, out, told) != (got.returncode, got.stdout, said):
             wanted = f"wanted {status} {out[:300]} {told}"
             sys.exit(f"list {number}: {words}: {wanted}, got {got.returncode} {got.stdout[:300]} {got.stderr}")
     shutil.rmtree(room)

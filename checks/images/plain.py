@@ -110,7 +110,7 @@ class Store:
     def named(self, folder, name):
         found = next((v for v in self.volumes if v.name == name), None)
         if found is None:
-            raise Ends(3, f"{folder}: volume {name}: there is no such volume")
+            raise Ends(3, f"{folder}: volume {name}: there is no such volume; ./images list shows all")
         return found
 
     def all_named(self, folder, names):
@@ -125,7 +125,7 @@ class Store:
     def image(self, folder, number_of_set, volume):
         found = volume.image(number_of_set)
         if found is None:
-            raise Ends(3, f"{folder}: set {number_of_set}: there is no image of it on {volume.name}")
+            raise Ends(3, f"{folder}: set {number_of_set}: there is no image of it on {volume.name}; ./images list shows all")
         return found
 
 
@@ -174,7 +174,7 @@ class Plain:
         if folder in self.stores:
             return self.stores[folder]
         missing = "No such file or directory (os error 2)" if self.files.get(folder) is None else "Not a directory (os error 20)"
-        raise Ends(3, f"{folder}: no folder of images (images.state: {missing})")
+        raise Ends(3, f"{folder}: no folder of images (images.state: {missing}); ./images create makes one")
 
     def create(self, words, _out):
         if len(words) < 3 or number(words[1], 0) is None:
@@ -209,7 +209,7 @@ class Plain:
         if len(pairs) > 128:
             raise Ends(3, f"volumes: {len(pairs)}, at most 128")
         if folder in self.stores or folder in self.files:
-            raise Ends(3, f"{folder}: is there already")
+            raise Ends(3, f"{folder}: is there already; ./images update goes on with one")
 
     @staticmethod
     def check_name(name):
@@ -230,7 +230,7 @@ class Plain:
         volumes = store.all_named(folder, words[1:])
         for v in volumes:
             if len(v.images) >= 512:
-                raise Ends(3, f"{folder}: images of {v.name}: 512, at most 512")
+                raise Ends(3, f"{folder}: images of {v.name}: 512, at most 512; ./images prune deletes old ones")
         store.last += 1
         for v in volumes:
             v.images.append(Image(store.last, v.data))
@@ -315,7 +315,7 @@ class Plain:
         else:
             volumes = [v for v in store.volumes if v.image(number_of_set)]
             if not volumes:
-                raise Ends(3, f"{folder}: set {number_of_set}: there is no image of it")
+                raise Ends(3, f"{folder}: set {number_of_set}: there is no image of it; ./images sets shows all")
         for v in volumes:
             at = v.images.index(v.image(number_of_set))
             if at > 0:

@@ -231,7 +231,9 @@ pub fn create(
     };
     check_words(program, path, slots, pairs)?;
     if fs::symlink_metadata(&program.rt, path).is_ok() {
-        return Err(ended!(*program, Refused; "{path}: is there already"));
+        return Err(
+            ended!(*program, Refused; "{path}: is there already; ./images update goes on with one"),
+        );
     }
     create_in_tries(program, path, slots, pairs, tries)
 }

@@ -113,7 +113,7 @@ fn check_state(program: &Program, path: &str) -> Result<(), Status> {
     match fs::symlink_metadata(&program.rt, state.as_str()) {
         Ok(_) => Ok(()),
         Err(error) => Err(
-            ended!(*program, Refused; "{path}: no folder of images ({STATE}: {error})"),
+            ended!(*program, Refused; "{path}: no folder of images ({STATE}: {error}); ./images create makes one"),
         ),
     }
 }
@@ -146,7 +146,9 @@ impl Folder {
         match self.try_lock(way) {
             Ok(()) => Ok(()),
             Err(TryLockError::WouldBlock) => {
-                Err(ended!(self.program, InUse; "{}: in use by another process", self.path))
+                Err(
+                    ended!(self.program, InUse; "{}: in use by another process; images --wait SECONDS waits", self.path),
+                )
             }
             Err(TryLockError::Error(error)) => {
                 Err(

@@ -45,7 +45,7 @@ pub use job::{Job, sets_of};
 pub use marker::Marker;
 pub use naming::{check_once, may_name, name_in, which_at};
 pub use opened::{Files, Opened, open};
-pub use pair::{Pair, are_pairs, number_of, pairs_of, set_of};
+pub use pair::{Pair, number_of, pairs_of, set_of};
 pub use program::{Program, ProgramName};
 pub use progress::Progress;
 pub use status::Status;

@@ -19,6 +19,7 @@ mod as_json;
 mod check;
 mod dated;
 mod list;
+mod mistake;
 mod options;
 mod request;
 mod restoring;
@@ -30,6 +31,7 @@ mod task;
 use image_folder::{
     Opened, Program, ProgramName, Status, create, ended, open, pairs_of, set_of, update,
 };
+use mistake::Mistake;
 use request::{Request, form_of, takes_set};
 use std::process::ExitCode;
 use std::{env, io};
@@ -84,14 +86,14 @@ fn run(program: &Program, request: Request<'_>) -> Result<(), Status> {
     opened.end(done)
 }
 
-/// Says which form the words should have, and whether the last two of them should change places.
-fn usage(program: &Program, words: &[String]) -> Status {
+/// Says which form the words should have, and what is wrong with them, or that the last two of them should change places.
+fn usage(program: &Program, words: &[String], mistake: Mistake<'_>) -> Status {
     let form = form_of(words);
     match words {
         [word, folder, name, set] if takes_set(word.as_str()) && set_of(set.as_str()).is_some() => {
             ended!(*program, Usage; "usage: {form}; did you mean `{word} {folder} {set} {name}`?")
         }
-        _ => ended!(*program, Usage; "usage: {form}"),
+        _ => ended!(*program, Usage; "usage: {form}; {mistake}"),
     }
 }
 
@@ -103,8 +105,8 @@ fn answer(program: &Program, words: io::Result<Vec<String>>) -> Result<(), Statu
         Err(_) => return Err(Status::OutOfMemory),
     };
     match Request::of(&words) {
-        Some(request) => run(program, request),
-        None => Err(usage(program, &words)),
+        Ok(request) => run(program, request),
+        Err(mistake) => Err(usage(program, &words, mistake)),
     }
 }
 

@@ -1,3 +1,4 @@
+use crate::mistake::Mistake;
 use image_folder::{is_note, number_of};
 
 /// The options before the folder.
@@ -17,36 +18,77 @@ pub struct Options<'a> {
     pub is_json: bool,
 }
 
+/// Whether this is an option of this task.
+fn is_of(option: &str, task: &str) -> bool {
+    match option {
+        "--wait" => task != "create",
+        "--tries" => matches!(task, "create" | "update"),
+        "--keep" => matches!(task, "update" | "prune"),
+        "--note" => task == "cut",
+        "--over" => task == "restore",
+        "--json" => task == "list",
+        _ => false,
+    }
+}
+
 impl<'a> Options<'a> {
-    /// Takes the option at the front of words, if one is there that was not given yet. Those behind it are answered.
-    fn take(&mut self, words: &'a [String]) -> Option<&'a [String]> {
-        let (option, count, rest) = match words {
-            [option, rest @ ..] if option.as_str() == "--over" && !self.is_over => {
-                self.is_over = true;
-                return Some(rest);
-            }
-            [option, rest @ ..] if option.as_str() == "--json" && !self.is_json => {
-                self.is_json = true;
-                return Some(rest);
-            }
-            [option, text, rest @ ..] if option.as_str() == "--note" && self.note.is_none() => {
-                self.note = Some(text.as_str());
-                return is_note(text.as_str()).then_some(rest);
-            }
-            [option, count, rest @ ..] => (option.as_str(), number_of(count.as_str())?, rest),
-            _ => return None,
-        };
+    /// Whether this one was given.
+    fn has(self, option: &str) -> bool {
         match option {
-            "--wait" if self.wait == 0 => self.wait = count,
-            "--tries" if self.tries.is_none() => self.tries = Some(count),
-            "--keep" if self.keep.is_none() => self.keep = Some(count),
-            _ => return None,
+            "--wait" => self.wait != 0,
+            "--tries" => self.tries.is_some(),
+            "--keep" => self.keep.is_some(),
+            "--note" => self.note.is_some(),
+            "--over" => self.is_over,
+            _ => self.is_json,
         }
-        (count > 0).then_some(rest)
     }
 
-    /// The options at the front of words, and the words behind them.
-    pub fn of(words: &'a [String]) -> Option<(Options<'a>, &'a [String])> {
+    /// Takes the value of an option, which is no other's.
+    fn set(&mut self, option: &'a str, value: &'a str) -> Result<(), Mistake<'a>> {
+        if option == "--note" {
+            self.note = Some(value);
+            return is_note(value).then_some(()).ok_or(Mistake::NoNote);
+        }
+        let count = match number_of(value) {
+            Some(count) if count > 0 => count,
+            _ => return Err(Mistake::NoNumber(option, 1, value)),
+        };
+        match option {
+            "--wait" => self.wait = count,
+            "--tries" => self.tries = Some(count),
+            _ => self.keep = Some(count),
+        }
+        Ok(())
+    }
+
+    /// Takes an option of this task, and its value where it has one. The words behind these are answered.
+    fn take(
+        &mut self,
+        task: &str,
+        option: &'a str,
+        rest: &'a [String],
+    ) -> Result<&'a [String], Mistake<'a>> {
+        if !is_of(option, task) {
+            return Err(Mistake::NoOption(option));
+        }
+        if self.has(option) {
+            return Err(Mistake::Twice(option));
+        }
+        match (option, rest) {
+            ("--over", _) => self.is_over = true,
+            ("--json", _) => self.is_json = true,
+            (_, [value, rest @ ..]) => {
+                self.set(option, value.as_str())?;
+                return Ok(rest);
+            }
+            _ => return Err(Mistake::Missing("the value of the option")),
+        }
+        Ok(rest)
+    }
+
+    /// The options of a task at the front of words, and the words behind them.
+    pub fn of(task: &str, words: &'a [String]) -> Result<(Options<'a>, &'a [String]), Mistake<'a>> {
         let mut options = Options {
             wait: 0,
             tries: None,
@@ -58,22 +100,12 @@ impl<'a> Options<'a> {
         let mut rest = words;
         for _word in words {
             match rest {
-                [word, ..] if word.as_str().starts_with("--") => rest = options.take(rest)?,
+                [option, more @ ..] if option.as_str().starts_with("--") => {
+                    rest = options.take(task, option.as_str(), more)?;
+                }
                 _ => {}
             }
         }
-        Some((options, rest))
-    }
-
-    /// Whether all of them are options of this word.
-    pub fn are_of(self, word: &str) -> bool {
-        let reads = matches!(word, "create" | "update");
-        let keeps = matches!(word, "update" | "prune");
-        (reads || self.tries.is_none())
-            && (keeps || self.keep.is_none())
-            && (word == "restore" || !self.is_over)
-            && (word == "cut" || self.note.is_none())
-            && (word == "list" || !self.is_json)
-            && (word != "create" || self.wait == 0)
+        Ok((options, rest))
     }
 }

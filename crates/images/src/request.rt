@@ -1,3 +1,4 @@
+use crate::mistake::Mistake;
 use crate::options::Options;
 use crate::task::Task;
 
@@ -43,16 +44,19 @@ pub fn takes_set(word: &str) -> bool {
 
 impl<'a> Request<'a> {
     /// What these words ask for, if they have a form.
-    pub fn of(words: &'a [String]) -> Option<Request<'a>> {
+    pub fn of(words: &'a [String]) -> Result<Request<'a>, Mistake<'a>> {
         let [word, rest @ ..] = words else {
-            return None;
+            return Err(Mistake::Missing("a word"));
         };
-        let (options, rest) = Options::of(rest)?;
-        let [folder, rest @ ..] = rest else {
-            return None;
-        };
-        let task = Task::of(word.as_str(), options, rest)?;
-        let (folder, wait) = (folder.as_str(), options.wait);
-        (!folder.is_empty()).then_some(Request { folder, wait, task })
+        let word = word.as_str();
+        let (options, rest) = Options::of(word, rest)?;
+        match rest {
+            [folder, rest @ ..] if !folder.as_str().is_empty() => Ok(Request {
+                folder: folder.as_str(),
+                wait: options.wait,
+                task: Task::of(word, options, rest)?,
+            }),
+            _ => Err(Mistake::Missing("F")),
+        }
     }
 }

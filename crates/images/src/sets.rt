@@ -21,7 +21,7 @@ fn refusal(opened: &Opened, fault: CutFault) -> Status {
             } else {
                 ""
             };
-            ended!(opened.folder.program, Refused; "{folder}: images of {name}: {MOST_IMAGES}, at most {MOST_IMAGES}")
+            ended!(opened.folder.program, Refused; "{folder}: images of {name}: {MOST_IMAGES}, at most {MOST_IMAGES}; ./images prune deletes old ones")
         }
     }
 }
@@ -97,7 +97,7 @@ pub fn delete(opened: &mut Opened, set: u32, name: Option<&str>) -> Result<(), S
     if count == 0 {
         let folder = opened.folder.path.as_str();
         return Err(
-            ended!(opened.folder.program, Refused; "{folder}: set {set}: there is no image of it"),
+            ended!(opened.folder.program, Refused; "{folder}: set {set}: there is no image of it; ./images sets shows all"),
         );
     }
     write!(opened.text, "deleted {count}\n")?;

@@ -1,6 +1,7 @@
+use crate::mistake::Mistake;
 use crate::options::Options;
 use crate::restoring::Target;
-use image_folder::{Way, are_pairs, number_of, set_of};
+use image_folder::{Pair, Way, number_of, set_of};
 
 /// How often a file that changes is read at most, if no words say it.
 const TRIES: u32 = 5;
@@ -56,32 +57,81 @@ pub struct Shown<'a> {
     pub name: &'a str,
 }
 
+/// That no words are left.
+fn check_end<'a>(words: &'a [String]) -> Result<(), Mistake<'a>> {
+    match words {
+        [] => Ok(()),
+        [more, ..] => Err(Mistake::TooMany(more.as_str())),
+    }
+}
+
+/// That words are names, one at least.
+fn check_names<'a>(words: &'a [String]) -> Result<(), Mistake<'a>> {
+    for word in words {
+        if word.as_str().starts_with("--") {
+            return Err(Mistake::TooMany(word.as_str()));
+        }
+    }
+    match words {
+        [] => Err(Mistake::Missing("NAME")),
+        _ => Ok(()),
+    }
+}
+
+/// The set that a word is.
+fn set_in<'a>(word: &'a str) -> Result<u32, Mistake<'a>> {
+    set_of(word).ok_or(Mistake::NoNumber("SET", 1, word))
+}
+
+/// That words are pairs, one at least; only those of `create` may have a number of blocks.
+fn check_pairs<'a>(words: &'a [String], may_size: bool) -> Result<(), Mistake<'a>> {
+    for word in words {
+        match Pair::of(word.as_str()) {
+            Some(pair) if may_size || pair.blocks.is_none() => {}
+            _ => return Err(Mistake::NoPair(word.as_str())),
+        }
+    }
+    match words {
+        [] => Err(Mistake::Missing("NAME=FILE")),
+        _ => Ok(()),
+    }
+}
+
 /// What words show that end with a name.
-fn words_shown<'a>(words: &'a [String]) -> Option<Shown<'a>> {
+fn words_shown<'a>(words: &'a [String]) -> Result<Shown<'a>, Mistake<'a>> {
     let (set, name) = match words {
+        [] => return Err(Mistake::Missing("NAME")),
         [name] => (None, name.as_str()),
-        [set, name] => (Some(set_of(set.as_str())?), name.as_str()),
-        _ => return None,
+        [set, name, more @ ..] => {
+            check_end(more)?;
+            (Some(set_in(set.as_str())?), name.as_str())
+        }
     };
-    Some(Shown { set, name })
+    Ok(Shown { set, name })
 }
 
 /// What `restore` makes of these words.
-fn restore_of<'a>(is_over: bool, words: &'a [String]) -> Option<Task<'a>> {
+fn restore_of<'a>(is_over: bool, words: &'a [String]) -> Result<Task<'a>, Mistake<'a>> {
     let [shown @ .., path] = words else {
-        return None;
+        return Err(Mistake::Missing("FILE"));
     };
-    let of = words_shown(shown)?;
     let path = path.as_str();
-    (!path.is_empty()).then_some(Task::Restore {
-        of,
+    if path.starts_with("--") {
+        return Err(Mistake::TooMany(path));
+    }
+    if shown.is_empty() || path.is_empty() {
+        return Err(Mistake::Missing("FILE"));
+    }
+    Ok(Task::Restore {
+        of: words_shown(shown)?,
         target: Target { path, is_over },
     })
 }
 
 /// What `update` makes of these words.
-fn update_of<'a>(options: Options<'a>, words: &'a [String]) -> Option<Task<'a>> {
-    are_pairs(words, false).then_some(Task::Update {
+fn update_of<'a>(options: Options<'a>, words: &'a [String]) -> Result<Task<'a>, Mistake<'a>> {
+    check_pairs(words, false)?;
+    Ok(Task::Update {
         tries: options.tries.unwrap_or(TRIES),
         keep: options.keep.unwrap_or(0),
         pairs: words,
@@ -89,65 +139,73 @@ fn update_of<'a>(options: Options<'a>, words: &'a [String]) -> Option<Task<'a>> 
 }
 
 /// What `create` makes of these words.
-fn create_of<'a>(tries: u32, words: &'a [String]) -> Option<Task<'a>> {
+fn create_of<'a>(tries: u32, words: &'a [String]) -> Result<Task<'a>, Mistake<'a>> {
+    let [word, pairs @ ..] = words else {
+        return Err(Mistake::Missing("SLOTS"));
+    };
+    let word = word.as_str();
+    let slots = number_of(word).ok_or(Mistake::NoNumber("SLOTS", 0, word))?;
+    check_pairs(pairs, true)?;
+    Ok(Task::Create {
+        tries,
+        slots,
+        pairs,
+    })
+}
+
+/// The set that words begin with, and the name behind it, if there is one.
+fn set_and_name<'a>(words: &'a [String]) -> Result<(u32, Option<&'a str>), Mistake<'a>> {
     match words {
-        [slots, pairs @ ..] if are_pairs(pairs, true) => Some(Task::Create {
-            tries,
-            slots: number_of(slots.as_str())?,
-            pairs,
-        }),
-        _ => None,
+        [] => Err(Mistake::Missing("SET")),
+        [set] => Ok((set_in(set.as_str())?, None)),
+        [set, name, more @ ..] => {
+            check_end(more)?;
+            Ok((set_in(set.as_str())?, Some(name.as_str())))
+        }
     }
-}
-
-/// What `delete` takes of these words.
-fn delete_of<'a>(words: &'a [String]) -> Option<Task<'a>> {
-    let (set, name) = match words {
-        [set] => (set, None),
-        [set, name] => (set, Some(name.as_str())),
-        _ => return None,
-    };
-    let set = set_of(set.as_str())?;
-    Some(Task::Delete { set, name })
-}
-
-/// What `revert` takes of these words.
-fn revert_of<'a>(words: &'a [String]) -> Option<Task<'a>> {
-    let [set, name] = words else {
-        return None;
-    };
-    let (set, name) = (set_of(set.as_str())?, name.as_str());
-    Some(Task::Revert { set, name })
 }
 
 impl<'a> Task<'a> {
     /// What the first word, the options and the words after the folder ask for.
-    pub fn of(word: &str, options: Options<'a>, rest: &'a [String]) -> Option<Task<'a>> {
-        if !options.are_of(word) {
-            return None;
+    pub fn of(
+        word: &'a str,
+        options: Options<'a>,
+        rest: &'a [String],
+    ) -> Result<Task<'a>, Mistake<'a>> {
+        if matches!(word, "sets" | "list" | "prune" | "check") {
+            check_end(rest)?;
         }
-        match word {
-            "create" => create_of(options.tries.unwrap_or(TRIES), rest),
-            "update" => update_of(options, rest),
-            "cut" => (!rest.is_empty()).then_some(Task::Cut {
-                note: options.note.unwrap_or(""),
-                names: rest,
-            }),
-            "sets" => rest.is_empty().then_some(Task::Sets),
-            "list" => rest.is_empty().then_some(Task::List {
+        Ok(match word {
+            "create" => create_of(options.tries.unwrap_or(TRIES), rest)?,
+            "update" => update_of(options, rest)?,
+            "cut" => {
+                check_names(rest)?;
+                Task::Cut {
+                    note: options.note.unwrap_or(""),
+                    names: rest,
+                }
+            }
+            "sets" => Task::Sets,
+            "list" => Task::List {
                 is_json: options.is_json,
-            }),
-            "show" => Some(Task::Show(words_shown(rest)?)),
-            "digest" => Some(Task::Digest(words_shown(rest)?)),
-            "restore" => restore_of(options.is_over, rest),
-            "delete" => delete_of(rest),
-            "prune" => rest.is_empty().then_some(Task::Prune {
-                keep: options.keep?,
-            }),
-            "revert" => revert_of(rest),
-            "check" => rest.is_empty().then_some(Task::Check),
-            _ => None,
-        }
+            },
+            "show" => Task::Show(words_shown(rest)?),
+            "digest" => Task::Digest(words_shown(rest)?),
+            "restore" => restore_of(options.is_over, rest)?,
+            "delete" => {
+                let (set, name) = set_and_name(rest)?;
+                Task::Delete { set, name }
+            }
+            "prune" => Task::Prune {
+                keep: options.keep.ok_or(Mistake::Missing("--keep N"))?,
+            },
+            "revert" => match set_and_name(rest)? {
+                (set, Some(name)) => Task::Revert { set, name },
+                _ => return Err(Mistake::Missing("NAME")),
+            },
+            "check" => Task::Check,
+            _ => return Err(Mistake::NoCommand(word)),
+        })
     }
 
     /// How its folder is opened.
