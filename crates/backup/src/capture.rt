@@ -88,7 +88,7 @@ pub fn copy_all(
     gone: &mut Vec<Evicted>,
 ) -> Result<(), Status> {
     for capture in captures.iter_mut() {
-        capture.passes.copy_ahead(opened, gone)?;
+        opened.copy_ahead(&mut capture.passes, gone)?;
     }
     opened.commit()
 }

@@ -137,7 +137,7 @@ impl<'a> FolderWork<'a> {
         let then = Instant::now(&self.program.rt).ok();
         passes.compare(&mut self.opened.store)?;
         if passes.written > 0 {
-            passes.copy_ahead(&mut self.opened, &mut self.gone)?;
+            self.opened.copy_ahead(&mut passes, &mut self.gone)?;
             self.opened.commit()?;
             self.opened.is_torn = true;
             passes.overwrite(&mut self.opened.store, &mut self.gone, "")?;
@@ -223,7 +223,8 @@ impl<'a> FolderWork<'a> {
         self.opened.is_torn = true;
         take_all(&mut self.opened.store, &mut self.captures, &mut self.gone)?;
         let set = self.cut()?;
-        self.opened.commit_dated(set, "")?;
+        self.opened.note_date(set, "")?;
+        self.opened.commit()?;
         self.opened.folder.note_together(&self.names)?;
         Ok(set)
     }
@@ -234,7 +235,7 @@ impl<'a> FolderWork<'a> {
             None | Some(Status::InputChanged | Status::Unread) => Ok(()),
             Some(status) => Err(status),
         };
-        let FolderWork { opened, .. } = self;
+        let FolderWork { mut opened, .. } = self;
         let done = opened.or_unmark(done);
         opened.end(done)
     }

@@ -1,6 +1,6 @@
 ghost use Rattle.std.specs.Prelude.{◌≡◌, ◌≤◌, length};
 
-use crate::ended::{of_folder, say};
+use crate::ended::of_folder;
 use crate::marker::sealed;
 use crate::own_file::{all_of, new_file, own_at, own_file};
 use crate::program::Program;
@@ -8,6 +8,7 @@ use crate::status::Status;
 use crate::way::Way;
 use block_data::{BLOCK, BlockBuf, Hasher};
 use diff_area::pages_for;
+use image_order::{Name, StateFolder};
 use std::alloc::AllocError;
 use std::fs::{File, TryLockError};
 use std::io::{ErrorKind, Write};
@@ -193,44 +194,13 @@ impl Folder {
     pub fn put_small(&self, name: &str, text: &str) -> Result<(), Status> {
         let new = format!(in self.program.alloc(); "{}/{name}.new", self.path)?;
         let made = write_whole(&self.program, new.as_str(), text.as_bytes());
-        self.put(new.as_str(), made, name)
+        of_folder(&self.program, new.as_str(), "could not be written", made)?;
+        self.put(name)
     }
 
-    /// Makes the marker of a call, of its name and those of the volumes whose present contents will be in transit, a line each, and sees that
-    /// it lasts.
-    pub fn mark(&self, lines: &str) -> Result<(), Status> {
-        self.put_small(MARKER, sealed(self.program.alloc(), lines)?.as_str())
-    }
-
-    /// Takes the marker away, and sees that this lasts.
-    pub fn unmark(&self) -> Result<(), Status> {
-        let path = self.path_of(MARKER)?;
-        let gone = fs::remove_file(&self.program.rt, path.as_str());
-        of_folder(&self.program, path.as_str(), "could not be removed", gone)?;
-        self.sync()
-    }
-
-    /// Takes the marker away behind a call that failed. Where that fails too, nothing is said.
-    pub fn unmark_in_silence(&self) {
-        if let Ok(path) = self.path_of(MARKER) {
-            if fs::remove_file(&self.program.rt, path.as_str()).is_ok() {
-                let _ = self.held.sync_all();
-            }
-        }
-    }
-
-    /// Ends a call that was done: its marker goes, if there is one, before anything is printed.
-    pub fn end(&self, text: &str, is_marked: bool, done: Result<(), Status>) -> Result<(), Status> {
-        done?;
-        if is_marked {
-            self.unmark()?;
-        }
-        say(&self.program, text)
-    }
-
-    /// Makes a state what the next opening finds: the head, and the header and the table of an area of so many slots, as the area's file has
-    /// them. The area was synced before.
-    pub fn commit(&self, head: &[u8], slots: u32) -> Result<(), Status>
+    /// Makes the file of a state: the head, and the header and the table of an area of so many slots, as the area's file has them. The area was
+    /// synced before.
+    fn write_state(&self, head: &[u8], slots: u32) -> Result<(), Status>
         requires { slots ≤ MOST_SLOTS }
     {
         let path = self.path_of(AREA)?;
@@ -243,7 +213,15 @@ impl Folder {
             &area,
             1 + pages_for(slots),
         );
-        self.put(new.as_str(), made, STATE)
+        of_folder(&self.program, new.as_str(), "could not be written", made)
+    }
+
+    /// Makes a state that of a new folder.
+    pub fn commit(&self, head: &[u8], slots: u32) -> Result<(), Status>
+        requires { slots ≤ MOST_SLOTS }
+    {
+        self.write_state(head, slots)?;
+        self.put(STATE)
     }
 
     /// A device of so many blocks over a new file of it, which has no name any more: it is gone once it is closed.
@@ -256,12 +234,17 @@ impl Folder {
         Ok(FileDevice::new(file, path, blocks))
     }
 
-    /// Gives a file of it that was made this name, and sees that this lasts.
-    fn put(&self, new: &str, made: io::Result<()>, name: &str) -> Result<(), Status> {
-        of_folder(&self.program, new, "could not be written", made)?;
+    /// Gives the file that was made for a name this name.
+    fn rename_to(&self, name: &str) -> Result<(), Status> {
+        let new = format!(in self.program.alloc(); "{}/{name}.new", self.path)?;
         let path = self.path_of(name)?;
-        let renamed = fs::rename(&self.program.rt, new, path.as_str());
-        of_folder(&self.program, new, "could not be renamed", renamed)?;
+        let renamed = fs::rename(&self.program.rt, new.as_str(), path.as_str());
+        of_folder(&self.program, new.as_str(), "could not be renamed", renamed)
+    }
+
+    /// Gives the file that was made for a name this name, and sees that this lasts.
+    fn put(&self, name: &str) -> Result<(), Status> {
+        self.rename_to(name)?;
         self.sync()
     }
 
@@ -273,5 +256,54 @@ impl Folder {
                 Err(ended!(self.program, Unsettled; "{}: could not be synced: {error}", self.path))
             }
         }
+    }
+}
+
+/// It tells nothing: what the system's files keep is the trusted edge.
+impl StateFolder<Status> for Folder {
+    ghost found = { λ f name file. ⊥ };
+
+    ghost now = { λ f name file. ⊥ };
+
+    ghost aside = { λ f name file. ⊥ };
+
+    fn make_state(&mut self, head: &[u8], slots: u32) -> Result<(), Status> {
+        self.write_state(head, slots.min(MOST_SLOTS))
+    }
+
+    fn make_marker(&mut self, lines: &str) -> Result<(), Status> {
+        let text = sealed(self.program.alloc(), lines)?;
+        let new = format!(in self.program.alloc(); "{}/{MARKER}.new", self.path)?;
+        let made = write_whole(&self.program, new.as_str(), text.as_bytes());
+        of_folder(&self.program, new.as_str(), "could not be written", made)
+    }
+
+    fn rename(&mut self, name: Name) -> Result<(), Status> {
+        self.rename_to(match name {
+            Name::State => STATE,
+            Name::Marker => MARKER,
+        })
+    }
+
+    fn remove_marker(&mut self) -> Result<(), Status> {
+        let path = self.path_of(MARKER)?;
+        let gone = fs::remove_file(&self.program.rt, path.as_str());
+        of_folder(&self.program, path.as_str(), "could not be removed", gone)
+    }
+
+    fn unmark_in_silence(&mut self) {
+        if let Ok(path) = self.path_of(MARKER) {
+            if fs::remove_file(&self.program.rt, path.as_str()).is_ok() {
+                let _ = self.held.sync_all();
+            }
+        }
+    }
+
+    fn sync_names(&mut self) -> Result<(), Status> {
+        self.sync()
+    }
+
+    fn may_unmark(&self, fault: &Status) -> bool {
+        !matches!(fault, Status::Unsettled)
     }
 }

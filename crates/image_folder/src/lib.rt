@@ -20,6 +20,7 @@ mod ended;
 mod file_input;
 mod folder;
 mod job;
+mod jobs;
 mod marker;
 mod naming;
 mod new_store;

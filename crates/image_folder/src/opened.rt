@@ -5,7 +5,8 @@ ghost use Rattle.std.specs.Prelude.{◌≡◌, ◌<◌, length};
 use crate::device_file::{add_devices, open_device};
 use crate::ended::{by_device, say};
 use crate::folder::{AREA, Folder, MARKER, STATE};
-use crate::job::sets_of;
+use crate::job::{Job, sets_of};
+use crate::jobs::{Jobs, check_least, say_gone};
 use crate::marker::Marker;
 use crate::naming::name_in;
 use crate::program::Program;
@@ -14,8 +15,11 @@ use crate::status::Status;
 use crate::store_device::StoreDevice;
 use crate::way::Way;
 use diff_area::AreaFault;
+use image_order::{
+    Copied, StateFolder, commit, commit_in_order, end_in_order, mark, overwrite_in_order,
+};
 use image_store::{Head, OpenFault, Refused, Store};
-use vss_names::MOST_SLOTS;
+use write_history::Evicted;
 
 /// The volumes and images of a folder, over its files.
 pub type Files = Store<StoreDevice>;
@@ -111,18 +115,10 @@ pub fn close(program: &Program, store: Files) -> Result<(), Status> {
     }
 }
 
-/// Ends a call on a store, which is closed if the call was done and changed it.
-fn end_store(
-    program: &Program,
-    store: Files,
-    is_changed: bool,
-    done: Result<(), Status>,
-) -> Result<(), Status> {
-    match done {
-        Err(status) => Err(take_apart(program, store, status)),
-        Ok(()) if is_changed => close(program, store),
-        Ok(()) => Ok(()),
-    }
+/// Ends a call that was done and has a marker.
+fn end_marked(folder: &mut Folder, store: &mut Files) -> Result<(), Status> {
+    let none = Jobs::none(folder.program);
+    end_in_order(folder, store, &none)
 }
 
 /// Opens a folder. For one that another process has it waits so many seconds.
@@ -187,26 +183,50 @@ impl Opened {
     pub fn mark(&mut self, text: &str) -> Result<(), Status>
         ensures { self.new.store ≡ self.old.store }
     {
-        self.folder.mark(text)?;
+        mark(&mut self.folder, text)?;
         self.is_marked = true;
         Ok(())
     }
 
     /// Makes what the store is what the next opening finds: its copies are synced, and then its state takes the place of the one before.
-    pub fn commit(&mut self) -> Result<(), Status>
-        ensures { self.new.store.group.area.volumes ≡ self.old.store.group.area.volumes }
-    {
-        if self.store.sync().is_err() {
-            return Err(Status::DeviceFault);
+    pub fn commit(&mut self) -> Result<(), Status> {
+        let none = Jobs::none(self.folder.program);
+        commit(&mut self.folder, &mut self.store, &none)
+    }
+
+    /// Brings volumes to the files of jobs, under a marker of these lines.
+    pub fn overwrite(&mut self, lines: &str, jobs: &mut [Job<'_>]) -> Result<(), Status> {
+        let was_torn = self.is_torn;
+        let mut jobs = Jobs::new(&self.folder, &self.store, jobs, self.least)?;
+        self.is_marked = true;
+        let done = overwrite_in_order(
+            &mut self.folder,
+            &mut self.store,
+            &mut jobs,
+            lines,
+            was_torn,
+        );
+        self.is_torn = was_torn || jobs.is_torn;
+        done
+    }
+
+    /// The second pass of one job, without the commit at its end.
+    pub fn copy_ahead(&mut self, job: &mut Job<'_>, gone: &mut Vec<Evicted>) -> Result<(), Status> {
+        for _round in 0..u32::MAX {
+            if let Copied::All = job.copy_ahead(&mut self.store, gone)? {
+                break;
+            }
+            let (program, path) = (&self.folder.program, self.folder.path.as_str());
+            check_least(program, path, &self.store, self.least)?;
+            self.commit()?;
+            say_gone(&self.folder.program, &self.store, gone)?;
         }
-        let head = self.store.head(self.folder.program.alloc())?;
-        let slots = self.store.slots().min(MOST_SLOTS);
-        self.folder.commit(head.bytes(), slots)
+        Ok(())
     }
 
     /// Ends what was done up to here, where the volumes have what they had. If it failed, and what is committed is known, that is as before
     /// too, but for evictions. So the marker goes, unless volumes were in transit before.
-    pub fn or_unmark(&self, done: Result<(), Status>) -> Result<(), Status> {
+    pub fn or_unmark(&mut self, done: Result<(), Status>) -> Result<(), Status> {
         match done {
             Ok(()) | Err(Status::Unsettled) => {}
             Err(_) if self.is_torn => {}
@@ -216,33 +236,37 @@ impl Opened {
     }
 
     /// Commits, under a marker of this text, what leaves the volumes with what they had.
-    pub fn commit_marked(&mut self, text: &str) -> Result<(), Status>
-        ensures { self.new.store.group.area.volumes ≡ self.old.store.group.area.volumes }
-    {
-        self.mark(text)?;
-        let done = self.commit();
-        self.or_unmark(done)
+    pub fn commit_marked(&mut self, text: &str) -> Result<(), Status> {
+        let (none, was_torn) = (Jobs::none(self.folder.program), self.is_torn);
+        self.is_marked = true;
+        commit_in_order(&mut self.folder, &mut self.store, &none, text, was_torn)
     }
 
-    /// Commits a set that was cut, once it is noted when and what for.
-    pub fn commit_dated(&mut self, set: u32, note: &str) -> Result<(), Status>
-        ensures { self.new.store.group.area.volumes ≡ self.old.store.group.area.volumes }
+    /// Notes when a set was cut and what for, before it is committed.
+    pub fn note_date(&mut self, set: u32, note: &str) -> Result<(), Status>
+        ensures { self.new.store ≡ self.old.store }
     {
         let standing = sets_of(&self.store, self.folder.program.alloc())?;
-        self.folder.note_date(&standing, set, note)?;
-        self.commit()
+        self.folder.note_date(&standing, set, note)
     }
 
     /// Ends a call: what it changed lasts and the marker is gone before anything is printed.
     pub fn end(self, done: Result<(), Status>) -> Result<(), Status> {
         let Opened {
-            folder,
-            store,
+            mut folder,
+            mut store,
             text,
             is_marked,
             ..
         } = self;
-        let ended = end_store(&folder.program, store, is_marked, done);
-        folder.end(text.as_str(), is_marked, ended)
+        let program = folder.program;
+        let ended = match done {
+            Ok(()) if is_marked => end_marked(&mut folder, &mut store),
+            done => done,
+        };
+        match ended {
+            Ok(()) => say(&program, text.as_str()),
+            Err(status) => Err(take_apart(&program, store, status)),
+        }
     }
 }

@@ -1,6 +1,4 @@
-//! Volumes are brought to files, in three passes with the commits between them. Their order is the point of this
-//! file: the blocks that differ are found; their old bytes are copied into slots, and that is committed; and then they are overwritten. So
-//! what is committed shows every image at each moment.
+//! Volumes are brought to files: the blocks that differ are found, and then `image_order` has the order of the calls.
 
 ghost use Rattle.std.specs.Prelude.{◌<◌, length};
 
@@ -11,8 +9,6 @@ use crate::naming::{check_once, name_in};
 use crate::opened::Opened;
 use crate::pair::Pair;
 use crate::status::Status;
-use vss_names::MOST_IMAGES;
-use write_history::Evicted;
 
 /// Whether this is a file of the folder.
 pub fn is_own(opened: &Opened, input: &FileInput<'_>) -> Result<bool, Status> {
@@ -55,25 +51,13 @@ fn add_job<'a>(opened: &Opened, pair: Pair<'a>, jobs: &mut Vec<Job<'a>>) -> Resu
     Ok(jobs.push(Job::new(opened.folder.program.alloc(), pair.name, volume, input)?)?)
 }
 
-/// Makes the marker, with the names of the volumes.
-fn mark(opened: &mut Opened, jobs: &[Job<'_>]) -> Result<(), Status> {
+/// The lines of the marker, with the names of the volumes.
+fn lines_of(opened: &Opened, jobs: &[Job<'_>]) -> Result<String, Status> {
     let mut text = String::from_str(opened.folder.program.alloc(), "update\n")?;
     for job in jobs {
         write!(text, "{}\n", job.name)?;
     }
-    opened.mark(text.as_str())
-}
-
-/// The second pass, committed.
-fn copy_all(
-    opened: &mut Opened,
-    jobs: &mut [Job<'_>],
-    gone: &mut Vec<Evicted>,
-) -> Result<(), Status> {
-    for job in jobs.iter_mut() {
-        job.copy_ahead(opened, gone)?;
-    }
-    opened.commit()
+    Ok(text)
 }
 
 /// Notes that the volumes of jobs are brought to their files together.
@@ -83,21 +67,10 @@ fn note(opened: &Opened, jobs: &[Job<'_>]) -> Result<(), Status> {
 }
 
 /// The second and the third pass, under a marker.
-fn write_all(
-    opened: &mut Opened,
-    jobs: &mut [Job<'_>],
-    gone: &mut Vec<Evicted>,
-) -> Result<(), Status> {
-    mark(opened, jobs)?;
-    let copied = copy_all(opened, jobs, gone);
-    opened.or_unmark(copied)?;
-    opened.is_torn = true;
+fn write_all(opened: &mut Opened, jobs: &mut [Job<'_>]) -> Result<(), Status> {
+    let lines = lines_of(opened, jobs)?;
+    opened.overwrite(lines.as_str(), jobs)?;
     note(opened, jobs)?;
-    for job in jobs.iter_mut() {
-        let (alloc, name) = (opened.folder.program.alloc(), job.name);
-        let more = format!(in alloc; "; {name} has a part of each: update it again")?;
-        job.overwrite(&mut opened.store, gone, more.as_str())?;
-    }
     check_all(jobs)
 }
 
@@ -106,7 +79,8 @@ fn write_all(
 fn flush_all(opened: &mut Opened, jobs: &[Job<'_>]) -> Result<(), Status> {
     for job in jobs {
         if job.volume < opened.store.volumes() && opened.store.flush(job.volume).is_err() {
-            mark(opened, jobs)?;
+            let lines = lines_of(opened, jobs)?;
+            opened.mark(lines.as_str())?;
             return Err(Status::DeviceFault);
         }
     }
@@ -115,11 +89,7 @@ fn flush_all(opened: &mut Opened, jobs: &[Job<'_>]) -> Result<(), Status> {
 }
 
 /// All passes over the volumes of jobs, and the lines of what was written and copied.
-pub fn update_by(
-    opened: &mut Opened,
-    jobs: &mut [Job<'_>],
-    gone: &mut Vec<Evicted>,
-) -> Result<(), Status> {
+pub fn update_by(opened: &mut Opened, jobs: &mut [Job<'_>]) -> Result<(), Status> {
     let mut is_changed = opened.marker.is_some() || opened.is_marked;
     for job in jobs.iter_mut() {
         job.compare(&mut opened.store)?;
@@ -127,7 +97,7 @@ pub fn update_by(
     }
     check_all(jobs)?;
     if is_changed {
-        write_all(opened, jobs, gone)?;
+        write_all(opened, jobs)?;
     } else {
         flush_all(opened, jobs)?;
     }
@@ -148,9 +118,7 @@ fn update_pairs<'a>(
         add_job(opened, *pair, jobs)?;
     }
     wait_out_all(jobs);
-    let alloc = opened.folder.program.alloc();
-    let mut gone = Vec::with_capacity(alloc, MOST_IMAGES * opened.store.volumes() as usize)?;
-    update_by(opened, jobs.as_mut_slice(), &mut gone)
+    update_by(opened, jobs.as_mut_slice())
 }
 
 /// That each pair has a volume, and a volume of its own, and that none is in transit that none of them has.

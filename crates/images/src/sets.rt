@@ -57,9 +57,8 @@ pub fn cut(opened: &mut Opened, note_of: &str, names: &[String]) -> Result<(), S
     match opened.store.cut(&volumes) {
         Ok(set) => {
             write!(opened.text, "set {set}\n")?;
-            opened.mark("cut\n")?;
-            let done = opened.commit_dated(set, note_of);
-            opened.or_unmark(done)?;
+            opened.note_date(set, note_of)?;
+            opened.commit_marked("cut\n")?;
             if !are_together {
                 let (program, path) = (&opened.folder.program, opened.folder.path.as_str());
                 note(
@@ -143,6 +142,7 @@ pub fn revert(opened: &mut Opened, set: u32, name: &str) -> Result<(), Status> {
     drop_newer(&mut opened.store, set, volume);
     opened.commit_marked(text.as_str())?;
     opened.folder.note_together(&[name])?;
+    let volume = opened.place_of(name)?;
     if opened.store.revert(set, volume).is_err() || opened.store.flush(volume).is_err() {
         return Err(Status::DeviceFault);
     }
