@@ -1,10 +1,15 @@
 //! Bytes that no line of a scenario has.
 
 use super::notes::Notes;
-use super::piece::Piece::{Number, Words};
+use super::piece::Piece::{Number, Shown, Words};
 use super::showing::part;
+use crate::reading::line_at;
 use std::alloc::Global;
 use vss_names::OutOfMemory;
+
+/// Of a line of another system.
+const CARRIAGE_RETURN: &str =
+    "the line ends in CR LF; here lines end in LF alone: tr -d '\\r' < FILE > NEW makes them so";
 
 fn is_printable(byte: u8) -> bool {
     32 <= byte && byte <= 126
@@ -91,11 +96,19 @@ pub fn say_bad_byte(
     }
     let rest = part(line, at, line.len());
     if rest == b"\r".as_slice() {
-        notes.add(
-            "the line ends in CR LF; here lines end in LF alone: tr -d '\\r' < FILE > NEW makes them so",
-        )?;
+        notes.add(CARRIAGE_RETURN)?;
     } else {
         say_byte(notes, at, rest)?;
     }
     Ok(Some(at))
+}
+
+/// Says what a text has in a line.
+pub fn say_line(notes: &mut Notes, text: &[u8], line: u32) -> Result<(), OutOfMemory> {
+    let there = line_at(text, line);
+    notes.say("it has `{}` there", &[Shown(there)])?;
+    match there.last() {
+        Some(b'\r') => notes.add(CARRIAGE_RETURN),
+        _ => Ok(()),
+    }
 }

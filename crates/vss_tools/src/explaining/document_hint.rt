@@ -202,7 +202,11 @@ fn say_no_json(notes: &mut Notes, text: &[u8], at: usize, is_cut: bool) -> Resul
     } else {
         "this is no JSON from the character `{}` on"
     };
-    notes.say(form, &[Shown(found)])
+    notes.say(form, &[Shown(found)])?;
+    match text.first() {
+        Some(b'{') => Ok(()),
+        _ => notes.add("the document itself stands in this line: {\"class\":..}"),
+    }
 }
 
 /// Says why a text is no metadata document, and answers at which place of it, where there is one.

@@ -89,6 +89,9 @@ pub fn say_number(
         notes.say("{} (field {}) is `{}`: {}", &[name, field, found, why])?;
         return match quantity {
             Quantity::Set => say_swapped(notes, bad),
+            Quantity::Context => notes.add(
+                "contexts are 0 (VSS_CTX_BACKUP), 9 (VSS_CTX_APP_ROLLBACK) and 25 (VSS_CTX_NAS_ROLLBACK)",
+            ),
             _ => Ok(()),
         };
     }
@@ -167,7 +170,10 @@ pub fn say_undeclared(
         "no {} `{}` is declared above; there are {}{}",
         &[what, found, Listed(&names), Meant(meant)],
     )?;
-    say_swapped(notes, bad)
+    match meant {
+        None => say_swapped(notes, bad),
+        Some(_) => Ok(()),
+    }
 }
 
 /// Says that a field is no order.

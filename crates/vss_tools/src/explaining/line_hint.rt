@@ -34,6 +34,9 @@ fn say_first_word(notes: &mut Notes, bad: &BadLine<'_>) -> Result<(), OutOfMemor
     if bad.bytes == b"report 1".as_slice() {
         return notes.add("this is a report of a run and no scenario: are two files swapped?");
     }
+    if bad.bytes == b"job 1".as_slice() {
+        return notes.add("this is a job of a backup: ./backup FOLDER JOB");
+    }
     let words = first_words(notes.alloc())?;
     if !say_nearest(notes, "no line begins with `{}`{}", first, &words)? {
         notes.add("docs/FORMATS.md has all words, and examples/ scenarios to begin with")?;

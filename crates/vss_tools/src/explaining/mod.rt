@@ -5,7 +5,7 @@
 //! `explain forms` says all forms of lines. It writes lines to the standard output, or nothing where there is nothing to say.
 
 mod bad_line;
-mod byte_hint;
+pub mod byte_hint;
 mod document_hint;
 mod field_hint;
 mod form_hint;

@@ -27,6 +27,10 @@ fn say_number(notes: &mut Notes, word: Option<&str>) -> Result<bool, OutOfMemory
 /// Says of the word where a folder may stand, and of those behind it, what is wrong.
 fn say_folder(notes: &mut Notes, words: &[String]) -> Result<(), OutOfMemory> {
     match (words.first(), words.get(1)) {
+        (Some(folder), _) if folder.starts_with("-") => notes.say(
+            "`{}` begins with `-`, and there are no options; a folder of that name is `./{}`",
+            &[Shown(folder.as_bytes()), Shown(folder.as_bytes())],
+        ),
         (_, Some(more)) => notes.say(
             "`{}` is one word too many; a folder whose name has spaces stands in quotes",
             &[Shown(more.as_bytes())],
@@ -36,28 +40,11 @@ fn say_folder(notes: &mut Notes, words: &[String]) -> Result<(), OutOfMemory> {
     }
 }
 
-/// Says which word begins with `-`.
-fn say_dashed(notes: &mut Notes, words: &[String]) -> Result<bool, OutOfMemory> {
-    for word in words {
-        if word.as_bytes().first() == Some(&b'-') {
-            notes.say(
-                "`{}` begins with `-`, and there are no options; a folder of that name is `./{}`",
-                &[Shown(word.as_bytes()), Shown(word.as_bytes())],
-            )?;
-            return Ok(true);
-        }
-    }
-    Ok(false)
-}
-
 /// Says which of the words is wrong, and why.
 pub fn say_words(notes: &mut Notes, words: &[String]) -> Result<(), OutOfMemory> {
     let Some(first) = words.first() else {
         return notes.add("a command is missing");
     };
-    if say_dashed(notes, words)? {
-        return Ok(());
-    }
     let rest = words.get(1..).unwrap_or(&[]);
     match first.as_str() {
         "run" => say_folder(notes, rest),

@@ -13,6 +13,7 @@ mod request;
 mod status;
 mod texts;
 
+use crate::explaining::byte_hint::say_line;
 use crate::explaining::notes::Notes;
 use crate::reading::moves_in;
 use crate::words_given;
@@ -29,8 +30,25 @@ const NO_LINE: Refusal = Refusal {
     fault: Fault::NoLine,
 };
 
+/// Why the report has no picture; what helps to go on is said.
+fn refused<'a>(notes: &mut Notes, texts: &Texts<'a>, why: Refusal) -> Status<'a> {
+    if let Ok(line) = u32::try_from(why.line) {
+        let _ = say_line(notes, texts.report.as_bytes(), line);
+    }
+    let _ = notes.add(match why.fault {
+        Fault::NoLine => "a report is what `./vss run < SCENARIO` writes: are two files swapped?",
+        _ => "is it a report of this scenario, as the program wrote it?",
+    });
+    Status::Bad(texts.refused(why))
+}
+
 /// Draws what was read.
-fn drawn<'a>(rt: &HostRuntime, request: &Request<'a>, texts: &Texts<'a>) -> Status<'a> {
+fn drawn<'a>(
+    rt: &HostRuntime,
+    notes: &mut Notes,
+    request: &Request<'a>,
+    texts: &Texts<'a>,
+) -> Status<'a> {
     let mut sink = OutSink::new(rt.stdout());
     let run = Run {
         name: request.name(),
@@ -41,7 +59,7 @@ fn drawn<'a>(rt: &HostRuntime, request: &Request<'a>, texts: &Texts<'a>) -> Stat
     };
     match draw(rt.alloc(), request.form, run, &mut sink) {
         Ended::Written => Status::Done,
-        Ended::Refused(why) => Status::Bad(texts.refused(why)),
+        Ended::Refused(why) => refused(notes, texts, why),
         Ended::WriteFault => Status::WriteFault,
         Ended::OutOfMemory => Status::OutOfMemory,
     }
@@ -69,7 +87,7 @@ fn run<'a>(rt: &HostRuntime, notes: &mut Notes, words: &'a [String]) -> Status<'
     };
     let report = texts.report.as_str();
     if !report.starts_with("report 1") {
-        return Status::Bad(texts.refused(NO_LINE));
+        return refused(notes, &texts, NO_LINE);
     }
     let (span, moves) = (request.span, moves_in(report) as u64);
     if span.to < span.from || moves.max(1) < span.from {
@@ -79,7 +97,7 @@ fn run<'a>(rt: &HostRuntime, notes: &mut Notes, words: &'a [String]) -> Status<'
         let to = span.to.min(moves);
         return overviewed(rt, report, Span { to, ..span });
     }
-    drawn(rt, &request, &texts)
+    drawn(rt, notes, &request, &texts)
 }
 
 /// Draws what the words of the program ask for, and returns the status.

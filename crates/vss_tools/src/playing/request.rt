@@ -77,7 +77,11 @@ impl<'a> Request<'a> {
             }
         };
         if let Some(more) = words.get(count) {
-            let form = "`{}` is one word too many; a name with spaces stands in quotes";
+            let form = match more.as_str() {
+                "with" => "`{} DEVICE CALL NUMBERS` stands before the task",
+                "-j" => "`{} JOBS` stands behind `many`",
+                _ => "`{}` is one word too many; a name with spaces stands in quotes",
+            };
             let _ = notes.say(form, &[Shown(more.as_bytes())]);
             return None;
         }

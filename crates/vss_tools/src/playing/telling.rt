@@ -1,6 +1,7 @@
 //! What helps to go on, below the line that says how the tool ended.
 
 use super::failing::{Failing, plan_of};
+use crate::explaining::byte_hint::say_line;
 use crate::explaining::line_hint::say_refusal;
 use crate::explaining::notes::Notes;
 use crate::explaining::piece::Piece::{Number, Shown, Words};
@@ -270,11 +271,6 @@ fn say_scenario(notes: &mut Notes, asked: Asked<'_>) -> Result<(), OutOfMemory> 
     }
 }
 
-/// Says what an order or a report has in a line.
-fn say_there(notes: &mut Notes, asked: Asked<'_>, line: u32) -> Result<(), OutOfMemory> {
-    notes.say("it has `{}` there", &[Shown(line_at(asked.order, line))])
-}
-
 /// Says of whom an order can ask for moves.
 fn say_actors(notes: &mut Notes, asked: Asked<'_>) -> Result<(), OutOfMemory> {
     let alloc = notes.alloc();
@@ -292,9 +288,9 @@ pub fn say_called(notes: &mut Notes, asked: Asked<'_>, status: Status) -> Result
     match status {
         Status::ScenarioRefused { .. } => say_scenario(notes, asked),
         Status::MayNotCome { entry, .. } => say_standstill(notes, asked, entry.actor),
-        Status::NoReport { line } => say_there(notes, asked, line),
+        Status::NoReport { line } => say_line(notes, asked.order, line),
         Status::OrderRefused { line, .. } => {
-            say_there(notes, asked, line)?;
+            say_line(notes, asked.order, line)?;
             say_actors(notes, asked)
         }
         _ => Ok(()),
@@ -317,6 +313,6 @@ pub fn say_again(
             "the report ends there: was all of it written, and is it of this scenario?",
         );
     }
-    say_there(notes, asked, line)?;
+    say_line(notes, asked.order, line)?;
     notes.add("is it a report of this scenario, as the program wrote it?")
 }
