@@ -208,12 +208,12 @@ def answer_of(answer, words, fails, name, number):
 
 
 def sizes():
-    """The README and the pages of docs/ are short, and so is each cell of their tables."""
+    """The README and the pages of docs/ are short, and so is each cell of a table."""
     if len(text_of("README.md").encode()) > MOST_README:
         wrong.append(f"README.md has more than {MOST_README} bytes")
     if sum(os.path.getsize(page) for page in glob.glob("docs/*.md")) > MOST_DOCS:
         wrong.append(f"the pages of docs/ have more than {MOST_DOCS} bytes together")
-    for page in (page for page in PAGES if not page.startswith("crates/")):
+    for page in PAGES:
         for line in re.findall(r"^\|(.*)\|$", text_of(page), re.M):
             for cell in re.split(r"(?<!\\)\|", line):
                 if len(re.sub(r"\]\([^)]*\)", "]", cell).split()) > MOST_WORDS:

@@ -1,6 +1,7 @@
 #!/usr/bin/env bash
-# What a person is told of a text or of words that `vss` or `images` refuses: the place, the reason, and what helps to go on. The program refuses each text here,
-# and `vss_tools explain` says of the same text what is wrong, as ./vss has it; some go through ./vss itself, by a file, a pipe or a closed stream.
+# What a person is told of a text or of words that a command refuses: the place, the reason, and what helps to go on. The program refuses each text here,
+# and `vss_tools explain` says of the same text what is wrong, as ./vss has it. checks/messages/commands.table has whole commands: `vss`, `images`, `backup`
+# with its hooks, `orders` and `timeline`.
 . "$(dirname "${BASH_SOURCE[0]}")/prelude.sh" || exit 70
 vss="$(program vss)" || exit 1
 explainer="$(tools explain | head -n 1)" && [ -n "$explainer" ] || exit 1
@@ -118,6 +119,14 @@ tells "5: BadNumber" "${lane}image C 1 0\n" "did you mean \`image 1 C 0\`?"
 tells "5: BadNumber" "${lane}properties D 2\n" "did you mean \`properties 2 D\`?"
 tells "5: UnknownName" "${lane}read 1 C\n" "no volume \`1\` is declared above" "did you mean \`read C 1\`?"
 tells "5: UnknownName" "${lane}write 1 C fill 7\n" "did you mean \`write C 1 fill 7\`?"
+tells "5: BadNumber" "${lane}begin VSS_CTX_BACKUP\n" "contexts are 0 (VSS_CTX_BACKUP), 9 (VSS_CTX_APP_ROLLBACK) and 25 (VSS_CTX_NAS_ROLLBACK)"
+tells "5: BadNumber" "${lane}tick 1000ms\n" "TICKS (field 1) is \`1000ms\`: a number is decimal digits alone"
+tells "2: BadNumber" 'scenario 1\nvolume C 64M 4\n' "BLOCKS (field 2) is \`64M\`: a number is decimal digits alone"
+tells "2: BadName" 'scenario 1\nvolume C: 4 4\n' "the name of the volume (field 1) is \`C:\`" "a name has 1 to 32 letters"
+tells "4: BadCount" "${start}lane my lane\n" "so many fields, 2" "the forms are \`lane NAME\` or \`lane NAME as WRITER\`"
+tells "5: BadCount" "${lane}write C 1 7\n" "so many fields, 3" "the forms are \`write VOLUME BLOCK fill BYTE\`"
+tells "5: BadCount" "${lane}snapshot C\n" "so many fields, 1" "the form is \`snapshot\`"
+tells "5: UnknownName" "${lane}read C, 1\n" "there are C, D; did you mean \`C\`?"
 tells "2: BadNumber" 'scenario 1\nvolume C 4 in\n' "behind \`in\` AREA is missing" "\`volume NAME BLOCKS in AREA\`"
 tells "4: UnknownWord" "${writer}answer db freeze 1 veto\n" "behind \`veto\` CODE is missing" "codes are VSS_E_WRITERERROR_INCONSISTENTSNAPSHOT"
 
@@ -170,6 +179,8 @@ says_of "${document//\"/\'}" 'strings and names stand in double quotes'
 says_of "${document/\"level\":2/\"level\":}" 'this is no JSON from the character `,` on'
 says_of "${document/2,/2 }" 'this is no JSON from the character `"` on'
 
+tells "4: BadDocument" "${writer}writer w db.json\n" 'this is no JSON from the character `d` on' 'the document itself stands in this line'
+
 # limits
 many() { for ((i = 1; i <= $1; i++)); do printf '%s' "${2//#/$i}\\n"; done; }
 tells "130: TooMany" "scenario 1\n$(many 129 'volume v# 1 1')" "a scenario has at most 128 volumes"
@@ -204,88 +215,77 @@ while IFS= read -r form; do
   "$vss" run < "$room/input" > /dev/null 2> "$room/err" || wrong "the form \"$form\" is told, and \"$line\" gets \"$(cat "$room/err")\""
 done < "$room/forms"
 
-# words of the command
-says_words() {
-  local wanted="$1"
-  shift
-  "$vss" "$@" > "$room/out" 2> "$room/err" < /dev/null
-  [ "$?" = 2 ] || wrong "the words $* are a command"
-  has "the words $*" "$("$explainer" words "$@")" "$wanted"
-}
-says_words "a command is missing"
-says_words "\`runs\` is no command; did you mean \`run\`?" runs
-says_words "\`Run\` is no command; did you mean \`run\`?" Run
-says_words "\`inspekt\` is no command; did you mean \`inspect\`?" inspekt
-says_words "\`start\` is no command" start
-says_words "\`07\` is no number: 0 to 4294967295" gen 07
-says_words "\`4294967296\` is too large: the number is 0 to 4294967295" gen 4294967296
-says_words "behind \`gen\` a number is missing: 0 to 4294967295" gen
-says_words "\`-x\` begins with \`-\`" run -x
-says_words "the folder's name is empty" run ''
-says_words "\`d2\` is one word too many" run d1 d2
-says_words "\`more\` is one word too many" gen 7 disks more
-says_words "behind \`inspect\` stands no word" inspect area
+# the commands as an archive has them, and files for them
+mkdir -p "$room/at/programs" "$room/at/tools" "$room/folder"
+cp vss orders timeline images backup VERSION "$room/at" && cp tools/*.sh "$room/at/tools" && cp -R hooks "$room/at" || exit 1
+for name in vss vss_tools images backup; do
+  ln -s "$(program "$name")" "$room/at/programs/$name" && printf 'of these sources\nunproved\n' > "$room/at/programs/$name.sources" || exit 1
+done
+PATH="$room/at:$PATH"
+cp examples/{first,revert,second_lane}.* examples/orders/{hold_limit,held_write,frozen_writer}.* "$room"
+printf 'scenario 1\nvolume C 4 4\nlane a\nwrite C 4 fill 1\n' > "$room/bad.scenario"
+head -c 16777217 /dev/zero | tr '\0' '\n' > "$room/long"
+mkdir "$room/disks" && vss run "$room/disks" < examples/first.scenario > "$room/out" 2> "$room/err" || wrong "no area is made"
+area="$room/disks/C.area" size="$(stat -c %s "$room/disks/C.area")"
+head -c $((size - 5000)) "$area" > "$room/cut.area"
+{ cat "$area"; echo; } > "$room/longer.area"
+: > "$room/empty"
+echo one > "$room/a"
+component='{"name":"main","selectable":true,"type":1},{"name":"log","path":"main","selectable":false,"type":1}'
+cat > "$room/good.job" << END
+job 1
+volume a a
+writer app {"class":"11111111-1111-4111-8111-111111111111","components":[$component],"level":2,"name":"X","source":1,"usage":3}
+files app main a
+hook app python3 at/hooks/commands.py --freeze true --thaw true
+END
+(
+  cd "$room" && images create store 10 a=a && images cut store a && images create damaged 10 a=a &&
+    printf x | dd of=damaged/images.state bs=1 seek=20 conv=notrunc status=none
+) > "$room/out" || wrong "images: no folder is made"
 
-# how ./vss ends, and what it says; the words follow, and the input is $room/input
+# Runs the command of a row of the table, and compares how it ends and what it says.
+try_row() {
+  local wanted="${1%% *}" command="${1#* }" parts="${1#* => }" status
+  command="${command%% => *}"
+  (cd "$room" && eval "$command") < /dev/null > "$room/out" 2> "$room/err"
+  status=$?
+  [ "$status" = "$wanted" ] || wrong "\`$command\` ended with $status, and not $wanted: $(cat "$room/err")"
+  [ ! -s "$room/out" ] || wrong "\`$command\` writes $(head -n 1 "$room/out")"
+  [[ "$command" != images* || "$(wc -l < "$room/err")" = 1 ]] || wrong "\`$command\` has more than a line: $(cat "$room/err")"
+  mapfile -t parts <<< "${parts// && /$'\n'}"
+  has "\`$command\`" "$(cat "$room/err")" "${parts[@]}"
+}
+while IFS= read -r row; do
+  [[ "$row" != [0-9]* ]] || try_row "$row"
+done < checks/messages/commands.table
+(try_row "2 vss runs => \`runs\` is no command; did you mean \`gen\`?" 2> /dev/null; [ "$failed" = 1 ]) || wrong "a row with another text is accepted"
+
+# how ./vss ends, and what it says; the words follow
 ran() {
   local wanted="$1" status
   shift
-  "$top/vss" "$@" > "$room/out" 2> "$room/err"
+  vss "$@" > "$room/out" 2> "$room/err"
   status=$?
   [ "$status" = "$wanted" ] || wrong "\`./vss $*\` ended with $status, and not $wanted: $(cat "$room/err")"
 }
 said() { has "./vss" "$(cat "$room/err")" "$@"; }
-printf 'scenario 1\nvolume C 4 4\nlane a\nwrite C 4 fill 1\n' > "$room/bad.scenario"
-ran 3 run < "$room/bad.scenario"
-said "vss: line 4: OutOfRange" "in $room/bad.scenario:" "     4 | write C 4 fill 1" "BLOCK is 0 to 3 on C here, and not 4"
-(cd "$room" && "$top/vss" run < bad.scenario 2> err)
-said "in bad.scenario:"
-ran 3 run < <(cat "$room/bad.scenario")
-said "vss: line 4: OutOfRange" "     4 | write C 4 fill 1" "BLOCK is 0 to 3 on C here, and not 4"
-{ read -r _; ran 3 run; } < <(printf 'more\n'; cat "$room/bad.scenario")
-said "vss: line 4: OutOfRange" "     4 | write C 4 fill 1"
-{ read -r _; ran 3 run; } < "$room/bad.scenario"
-said "vss: line 1: Misplaced" "     1 | volume C 4 4"
-ran 3 run < "$top/examples/first.report"
-said "are two files swapped?"
-ran 3 run "$room/bad.scenario" < "$room/bad.scenario"
-said "./vss run < $room/bad.scenario"
-ran 6 run "$room/none" < "$top/examples/first.scenario"
-said "vss: device fault" "mkdir $room/none"
-ran 4 run < "$room"
-said "vss: read fault" "could not be read to its end"
-ran 4 run <&-
-said "vss: read fault"
-ran 4 inspect <&-
-said "vss: read fault" "could not be read to its end"
-ran 4 inspect < "$room"
-said "vss: read fault"
-ran 6 gen 7 "$room/none" < /dev/null
-said "vss: device fault" "mkdir $room/none" "     $room/none/v0.vol could not be created: No such file or directory"
 exec 7> >(:)
 wait "$!"
-"$top/vss" run < "$top/examples/first.scenario" >&7 2> "$room/err"
+vss run < examples/first.scenario >&7 2> "$room/err"
 [ "$?" = 5 ] || wrong "a pipe that nobody reads: $(cat "$room/err")"
 exec 7>&-
 said "vss: write fault" "or a pipe closed?"
 # a reader that takes the first line alone of more than a pipe holds
 { printf 'scenario 1\nvolume C 4 4\nlane a\n'; printf 'query C\n%.0s' {1..20000}; } > "$room/many.scenario"
-"$top/vss" run < "$room/many.scenario" 2> "$room/err" | head -n 1 > "$room/out"
+vss run < "$room/many.scenario" 2> "$room/err" | head -n 1 > "$room/out"
 [ "${PIPESTATUS[0]}" = 5 ] && [ "$(cat "$room/out")" = "report 1" ] || wrong "a pipe that is read to its first line: $(cat "$room/out" "$room/err")"
 said "vss: write fault" "or a pipe closed?"
-timeout 60 "$top/vss" run < "$top/examples/first.scenario" >&- 2> "$room/err"
-[ "$?" = 5 ] || wrong "a closed output: $(cat "$room/err")"
-said "vss: write fault"
 if [ -w /dev/full ]; then
-  "$top/vss" run < "$top/examples/first.scenario" > /dev/full 2> "$room/err"
+  vss run < "$top/examples/first.scenario" > /dev/full 2> "$room/err"
   [ "$?" = 5 ] || wrong "a full disk: $(cat "$room/err")"
   said "vss: write fault" "is the disk full"
 fi
-head -c 16777217 /dev/zero | tr '\0' '\n' > "$room/long"
-ran 8 run < "$room/long"
-said "vss: input too long" "16,777,216 bytes at most"
-ran 8 run < <(cat "$room/long")
-said "vss: input too long"
 if ! { [ -f "$vss.sources" ] && is_slow "$vss"; }; then
   ran 8 inspect < /dev/zero
   said "vss: input too long" "an area 1,074,806,784"
@@ -300,42 +300,6 @@ ran 0 run < examples/writer_veto.scenario
 cmp -s "$room/out" examples/writer_veto.report || wrong "beside a line on the standard error another report is written"
 ran 0 run < examples/first.scenario
 grep -q failed "$room/err" && wrong "of no failed set it is said: $(cat "$room/err")"
-ran 2 runs < /dev/null
-said "vss: usage" "\`runs\` is no command" "./vss gen N"
-ran 2 inspect "$room/bad.scenario" < /dev/null
-said "./vss inspect < $room/bad.scenario"
-for word in help --help -h; do
-  ran 0 "$word" < /dev/null
-  has "./vss $word" "$(cat "$room/out")" "./vss run < FILE" "./vss inspect < FILE"
-  [ ! -s "$room/err" ] || wrong "./vss $word says on the standard error: $(cat "$room/err")"
-done
-ran 0 --version < /dev/null
-has "./vss --version" "$(cat "$room/out")" "vss $(cat VERSION), of the sources "
-
-# areas that were cut, or have a byte too many, or are something else
-mkdir "$room/disks"
-ran 0 run "$room/disks" < "$top/examples/first.scenario"
-area="$(find "$room/disks" -name '*.area' | head -n 1)"
-size="$(stat -c %s "$area")"
-head -c $((size - 5000)) "$area" > "$room/cut.area"
-ran 9 inspect < "$room/cut.area"
-said "in $room/cut.area:" "it has $((size - 5000)) bytes" "an area has $size"
-{ cat "$area"; echo; } > "$room/longer.area"
-ran 9 inspect < "$room/longer.area"
-said "it has $((size + 1)) bytes" "an area has $size"
-ran 9 inspect < <(cat "$room/cut.area")
-said "it has $((size - 5000)) bytes" "an area has $size"
-ran 9 inspect < <(cat "$room/longer.area")
-said "it has $((size + 1)) bytes" "an area has $size"
-ran 9 inspect < "$top/examples/first.scenario"
-said "it is a scenario: ./vss run < FILE"
-ran 9 inspect < /dev/null
-said "vss: area header Magic 0" "the input is empty"
-: > "$room/empty"
-ran 9 inspect < "$room/empty"
-said "vss: area header Magic 0" "the input is empty"
-ran 9 inspect < <(cat "$room/empty")
-said "vss: area header Magic 0" "the input is empty"
 
 # areas of which a few bytes are others: where they begin, the bytes, the program's line, and what is said below it
 while IFS='|' read -r at bytes line hint; do
@@ -389,7 +353,7 @@ mkdir -m 555 "$room/sealed"
 as_nobody=()
 [ "$(id -u)" != 0 ] || as_nobody=(setpriv --reuid=65534 --regid=65534 --clear-groups)
 chmod 711 "$room"
-cp "$vss" "$room/program" && chmod 755 "$room/program"
+cp "$vss" "$room/program" && cp "$(program vss_tools)" "$room/tools" && chmod 755 "$room/program" "$room/tools"
 "${as_nobody[@]}" "$room/program" run "$room/sealed" < "$top/examples/first.scenario" 2> "$room/err"
 said "vss: device fault" "     $room/sealed/C.vol could not be created: Permission denied (os error 13)"
 if mount -t tmpfs -o size=48k tmpfs "$room/end" 2> /dev/null; then
@@ -398,163 +362,26 @@ if mount -t tmpfs -o size=48k tmpfs "$room/end" 2> /dev/null; then
 fi
 if [ -w /dev/full ]; then
   mkdir "$room/whole"
-  "$top/vss" run "$room/whole" < "$top/examples/first.scenario" > /dev/full 2> "$room/err"
+  vss run "$room/whole" < "$top/examples/first.scenario" > /dev/full 2> "$room/err"
   [ "$?" = 5 ] && [ "$(ls "$room/whole" | wc -l)" = 2 ] || wrong "where the report finds no room, the files are gone"
 fi
 
-# what `images` says, in one line: the place, the reason, and what helps
-images="$(program images)" || exit 1
-images_says() {
-  local wanted="$1" line="$2" status
-  shift 2
-  (cd "$room/files" && "$images" "$@") > "$room/out" 2> "$room/err"
-  status=$?
-  [ "$status" = "$wanted" ] && [ "$(wc -l < "$room/err")" = 1 ] && [ ! -s "$room/out" ] || wrong "\`images $*\` ended with $status, and not $wanted: $(cat "$room/err")"
-  has "images $*" "$(cat "$room/err")" "images: $line"
-}
-mkdir -p "$room/files/folder"
-echo one > "$room/files/a"
-(cd "$room/files" && "$images" create store 10 a=a && "$images" cut store a) > "$room/out" || wrong "images: no folder is made"
-images_says 2 "usage: create [--tries N] F SLOTS NAME[:BLOCKS]=FILE ..; SLOTS says for how many old blocks of 16,384 bytes there is room: as many as change while a version is kept" create new a=a
-images_says 2 "usage: show F [SET] NAME; did you mean \`show store 1 a\`?" show store a 1
-images_says 2 "usage: digest F [SET] NAME; did you mean \`digest store 1 a\`?" digest store a 1
-images_says 2 "usage: delete F SET [NAME]; did you mean \`delete store 1 a\`?" delete store a 1
-images_says 2 "usage: revert F SET NAME; did you mean \`revert store 1 a\`?" revert store a 1
-images_says 4 "folder: is no file, but a directory" create new 10 a=folder
-images_says 4 "folder: is no file, but a directory" update store a=folder
-images_says 4 "/dev/null: is no file" update store a=/dev/null
-images_says 4 "none: could not be read: No such file or directory (os error 2)" update store a=none
-printf x | dd of="$room/files/store/images.state" bs=1 seek=20 conv=notrunc status=none
-for words in "list store" "check store" "show store 1 a" "update store a=a"; do
-  # shellcheck disable=SC2086
-  images_says 9 "store/images.state: digest: another; it is damaged, so nothing in the folder can be trusted: copy the folder before anything else" $words
-done
-
-# `./orders` and `./timeline`: how one ends, and what it says; the words follow
-tool_says() {
-  local wanted="$1" tool="$2" status
-  shift 2
-  "$top/$tool" "$@" > "$room/out" 2> "$room/err" < /dev/null
-  status=$?
-  [ "$status" = "$wanted" ] || wrong "\`./$tool $*\` ended with $status, and not $wanted: $(cat "$room/err")"
-  [ "$wanted" = 0 ] || [ ! -s "$room/out" ] || wrong "\`./$tool $*\` writes $(head -n 1 "$room/out")"
-}
-first=examples/first hold=examples/orders/hold_limit held=examples/orders/held_write frozen=examples/orders/frozen_writer
-for task in "seed 1" "many 3" "order" "again"; do
-  # the words are parted
-  # shellcheck disable=SC2086
-  case "$task" in order | again) tool_says 3 orders $task "$room/bad.scenario" $first.report ;; *) tool_says 3 orders $task "$room/bad.scenario" ;; esac
-  said "orders: $room/bad.scenario: line 4: OutOfRange" "     4 | write C 4 fill 1" "BLOCK is 0 to 3 on C here, and not 4"
-done
-tool_says 3 orders order $hold.order $hold.scenario
-said "orders: $hold.order: line" "the second file is a scenario: are the two swapped?"
-tool_says 3 orders again $first.report $first.scenario
-said "orders: $first.report: line 1: UnknownWord" "are the two swapped?"
-printf '4 times lane backup\n3 times provider\nlane app\n' > "$room/order"
-tool_says 3 orders order $held.scenario "$room/order"
-said "line 3: this move may not come here: its actor has to wait" "lane app waits at line 14, \`" "volume C is held, until it is released" "these may come: provider"
-printf '4 times lane backup\nlane backup\n' > "$room/order"
-tool_says 3 orders order $held.scenario "$room/order"
-said "lane backup waits at line 10, \`await\`" "orders or steps that it began are under way" "these may come: lane app, provider"
-printf 'writer db\n' > "$room/order"
-tool_says 3 orders order $frozen.scenario "$room/order"
-said "writer db has no order to answer now" "these may come: lane"
-printf 'idle\n' > "$room/order"
-tool_says 3 orders order $first.scenario "$room/order"
-said "time passes only if no lane, no writer and not the provider can move" "these may come: lane a"
-printf 'provider\n' > "$room/order"
-tool_says 3 orders order $first.scenario "$room/order"
-said "the provider has no step to make now"
-printf '3 times lane app\n' > "$room/order"
-tool_says 3 orders order $held.scenario "$room/order"
-said "lane app has made all its lines" "these may come: lane backup"
-printf 'lane night\nlane weekly\n' > "$room/order"
-tool_says 3 orders order examples/second_lane.scenario "$room/order"
-said "\`begin 25\`" "another lane has the session, until its \`end\`"
-{ head -n "$(grep -n '^# the veto' $frozen.order | cut -d : -f 1)" $frozen.order; echo "lane x"; } > "$room/order"
-tool_says 3 orders order $frozen.scenario "$room/order"
-said "lane x waits at line" "it acts as writer web, which is frozen until its thaw" "these may come: "
-printf 'lane nobody\n' > "$room/order"
-tool_says 3 orders order $held.scenario "$room/order"
-said "line 1: expected the name of a lane or of a writer" "it has \`lane nobody\` there" "moves are those of lane backup, lane app, provider, idle"
-for name in "$room/nofile" "$room"; do
-  tool_says 4 orders order $first.scenario "$name"
-  said "orders: $name: could not be read: " "(os error"
-  tool_says 4 timeline $first.scenario "$name"
-  said "timeline: $name: could not be read: " "(os error"
-done
+# `./orders` with more than a table can say
 echo > "$room/closed" && chmod 0 "$room/closed"
-[ -n "${as_nobody[*]}" ] || { tool_says 4 orders again $first.scenario "$room/closed"; said "Permission denied"; }
-head -n 5 $first.report > "$room/half"
-tool_says 3 orders again $first.scenario "$room/half"
-said "line 6: expected \`5 provider precommit\`" "the report ends there: was all of it written, and is it of this scenario?"
-tool_says 3 orders again $first.scenario examples/revert.report
-said "line 16: expected" "it has \`$(sed -n 16p examples/revert.report)\` there" "is it a report of this scenario"
-while IFS='|' read -r words wanted; do
-  # the words are parted
-  # shellcheck disable=SC2086
-  tool_says 2 orders $words
-  said "orders: usage: orders" "     $wanted"
-done << END
-|a task, order, again, seed or many, is missing
-ordr $first.scenario x|\`ordr\` is no task; did you mean \`order\`?
-play $first.scenario x|\`play\` is no task
-order|SCENARIO is missing
-order $first.scenario|ORDER is missing
-again $first.scenario|REPORT is missing
-order $first.scenario x y|\`y\` is one word too many
-seed x $first.scenario|N is \`x\`, and no number: 0 to 4294967295, in decimal digits without zeros before them
-seed 01 $first.scenario|N is \`01\`, and no number
-seed 4294967296 $first.scenario|N is \`4294967296\`, and has to be 0 to 4294967295
-seed 1|SCENARIO is missing
-many 0 $first.scenario|COUNT is \`0\`, and has to be 1 to 4294967295
-many 3|SCENARIO is missing
-many -j 0 3 $first.scenario|the number of jobs is \`0\`, and has to be 1 to 1024
-many -j 2 3|SCENARIO is missing
-order -x y|SCENARIO is \`-x\`: a file whose name begins with \`-\` is \`./-x\`
-with C.vol flush 5..3 seed 1 $first.scenario|\`5..3\` are no calls: the first number is above the last
-with C.vol flsh 1 seed 1 $first.scenario|\`flsh\` is no call of a device; did you mean \`flush\`?
-with C.vol flush 0 seed 1 $first.scenario|the number of a call is \`0\`, and has to be 1 to 1000000
-with C.vol flush|behind \`with\` stand DEVICE, CALL and NUMBERS, as \`with C.vol flush 1\`
-with C.vol flush 1|a task, order
-END
-tool_says 0 orders many -j 2 20 $hold.scenario
-cmp -s "$room/out" <(./orders many 20 $hold.scenario) || wrong "many in two jobs has other outcomes"
-while IFS='|' read -r words wanted; do
-  # the words are parted
-  # shellcheck disable=SC2086
-  tool_says 2 timeline $words
-  said "timeline: " "     $wanted"
-done << END
---txt $first.scenario $first.report|\`--txt\` is no option; did you mean \`--text\`?
---from|behind the last option the number of a move is missing
---from x $first.scenario $first.report|the number of a move is \`x\`, and no number: 1 to 4294967295
---to 0 $first.scenario $first.report|the number of a move is \`0\`, and has to be 1 to 4294967295
-$first.scenario|REPORT is missing
-$first.scenario $first.report more|\`more\` is one word too many
-$first.scenario $first.report --text|\`--text\` is one word too many; options stand before the names of the files
-END
-tool_says 2 timeline --from 99 $first.scenario $first.report
-said "timeline: --from 99: the report has 16 moves"
-tool_says 2 timeline --from 9 --to 3 $first.scenario $first.report
-said "timeline: --from 9 --to 3: the first is above the last"
-tool_says 3 timeline "$room/bad.scenario" $first.report
-said "timeline: $room/bad.scenario: line 4: OutOfRange" "BLOCK is 0 to 3 on C here, and not 4"
-tool_says 3 timeline $first.report $first.scenario
-said "timeline: $first.report: line 1: UnknownWord" "are two files swapped?"
-tool_says 3 timeline --overview $first.scenario $first.scenario
-said "timeline: $first.scenario: line 1: no line of a report"
-# help and the version of the other commands
-for tool in orders timeline images tests prove; do
-  for word in help --help -h; do
-    tool_says 0 "$tool" "$word"
-    has "./$tool $word" "$(cat "$room/out")" "    ./$tool"
+"${as_nobody[@]}" "$room/tools" orders again "$room/first.scenario" "$room/closed" > "$room/out" 2> "$room/err"
+said "orders: $room/closed: could not be read: Permission denied"
+orders many -j 2 20 examples/orders/hold_limit.scenario > "$room/out" 2> "$room/err"
+cmp -s "$room/out" <(orders many 20 examples/orders/hold_limit.scenario) || wrong "many in two jobs has other outcomes"
+
+# help and the version of each command
+for tool in vss orders timeline images backup tests prove; do
+  path="$(PATH="$room/at:$top" command -v "$tool")"
+  for word in help --help -h --version; do
+    "$path" "$word" < /dev/null > "$room/out" 2> "$room/err" || wrong "./$tool $word ends with another status than 0"
+    case "$word" in --version) wanted="$tool $(cat VERSION), of the sources " ;; *) wanted="./$tool" ;; esac
+    has "./$tool $word" "$(cat "$room/out")" "$wanted"
     [ ! -s "$room/err" ] || wrong "./$tool $word says on the standard error: $(cat "$room/err")"
   done
-done
-for tool in orders timeline images; do
-  tool_says 0 "$tool" --version
-  has "./$tool --version" "$(cat "$room/out")" "$tool $(cat VERSION), of the sources "
 done
 ./tests frist > "$room/out" 2> "$room/err"
 said "named frist; there are" " messages" "vss_tools"

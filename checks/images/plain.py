@@ -214,13 +214,13 @@ class Plain:
     @staticmethod
     def check_name(name):
         if not name:
-            raise Ends(3, "name : is empty")
+            raise Ends(3, "name ``: is empty")
         if len(name) > 32:
-            raise Ends(3, f"name {name}: more than 32 bytes")
+            raise Ends(3, f"name `{name}`: more than 32 bytes")
         if not (name[0].isascii() and name[0].isalpha()):
-            raise Ends(3, f"name {name}: a letter comes first")
+            raise Ends(3, f"name `{name}`: a letter comes first")
         if not all(c.isascii() and (c.isalnum() or c in "_-.") for c in name):
-            raise Ends(3, f"name {name}: letters, digits, `_`, `-` and `.` alone")
+            raise Ends(3, f"name `{name}`: letters, digits, `_`, `-` and `.` alone")
 
     def cut(self, words, out):
         if len(words) < 2:
