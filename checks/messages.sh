@@ -1,10 +1,11 @@
 #!/usr/bin/env bash
-# What a person is told of a text or of words that `vss` or `images` refuses: the place, the reason, and what helps to go on. The program refuses each text here,
+# What a person is told of a text or of words that `vss` refuses: the place, the reason, and what helps to go on. The program refuses each text here,
 # and `vss_tools explain` says of the same text what is wrong, as ./vss has it; some go through ./vss itself, by a file, a pipe or a closed stream.
 . "$(dirname "${BASH_SOURCE[0]}")/prelude.sh" || exit 70
 vss="$(program vss)" || exit 1
 explainer="$(tools explain | head -n 1)" && [ -n "$explainer" ] || exit 1
 trials=0
+exec < /dev/null
 
 # what was said, and what has to stand in it
 has() {
@@ -226,42 +227,43 @@ says_words "\`d2\` is one word too many" run d1 d2
 says_words "\`more\` is one word too many" gen 7 disks more
 says_words "behind \`inspect\` stands no word" inspect area
 
-# how ./vss ends, and what it says; the words follow, and the input is $room/input
+# how a command ends; the words follow
 ran() {
-  local wanted="$1" status
-  shift
-  "$top/vss" "$@" > "$room/out" 2> "$room/err"
+  local tool="$1" wanted="$2" status
+  shift 2
+  "$top/$tool" "$@" > "$room/out" 2> "$room/err"
   status=$?
-  [ "$status" = "$wanted" ] || wrong "\`./vss $*\` ended with $status, and not $wanted: $(cat "$room/err")"
+  [ "$status" = "$wanted" ] || wrong "\`./$tool $*\` ended with $status, and not $wanted: $(cat "$room/err")"
+  [ "$wanted" = 0 ] || [ ! -s "$room/out" ] || wrong "\`./$tool $*\` writes $(head -n 1 "$room/out")"
+}
+# how a command ends, its words up to `--`, and what it has to say
+shows() {
+  local words=()
+  while [ "$1" != -- ]; do
+    words+=("$1")
+    shift
+  done
+  ran "${words[@]}"
+  said "${@:2}"
 }
 said() { has "./vss" "$(cat "$room/err")" "$@"; }
 printf 'scenario 1\nvolume C 4 4\nlane a\nwrite C 4 fill 1\n' > "$room/bad.scenario"
-ran 3 run < "$room/bad.scenario"
-said "vss: line 4: OutOfRange" "in $room/bad.scenario:" "     4 | write C 4 fill 1" "BLOCK is 0 to 3 on C here, and not 4"
+shows vss 3 run -- "vss: line 4: OutOfRange" "in $room/bad.scenario:" "     4 | write C 4 fill 1" "BLOCK is 0 to 3 on C here, and not 4" < "$room/bad.scenario"
 (cd "$room" && "$top/vss" run < bad.scenario 2> err)
 said "in bad.scenario:"
-ran 3 run < <(cat "$room/bad.scenario")
-said "vss: line 4: OutOfRange" "     4 | write C 4 fill 1" "BLOCK is 0 to 3 on C here, and not 4"
-{ read -r _; ran 3 run; } < <(printf 'more\n'; cat "$room/bad.scenario")
+shows vss 3 run -- "vss: line 4: OutOfRange" "     4 | write C 4 fill 1" "BLOCK is 0 to 3 on C here, and not 4" < <(cat "$room/bad.scenario")
+{ read -r _; ran vss 3 run; } < <(printf 'more\n'; cat "$room/bad.scenario")
 said "vss: line 4: OutOfRange" "     4 | write C 4 fill 1"
-{ read -r _; ran 3 run; } < "$room/bad.scenario"
+{ read -r _; ran vss 3 run; } < "$room/bad.scenario"
 said "vss: line 1: Misplaced" "     1 | volume C 4 4"
-ran 3 run < "$top/examples/first.report"
-said "are two files swapped?"
-ran 3 run "$room/bad.scenario" < "$room/bad.scenario"
-said "./vss run < $room/bad.scenario"
-ran 6 run "$room/none" < "$top/examples/first.scenario"
-said "vss: device fault" "mkdir $room/none"
-ran 4 run < "$room"
-said "vss: read fault" "could not be read to its end"
-ran 4 run <&-
-said "vss: read fault"
-ran 4 inspect <&-
-said "vss: read fault" "could not be read to its end"
-ran 4 inspect < "$room"
-said "vss: read fault"
-ran 6 gen 7 "$room/none" < /dev/null
-said "vss: device fault" "mkdir $room/none" "     $room/none/v0.vol could not be created: No such file or directory"
+shows vss 3 run -- "are two files swapped?" < "$top/examples/first.report"
+shows vss 3 run "$room/bad.scenario" -- "./vss run < $room/bad.scenario" < "$room/bad.scenario"
+shows vss 6 run "$room/none" -- "vss: device fault" "mkdir $room/none" < "$top/examples/first.scenario"
+shows vss 4 run -- "vss: read fault" "could not be read to its end" < "$room"
+shows vss 4 run -- "vss: read fault" <&-
+shows vss 4 inspect -- "vss: read fault" "could not be read to its end" <&-
+shows vss 4 inspect -- "vss: read fault" < "$room"
+shows vss 6 gen 7 "$room/none" -- "vss: device fault" "mkdir $room/none" "     $room/none/v0.vol could not be created: No such file or directory" < /dev/null
 exec 7> >(:)
 wait "$!"
 "$top/vss" run < "$top/examples/first.scenario" >&7 2> "$room/err"
@@ -282,68 +284,54 @@ if [ -w /dev/full ]; then
   said "vss: write fault" "is the disk full"
 fi
 head -c 16777217 /dev/zero | tr '\0' '\n' > "$room/long"
-ran 8 run < "$room/long"
-said "vss: input too long" "16,777,216 bytes at most"
-ran 8 run < <(cat "$room/long")
-said "vss: input too long"
+shows vss 8 run -- "vss: input too long" "16,777,216 bytes at most" < "$room/long"
+shows vss 8 run -- "vss: input too long" < <(cat "$room/long")
 if ! { [ -f "$vss.sources" ] && is_slow "$vss"; }; then
-  ran 8 inspect < /dev/zero
-  said "vss: input too long" "an area 1,074,806,784"
-  (ulimit -v 400000 && ran 7 inspect < /dev/zero; exit "$failed") || failed=1
+  shows vss 8 inspect -- "vss: input too long" "an area 1,074,806,784" < /dev/zero
+  (ulimit -v 400000 && ran vss 7 inspect < /dev/zero; exit "$failed") || failed=1
   said "vss: out of memory" "an area is read whole, up to 1 GiB of it"
   printf 'scenario 1\nvolume C 65536 1\nlane a\nread C 0\n' > "$room/large.scenario"
-  (ulimit -v 400000 && ran 7 run < "$room/large.scenario"; exit "$failed") || failed=1
+  (ulimit -v 400000 && ran vss 7 run < "$room/large.scenario"; exit "$failed") || failed=1
   said "vss: out of memory" "a run takes up to 2 GiB for its volumes and areas"
 fi
-ran 0 run < examples/writer_veto.scenario
+ran vss 0 run < examples/writer_veto.scenario
 [ "$(tail -n 1 "$room/err")" = "vss: set 1 failed VSS_E_WRITERERROR_RETRYABLE" ] || wrong "of a failed set it is said: $(tail -n 1 "$room/err")"
 cmp -s "$room/out" examples/writer_veto.report || wrong "beside a line on the standard error another report is written"
-ran 0 run < examples/first.scenario
+ran vss 0 run < examples/first.scenario
 grep -q failed "$room/err" && wrong "of no failed set it is said: $(cat "$room/err")"
-ran 2 runs < /dev/null
-said "vss: usage" "\`runs\` is no command" "./vss gen N"
-ran 2 inspect "$room/bad.scenario" < /dev/null
-said "./vss inspect < $room/bad.scenario"
+shows vss 2 runs -- "vss: usage" "\`runs\` is no command" "./vss gen N" < /dev/null
+shows vss 2 inspect "$room/bad.scenario" -- "./vss inspect < $room/bad.scenario" < /dev/null
 for word in help --help -h; do
-  ran 0 "$word" < /dev/null
+  ran vss 0 "$word" < /dev/null
   has "./vss $word" "$(cat "$room/out")" "./vss run < FILE" "./vss inspect < FILE"
   [ ! -s "$room/err" ] || wrong "./vss $word says on the standard error: $(cat "$room/err")"
 done
-ran 0 --version < /dev/null
+ran vss 0 --version < /dev/null
 has "./vss --version" "$(cat "$room/out")" "vss $(cat VERSION), of the sources "
 
 # areas that were cut, or have a byte too many, or are something else
 mkdir "$room/disks"
-ran 0 run "$room/disks" < "$top/examples/first.scenario"
+ran vss 0 run "$room/disks" < "$top/examples/first.scenario"
 area="$(find "$room/disks" -name '*.area' | head -n 1)"
 size="$(stat -c %s "$area")"
 head -c $((size - 5000)) "$area" > "$room/cut.area"
-ran 9 inspect < "$room/cut.area"
-said "in $room/cut.area:" "it has $((size - 5000)) bytes" "an area has $size"
+shows vss 9 inspect -- "in $room/cut.area:" "it has $((size - 5000)) bytes" "an area has $size" < "$room/cut.area"
 { cat "$area"; echo; } > "$room/longer.area"
-ran 9 inspect < "$room/longer.area"
-said "it has $((size + 1)) bytes" "an area has $size"
-ran 9 inspect < <(cat "$room/cut.area")
-said "it has $((size - 5000)) bytes" "an area has $size"
-ran 9 inspect < <(cat "$room/longer.area")
-said "it has $((size + 1)) bytes" "an area has $size"
-ran 9 inspect < "$top/examples/first.scenario"
-said "it is a scenario: ./vss run < FILE"
-ran 9 inspect < /dev/null
-said "vss: area header Magic 0" "the input is empty"
+shows vss 9 inspect -- "it has $((size + 1)) bytes" "an area has $size" < "$room/longer.area"
+shows vss 9 inspect -- "it has $((size - 5000)) bytes" "an area has $size" < <(cat "$room/cut.area")
+shows vss 9 inspect -- "it has $((size + 1)) bytes" "an area has $size" < <(cat "$room/longer.area")
+shows vss 9 inspect -- "it is a scenario: ./vss run < FILE" < "$top/examples/first.scenario"
+shows vss 9 inspect -- "vss: area header Magic 0" "the input is empty" < /dev/null
 : > "$room/empty"
-ran 9 inspect < "$room/empty"
-said "vss: area header Magic 0" "the input is empty"
-ran 9 inspect < <(cat "$room/empty")
-said "vss: area header Magic 0" "the input is empty"
+shows vss 9 inspect -- "vss: area header Magic 0" "the input is empty" < "$room/empty"
+shows vss 9 inspect -- "vss: area header Magic 0" "the input is empty" < <(cat "$room/empty")
 
 # areas of which a few bytes are others: where they begin, the bytes, the program's line, and what is said below it
 while IFS='|' read -r at bytes line hint; do
   cp "$area" "$room/other.area"
   # shellcheck disable=SC2059
   printf "$bytes" | dd of="$room/other.area" bs=1 seek="$at" conv=notrunc status=none
-  ran 9 inspect < "$room/other.area"
-  said "vss: area $line" "in $room/other.area:" "$hint" "docs/FORMATS.md says what"
+  shows vss 9 inspect -- "vss: area $line" "in $room/other.area:" "$hint" "docs/FORMATS.md says what" < "$room/other.area"
 done << 'END'
 0|X|header Magic 1095979864|an area begins with the letters VSSAREA1
 8|\003|header Layout 3|the layout, in the bytes 8 to 11, is 1 or 2
@@ -360,15 +348,13 @@ done << 'END'
 16400|\001\000\000\000\001|record 1|record 1, at byte 16400, has set 1, block 1, volume 0
 16448|\001|record 4|the header has 4 slots
 END
-ran 9 inspect < <(cat "$room/other.area")
-said "vss: area record 4" "record 4, at byte 16448, has set 1, block 0, volume 0" "a slot that there are"
+shows vss 9 inspect -- "vss: area record 4" "record 4, at byte 16448, has set 1, block 0, volume 0" "a slot that there are" < <(cat "$room/other.area")
 
 # a device that fails: the file, the call and the system's reason are told, and of what the run made nothing is left; then what it says follows,
 # and what stands in the folder at the end, and the folder
 fails() {
   local told="$1" left="$2" folder="$3"
-  ran 6 run "$folder" < "$top/examples/first.scenario"
-  said "vss: device fault" "     $folder/$told" "no file of this run is left"
+  shows vss 6 run "$folder" -- "vss: device fault" "     $folder/$told" "no file of this run is left" < "$top/examples/first.scenario"
   [ ! -s "$room/out" ] || wrong "a report is written where a device failed"
   [ ! -d "$folder" ] || [ "$(ls "$folder" | tr '\n' ' ')" = "$left" ] || wrong "behind \"$told\" stand $(ls "$folder")"
 }
@@ -402,99 +388,44 @@ if [ -w /dev/full ]; then
   [ "$?" = 5 ] && [ "$(ls "$room/whole" | wc -l)" = 2 ] || wrong "where the report finds no room, the files are gone"
 fi
 
-# what `images` says, in one line: the place, the reason, and what helps
-images="$(program images)" || exit 1
-images_says() {
-  local wanted="$1" line="$2" status
-  shift 2
-  (cd "$room/files" && "$images" "$@") > "$room/out" 2> "$room/err"
-  status=$?
-  [ "$status" = "$wanted" ] && [ "$(wc -l < "$room/err")" = 1 ] && [ ! -s "$room/out" ] || wrong "\`images $*\` ended with $status, and not $wanted: $(cat "$room/err")"
-  has "images $*" "$(cat "$room/err")" "images: $line"
-}
-mkdir -p "$room/files/folder"
-echo one > "$room/files/a"
-(cd "$room/files" && "$images" create store 10 a=a && "$images" cut store a) > "$room/out" || wrong "images: no folder is made"
-images_says 2 "usage: create [--tries N] F SLOTS NAME[:BLOCKS]=FILE ..; SLOTS says for how many old blocks of 16,384 bytes there is room: as many as change while a version is kept" create new a=a
-images_says 2 "usage: show F [SET] NAME; did you mean \`show store 1 a\`?" show store a 1
-images_says 2 "usage: digest F [SET] NAME; did you mean \`digest store 1 a\`?" digest store a 1
-images_says 2 "usage: delete F SET [NAME]; did you mean \`delete store 1 a\`?" delete store a 1
-images_says 2 "usage: revert F SET NAME; did you mean \`revert store 1 a\`?" revert store a 1
-images_says 4 "folder: is no file, but a directory" create new 10 a=folder
-images_says 4 "folder: is no file, but a directory" update store a=folder
-images_says 4 "/dev/null: is no file" update store a=/dev/null
-images_says 4 "none: could not be read: No such file or directory (os error 2)" update store a=none
-printf x | dd of="$room/files/store/images.state" bs=1 seek=20 conv=notrunc status=none
-for words in "list store" "check store" "show store 1 a" "update store a=a"; do
-  # shellcheck disable=SC2086
-  images_says 9 "store/images.state: digest: another; it is damaged, so nothing in the folder can be trusted: copy the folder before anything else" $words
-done
-
-# `./orders` and `./timeline`: how one ends, and what it says; the words follow
-tool_says() {
-  local wanted="$1" tool="$2" status
-  shift 2
-  "$top/$tool" "$@" > "$room/out" 2> "$room/err" < /dev/null
-  status=$?
-  [ "$status" = "$wanted" ] || wrong "\`./$tool $*\` ended with $status, and not $wanted: $(cat "$room/err")"
-  [ "$wanted" = 0 ] || [ ! -s "$room/out" ] || wrong "\`./$tool $*\` writes $(head -n 1 "$room/out")"
+# `./orders` and `./timeline`
+# an order of these moves for an example is refused, and what is said of it
+order_says() {
+  printf '%b' "$2" > "$room/order"
+  shows orders 3 order "$1.scenario" "$room/order" -- "${@:3}"
 }
 first=examples/first hold=examples/orders/hold_limit held=examples/orders/held_write frozen=examples/orders/frozen_writer
 for task in "seed 1" "many 3" "order" "again"; do
   # the words are parted
   # shellcheck disable=SC2086
-  case "$task" in order | again) tool_says 3 orders $task "$room/bad.scenario" $first.report ;; *) tool_says 3 orders $task "$room/bad.scenario" ;; esac
+  case "$task" in order | again) ran orders 3 $task "$room/bad.scenario" $first.report ;; *) ran orders 3 $task "$room/bad.scenario" ;; esac
   said "orders: $room/bad.scenario: line 4: OutOfRange" "     4 | write C 4 fill 1" "BLOCK is 0 to 3 on C here, and not 4"
 done
-tool_says 3 orders order $hold.order $hold.scenario
-said "orders: $hold.order: line" "the second file is a scenario: are the two swapped?"
-tool_says 3 orders again $first.report $first.scenario
-said "orders: $first.report: line 1: UnknownWord" "are the two swapped?"
-printf '4 times lane backup\n3 times provider\nlane app\n' > "$room/order"
-tool_says 3 orders order $held.scenario "$room/order"
-said "line 3: this move may not come here: its actor has to wait" "lane app waits at line 14, \`" "volume C is held, until it is released" "these may come: provider"
-printf '4 times lane backup\nlane backup\n' > "$room/order"
-tool_says 3 orders order $held.scenario "$room/order"
-said "lane backup waits at line 10, \`await\`" "orders or steps that it began are under way" "these may come: lane app, provider"
-printf 'writer db\n' > "$room/order"
-tool_says 3 orders order $frozen.scenario "$room/order"
-said "writer db has no order to answer now" "these may come: lane"
-printf 'idle\n' > "$room/order"
-tool_says 3 orders order $first.scenario "$room/order"
-said "time passes only if no lane, no writer and not the provider can move" "these may come: lane a"
-printf 'provider\n' > "$room/order"
-tool_says 3 orders order $first.scenario "$room/order"
-said "the provider has no step to make now"
-printf '3 times lane app\n' > "$room/order"
-tool_says 3 orders order $held.scenario "$room/order"
-said "lane app has made all its lines" "these may come: lane backup"
-printf 'lane night\nlane weekly\n' > "$room/order"
-tool_says 3 orders order examples/second_lane.scenario "$room/order"
-said "\`begin 25\`" "another lane has the session, until its \`end\`"
+shows orders 3 order $hold.order $hold.scenario -- "orders: $hold.order: line" "the second file is a scenario: are the two swapped?"
+shows orders 3 again $first.report $first.scenario -- "orders: $first.report: line 1: UnknownWord" "are the two swapped?"
+order_says $held '4 times lane backup\n3 times provider\nlane app\n' "line 3: this move may not come here: its actor has to wait" "lane app waits at line 14, \`" "volume C is held, until it is released" "these may come: provider"
+order_says $held '4 times lane backup\nlane backup\n' "lane backup waits at line 10, \`await\`" "orders or steps that it began are under way" "these may come: lane app, provider"
+order_says $frozen 'writer db\n' "writer db has no order to answer now" "these may come: lane"
+order_says $first 'idle\n' "time passes only if no lane, no writer and not the provider can move" "these may come: lane a"
+order_says $first 'provider\n' "the provider has no step to make now"
+order_says $held '3 times lane app\n' "lane app has made all its lines" "these may come: lane backup"
+order_says examples/second_lane 'lane night\nlane weekly\n' "\`begin 25\`" "another lane has the session, until its \`end\`"
 { head -n "$(grep -n '^# the veto' $frozen.order | cut -d : -f 1)" $frozen.order; echo "lane x"; } > "$room/order"
-tool_says 3 orders order $frozen.scenario "$room/order"
-said "lane x waits at line" "it acts as writer web, which is frozen until its thaw" "these may come: "
-printf 'lane nobody\n' > "$room/order"
-tool_says 3 orders order $held.scenario "$room/order"
-said "line 1: expected the name of a lane or of a writer" "it has \`lane nobody\` there" "moves are those of lane backup, lane app, provider, idle"
+shows orders 3 order $frozen.scenario "$room/order" -- "lane x waits at line" "it acts as writer web, which is frozen until its thaw" "these may come: "
+order_says $held 'lane nobody\n' "line 1: expected the name of a lane or of a writer" "it has \`lane nobody\` there" "moves are those of lane backup, lane app, provider, idle"
 for name in "$room/nofile" "$room"; do
-  tool_says 4 orders order $first.scenario "$name"
-  said "orders: $name: could not be read: " "(os error"
-  tool_says 4 timeline $first.scenario "$name"
-  said "timeline: $name: could not be read: " "(os error"
+  shows orders 4 order $first.scenario "$name" -- "orders: $name: could not be read: " "(os error"
+  shows timeline 4 $first.scenario "$name" -- "timeline: $name: could not be read: " "(os error"
 done
 echo > "$room/closed" && chmod 0 "$room/closed"
-[ -n "${as_nobody[*]}" ] || { tool_says 4 orders again $first.scenario "$room/closed"; said "Permission denied"; }
+[ -n "${as_nobody[*]}" ] || { ran orders 4 again $first.scenario "$room/closed"; said "Permission denied"; }
 head -n 5 $first.report > "$room/half"
-tool_says 3 orders again $first.scenario "$room/half"
-said "line 6: expected \`5 provider precommit\`" "the report ends there: was all of it written, and is it of this scenario?"
-tool_says 3 orders again $first.scenario examples/revert.report
-said "line 16: expected" "it has \`$(sed -n 16p examples/revert.report)\` there" "is it a report of this scenario"
+shows orders 3 again $first.scenario "$room/half" -- "line 6: expected \`5 provider precommit\`" "the report ends there: was all of it written, and is it of this scenario?"
+shows orders 3 again $first.scenario examples/revert.report -- "line 16: expected" "it has \`$(sed -n 16p examples/revert.report)\` there" "is it a report of this scenario"
 while IFS='|' read -r words wanted; do
   # the words are parted
   # shellcheck disable=SC2086
-  tool_says 2 orders $words
-  said "orders: usage: orders" "     $wanted"
+  shows orders 2 $words -- "orders: usage: orders" "     $wanted"
 done << END
 |a task, order, again, seed or many, is missing
 ordr $first.scenario x|\`ordr\` is no task; did you mean \`order\`?
@@ -518,13 +449,12 @@ with C.vol flush 0 seed 1 $first.scenario|the number of a call is \`0\`, and has
 with C.vol flush|behind \`with\` stand DEVICE, CALL and NUMBERS, as \`with C.vol flush 1\`
 with C.vol flush 1|a task, order
 END
-tool_says 0 orders many -j 2 20 $hold.scenario
+ran orders 0 many -j 2 20 $hold.scenario
 cmp -s "$room/out" <(./orders many 20 $hold.scenario) || wrong "many in two jobs has other outcomes"
 while IFS='|' read -r words wanted; do
   # the words are parted
   # shellcheck disable=SC2086
-  tool_says 2 timeline $words
-  said "timeline: " "     $wanted"
+  shows timeline 2 $words -- "timeline: " "     $wanted"
 done << END
 --txt $first.scenario $first.report|\`--txt\` is no option; did you mean \`--text\`?
 --from|behind the last option the number of a move is missing
@@ -534,26 +464,21 @@ $first.scenario|REPORT is missing
 $first.scenario $first.report more|\`more\` is one word too many
 $first.scenario $first.report --text|\`--text\` is one word too many; options stand before the names of the files
 END
-tool_says 2 timeline --from 99 $first.scenario $first.report
-said "timeline: --from 99: the report has 16 moves"
-tool_says 2 timeline --from 9 --to 3 $first.scenario $first.report
-said "timeline: --from 9 --to 3: the first is above the last"
-tool_says 3 timeline "$room/bad.scenario" $first.report
-said "timeline: $room/bad.scenario: line 4: OutOfRange" "BLOCK is 0 to 3 on C here, and not 4"
-tool_says 3 timeline $first.report $first.scenario
-said "timeline: $first.report: line 1: UnknownWord" "are two files swapped?"
-tool_says 3 timeline --overview $first.scenario $first.scenario
-said "timeline: $first.scenario: line 1: no line of a report"
+shows timeline 2 --from 99 $first.scenario $first.report -- "timeline: --from 99: the report has 16 moves"
+shows timeline 2 --from 9 --to 3 $first.scenario $first.report -- "timeline: --from 9 --to 3: the first is above the last"
+shows timeline 3 "$room/bad.scenario" $first.report -- "timeline: $room/bad.scenario: line 4: OutOfRange" "BLOCK is 0 to 3 on C here, and not 4"
+shows timeline 3 $first.report $first.scenario -- "timeline: $first.report: line 1: UnknownWord" "are two files swapped?"
+shows timeline 3 --overview $first.scenario $first.scenario -- "timeline: $first.scenario: line 1: no line of a report"
 # help and the version of the other commands
 for tool in orders timeline images tests prove; do
   for word in help --help -h; do
-    tool_says 0 "$tool" "$word"
+    ran "$tool" 0 "$word"
     has "./$tool $word" "$(cat "$room/out")" "    ./$tool"
     [ ! -s "$room/err" ] || wrong "./$tool $word says on the standard error: $(cat "$room/err")"
   done
 done
 for tool in orders timeline images; do
-  tool_says 0 "$tool" --version
+  ran "$tool" 0 --version
   has "./$tool --version" "$(cat "$room/out")" "$tool $(cat VERSION), of the sources "
 done
 ./tests frist > "$room/out" 2> "$room/err"
