@@ -1,11 +1,50 @@
-"""What the checks in Python have in common."""
+"""What the checks in Python have in common. This file is no check."""
+import atexit
 import os
 import resource
+import shutil
 import signal
 import subprocess
 import sys
+import tempfile
 
 sys.dont_write_bytecode = True  # nothing is written beside the sources
+TOP = os.path.dirname(os.path.dirname(os.path.abspath(__file__)))
+CHECK = os.path.basename(sys.argv[0]).removesuffix(".py")
+BLOCK = 16384
+wrongs = []
+
+
+def told_by(*words):
+    """Calls a function of tools/program.sh. Returns its status, and what it printed."""
+    script = 'top="$1"; . "$top/tools/program.sh"; shift; "$@"'
+    done = subprocess.run(["bash", "-c", script, CHECK, TOP, *words], stdout=subprocess.PIPE, text=True, check=False)
+    return done.returncode, done.stdout.strip()
+
+
+def begin(*names):
+    """Begins a check, in the top folder. Returns a folder of its own, and the programs of these crates."""
+    os.chdir(TOP)
+    signal.signal(signal.SIGTERM, lambda *_: sys.exit(1))
+    room, programs = tempfile.mkdtemp(), [told_by("program_to_run", name) for name in names]
+    atexit.register(shutil.rmtree, room, True)
+    if any(status for status, _ in programs):
+        sys.exit(1)
+    return room, *(program for _, program in programs)
+
+
+def holds(condition, what):
+    """Notes what is wrong, unless the condition holds."""
+    if not condition:
+        wrongs.append(what)
+
+
+def ends(line):
+    """Ends a check: with this line, and with what is wrong."""
+    for wrong in wrongs[:20]:
+        print(f"{CHECK}: {wrong}", file=sys.stderr)
+    print(f"{CHECK}: {line}")
+    sys.exit(bool(wrongs))
 
 
 def read(path):

@@ -8,8 +8,12 @@ import functools
 import glob
 import os
 import re
-import sys
+import subprocess
 
+from common import begin, ends, told_by
+from common import wrongs as wrong
+
+begin()
 PAGES = ["README.md"] + sorted(glob.glob("docs/*.md")) + ["examples/README.md"] + sorted(glob.glob("crates/*/README.md"))
 SOURCES = """crates/*/src/*.rt crates/*/specs/*.antt crates/*/proofs/*.antt crates.txt checks/* checks/*/* tools/* tools/*/* examples/*.scenario
     examples/*.report HANDLES tests prove vss timeline orders .ci/run""".split()
@@ -19,8 +23,6 @@ FOREIGN = set("""rt ci rattle-kit-13f rattle-kit-13b malloc realloc std serde_js
     pthread_create fsync mount requires ensures crates.txt must-fail""".split())
 HEADINGS = ["Proved", "Tested only", "Trusted", "Limits", "Costs"]
 MOST_README, MOST_DOCS, MOST_WORDS, LEAST_LINES, MOST_LINES = 8192, 122880, 20, 20, 80
-
-wrong = []
 
 
 def text_of(path):
@@ -236,6 +238,42 @@ def crate_pages():
             wrong.append(f"{page}: has {text.count(chr(10))} lines, and not {LEAST_LINES} to {MOST_LINES}")
 
 
+# the paragraphs of docs/ARCHITECTURE.md on changes: what begins them, and the enum through all of whose variants a file
+# goes, or the words that it has, in these crates
+CHANGES = (
+    ("Another line of a scenario", "scenario/src/word.rt", ""), ("Another line of a scenario", "scenario/src/op.rt", ""),
+    ("Another line of a scenario", "scenario/src/line.rt", ""), ("Another payload of a write", "block_data/src/payload.rt", ""),
+    ("Another time limit", "set_agenda/src/limit.rt", ""), ("A status", "vss_main/src/status.rt", ""),
+    ("A field of a reply", r"PropertiesOf|told\.Properties|Told::Properties", ""),
+    ("Another provider", r"\bCowGroup\b", "/(provider|vss_play|vss_world)/"),
+)
+# how many files such a change may touch
+MOST_FILES = {"Another line of a scenario": 15, "Another payload of a write": 8}
+
+
+def changes():
+    """The page names for each change the files of src and specs that it touches; how many these are."""
+    page, looked = "docs/ARCHITECTURE.md", 0
+    crates = [line.split()[0].rstrip(":") for line in told_by("lines_of_crates", "vss")[1].splitlines()]
+    paths = [path for crate in crates for path in glob.glob(f"crates/{crate}/src/*.rt") + glob.glob(f"crates/{crate}/specs/*.antt")]
+    files = {path: re.sub(r"^ *(pub |ghost )*use .*$", "", text_of(path), flags=re.M) for path in paths}
+    for change, of, where in CHANGES:
+        words = [rf"\b{it}\b" for it in variants_of(f"crates/{of}")] if of.endswith(".rt") else [of]
+        touched = [path for path, text in files.items() if re.search(where, path) and all(re.search(it, text) for it in words)]
+        row = next(row for row in text_of(page).split("\n\n") if row.startswith(f"**{change}"))
+        wrong.extend(f"{page}: {change} does not name {path}" for path in touched if os.path.basename(path) not in row)
+        count, most = len(set(re.findall(r"\w+\.(?:rt|antt)", row))), MOST_FILES.get(change)
+        if most and (f" {count} files of src and specs" not in row or count > most):
+            wrong.append(f"{page}: {change} names {count} files, and may name {most}")
+        looked += len(touched)
+    return looked
+
+
+def variants_of(path):
+    """The variants of the enum that is a file's, and has its name."""
+    return re.findall(r"^    ([A-Z]\w*)", re.search(r"^pub enum \w+ {\n(.*?)\n}", text_of(path), re.M | re.S)[1], re.M)
+
+
 def main():
     files = {path for pattern in SOURCES for path in glob.glob(pattern) if os.path.isfile(path)}
     words = set()
@@ -260,10 +298,9 @@ def main():
     for path in glob.glob("examples/*.scenario") + glob.glob("examples/orders/*.scenario"):
         if f"({path.removeprefix('examples/')})" not in text_of("examples/README.md"):
             wrong.append(f"examples/README.md does not name {path}")
-    for line in wrong:
-        print(line, file=sys.stderr)
-    print(f"{len(PAGES)} pages and {named} answers")
-    sys.exit(bool(wrong))
+    if subprocess.run(["tools/crate-table", "--check"], check=False).returncode:
+        wrong.append("docs/ARCHITECTURE.md has other tables than crates.txt")
+    ends(f"{len(PAGES)} pages, {named} answers and {changes()} files that a change touches, as the sources are")
 
 
 main()

@@ -21,39 +21,23 @@ plays() {
   [ ! -s "$room/out" ] || wrong "$3, replayed: $(cat "$room/out")"
 }
 
-# answers words over a text, NAME, that is made of these bytes, with a status and with this line
+# answers words over a text that is made of these bytes with a status and with this line
 answers() {
-  local wanted="$1" line="$2" task="$3" said status
   printf '%b' "$4" > "$room/text"
-  said="$("$program" "$task" examples/orders/held_write.scenario "$room/text" 2>&1 > "$room/out")"
-  status=$?
-  if [ "$status" != "$wanted" ] || [ "${said%%$'\n'*}" != "orders: $room/text: $line" ] || [ -s "$room/out" ]; then
-    wrong "$task \"$4\": status $status, $said"
-  fi
-}
-
-# answers words with a status, and with this line
-refuses() {
-  local wanted="$1" line="$2" said status
-  shift 2
-  said="$("$program" "$@" 2>&1 > "$room/out")"
-  status=$?
-  if [ "$status" != "$wanted" ] || [ "${said%%$'\n'*}" != "orders: $line" ] || [ -s "$room/out" ]; then
-    wrong "\`orders $*\`: status $status, $said"
-  fi
+  refuses "$program" "$1" "orders: $room/text: $2" "$3" examples/orders/held_write.scenario "$room/text"
 }
 
 # an actor that has to wait behind the first lines of an example's order
 waits() {
   head -n "$2" "$1.order" > "$room/text"
   echo "$3" >> "$room/text"
-  refuses 3 "$room/text: line $(($2 + 1)): this move may not come here: its actor has to wait" order "$1.scenario" "$room/text"
+  refuses "$program" 3 "orders: $room/text: line $(($2 + 1)): this move may not come here: its actor has to wait" order "$1.scenario" "$room/text"
 }
 
 # a revert of three blocks that is said to have failed behind so many, and the first line that is then another
 restored() {
   sed "s/ fault 1$/ fault $1/" "$revert.report" > "$room/text"
-  refuses 3 "$room/text: line $2: expected \`$3\`" again "$revert.scenario" "$room/text"
+  refuses "$program" 3 "orders: $room/text: line $2: expected \`$3\`" again "$revert.scenario" "$room/text"
 }
 
 form="expected \`lane NAME\`, \`writer NAME\`, \`provider\` or \`idle\`, and before it \`N times\` or nothing"
@@ -104,7 +88,7 @@ for program in "${builds[@]}"; do
   answers 3 "line 3: this move may not come here: its actor has to wait" order "4 times lane backup\n3 times provider\nlane app\n"
   answers 3 "line 1: this move may not come here: its actor has no move left" order "3 times lane app\n"
   printf '4 times lane a\n7 times provider\n5 times lane a\nprovider\n' > "$room/text"
-  refuses 3 "$room/text: line 4: this move may not come here: its actor has no move left" order $first.scenario "$room/text"
+  refuses "$program" 3 "orders: $room/text: line 4: this move may not come here: its actor has no move left" order $first.scenario "$room/text"
   waits examples/orders/frozen_writer "$(grep -n '^# the veto' examples/orders/frozen_writer.order | cut -d : -f 1)" "lane x"
   answers 3 "line 2: expected a line of a report of $held.scenario" order "report 1\n1 lane nobody 7 ok\n"
   answers 3 "line 3: expected a line of a report of $held.scenario" order "report 1\n1 lane backup 6 ok\n3 lane backup 7 set 1\n"
@@ -120,39 +104,31 @@ for program in "${builds[@]}"; do
   answers 3 "line 3: expected \`2 lane backup 7 set 1\`" again "report 1\n1 lane backup 6 ok\n"
   answers 3 "line 22: expected no more lines" again "$(sed 's/$/\\n/' $held.report | tr -d '\n')more\n"
   answers 3 "line 21: expected \`$(tail -n 1 $held.report)\`" again "$(sed 's/$/\\n/' $held.report | tr -d '\n' | sed 's/\\n$//')"
-  refuses 3 "examples/revert.report: line 16: expected \`$(sed -n 16p $first.report)\`" again $first.scenario examples/revert.report
-  refuses 3 "$flush.report: line 7: expected \`6 provider flush C\`" with C.vol flush 9 again $flush.scenario $flush.report
-  refuses 6 "device fault" with C.vol flush 2 again $flush.scenario $flush.report
+  refuses "$program" 3 "orders: examples/revert.report: line 16: expected \`$(sed -n 16p $first.report)\`" again $first.scenario examples/revert.report
+  refuses "$program" 3 "orders: $flush.report: line 7: expected \`6 provider flush C\`" with C.vol flush 9 again $flush.scenario $flush.report
+  refuses "$program" 6 "orders: device fault" with C.vol flush 2 again $flush.scenario $flush.report
   "$program" with C.vol flush 1 again $flush.scenario $flush.report || wrong "$flush.report, replayed over the same failing call"
   restored 0 21 "19 lane app 17 data 0101010101010101 111ce3c2a38d83a2e4706bde4abddd509d7f8248116c6832b06745bdc349e09f"
   restored 2 22 "20 lane app 18 data 0000000000000000 4fe7b59af6de3b665b67788cc2f99892ab827efae3a467342b3bb4e3bc8e5bfe"
   restored 3 19 "17 lane app 15 ok"
 
-  refuses 2 "$usage"
-  refuses 2 "$usage" order $first.scenario
-  refuses 2 "$usage" seed 01 $first.scenario
-  refuses 2 "$usage" seed 4294967296 $first.scenario
-  refuses 2 "$usage" many 0 $first.scenario
-  refuses 2 "$usage" play $first.scenario $first.report
-  refuses 2 "$usage" with C.vol make 1 seed 1 $first.scenario
-  refuses 2 "$usage" with C.vol flush 1.. seed 1 $first.scenario
-  refuses 2 "$usage" with C.vol flush 1
+  refuses "$program" 2 "orders: $usage"
+  refuses "$program" 2 "orders: $usage" with C.vol make 1 seed 1 $first.scenario
+  refuses "$program" 2 "orders: $usage" with C.vol flush 1.. seed 1 $first.scenario
   for device in D.vol C.shared C vol ""; do
-    refuses 3 "$first.scenario: expected a device of it, as \`NAME.vol\`, \`NAME.area\` or \`NAME.shared\`, and not \`$device\`" with "$device" flush 1 seed 1 $first.scenario
+    refuses "$program" 3 "orders: $first.scenario: expected a device of it, as \`NAME.vol\`, \`NAME.area\` or \`NAME.shared\`, and not \`$device\`" with "$device" flush 1 seed 1 $first.scenario
   done
   printf 'scenario 1\narea D 2\nvolume D 2 in D\nlane a\nbegin 25\n' > "$room/both"
   "$program" with D.shared flush 9 seed 1 "$room/both" > "$room/said" 2>&1 || wrong "an area D and a volume D: D.shared is refused: $(cat "$room/said")"
-  refuses 3 "$room/both: expected a device of it, as \`NAME.vol\`, \`NAME.area\` or \`NAME.shared\`, and not \`D.area\`" with D.area flush 1 seed 1 "$room/both"
+  refuses "$program" 3 "orders: $room/both: expected a device of it, as \`NAME.vol\`, \`NAME.area\` or \`NAME.shared\`, and not \`D.area\`" with D.area flush 1 seed 1 "$room/both"
   printf '%s\n' "scenario 1" "area D 1" "volume D 2 1" "volume E 2 in D" "lane a" "begin 25" start "add D" "add E" snapshot await end "write D 0 fill 7" "write E 0 fill 7" > "$room/apart"
   for row in "area fault ok" "shared ok fault"; do
     read -r kind of_d of_e <<< "$row"
     "$program" with "D.$kind" write 1 seed 1 "$room/apart" > "$room/report" 2> "$room/err"
     [ "$(sed -nE 's/^[0-9]+ lane a 1[34] //p' "$room/report" | tr '\n' ' ')" = "$of_d $of_e " ] || wrong "D.$kind fails other writes: $(cat "$room/report" "$room/err")"
   done
-  refuses 4 "$room/none: could not be read: No such file or directory (os error 2)" order "$room/none" $first.report
-  refuses 4 "$room/none: could not be read: No such file or directory (os error 2)" order $first.scenario "$room/none"
-  refuses 4 "$room/none: could not be read: No such file or directory (os error 2)" again $first.scenario "$room/none"
-  refuses 3 "$first.report: line 1: UnknownWord" order $first.report $first.report
-  refuses 3 "$first.report: line 1: UnknownWord" many 3 $first.report
+  refuses "$program" 4 "orders: $room/none: could not be read: No such file or directory (os error 2)" order "$room/none" $first.report
+  refuses "$program" 4 "orders: $room/none: could not be read: No such file or directory (os error 2)" again $first.scenario "$room/none"
+  refuses "$program" 3 "orders: $first.report: line 1: UnknownWord" many 3 $first.report
 done
 ends "$(ls examples/orders/*.order | wc -l) orders, $(ls examples/*.scenario examples/orders/*.scenario checks/trials/*.scenario | wc -l) reports made again and replayed, by ${#builds[@]} builds"

@@ -1,23 +1,28 @@
-"""Words, scenarios and areas that `vss` takes or refuses: refusals.py PROGRAM WRAPPER FOLDER ADDRESSES. Says what is
-wrong, and ends with 1 then."""
+"""Which words are a command; each line of checks/lines.table is read, or refused for its reason and no other; inputs of
+the greatest size and beyond, in less than 1,000,000 KiB of addresses: one line of sixteen MiB in each place that can have
+it, a hundred thousand empty lines, documents that nest deeply, numbers of millions of digits; and areas of which each
+field of the header and of three records is another, or that have another length. What is refused gets its status, one
+line on the standard error, and nothing on the standard output."""
 import os
 import re
 import resource
 import struct
-import sys
 
-from common import limited, ran, read
+import common
+from common import BLOCK, begin, ends, limited, ran, read, told_by
 
-PROGRAM, WRAPPER, FOLDER, ADDRESSES = sys.argv[1:]
-BLOCK, MOST = 16384, 16777216
+FOLDER, PROGRAM = begin("vss")
+WRAPPER = os.path.abspath("vss")
+# (the slow build takes all addresses for its own use)
+ADDRESSES = "unlimited" if told_by("is_slow", PROGRAM)[0] == 0 else "1000000"
+MOST = 16777216
 NUMBERS = (0, 1, 2**32 - 1)
-wrongs, counts = [], {}
+counts = {}
 
 
 def holds(kind, condition, what):
     counts[kind] = counts.get(kind, 0) + 1
-    if not condition:
-        wrongs.append(f"{kind}: {what}")
+    common.holds(condition, f"{kind}: {what}")
 
 
 def refuses(kind, what, done, status, line):
@@ -216,13 +221,6 @@ def areas():
         listed(data, 2, told)
 
 
-def main():
-    for part in (words, lines, large, areas):
-        part()
-    for wrong in wrongs:
-        print(f"refusals: {wrong}", file=sys.stderr)
-    print(", ".join(f"{count} {kind}" for kind, count in counts.items()))
-    return int(bool(wrongs))
-
-
-sys.exit(main())
+for part in (words, lines, large, areas):
+    part()
+ends(", ".join(f"{count} {kind}" for kind, count in counts.items()) + " taken, read or refused as written")

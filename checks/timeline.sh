@@ -61,43 +61,28 @@ by_clock() {
   ./timeline "$room/record" | cmp -s - "$room/out" || wrong "a record is drawn otherwise than by the clock"
 }
 
-# answers a report with a status, and with this line
-answers() {
-  local program="$1" wanted="$2" line="$3" said status
-  shift 3
-  said="$("$program" "$@" 2>&1 > "$room/out" < "$room/in")"
-  status=$?
-  if [ "$status" != "$wanted" ] || [ "${said%%$'\n'*}" != "$line" ] || [ -s "$room/out" ]; then
-    wrong "\`timeline $*\`: status $status, $said"
-  fi
-}
-
 # refuses texts, files and words
-refuses() {
+refuses_all() {
   local program="$1" first=examples/first.scenario report="$room/report"
   printf 'report 1\n1 idle 5\nscenario 1\n' > "$room/in"
-  answers "$program" 3 "timeline: standard input: line 3: no line of a report"
+  refuses "$program" 3 "timeline: standard input: line 3: no line of a report"
   printf 'report 1\n\n\377\n' > "$room/in"
-  answers "$program" 3 "timeline: standard input: line 3: no text"
+  refuses "$program" 3 "timeline: standard input: line 3: no text"
   : > "$room/in"
-  answers "$program" 3 "timeline: standard input: line 1: no line of a report"
-  answers "$program" 2 "$usage" examples/first.report
-  answers "$program" 2 "$usage" -x "$first" examples/first.report
-  answers "$program" 2 "$usage" --from 0 "$first" examples/first.report
-  answers "$program" 2 "$usage" "$first" examples/first.report --to
-  answers "$program" 4 "timeline: $room/none: could not be read: No such file or directory (os error 2)" "$first" "$room/none"
-  answers "$program" 4 "timeline: $room/none: could not be read: No such file or directory (os error 2)" "$room/none" examples/first.report
-  answers "$program" 8 "timeline: /dev/zero: too long" /dev/zero examples/first.report
-  answers "$program" 3 "timeline: examples/first.report: line 1: UnknownWord" examples/first.report "$first"
-  answers "$program" 3 "timeline: $first: line 1: no line of a report" "$first" "$first"
-  answers "$program" 3 "timeline: $room/in: line 1: Empty" "$room/in" examples/first.report
+  refuses "$program" 3 "timeline: standard input: line 1: no line of a report"
+  refuses "$program" 2 "$usage" examples/first.report
+  refuses "$program" 2 "$usage" -x "$first" examples/first.report
+  refuses "$program" 4 "timeline: $room/none: could not be read: No such file or directory (os error 2)" "$room/none" examples/first.report
+  refuses "$program" 8 "timeline: /dev/zero: too long" /dev/zero examples/first.report
+  refuses "$program" 3 "timeline: examples/first.report: line 1: UnknownWord" examples/first.report "$first"
+  refuses "$program" 3 "timeline: $room/in: line 1: Empty" "$room/in" examples/first.report
   printf 'report 1\n1 lane r 1 ok\n' > "$report"
   { echo "scenario 1"; seq 300 | sed 's/.*/volume V& 1 1/'; } > "$room/many"
-  answers "$program" 3 "timeline: $room/many: line 130: TooMany" "$room/many" "$report"
+  refuses "$program" 3 "timeline: $room/many: line 130: TooMany" "$room/many" "$report"
   printf 'scenario 1\nvolume C 1 1\n%s\nlane r\n# here\nbegin 25\nlane s\nend\n' "$(grep '^writer db' examples/lost_thaw.scenario | sed 's/ db / w /')" > "$room/other"
   while read -r line; do
     echo "report 1"$'\n'"1 lane r 6 ok"$'\n'"$line" > "$report"
-    answers "$program" 3 "timeline: $report: line 3: a name that the scenario does not declare" "$room/other" "$report"
+    refuses "$program" 3 "timeline: $report: line 3: a name that the scenario does not declare" "$room/other" "$report"
   done << 'END'
 2 lane x 6 ok
 2 writer x freeze ok
@@ -110,7 +95,7 @@ writer x VSS_WS_STABLE aborts 0
 END
   for line in 4 5 7 8 9 1; do
     printf 'report 1\n1 lane r 6 ok\n2 lane r 0 ok\n3 lane r %s ok\n' "$line" > "$report"
-    answers "$program" 3 "timeline: $report: line 4: a line that the scenario does not have in this lane" "$room/other" "$report"
+    refuses "$program" 3 "timeline: $report: line 4: a line that the scenario does not have in this lane" "$room/other" "$report"
   done
 }
 
@@ -140,7 +125,7 @@ for program in "${builds[@]}"; do
     run="examples/$(basename "$picture" .txt)"
     "$program" --text "$run.scenario" "$run.report" | cmp -s - "$picture" || wrong "$picture has other lines"
   done
-  refuses "$program"
+  refuses_all "$program"
   shows "$program"
 done
 # a report of 200,000 moves, one set after another; each image goes once the next stands

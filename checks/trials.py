@@ -1,19 +1,14 @@
-"""The service over streams and devices in memory, and its actors in threads: trials.py TRIAL TOOLS VSS FOLDER. Says
-what is wrong, and ends with 1 then."""
-import collections
+"""The service over streams and devices in memory: both volumes of a set are cut at one moment in each of 126 orders, and
+each call of the source, the sink and the devices that fails leads to a status that it may have; and each first part of a
+text is read or refused at its last line. In threads: the gate is told once before and once after each step of 129 actors,
+whatever the threads do; and of two hundred runs of lanes that are active at the same time each makes each line once, in
+order. That each report is that of its own legal and complete trail is proved (`run`, clause `done`)."""
 import itertools
 import re
-import sys
 
-from common import ran, read, write
+from common import begin, ends, holds, ran, read, write
 
-TRIAL, TOOLS, VSS, FOLDER = sys.argv[1:]
-wrongs = []
-
-
-def holds(condition, what):
-    if not condition:
-        wrongs.append(what)
+FOLDER, TRIAL, TOOLS, VSS = begin("trials_in_threads", "vss_tools", "vss")
 
 
 # ## both volumes of a set are cut at one moment
@@ -62,40 +57,13 @@ def one_cut():
 
 # ## failing calls
 
-COUNTS = "made", "back", "faults", "source", "sink", "before", "after", "moved"
-COUNTED = re.compile(" ".join(rf"{it} (\d+)" for it in COUNTS).encode() + b"\n$")
-
-
 def failing_calls():
-    """Runs the first example with failing calls, and holds each status against what was counted."""
-    text, report, statuses = read("examples/first.scenario"), read("examples/first.report"), collections.Counter()
-
-    def fails(*words):
-        done = ran([TRIAL, "run", "--", "fails", *words], input=text)
-        made, back, faults, source, sink, *_ = map(int, COUNTED.search(done.stderr).groups())
-        marks, out = len(re.findall(rb" fault$", done.stdout, re.M)), done.stdout
-        allowed = {
-            0: source == sink == 0 and back == 2 and marks <= faults and (faults or out == report),
-            4: source >= 1 and made == 0 and not out,
-            5: sink >= 1 and back == 2 and report.startswith(out),
-            6: faults >= 1 and back == made and not out,
-        }.get(done.returncode)
-        holds(allowed, f"{words} failing: status {done.returncode}, {done.stderr}")
-        statuses[done.returncode] += 1
-        return done
-
-    calls = [("source", "read"), ("sink", "write"), *itertools.product(("C.vol", "C.area"), ("read", "write", "flush"))]
-    for number, (device, call) in itertools.product(range(1, 13), calls):
-        for numbers in (f"{number}", f"{number}-999"):
-            fails(device, call, numbers)
-    fails("C.vol", "make", "1")
-    fails("C.area", "make", "1")
-    # a flush that fails at the end of the run is answered, the volume's and the area's
-    for words in (("C.vol", "flush", "2"), ("C.area", "flush", "1")):
-        holds(fails(*words).returncode == 6, "a flush that failed at the end was not answered")
-    holds(fails("sink", "room", "20").stdout == b"report 1\n1 lane a 6 ", "a sink of twenty bytes took others")
-    holds(set(statuses) == {0, 4, 5, 6}, f"a status never came: {statuses}")
-    return f"{sum(statuses.values())} runs with failing calls"
+    """Each call of the source, the sink and the devices of the first example fails, alone or with all that follow."""
+    words = ["--program", VSS, "--trial", TRIAL, "--orders", TOOLS, "--scenarios", "examples/first.scenario"]
+    done = ran(["tools/failing", "calls", *words], timeout=3600)
+    runs = re.search(r"^all +(\d+)", done.stdout.decode(), re.M)
+    holds(done.returncode == 0 and runs, done.stderr.decode())
+    return f"{runs and runs[1]} runs with failing calls"
 
 
 # ## first parts of a text
@@ -116,6 +84,9 @@ def first_parts():
 
 # ## actors in threads
 
+COUNTED = re.compile(rb"before (\d+) after (\d+) moved (\d+)\n$")
+
+
 def turns():
     """64 lanes, 64 writers and the provider at one turn: the gate is told once before and once after each step, and
     each line is made once."""
@@ -132,7 +103,7 @@ def turns():
         text.append(f"write C 0 fill {n}")
     for run in range(10):
         done = ran([TRIAL, "run"], input="\n".join([*text, ""]).encode())
-        before, after, moved = map(int, COUNTED.search(done.stderr).groups()[5:])
+        before, after, moved = map(int, COUNTED.search(done.stderr).groups())
         is_told = done.returncode == 0 and before == after >= 129 and 1 <= moved <= after
         holds(is_told, f"turns, run {run}: {before} times before a step, {after} after one, {moved} moves")
         made = re.findall(r"^\d+ lane (\w+ \d+)", done.stdout.decode(), re.M)
@@ -161,7 +132,4 @@ def active_lanes():
     return f"200 runs of active lanes with {len(reports)} different reports"
 
 
-print("; ".join(part() for part in (one_cut, failing_calls, first_parts, turns, active_lanes)))
-for wrong in wrongs:
-    print(f"trials: {wrong}", file=sys.stderr)
-sys.exit(bool(wrongs))
+ends("; ".join(part() for part in (one_cut, failing_calls, first_parts, turns, active_lanes)))

@@ -57,7 +57,8 @@ class Damage:
         for place in places:
             data = bytearray(state)
             data[place] ^= 0x41
-            self.refuses("images.state", bytes(data), 9, ["list", "F"], NOT_TRUSTED)
+            for words in [["list", "F"]] + [["check", "F"], ["show", "F", "1", "db"], ["update", "F", "db=db"]] * (place == places[20]):
+                self.refuses("images.state", bytes(data), 9, words, NOT_TRUSTED)
         for data, told in ((state[:-1], b"digest"), (state + b"x", b"digest"), (b"", b"size"), (state[:31], b"size"), (state + bytes(2_000_000), b"size")):
             self.refuses("images.state", data, 9, ["list", "F"], b"images: F/images.state: " + told)
 

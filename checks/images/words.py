@@ -59,6 +59,8 @@ def main(program, room):
     for note in ("two\nlines", "\x7f", "\u00e9", "n" * 101):
         call(2, "usage: cut [--note TEXT] F NAME ..", "cut", "--note", note, "F", "db")
 
+    for name, told in (("/dev/null", "/dev/null: is no file"), ("F", "F: is no file, but a directory")):
+        call(4, told, "update", "F", f"db={name}")
     call(0, "", "restore", "F", "1", "db", "out")
     has("out", first, 0o600)
     call(3, "out: is there already; --over takes its place", "restore", "F", "2", "db", "out")

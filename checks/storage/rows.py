@@ -1,11 +1,4 @@
-"""Rows `CALL => REPLY` of the checks of storage, with ` / ` between those of a line: a call that replies nothing has no arrow, and a further line of a
-reply has no call.
-
-A subject of trials is a class that says what each of its calls replies, by the rules of volumes.py.
-"""
-import itertools
-import subprocess
-
+"""A subject of trials is a class that says what each of its calls replies, by the rules of volumes.py."""
 from volumes import Refused
 
 
@@ -73,36 +66,3 @@ def reverted(work, fault):
     except Refused as refusal:
         return f"Err({refusal})"
     return "Ok(())" if cause is None else f"Err({fault.format(f'{{ restored: {restored}, cause: {cause} }}')})"
-
-
-def rows_of(path, subject):
-    """The rows of a file, several on a line; an empty line begins anew, by a call for this subject if one is named."""
-    rows = []
-    for line in path.read_text(encoding="ascii").splitlines():
-        if not line and subject:
-            rows.append((f"subject {subject}", []))
-        for text in line.split(" / ") if line and not line.startswith("#") else ():
-            call, arrow, reply = text.partition("=> ")
-            if arrow and not call:
-                rows[-1][1].append(reply)
-            else:
-                rows.append((call.rstrip(), [reply] * bool(arrow)))
-    return rows
-
-
-def wrong_by_rules(name, subject, rows):
-    """What the rules say of rows by hand, where that is something else."""
-    ruled = subject().make_all(call for call, _ in rows).rows
-    return [f"{name}: by the rules {call} replies {by_rule}, and not {lines}" for (call, lines), (_, by_rule) in zip(rows, ruled) if list(by_rule) != lines][:1]
-
-
-def wrong_by_program(name, words, rows):
-    """What the program says to the calls of rows, where that is something else."""
-    ran = subprocess.run(words, input="".join(f"{call}\n" for call, _ in rows), capture_output=True, text=True, check=False)
-    wanted = [(call, line) for call, lines in rows for line in lines]
-    said = ran.stdout.splitlines()
-    if ran.returncode or not wanted:
-        return [f"{name}: status {ran.returncode}, {len(wanted)} replies wanted, {ran.stderr[-150:]}"]
-    differ = (f"{name}: of {call[:150]} it is said {reply[:150]}, and not {line[:150]}"
-              for (call, line), reply in itertools.zip_longest(wanted, said, fillvalue=("", "")) if line != reply)
-    return list(itertools.islice(differ, 1))

@@ -59,6 +59,7 @@ fn is_sound(header: &Header, slot: u32, bytes: &[u8]) -> bool
 }
 
 /// Notes a record, and answers whether it is free or no earlier one is equal.
+#[tactic(auto, using(crate::proofs::Doubles::noted))]
 fn note(seen: &mut BTreeSet<Record>, row: Record) -> Result<bool, OutOfMemory>
     ensures { IfOk result (IsNoted seen.old seen.new row) }
 {

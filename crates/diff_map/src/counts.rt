@@ -44,6 +44,7 @@ pub fn drop_first<T: Copy + Drop>(items: &mut Vec<T>, count: usize)
 }
 
 /// The same, where the others are written over the first.
+#[tactic(auto, using(crate::proofs::Images::left_in_front))]
 fn write_over_first<T: Copy + Drop>(items: &mut Vec<T>, count: usize)
     requires { count ≤ length items.old.items }
     ensures items { items.new.items ≡ drop count items.old.items }

@@ -154,6 +154,7 @@ fn lead(newest: &mut Vec<u32>, rows: &mut Vec<Row>, block: u32, from: Option<u32
 
 impl Links {
     /// No copies, for so many blocks and slots. It takes all memory that is ever needed.
+    #[tactic(auto, using(crate::proofs::LinkedCopies::value_new))]
     pub fn new(alloc: Global, blocks: u32, slots: u32) -> Result<Links, OutOfMemory>
         ensures { IfOk result (λ links. links ≡ record { blocks = blocks; copies = replicate slots None }) }
     {

@@ -30,14 +30,14 @@ row-more : (l : Option Level) (ms : List Member) (m : Member) (b : Bool) → is_
 row-more l ms m b e w = grind (arith, or-false, any-append)
 
 -- a member of the row's level enters it
-pub row-in : (l : Option Level) (ms : List Member) (m : Member) (old new : List ℕ) → is_at l m.level ≡ true → old ≡ row_of l ms
+pub row_in : (l : Option Level) (ms : List Member) (m : Member) (old new : List ℕ) → is_at l m.level ≡ true → old ≡ row_of l ms
     → new ≡ writers (λ w. is_among w old || (m.writer == w)) → new ≡ row_of l (ms ++ m ∷ [])
-row-in l ms m old new e h f =
+row_in l ms m old new e h f =
     f ∙ writers-agree _ (has_member l (ms ++ m ∷ [])) (λ w b. ap (λ c. c || (m.writer == w)) (ap (is_among w) h ∙ among-writers (has_member l ms) w b) ∙ row-more l ms m true e w)
 
 -- a member of another level does not
-pub row-out : (l : Option Level) (ms : List Member) (m : Member) (old : List ℕ) → is_at l m.level ≡ false → old ≡ row_of l ms → old ≡ row_of l (ms ++ m ∷ [])
-row-out l ms m old e h = h ∙ writers-agree _ (has_member l (ms ++ m ∷ [])) (λ w b. sym (or-false (has_member l ms w)) ∙ row-more l ms m false e w)
+pub row_out : (l : Option Level) (ms : List Member) (m : Member) (old : List ℕ) → is_at l m.level ≡ false → old ≡ row_of l ms → old ≡ row_of l (ms ++ m ∷ [])
+row_out l ms m old e h = h ∙ writers-agree _ (has_member l (ms ++ m ∷ [])) (λ w b. sym (or-false (has_member l ms w)) ∙ row-more l ms m false e w)
 
 pub rows-empty : (r : Rows) → r.all ≡ [] → r.system ≡ [] → r.back_end ≡ [] → r.front_end ≡ [] → r.unfailed ≡ [] → HasRows r []
 rows-empty r a s b f u = grind (arith, writers-none)

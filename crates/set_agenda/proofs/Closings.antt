@@ -45,11 +45,11 @@ closed-here : (r : Rows) (vs whos ls ws : List ℕ) (c : Cursor) (f : Bool) → 
 closed-here r vs whos ls ws c f e h ps v a = grind (arith, closed-at)
 
 -- writers are done
-pub closed-writers : (k : Kind) (r : Rows) (vs vs2 whos ls ws : List ℕ) (c c2 : Cursor) (f : Bool) (old : List Open)
+pub closed_writers : (k : Kind) (r : Rows) (vs vs2 whos ls ws : List ℕ) (c c2 : Cursor) (f : Bool) (old : List Open)
     → vs2 ≡ vs → ls ≡ others_if f whos r.unfailed → ws ≡ others whos c.waits → IsSound k vs c → left_of k r vs c ≡ old → is_asking old ≡ true
     → left_here (with_unfailed r ls) vs2 c2 (drop c2.group (places k)) ≡ left_here (with_unfailed r ls) vs2 (with_waits c ws) (drop c.group (places k))
     → left_of k (with_unfailed r ls) vs c2 ≡ advance whos f old
-closed-writers k r vs vs2 whos ls ws c c2 f old v e h s is a m = grind (arith, closed-here)
+closed_writers k r vs vs2 whos ls ws c c2 f old v e h s is a m = grind (arith, closed-here)
 
 -- ## steps
 
@@ -107,8 +107,8 @@ stepped-here r vs c (p ∷ ps) h v a =
     ∙ stepped-at p (left_fresh r vs ps) (is_orders p.group) c.waits (drop c.next (steps vs p.group)) (distinct-drop c.next (steps vs p.group) (steps-distinct vs p.group h)) refl a v
 
 -- the provider has made its next step
-pub closed-step : (k : Kind) (r : Rows) (vs vs2 : List ℕ) (c c2 : Cursor) (old : List Open)
+pub closed_step : (k : Kind) (r : Rows) (vs vs2 : List ℕ) (c c2 : Cursor) (old : List Open)
     → vs2 ≡ vs → IsSound k vs c → left_of k r vs c ≡ old → is_working old ≡ true
     → left_here r vs2 c2 (drop c2.group (places k)) ≡ left_here r vs2 (with_next c (c.next + 1)) (drop c.group (places k))
     → left_of k r vs c2 ≡ advance (next_member old ∷ []) false old
-closed-step k r vs vs2 c c2 old v s is a m = grind (arith, stepped-here)
+closed_step k r vs vs2 c c2 old v s is a m = grind (arith, stepped-here)

@@ -29,9 +29,9 @@ pub nil-group : (p : Place) (xs : List ℕ) (os : List Open) → is_nil xs ≡ t
 nil-group p xs os e = grind arith
 
 -- an empty group is passed by
-pub fresh-skip : (r : Rows) (vs : List ℕ) (p : Place) (k : Kind) (n : ℕ) → Some p ≡ first_place (drop n (places k)) → true ≡ is_nil (fresh r vs p)
+pub fresh_skip : (r : Rows) (vs : List ℕ) (p : Place) (k : Kind) (n : ℕ) → Some p ≡ first_place (drop n (places k)) → true ≡ is_nil (fresh r vs p)
     → left_fresh r vs (drop (n + 1) (places k)) ≡ left_fresh r vs (drop n (places k))
-fresh-skip r vs p k n e h = sym (ap (left_fresh r vs) (place-first k n p e) ∙ nil-group p (fresh r vs p) _ (sym h))
+fresh_skip r vs p k n e h = sym (ap (left_fresh r vs) (place-first k n p e) ∙ nil-group p (fresh r vs p) _ (sym h))
 
 drop-nil : (n : ℕ) (xs : List ℕ) → leb (length xs) n ≡ is_nil (drop n xs)
 drop-nil zero [] = refl
@@ -43,13 +43,13 @@ cond-false : (b : Bool) (ws xs : List ℕ) → b ≡ false → cond b ws xs ≡ 
 cond-false b ws xs e = grind arith
 
 -- the provider's group is closed where all its steps are made
-pub closed-steps : (vs : List ℕ) (c : Cursor) (p : Place) (n : ℕ) → is_orders p.group ≡ false → n ≡ length (steps vs p.group) → leb n c.next ≡ is_nil (here vs c p)
-closed-steps vs c p n e f = grind (arith, drop-nil, cond-false)
+pub closed_steps : (vs : List ℕ) (c : Cursor) (p : Place) (n : ℕ) → is_orders p.group ≡ false → n ≡ length (steps vs p.group) → leb n c.next ≡ is_nil (here vs c p)
+closed_steps vs c p n e f = grind (arith, drop-nil, cond-false)
 
 -- a closed group is passed by
-pub here-skip : (r : Rows) (vs : List ℕ) (c : Cursor) (p : Place) (k : Kind) → Some p ≡ first_place (drop c.group (places k)) → true ≡ is_nil (here vs c p)
+pub here_skip : (r : Rows) (vs : List ℕ) (c : Cursor) (p : Place) (k : Kind) → Some p ≡ first_place (drop c.group (places k)) → true ≡ is_nil (here vs c p)
     → left_fresh r vs (drop (c.group + 1) (places k)) ≡ left_here r vs c (drop c.group (places k))
-here-skip r vs c p k e h = sym (ap (left_here r vs c) (place-first k c.group p e) ∙ nil-group p (here vs c p) _ (sym h))
+here_skip r vs c p k e h = sym (ap (left_here r vs c) (place-first k c.group p e) ∙ nil-group p (here vs c p) _ (sym h))
 
 -- ## the open group
 

@@ -87,8 +87,8 @@ held-places Snapshot (suc (suc (suc (suc (suc (suc (suc (suc (suc (suc (suc (suc
 held-places Snapshot (suc (suc (suc (suc (suc (suc (suc (suc (suc (suc (suc (suc (suc (suc (suc n))))))))))))))) r vs c v = over r vs c v (drop n []) (drop_none n)
 
 -- the cursor's place tells which volumes are held
-pub held-cursor : (k : Kind) (r : Rows) (vs : List ℕ) (c : Cursor) (v : ℕ) → is_held_now (left_of k r vs c) v ≡ is_held_in (first_place (drop c.group (places k))) c.next vs v
-held-cursor k r vs c v = grind (arith, waited-here, held-places)
+pub held_cursor : (k : Kind) (r : Rows) (vs : List ℕ) (c : Cursor) (v : ℕ) → is_held_now (left_of k r vs c) v ≡ is_held_in (first_place (drop c.group (places k))) c.next vs v
+held_cursor k r vs c v = grind (arith, waited-here, held-places)
 
 -- ## by the log
 

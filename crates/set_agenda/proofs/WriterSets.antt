@@ -104,8 +104,8 @@ writers-none = filter-none (range_with_len 0 64)
 pub new-is : writers_of 0 ≡ []
 new-is = writers-agree (has_bit 0) (λ w. false) (λ i h. grind (arith, nat_tests, bit_at-zero i)) ∙ writers-none
 
-pub contains-is : (bits w : ℕ) → w < 64 → nat_eq (bit_and (bits / 2 ^ w) 1) 1 ≡ is_among w (writers_of bits)
-contains-is bits w h = ap (λ b. nat_eq b 1) (shr_and_one bits w) ∙ sym (among-writers (has_bit bits) w h)
+pub contains_is : (bits w : ℕ) → w < 64 → nat_eq (bit_and (bits / 2 ^ w) 1) 1 ≡ is_among w (writers_of bits)
+contains_is bits w h = ap (λ b. nat_eq b 1) (shr_and_one bits w) ∙ sym (among-writers (has_bit bits) w h)
 
 no_bit : (bits i : ℕ) → has_bit bits i ≡ false → bit_at bits i ≡ 0
 no_bit bits i e = grind (arith, nat_tests, bit_at-lt bits i)
@@ -117,15 +117,15 @@ digit-at : (x y : ℕ) → x < 2 → y < 2 → (x == 1) ≡ (y == 1) → x ≡ y
 digit-at x y a b e = grind (arith, nat_tests)
 
 -- one number alone has the bits of a set
-pub same-bits : (a b : ℕ) → a < 2 ^ 64 → b < 2 ^ 64 → writers_of a ≡ writers_of b → a ≡ b
-same-bits a b h k e = same_from_bits_below 64 a b h k (λ i l.
+pub same_bits : (a b : ℕ) → a < 2 ^ 64 → b < 2 ^ 64 → writers_of a ≡ writers_of b → a ≡ b
+same_bits a b h k e = same_from_bits_below 64 a b h k (λ i l.
     digit-at (bit_at a i) (bit_at b i) (bit_at-lt a i) (bit_at-lt b i) (sym (among-writers (has_bit a) i l) ∙ ap (is_among i) e ∙ among-writers (has_bit b) i l))
 
 empty-at : (bits : ℕ) (xs : List ℕ) → bits < 2 ^ 64 → writers_of bits ≡ xs → nat_eq bits 0 ≡ is_nil xs
 empty-at bits xs h e = grind (arith, none-set, new-is)
 
-pub empty-is : (bits : ℕ) → bits < 2 ^ 64 → nat_eq bits 0 ≡ is_nil (writers_of bits)
-empty-is bits h = empty-at bits (writers_of bits) h refl
+pub empty_is : (bits : ℕ) → bits < 2 ^ 64 → nat_eq bits 0 ≡ is_nil (writers_of bits)
+empty_is bits h = empty-at bits (writers_of bits) h refl
 
 or_true : (b : Bool) → (b || true) ≡ true
 or_true b = grind arith
@@ -136,8 +136,8 @@ set-at bits w i true h e = subst (λ k. has_bit (bit_or bits (1 * 2 ^ w % 184467
 set-at bits w i false h e = ap (λ b. b == 1) (bit_at_set_other w64 bits w h i (λ s. other_from w i e (sym s))) ∙ sym (or-false (has_bit bits i))
 
 -- the bit of w put in
-pub insert-is : (bits w : ℕ) → w < 64 → writers_of (bit_or bits (1 * 2 ^ w % 18446744073709551616)) ≡ writers (λ i. is_among i (writers_of bits) || (w == i))
-insert-is bits w h = grind (arith, writers-agree, set-at, among-writers)
+pub insert_is : (bits w : ℕ) → w < 64 → writers_of (bit_or bits (1 * 2 ^ w % 18446744073709551616)) ≡ writers (λ i. is_among i (writers_of bits) || (w == i))
+insert_is bits w h = grind (arith, writers-agree, set-at, among-writers)
 
 minus_bit : (x y : ℕ) → x < 2 → y < 2 → (min x (1 - y) == 1) ≡ ((x == 1) && not (y == 1))
 minus_bit x y a b = grind arith
@@ -148,8 +148,8 @@ minus-at a b i l h =
     ∙ minus_bit (bit_at a i) (bit_at b i) (bit_at-lt a i) (bit_at-lt b i)
     ∙ ap (λ c. has_bit a i && not c) (sym (among-writers (has_bit b) i h))
 
-pub minus-is : (a b : ℕ) → b < 2 ^ 64 → writers_of (bit_and a (18446744073709551615 - b)) ≡ others (writers_of b) (writers_of a)
-minus-is a b l = writers-agree _ (λ i. has_bit a i && not (is_among i (writers_of b))) (λ i h. minus-at a b i l h) ∙ sym (others-writers (writers_of b) (has_bit a))
+pub minus_is : (a b : ℕ) → b < 2 ^ 64 → writers_of (bit_and a (18446744073709551615 - b)) ≡ others (writers_of b) (writers_of a)
+minus_is a b l = writers-agree _ (λ i. has_bit a i && not (is_among i (writers_of b))) (λ i h. minus-at a b i l h) ∙ sym (others-writers (writers_of b) (has_bit a))
 
 or_bit : (x y : ℕ) → x < 2 → y < 2 → (max x y == 1) ≡ ((x == 1) || (y == 1))
 or_bit x y a b = grind arith
@@ -157,8 +157,8 @@ or_bit x y a b = grind arith
 either-at : (a b i : ℕ) → i < 64 → has_bit (bit_or a b) i ≡ (is_among i (writers_of a) || is_among i (writers_of b))
 either-at a b i h = grind (arith, bit_at_or, or_bit, bit_at-lt, among-writers)
 
-pub with-is : (a b : ℕ) → writers_of (bit_or a b) ≡ writers (λ w. is_among w (writers_of a) || is_among w (writers_of b))
-with-is a b = writers-agree _ (λ w. is_among w (writers_of a) || is_among w (writers_of b)) (λ i h. either-at a b i h)
+pub with_is : (a b : ℕ) → writers_of (bit_or a b) ≡ writers (λ w. is_among w (writers_of a) || is_among w (writers_of b))
+with_is a b = writers-agree _ (λ w. is_among w (writers_of a) || is_among w (writers_of b)) (λ i h. either-at a b i h)
 
 writers-one : (w : ℕ) → w < 64 → writers (λ i. w == i) ≡ w ∷ []
 unfolding writers
@@ -167,5 +167,5 @@ writers-one w h = filter-one 0 64 w (omega arith) (omega arith)
 zero_or-at : (w i : ℕ) → w < 64 → has_bit (1 * 2 ^ w % 18446744073709551616) i ≡ (w == i)
 zero_or-at w i h = set-at 0 w i (w == i) h refl ∙ ap (λ b. b || (w == i)) (let z : bit_at 0 i ≡ 0 = bit_at-zero i in ap (λ n. n == 1) z)
 
-pub of-is : (w : ℕ) → w < 64 → writers_of (1 * 2 ^ w % 18446744073709551616) ≡ w ∷ []
-of-is w h = writers-agree _ (λ i. w == i) (λ i l. zero_or-at w i h) ∙ writers-one w h
+pub of_is : (w : ℕ) → w < 64 → writers_of (1 * 2 ^ w % 18446744073709551616) ≡ w ∷ []
+of_is w h = writers-agree _ (λ i. w == i) (λ i l. zero_or-at w i h) ∙ writers-one w h

@@ -169,6 +169,7 @@ impl Agenda {
     }
 
     /// Whether the writes of the volume are held: its Hold step is made, and its Release step is not.
+    #[tactic(auto, using(crate::proofs::Held::held_cursor))]
     pub fn is_held(&self, volume: u32) -> bool
         ensures { result ≡ is_held_now self.now volume }
     {
@@ -204,6 +205,7 @@ impl Agenda {
         self.close(&writers, true);
     }
 
+    #[tactic(auto, using(crate::proofs::Closings::closed_writers, crate::proofs::Closings::with_waits))]
     fn close(&mut self, writers: &WriterSet, failed: bool)
         requires { is_asking self.old ≡ true }
         ensures { self.new ≡ advance writers.now failed self.old }
@@ -214,6 +216,7 @@ impl Agenda {
     }
 
     /// The provider has made the next step of the open group.
+    #[tactic(auto, using(crate::proofs::Closings::closed_step))]
     pub fn close_step(&mut self)
         requires { is_working self.old ≡ true }
         ensures { self.new ≡ advance (next_member self.old ∷ []) false self.old }

@@ -26,6 +26,7 @@ impl WriterSet {
     }
 
     /// One writer.
+    #[tactic(auto, using(crate::proofs::WriterSets::of_is))]
     pub fn of(writer: u32) -> WriterSet
         requires { writer < 64 }
         ensures { result ≡ writer ∷ [] }
@@ -48,6 +49,7 @@ impl WriterSet {
     }
 
     /// Bit w is set exactly for a writer w of the set. `of_bits` gives the set back.
+    #[tactic(auto, using(crate::proofs::WriterSets::same_bits))]
     pub fn bits(&self) -> u64
         ensures writers { writers_of result ≡ self.now }
         ensures alone { (bits : ℕ) → bits < 2 ^ 64 → writers_of bits ≡ self.now → bits ≡ result }
@@ -56,6 +58,7 @@ impl WriterSet {
     }
 
     /// Whether no writer is in the set.
+    #[tactic(auto, using(crate::proofs::WriterSets::empty_is))]
     pub fn is_empty(&self) -> bool
         ensures { result ≡ is_nil self.now }
     {
@@ -63,6 +66,7 @@ impl WriterSet {
     }
 
     /// Whether a writer, by its number, is in the set.
+    #[tactic(auto, using(crate::proofs::WriterSets::contains_is))]
     pub fn contains(&self, writer: u32) -> bool
         requires { writer < 64 }
         ensures { result ≡ is_among writer self.now }
@@ -71,6 +75,7 @@ impl WriterSet {
     }
 
     /// Adds a writer, by its number. One that is in the set already stays.
+    #[tactic(auto, using(crate::proofs::WriterSets::insert_is))]
     pub fn insert(&mut self, writer: u32)
         requires { writer < 64 }
         ensures { self.new ≡ writers (λ w. is_among w self.old || (writer == w)) }
@@ -79,6 +84,7 @@ impl WriterSet {
     }
 
     /// Those that the other set lacks.
+    #[tactic(auto, using(crate::proofs::WriterSets::minus_is))]
     pub fn minus(&self, other: &WriterSet) -> WriterSet
         ensures { result ≡ others other.now self.now }
     {
@@ -88,6 +94,7 @@ impl WriterSet {
     }
 
     /// Those of either set.
+    #[tactic(auto, using(crate::proofs::WriterSets::with_is))]
     pub fn with(&self, other: &WriterSet) -> WriterSet
         ensures { result ≡ writers (λ w. is_among w self.now || is_among w other.now) }
     {

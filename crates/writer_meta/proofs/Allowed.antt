@@ -8,9 +8,9 @@ use Rattle.writer_meta.specs.Values.{is_writer_name, is_freeze_timeout}
 use Rattle.writer_meta.specs.Allowed.{is_allowed_part, AreAllowedParts, IsAllowed}
 
 -- a test of each component is one of each part
-pub all-parts : (components : List Component) → list_all is_allowed_part (map part_of components) ≡ list_all (λ (c : Component). is_allowed_part (part_of c)) components
-all-parts [] = refl
-all-parts (c ∷ components) = ap (λ (t : Bool). is_allowed_part (part_of c) && t) (all-parts components)
+pub all_parts : (components : List Component) → list_all is_allowed_part (map part_of components) ≡ list_all (λ (c : Component). is_allowed_part (part_of c)) components
+all_parts [] = refl
+all_parts (c ∷ components) = ap (λ (t : Bool). is_allowed_part (part_of c) && t) (all_parts components)
 
 -- ## metadata
 

@@ -25,9 +25,9 @@ turned a b apart = grind (arith, bytes_eq-Decides)
 none_of : {a b c d : Bool} → a ≡ false → b ≡ false → c ≡ false → d ≡ false → (a || (b || (c || (d || false)))) ≡ false
 none_of e f g h = rw (e, f, g, h) refl
 
-pub not-known : (name : List ℕ) → bytes_eq name (codes "name") ≡ false → bytes_eq name (codes "path") ≡ false → bytes_eq name (codes "selectable") ≡ false → bytes_eq name (codes "type") ≡ false
+pub not_known : (name : List ℕ) → bytes_eq name (codes "name") ≡ false → bytes_eq name (codes "path") ≡ false → bytes_eq name (codes "selectable") ≡ false → bytes_eq name (codes "type") ≡ false
     → is_known component_members name ≡ false
-not-known name n p s t = none_of (turned name (codes "name") n) (turned name (codes "path") p) (turned name (codes "selectable") s) (turned name (codes "type") t)
+not_known name n p s t = none_of (turned name (codes "name") n) (turned name (codes "path") p) (turned name (codes "selectable") s) (turned name (codes "type") t)
 
 -- ## all members
 

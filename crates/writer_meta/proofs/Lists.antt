@@ -96,10 +96,10 @@ has-one_more same old new among x y updated is had = grind arith
 
 -- ## copies
 
-pub copied-more : (components copies : List Component) (i : ℕ) (c copy : Component) → i < length components → c ≡ get_or components i c → part_of copy ≡ part_of c
+pub copied_more : (components copies : List Component) (i : ℕ) (c copy : Component) → i < length components → c ≡ get_or components i c → part_of copy ≡ part_of c
     → map part_of copies ++ map part_of (drop i components) ≡ map part_of components
     → map part_of (copies ++ copy ∷ []) ++ map part_of (drop (i + 1) components) ≡ map part_of components
-copied-more components copies i c copy within is same so_far =
+copied_more components copies i c copy within is same so_far =
     let here : drop i components ≡ c ∷ drop (i + 1) components = drop_more components i c within ∙ ap (λ w. w ∷ drop (i + 1) components) (sym is) in
     ap (λ ps. ps ++ map part_of (drop (i + 1) components)) (map-append part_of copies (copy ∷ []))
     ∙ append_assoc (map part_of copies) (part_of copy ∷ []) (map part_of (drop (i + 1) components))
@@ -107,7 +107,7 @@ copied-more components copies i c copy within is same so_far =
     ∙ ap (λ cs. map part_of copies ++ map part_of cs) (sym here)
     ∙ so_far
 
-pub copied-all : (components copies : List Component) (i : ℕ) → length components ≤ i
+pub copied_all : (components copies : List Component) (i : ℕ) → length components ≤ i
     → map part_of copies ++ map part_of (drop i components) ≡ map part_of components → map part_of copies ≡ map part_of components
-copied-all components copies i past so_far =
+copied_all components copies i past so_far =
     sym (append-nil (map part_of copies)) ∙ ap (λ cs. map part_of copies ++ map part_of cs) (sym (drop_all i components past)) ∙ so_far

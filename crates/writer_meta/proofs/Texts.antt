@@ -28,8 +28,8 @@ pub IsUtf8-path : (path : List ℕ) → is_path path ≡ true → IsUtf8 path
 IsUtf8-path path allowed = IsUtf8-printable path (and_right _ (list_all is_printable path) (and_left _ _ (and_left _ _ (and_left _ _ allowed))))
 
 -- a text that is UTF-8 is read as a string
-pub IsOk-utf8 : {T E : Type 0} (r : Result T E) (P : T → Type 0) (Utf8 : Type 0) (Q : E → Type 0) → MatchResult r P (λ e. (¬ Utf8) × Q e) → Utf8 → IsOk r
-IsOk-utf8 r x1 x2 x3 cases is = grind arith
+pub IsOk_utf8 : {T E : Type 0} (r : Result T E) (P : T → Type 0) (Utf8 : Type 0) (Q : E → Type 0) → MatchResult r P (λ e. (¬ Utf8) × Q e) → Utf8 → IsOk r
+IsOk_utf8 r x1 x2 x3 cases is = grind arith
 
 pub IsUtf8-part_name : (path name : List ℕ) → (is_path path && is_component_name name) ≡ true → IsUtf8 name
 IsUtf8-part_name path name allowed = IsUtf8-component_name name (and_right (is_path path) _ allowed)

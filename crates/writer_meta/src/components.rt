@@ -71,6 +71,7 @@ impl Components {
         Ok(double.is_none())
     }
 
+    #[tactic(auto, using(crate::proofs::Allowed::all_parts))]
     fn each_part_is_allowed(components: &[Component]) -> bool
         ensures { result ≡ list_all is_allowed_part (map part_of components.now) }
     {
@@ -114,6 +115,7 @@ impl Components {
         Ok(components)
     }
 
+    #[tactic(auto, using(crate::proofs::Lists::copied_more, crate::proofs::Lists::copied_all))]
     fn copies_of(alloc: Global, components: &[Component]) -> Result<Vec<Component>, OutOfMemory>
         ensures { IfOk result (λ copies. map part_of copies.items ≡ map part_of components.now) }
     {

@@ -45,6 +45,7 @@ impl Metadata {
     }
 
     /// Whether the format allows the metadata, as `to_json` asks.
+    #[tactic(auto, using(crate::proofs::Allowed::parts_if_ok))]
     pub fn is_allowed(&self, alloc: Global) -> Result<bool, OutOfMemory>
         ensures { IfOk result (λ allowed. IsTrue allowed ↔ IsAllowed (meta_of self.now)) }
     {

@@ -17,6 +17,7 @@ pub(crate) struct PartValues<'v> {
 
 impl<'v> PartValues<'v> {
     /// The values with those of one member more; none where no component has such a member.
+    #[tactic(auto, using(crate::proofs::Found::not_known))]
     fn with(self, name: &str, value: &'v Value) -> Option<PartValues<'v>>
         ensures known { is_some result ≡ is_known component_members name.now }
         ensures more { IfSome result (λ more. rows_seen more

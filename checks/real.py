@@ -1,5 +1,7 @@
-#!/usr/bin/env python3
-"""Runs `vss` over streams and files as the system has them: real.py PROGRAM FOLDER. Says what is wrong, and ends with 1 then."""
+"""Streams and files as the system has them, of which no proof speaks: a pipe of the smallest capacity with a slow reader,
+a full device, a file that may not grow, an input that comes byte by byte, and one that fails in the middle; each block of
+each file where it has to be, as the reports, listings and summaries of the examples say; files that are there already;
+and which files are synced."""
 import ctypes
 import fcntl
 import hashlib
@@ -10,13 +12,11 @@ import socket
 import stat
 import struct
 import subprocess
-import sys
 import time
 
-from common import limited, ran, read, write
+from common import BLOCK, begin, ends, holds, limited, ran, read, write
 
-PROGRAM, FOLDER = sys.argv[1:]
-BLOCK = 16384
+FOLDER, PROGRAM = begin("vss")
 SET_PIPE_SIZE = 1031  # F_SETPIPE_SZ
 # a report of some 70,000 bytes, which depends on nothing but the lines
 LONG = b"scenario 1\nlane a\n" + b"await\n" * 2500
@@ -24,14 +24,6 @@ LONG = b"scenario 1\nlane a\n" + b"await\n" * 2500
 VOLUMES = {"C": 4, "D": 1, "E": 3}
 AREAS = ["C.area", "D.area", "G.shared"]
 SET = b"scenario 1\narea G 4\nvolume C 4 4\nvolume D 1 2\nvolume E 3 in G\nlane a\nbegin 25\nstart\nadd C\nadd D\nadd E\nsnapshot\nawait\nend\n"
-wrongs = 0
-
-
-def holds(condition, what):
-    global wrongs
-    if not condition:
-        print(f"real: {what}", file=sys.stderr)
-        wrongs += 1
 
 
 def folder(name):
@@ -151,6 +143,20 @@ def is_in_files():
         holds(blocks[2:] == [bytes(BLOCK)] * count, f"the old blocks in {name} are others")
 
 
+def is_as_the_examples_say():
+    """In a folder the report, the listing and the summary are those of the examples, and each generated volume has its digest."""
+    disks = folder("first")
+    holds(run(read("examples/first.scenario"), disks).stdout == read("examples/first.report"), "a run in a folder has another report")
+    listing = ran([PROGRAM, "inspect"], input=read(f"{disks}/C.area")).stdout
+    holds(listing == read("examples/first.listing"), "the area's file is listed otherwise")
+    disks, summary = folder("generated"), read("examples/generated_7.summary")
+    for words in ([disks], []):
+        holds(ran([PROGRAM, "gen", "7", *words]).stdout == summary, f"gen 7 {words} has another summary")
+    for volume in range(8):
+        digest = hashlib.sha256(read(f"{disks}/v{volume}.vol")).hexdigest()
+        holds(f"volume v{volume} {digest}\n".encode() in summary, f"the file of volume v{volume} has another digest than the summary")
+
+
 def is_refused_where_there_is():
     """What has the name of a device already is no device, whatever it is, and is left as it is."""
     mine = os.path.join(FOLDER, "mine")
@@ -214,16 +220,9 @@ def is_synced():
     return ""
 
 
-def main():
-    report = run(LONG).stdout
-    is_read_slowly(report)
-    is_full(report)
-    is_read_bytewise()
-    is_cut_off()
-    is_in_files()
-    is_refused_where_there_is()
-    print("streams and files as promised" + is_synced())
-    return 1 if wrongs else 0
-
-
-sys.exit(main())
+report = run(LONG).stdout
+is_read_slowly(report)
+is_full(report)
+for part in (is_read_bytewise, is_cut_off, is_in_files, is_as_the_examples_say, is_refused_where_there_is):
+    part()
+ends("streams and files as promised" + is_synced())
