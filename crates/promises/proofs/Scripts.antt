@@ -1,6 +1,7 @@
 -- A writer answers by its script: how often it was asked, as the acts tell it, is how many groups of that order have opened for it.
 use Rattle.promises.proofs.Words.{list_any, sum_by-append, Level, Order, VssResult, AsyncCancelled, SetOutcome, Said, row_gathered, Mark, Writer, Move}
-use Rattle.promises.proofs.Words.{Scripted, answer_in, is_row_for, scripted_answer, Group, Orders, PreCommit, Flush, Hold, Cut, Commit, Release, PostCommit, Kind}
+use Rattle.promises.proofs.Words.{Scripted, answer_in, is_row_for, scripted_answer, Group, Orders, PreCommit, Flush, Hold, Cut, Commit, Release, PostCommit}
+use Rattle.promises.proofs.Words.{Kind}
 use Rattle.promises.proofs.Words.{Member, Place, Running as RunningLimit, spent_of, Plan, script_of, Event, State, runs}
 use Rattle.promises.proofs.Words.{Act, order_of_writer, after, state, acts, acts_if, answer_event, script_event, state-run, acts-append, Settles, said_stays}
 use Rattle.promises.proofs.Words.{among_filter, is_owed, is_asked_anew, asked_from, times_asked, written_in, AnswersByScript, Deed}
@@ -18,7 +19,8 @@ use Rattle.set_agenda.specs.Course.{treated, timed as course_timed, released}
 use Rattle.vss_model.specs.Sessions.{closed}
 use Rattle.promises.proofs.Truth.{not_itself, same_number}
 use Rattle.vss_model.specs.Changes.{Change, CourseIs, apply}
-use Rattle.vss_model.proofs.Changes.{CourseCall, Answers, Steps, Times, Gathers, Prepares, Snapshots, Completes, Disables, Fails, Releases, called, IsDue, Comes, by_changes}
+use Rattle.vss_model.proofs.Changes.{CourseCall, Answers, Steps, Times, Gathers, Prepares, Snapshots, Completes, Disables, Fails, Releases, called, IsDue}
+use Rattle.vss_model.proofs.Changes.{Comes, by_changes}
 use Rattle.promises.proofs.Heard.{same_group}
 use Rattle.promises.proofs.Speaks.{Grows, grows_answered, grows_stepped, grows_timed}
 use Rattle.promises.proofs.Stages.{failed_stays, closed_stays, grown}
@@ -268,7 +270,8 @@ module _ (s : Plan) (w : ℕ) (o : Order) (st : State) where
   abbrev To : Course → Type 0
   To d = Asks w o st.course d
 
-  begins : (k : Kind) (ms : List Member) (vs : List ℕ) (c : Course) → runs st ≡ false → c.agenda ≡ st.course.agenda → c.opened ≡ st.course.opened → To (begun k ms vs st.clock c)
+  begins : (k : Kind) (ms : List Member) (vs : List ℕ) (c : Course) → runs st ≡ false → c.agenda ≡ st.course.agenda → c.opened ≡ st.course.opened
+      → To (begun k ms vs st.clock c)
   begins k ms vs c e f g = let none = none_runs st.course.agenda e in asks_begun w o k ms vs st.clock st.course c none (f ∙ none) g
 
   abbrev Called : CourseCall → Course → Type 0
@@ -279,12 +282,15 @@ module _ (s : Plan) (w : ℕ) (o : Order) (st : State) where
   to_called (Answers u said) c i = subst (Called (Answers u said)) (sym i.1) (asks_answered w o u said st.clock st.course i.0)
   to_called (Steps ok) c i = subst (Called (Steps ok)) (sym i.1) (asks_stepped w o ok st.clock st.course i.0)
   to_called (Times now) c i = subst (Called (Times now)) (sym i) (asks_timed w o now st.course)
-  to_called Gathers c i = subst (Called Gathers) (sym i.course) (begins kind.Gather _ [] (record st.course { rows = map row_gathered st.course.rows }) i.goes.quiet refl refl)
+  to_called Gathers c i = subst (Called Gathers) (sym i.course)
+      (begins kind.Gather _ [] (record st.course { rows = map row_gathered st.course.rows }) i.goes.quiet refl refl)
   to_called (Prepares q) c i = subst (Called (Prepares q)) (sym i.1) (begins kind.Prepare _ [] (record st.course { members = _ }) i.0.quiet refl refl)
   to_called Snapshots c i = subst (Called Snapshots) (sym i.course) (begins kind.Snapshot st.course.members _ st.course i.goes.quiet refl refl)
   to_called Completes c i = subst (Called Completes) (sym i.course) (begins kind.Complete _ [] st.course i.goes.quiet refl refl)
-  to_called (Disables u) c i = subst (Called (Disables u)) (sym i.course) (asks_still w o st.course (record st.course { disabled = st.course.disabled ++ u ∷ [] }) refl refl)
-  to_called (Fails why) c i = subst (Called (Fails why)) (sym i.1.1) (asks_none w o st.course (course_failed why st.course) (failed_agenda why st.course) (opened_failed w o why st.course))
+  to_called (Disables u) c i = subst (Called (Disables u)) (sym i.course)
+      (asks_still w o st.course (record st.course { disabled = st.course.disabled ++ u ∷ [] }) refl refl)
+  to_called (Fails why) c i = subst (Called (Fails why)) (sym i.1.1)
+      (asks_none w o st.course (course_failed why st.course) (failed_agenda why st.course) (opened_failed w o why st.course))
   to_called Releases c (inl e) = asks_none w o st.course (released c) refl (ap (λ (d : Course). d.opened) e)
   to_called Releases c (inr e) = asks_none w o st.course (released c) refl (ap (λ (d : Course). d.opened) e ∙ opened_failed w o AsyncCancelled st.course)
 

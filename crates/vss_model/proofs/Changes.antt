@@ -8,7 +8,6 @@ use Rattle.vss_names.specs.declared.context.Context.{Context}
 use Rattle.vss_names.specs.declared.context.Context.TheVariants.{Backup, AppRollback, NasRollback}
 use Rattle.vss_names.specs.declared.order.Order.{Order}
 use Rattle.vss_names.specs.declared.set_outcome.SetOutcome.{SetOutcome}
-use Rattle.vss_names.specs.declared.set_outcome.SetOutcome.TheVariants.{Failed}
 use Rattle.vss_names.specs.declared.vss_result.VssResult.{VssResult}
 use Rattle.vss_names.specs.declared.vss_result.VssResult.TheVariants.{AsyncCancelled, BadState, InsufficientStorage}
 use Rattle.block_data.specs.declared.payload.Payload.{Payload}
@@ -24,7 +23,8 @@ use Rattle.set_agenda.specs.declared.group.Group.TheVariants.{Cut}
 use Rattle.set_agenda.specs.declared.kind.Kind.TheVariants.{Gather, Prepare, Snapshot, Complete}
 use Rattle.set_agenda.specs.Agenda.{Agenda, left, open_group, next_volume, is_working}
 use Rattle.set_agenda.proofs.CourseRule.{IsKeptFrom, from_answered, from_stepped, from_timed, from_begun}
-use Rattle.set_agenda.specs.Course.{Course, posted, told, worked, answered as course_answered, stepped as course_stepped, timed, gathered, prepared, snapshot_begun, completing, failed as course_failed, released}
+use Rattle.set_agenda.specs.Course.{Course, posted, told, worked, answered as course_answered, stepped as course_stepped, timed, gathered, prepared}
+use Rattle.set_agenda.specs.Course.{snapshot_begun, completing, failed as course_failed, released}
 use Rattle.component_doc.specs.Selection.{Pair, Names as NamesNow, naming, takers}
 use Rattle.requestor.specs.declared.session_call.SessionCall.{SessionCall}
 use Rattle.requestor.specs.declared.session_call.SessionCall.TheVariants as call
@@ -49,7 +49,9 @@ use Rattle.vss_model.specs.Effects.{ticks_of}
 use Rattle.vss_model.specs.Acts.{Act, enabled, happens, reply, after, order_of_writer, idle_now, answer_reply, step_reply}
 use Rattle.vss_model.specs.Cut.{is_provider, is_cut_group}
 use Rattle.vss_model.specs.Laws.{LetsGo}
-use Rattle.vss_model.specs.Changes.{Change, Passes, SessionIs, Names, StartsSet, AddsVolume, IsCutAt, CourseIs, Settles, Writes, Cuts, Reverts, RevertsPart, DropsSet, Drops, apply, drops, ends, goes_on, fails, makes_room, puts, reverts, deletes, names, adds, releases, closes, calls, session_calls, passes, cuts, steps, does_change, event_changes, changes}
+use Rattle.vss_model.specs.Changes.{Change, Passes, SessionIs, Names, StartsSet, AddsVolume, IsCutAt, CourseIs, Settles, Writes, Cuts, Reverts, RevertsPart}
+use Rattle.vss_model.specs.Changes.{DropsSet, Drops, apply, drops, ends, goes_on, fails, makes_room, puts, reverts, deletes, names, adds, releases, closes}
+use Rattle.vss_model.specs.Changes.{calls, session_calls, passes, cuts, steps, does_change, event_changes, changes}
 use Rattle.vss_model.proofs.ByEvent.{Covers, covered, by_if, some_same, may_change, after_enabled, after_not_enabled}
 use Rattle.vss_model.proofs.Rows.{number-cut}
 use Rattle.vss_model.proofs.Orderly.{find-map, find-settled_over}
@@ -238,7 +240,8 @@ Rests c d = (d.outcome ≡ c.outcome) ⊎ (d.agenda ≡ None)
 
 rests : (c : Course) → IsKeptFrom (Rests c) c
 unfolding posted told worked course_failed
-rests c = record { stays = inl refl; posts = λ before d h. h; says = λ o said now ws i. inl refl; works = λ now. inl refl; fails = λ why d e h. inr refl; closes = λ a d e f h. inr refl }
+rests c = record { stays = inl refl; posts = λ before d h. h; says = λ o said now ws i. inl refl; works = λ now. inl refl; fails = λ why d e h. inr
+    refl; closes = λ a d e f h. inr refl }
 
 rests_called : (s : Plan) (st : State) (call : CourseCall) (c : Course) → IsDue st c call → Rests c (called s st call c)
 unfolding course_failed released
@@ -250,8 +253,7 @@ rests_called s st (Prepares q) c i = from_begun (Rests c) c (rests c) Prepare _ 
 rests_called s st Snapshots c i = from_begun (Rests c) c (rests c) Snapshot _ _ st.clock _ (inl refl)
 rests_called s st Completes c i = from_begun (Rests c) c (rests c) Complete _ [] st.clock _ (inl refl)
 rests_called s st (Disables w) c i = inl refl
-rests_called s st (Fails why) c i = inr refl
-rests_called s st Releases c i = inr refl
+rests_called s st _ c i = inr refl
 
 -- ## the course goes on
 
@@ -294,30 +296,37 @@ module _ (s : Plan) (e : Event) (m : Mark) (st : State) where
   come_ends : (g : Ending) (x y : State) → x.session ≡ y.session → EndsNone g x.course.agenda → Come s e m st x (ends g x.course.outcome y)
   come_ends NothingEnds x y same none = tt
   come_ends AgendaEnds x y same none = (record { step = EndsAgenda; is = ap (option_map agenda_ended) (sym same); due = tt }, ((none, refl), tt))
-  come_ends (SetFails why) x y same none = (record { step = FailsSet why; is = ap (option_map (set_failed why)) (sym same); due = tt }, ((none, refl), by_set (in_progress y) _)) where
+  come_ends (SetFails why) x y same
+      none = (record { step = FailsSet why; is = ap (option_map (set_failed why)) (sym same); due = tt }, ((none, refl), by_set (in_progress y) _)) where
     by_set : (o : Option SetRow) (z : State) → Come s e m st z (drops o)
     by_set None z = tt
     by_set (Some r) z = (tt, tt)
 
   come_on : (ran : Bool) (c : Course) (x y : State) → x.session ≡ y.session → Rests y.course c → IsCalled s st x c → Come s e m st x (goes_on ran c y)
-  come_on ran c x y same h i = (i, come_ends (ending y.course.outcome c.outcome ran c.agenda) (record x { course = c }) y same (ends_none y.course.outcome c.outcome ran c.agenda h))
+  come_on ran c x y same h
+      i = (i, come_ends (ending y.course.outcome c.outcome ran c.agenda) (record x { course = c }) y same (ends_none y.course.outcome c.outcome ran c.agenda h))
 
-  come_fails : (o : Option SetRow) (why : VssResult) (x : State) → in_progress st ≡ o → x.course ≡ st.course → x.session ≡ st.session → Come s e m st x (fails o why st)
+  come_fails : (o : Option SetRow) (why : VssResult) (x : State) → in_progress st ≡ o → x.course ≡ st.course → x.session ≡ st.session
+      → Come s e m st x (fails o why st)
   unfolding course_failed
   come_fails None why x f same session = tt
   come_fails (Some r) why x f same session =
-      (record { call = Fails why; is = ap (course_failed why) (sym same); due = (r, (f, same)); stands = tt }, come_ends (SetFails why) (record x { course = course_failed why st.course }) st session refl)
+      (record { call = Fails why; is = ap (course_failed why) (sym same); due = (r, (f, same)); stands = tt }, come_ends (SetFails why)
+          (record x { course = course_failed why st.course }) st session refl)
 
   -- a set in progress has failed before
   none_aborted : (o : Option SetRow) → in_progress st ≡ o → in_progress (fold apply st (fails o AsyncCancelled st)) ≡ None
   none_aborted None f = f
   none_aborted (Some r) f = grind (arith, common_steps, dropped_is, find-settled_over)
 
-  aborted : (o : Option SetRow) → ((fold apply st (fails o AsyncCancelled st)).course ≡ st.course) ⊎ ((fold apply st (fails o AsyncCancelled st)).course ≡ course_failed AsyncCancelled st.course)
+  aborted : (o : Option SetRow)
+      → ((fold apply st (fails o AsyncCancelled st)).course ≡ st.course)
+      ⊎ ((fold apply st (fails o AsyncCancelled st)).course ≡ course_failed AsyncCancelled st.course)
   aborted None = inl refl
   aborted (Some r) = inr (grind (arith, common_steps, dropped_is))
 
-  come_closes : (q : Session) (x : State) → in_progress x ≡ None → (x.course ≡ st.course) ⊎ (x.course ≡ course_failed AsyncCancelled st.course) → Come s e m st x (closes q x)
+  come_closes : (q : Session) (x : State) → in_progress x ≡ None → (x.course ≡ st.course) ⊎ (x.course ≡ course_failed AsyncCancelled st.course)
+      → Come s e m st x (closes q x)
   unfolding released
   come_closes q x none was = (
     inl refl, (record { call = Releases; is = refl; due = was; stands = (none, refl) }, (
@@ -342,13 +351,18 @@ module _ (s : Plan) (e : Event) (m : Mark) (st : State) where
   makes_none : Makes st []
   makes_none = record { is = refl; come = tt }
 
-  makes_on : (ran : Bool) (c : CourseCall) → IsDue st st.course c → Stands st st c → Makes (followed ran (called s st c st.course) st) (goes_on ran (called s st c st.course) st)
+  makes_on : (ran : Bool) (c : CourseCall) → IsDue st st.course c → Stands st st c
+      → Makes (followed ran (called s st c st.course) st) (goes_on ran (called s st c st.course) st)
   makes_on ran c i k = let d = called s st c st.course in
-      record { is = sym (goes_on_own ran d st); come = come_on ran d st st refl (rests_called s st c st.course i) (record { call = c; is = refl; due = i; stands = k }) }
+      record { is = sym (goes_on_own ran d st); come = come_on ran d st st refl (rests_called s st c st.course i)
+          (record { call = c; is = refl; due = i; stands = k }) }
 
   makes_passes : (n : ℕ) → ticks_of st e ≡ Some n → Makes (ticked n st) (passes n st)
   unfolding ticked
-  makes_passes n f = record { is = sym (goes_on_is (runs st) (timed (st.clock + n) st.course) (later n st) st (record { course = refl; session = refl; set = refl })); come = (f, come_on (runs st) (timed (st.clock + n) st.course) (later n st) st refl (rests_called s st (Times (st.clock + n)) st.course refl) (record { call = Times (st.clock + n); is = refl; due = refl; stands = tt })) }
+  makes_passes n f = record { is = sym
+      (goes_on_is (runs st) (timed (st.clock + n) st.course) (later n st) st (record { course = refl; session = refl; set = refl })); come = (f, come_on
+      (runs st) (timed (st.clock + n) st.course) (later n st) st refl (rests_called s st (Times (st.clock + n)) st.course refl)
+      (record { call = Times (st.clock + n); is = refl; due = refl; stands = tt })) }
 
   makes_fails : (why : VssResult) → Makes (failed why st) (fails (in_progress st) why st)
   makes_fails why = record { is = sym (fails_is (in_progress st) why st st (as_before st)); come = come_fails (in_progress st) why st refl refl refl }
@@ -359,13 +373,15 @@ module _ (s : Plan) (e : Event) (m : Mark) (st : State) where
       let x = fold apply st cs in
       record {
         is = sym (fold-append apply st cs (closes q x) ∙ closes_is q x ∙ ap (closed q) (fails_is (in_progress st) AsyncCancelled st st (as_before st)));
-        come = come-append s e m st st cs (closes q x) (come_fails (in_progress st) AsyncCancelled st refl refl refl) (come_closes q x (none_aborted (in_progress st) refl) (aborted (in_progress st)));
+        come = come-append s e m st st cs (closes q x) (come_fails (in_progress st) AsyncCancelled st refl refl refl)
+            (come_closes q x (none_aborted (in_progress st) refl) (aborted (in_progress st)));
       }
 
   room_is : (b : Bool) (hs : List History) → fold apply (record st { volumes = hs }) (if b then fails (in_progress st) InsufficientStorage st else []) ≡ with_room_if b (record st { volumes = hs })
   room_is b hs = grind (arith, common_steps, fails_is)
 
-  room_comes : (b : Bool) (x : State) → x.course ≡ st.course → x.session ≡ st.session → Come s e m st x (if b then fails (in_progress st) InsufficientStorage st else [])
+  room_comes : (b : Bool) (x : State) → x.course ≡ st.course → x.session ≡ st.session
+      → Come s e m st x (if b then fails (in_progress st) InsufficientStorage st else [])
   room_comes b x same session = grind (arith, common_steps, come_fails)
 
   puts_is : (k : Mark) (v : ℕ) (w : Write) (x : State) → fold apply x (puts v w k) ≡ put v w k x
@@ -391,7 +407,8 @@ module _ (s : Plan) (e : Event) (m : Mark) (st : State) where
   abbrev next_of : Bool → Course
   next_of ok = called s st (Steps ok) st.course
 
-  pub makes_cut : (r : SetRow) → is_working (left_now st) ≡ true → in_progress st ≡ Some r → is_provider e ≡ true → is_cut_group (open_group (left_now st)) ≡ true
+  pub makes_cut : (r : SetRow) → is_working (left_now st) ≡ true → in_progress st ≡ Some r → is_provider e ≡ true
+      → is_cut_group (open_group (left_now st)) ≡ true
       → Makes (followed (runs st) (next_of true) (cut_set (Some r) st)) (IsCutAt r.number st.clock ∷ Cuts r.number r.volumes ∷ goes_on (runs st) (next_of true) st)
   makes_cut r w f g h =
       let c = next_of true in
@@ -399,7 +416,8 @@ module _ (s : Plan) (e : Event) (m : Mark) (st : State) where
       let x = cut_set (Some r) st in
       record {
         is = sym (goes_on_is (runs st) c x st (record { course = refl; session = refl; set = in_progress_cut r.number st.clock st }));
-        come = ((known st refl, refl, refl), ((known (apply st (IsCutAt r.number st.clock)) refl, sym (ap volumes_of f)), come_on (runs st) c x st refl (rests_called s st (Steps true) st.course (w, refl)) (record { call = Steps true; is = refl; due = (w, refl); stands = tt })));
+        come = ((known st refl, refl, refl), ((known (apply st (IsCutAt r.number st.clock)) refl, sym (ap volumes_of f)), come_on (runs st) c x st refl
+            (rests_called s st (Steps true) st.course (w, refl)) (record { call = Steps true; is = refl; due = (w, refl); stands = tt })));
       }
 
   makes_cut_in : (o : Option SetRow) → is_working (left_now st) ≡ true → in_progress st ≡ o → is_provider e ≡ true → is_cut_group (open_group (left_now st)) ≡ true
@@ -478,7 +496,8 @@ module _ (s : Plan) (st : State) where
   snapshots : (b : Bool) (lane : ℕ) (q : Session) (m : Mark) → has_no_volume (in_progress st) ≡ b → LetsGo call.Snapshot q st
       → Happens (Line lane op.Snapshot) m (if b then refused BadState st else pending (snapshot_begun (volumes_of (in_progress st)) st.clock st.course) st)
   snapshots true lane q m e g = λ i. makes_none s (Line lane op.Snapshot) m st
-  snapshots false lane q m e g = λ i. owned lane op.Snapshot m q _ g.stands (makes_on s (Line lane op.Snapshot) m st true Snapshots (record { session = q; goes = g; course = refl }) (refl, e))
+  snapshots false lane q m e g = λ i. owned lane op.Snapshot m q _ g.stands
+      (makes_on s (Line lane op.Snapshot) m st true Snapshots (record { session = q; goes = g; course = refl }) (refl, e))
 
   covers : Covers Happens s st
   covers = record {
@@ -494,20 +513,30 @@ module _ (s : Plan) (st : State) where
     begins = λ lane n all c m e f i.
         let x = record st { session = Some (opened lane c all); explicit = [] } in
         subst (λ q. Makes s (Line lane (op.Begin n all)) m st x (session_calls s lane (op.Begin n all) q st)) (sym e)
-        (subst (λ o. Makes s (Line lane (op.Begin n all)) m st x (SessionIs (option_map (λ y. opened lane y all) o) ∷ Names [] ∷ [])) (sym f) (record { is = refl; come = (record { step = Opens lane c all; is = refl; due = (n, (refl, e, refl)) }, (inl refl, tt)) }));
-    disables = λ lane w q m g i. owned lane (op.Disable w) m q _ g.stands (one (Line lane (op.Disable w)) m (CourseIs (called s st (Disables w) st.course)) (record { call = Disables w; is = refl; due = record { session = q; goes = g; course = refl }; stands = refl }));
-    gathers = λ lane q m g i. owned lane op.Gather m q _ g.stands (makes_on s (Line lane op.Gather) m st true Gathers (record { session = q; goes = g; course = refl }) refl);
+        (subst (λ o. Makes s (Line lane (op.Begin n all)) m st x (SessionIs (option_map (λ y. opened lane y all) o) ∷ Names [] ∷ [])) (sym f)
+            (record { is = refl; come = (record { step = Opens lane c all; is = refl; due = (n, (refl, e, refl)) }, (inl refl, tt)) }));
+    disables = λ lane w q m g i. owned lane (op.Disable w) m q _ g.stands
+        (one (Line lane (op.Disable w)) m (CourseIs (called s st (Disables w) st.course))
+        (record { call = Disables w; is = refl; due = record { session = q; goes = g; course = refl }; stands = refl }));
+    gathers = λ lane q m g i. owned lane op.Gather m q _ g.stands
+        (makes_on s (Line lane op.Gather) m st true Gathers (record { session = q; goes = g; course = refl }) refl);
     names = λ lane w full q explicit m g e i.
         owned lane (op.Component w full) m q _ g.stands
-        (subst (λ x. Makes s (Line lane (op.Component w full)) m st (apply st (Names explicit)) (names x)) (sym e) (one (Line lane (op.Component w full)) m (Names explicit) (inr (record { session = q; goes = g; writer = w; name = token s full; named = e; first = refl }))));
-    starts = λ lane q m g e i. owned lane op.Start m q _ g.stands (record { is = refl; come = (record { step = Starts q; is = refl; due = (g, refl) }, (record { session = q; goes = g; free = e; row = refl; before = refl; course = refl; volumes = refl }, tt)) });
+        (subst (λ x. Makes s (Line lane (op.Component w full)) m st (apply st (Names explicit)) (names x)) (sym e)
+            (one (Line lane (op.Component w full)) m (Names explicit)
+            (inr (record { session = q; goes = g; writer = w; name = token s full; named = e; first = refl }))));
+    starts = λ lane q m g e i. owned lane op.Start m q _ g.stands
+        (record { is = refl; come = (record { step = Starts
+        q; is = refl; due = (g, refl) }, (record { session = q; goes = g; free = e; row = refl; before = refl; course = refl; volumes = refl }, tt)) });
     adds = λ lane v r q m g e f i.
         owned lane (op.Add v) m q _ g.stands
         (subst (λ x. Makes s (Line lane (op.Add v)) m st (apply st (AddsVolume r.number v)) (adds v x)) (sym e)
         (one (Line lane (op.Add v)) m (AddsVolume r.number v) (record { row = r; session = q; goes = g; found = e; number = refl; allowed = f; first = refl })));
-    prepares = λ lane q m g. by_if (Happens (Line lane op.Prepare) m) (has_no_volume (in_progress st)) _ _ (λ i. makes_none s (Line lane op.Prepare) m st) (λ i. owned lane op.Prepare m q _ g.stands (makes_on s (Line lane op.Prepare) m st true (Prepares q) (g, refl) refl));
+    prepares = λ lane q m g. by_if (Happens (Line lane op.Prepare) m) (has_no_volume (in_progress st)) _ _ (λ i. makes_none s (Line lane op.Prepare) m st)
+        (λ i. owned lane op.Prepare m q _ g.stands (makes_on s (Line lane op.Prepare) m st true (Prepares q) (g, refl) refl));
     snapshots = λ lane q m g. snapshots (has_no_volume (in_progress st)) lane q m refl g;
-    completes = λ lane q m g i. owned lane op.Complete m q _ g.stands (makes_on s (Line lane op.Complete) m st true Completes (record { session = q; goes = g; course = refl }) refl);
+    completes = λ lane q m g i. owned lane op.Complete m q _ g.stands
+        (makes_on s (Line lane op.Complete) m st true Completes (record { session = q; goes = g; course = refl }) refl);
     aborts = λ lane q m e i. owned lane op.Abort m q _ e (makes_fails s (Line lane op.Abort) m st AsyncCancelled);
     ends = λ lane q m e i. owned lane op.End m q _ e (makes_end s (Line lane op.End) m st lane q);
     answers = λ w a m e i. subst (Makes s (AnswerEvent w a) m st _) (sym (of_answer (order_of_writer st w) a _)) (makes_answer s (AnswerEvent w a) m st w (said_of a) e);

@@ -282,7 +282,7 @@ unmade_begun : (k : Kind) (ms : List Member) (vs : List ℕ) (now : ℕ) (c : Co
 unfolding begun posted settled
 unmade_begun k ms vs now c m = unmade_if (is_done (groups_left (unspoken k ms vs now))) k k ms vs now c m
 
-pub agenda-concluded : (e : Ending) (st : State) → (concluded e st).course.agenda ≡ st.course.agenda
+agenda-concluded : (e : Ending) (st : State) → (concluded e st).course.agenda ≡ st.course.agenda
 agenda-concluded e st = grind arith
 
 agenda_followed : (ran : Bool) (c : Course) (st : State) → (followed ran c st).course.agenda ≡ c.agenda

@@ -22,9 +22,6 @@ use Rattle.vss_model.proofs.AtCut.{CutsNow}
 
 -- ## tests
 
-pub second_not : (a b : Bool) → (a && b) ≡ false → a ≡ true → b ≡ false
-second_not a b e f = grind arith
-
 pub both : (a b : Bool) → (a && b) ≡ true → (a ≡ true) × (b ≡ true)
 both a b e = grind arith
 
@@ -73,7 +70,8 @@ pub has_set : (st : State) → CutsNow st → HasSet st
 has_set st c = has_set_in (in_progress st) st c.agenda c.agenda.kind st.course.members refl c.kind c.of_set
 
 -- what holds of the state with the images of the cut and the course after the step, and is kept where something ends, holds after the act
-pub by_cut : (P : State → Type 0) (s : Plan) (st : State) (act : Act) (r : SetRow) → is_provider act.event ≡ true → is_cut_group (open_group (left_now st)) ≡ true → in_progress st ≡ Some r
+pub by_cut : (P : State → Type 0) (s : Plan) (st : State) (act : Act) (r : SetRow) → is_provider act.event ≡ true
+    → is_cut_group (open_group (left_now st)) ≡ true → in_progress st ≡ Some r
     → ((c : Change) (x : State) → is_end c ≡ true → Comes s act.event act.mark st x c → P x → P (apply x c))
     → P (record (cut_set (Some r) st) { course = course_stepped true st.clock st.course }) → P (after s st act)
 by_cut P s st act r e f g keeps h =

@@ -13,7 +13,8 @@ use Rattle.vss_model.specs.Acts.{Act, after, state}
 use Rattle.vss_model.specs.Facts.{NumberedFrom, has_failed, is_live}
 use Rattle.vss_model.proofs.Appending.{state-append}
 use Rattle.vss_model.specs.Changes.{Change, CourseIs, StartsSet, AddsVolume, IsCutAt, Settles, apply}
-use Rattle.vss_model.proofs.Changes.{CourseCall, Answers, Steps, Times, Gathers, Prepares, Snapshots, Completes, Disables, called, IsDue, Stands, Comes, by_changes}
+use Rattle.vss_model.proofs.Changes.{CourseCall, Answers, Steps, Times, Gathers, Prepares, Snapshots, Completes, Disables, called, IsDue, Stands, Comes}
+use Rattle.vss_model.proofs.Changes.{by_changes}
 use Rattle.vss_model.proofs.Orderly.{IsSameRow, live-map, live_append, live_found, true_not_false}
 use Rattle.vss_model.proofs.OrderlyActs.{Moves, moves_answered, moves_stepped, moves_timed, orderly, same_changed}
 use Rattle.vss_model.proofs.Failures.{failed_not_live}
@@ -26,11 +27,13 @@ idle_moves : (a : Option Agenda) (o : SetOutcome) (b : Option Agenda) (p : SetOu
 idle_moves a o b p e m = grind arith
 
 module _ (n : ℕ) (s : Plan) (st : State) (live : is_live st.sets n ≡ true) where
-  idle_called : (x : State) (call : CourseCall) → IsDue st x.course call → Stands st x call → LiveOrIdle n x → LiveOrIdle n (record x { course = called s st call x.course })
+  idle_called : (x : State) (call : CourseCall) → IsDue st x.course call → Stands st x call → LiveOrIdle n x
+      → LiveOrIdle n (record x { course = called s st call x.course })
   unfolding course_failed released
   idle_called x call i k (inl h) = inl h
   idle_called x (Answers w said) i k (inr h) = inr (idle_moves x.course.agenda x.course.outcome _ _ h (moves_answered w said st.clock x.course))
-  idle_called x (Steps ok) i k (inr h) = inr (idle_moves x.course.agenda x.course.outcome _ _ h (moves_stepped ok st.clock x.course (subst (λ c. is_working (left c.agenda) ≡ true) (sym i.1) i.0)))
+  idle_called x (Steps ok) i k (inr h) = inr
+      (idle_moves x.course.agenda x.course.outcome _ _ h (moves_stepped ok st.clock x.course (subst (λ c. is_working (left c.agenda) ≡ true) (sym i.1) i.0)))
   idle_called x (Times now) i k (inr h) = inr (idle_moves x.course.agenda x.course.outcome _ _ h (moves_timed now x.course))
   idle_called x Gathers i k (inr h) = inl (ap (λ (y : State). is_live y.sets n) k ∙ live)
   idle_called x (Prepares q) i k (inr h) = inl (ap (λ (y : State). is_live y.sets n) k ∙ live)

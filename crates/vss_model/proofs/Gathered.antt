@@ -21,7 +21,8 @@ use Rattle.set_agenda.specs.declared.kind.Kind.{Kind}
 use Rattle.set_agenda.specs.declared.kind.Kind.TheVariants.{Gather, Prepare, Snapshot, Complete}
 use Rattle.set_agenda.specs.declared.member.Member.{Member}
 use Rattle.set_agenda.specs.Agenda.{Agenda, is_among, open_group}
-use Rattle.set_agenda.specs.Course.{Course, change_at, posted, settled, begun, failed as course_failed, member_if, members_from, is_member, has_row_failed, answered as course_answered, stepped as course_stepped, timed as course_timed, released}
+use Rattle.set_agenda.specs.Course.{Course, change_at, posted, settled, begun, failed as course_failed, member_if, members_from, is_member, has_row_failed}
+use Rattle.set_agenda.specs.Course.{answered as course_answered, stepped as course_stepped, timed as course_timed, released}
 use Rattle.requestor.specs.declared.mode.Mode.{Mode}
 use Rattle.requestor.specs.declared.mode.Mode.TheVariants.{Components, All}
 use Rattle.requestor.specs.declared.stage.Stage.{Stage}
@@ -34,14 +35,16 @@ use Rattle.writer_calls.specs.Script.{said_of}
 use Rattle.vss_model.specs.State.{State, SetRow, Kept, start, in_progress, left_now}
 use Rattle.vss_model.specs.Ending.{Ending, ending, concluded, followed, runs, failed_in, failed}
 use Rattle.vss_model.specs.Images.{with_room_if, put, write, reverted_as}
-use Rattle.vss_model.specs.Sessions.{has_failed_identify, has_no_volume, start_set, change_set, with_volume, selected_in, is_known, meta_if, known_from, known_metas, closed}
+use Rattle.vss_model.specs.Sessions.{has_failed_identify, has_no_volume, start_set, change_set, with_volume, selected_in, is_known, meta_if, known_from}
+use Rattle.vss_model.specs.Sessions.{known_metas, closed}
 use Rattle.vss_model.specs.Steps.{answered, step_made, is_flush, is_failed_step, stepped_as, stepped, ticked, later}
 use Rattle.vss_model.specs.Acts.{idle_now, Act, after, state}
 use Rattle.vss_model.specs.Laws.{LetsGo}
 use Rattle.vss_model.specs.Facts.{IsAgendaOf}
 use Rattle.vss_model.specs.declared.event.Event.{Event}
 use Rattle.vss_model.specs.Changes.{Change, SessionIs, Names as NamesPairs, CourseIs, apply}
-use Rattle.vss_model.proofs.Changes.{CourseCall, Answers, Steps, Times, Gathers, Prepares, Snapshots, Completes, Disables, Fails, Releases, called, IsDue, Stands, SessionStep, Opens, Starts, EndsAgenda, FailsSet, Closes, session_after, IsStepDue, Comes, by_all_changes}
+use Rattle.vss_model.proofs.Changes.{CourseCall, Answers, Steps, Times, Gathers, Prepares, Snapshots, Completes, Disables, Fails, Releases, called, IsDue}
+use Rattle.vss_model.proofs.Changes.{Stands, SessionStep, Opens, Starts, EndsAgenda, FailsSet, Closes, session_after, IsStepDue, Comes, by_all_changes}
 use Rattle.vss_model.proofs.OrderlyActs.{orderly}
 use Rattle.vss_model.proofs.ByEvent.{Covers, Next, after_covered, by_if}
 use Rattle.vss_model.proofs.Rows.{none_runs}
@@ -265,7 +268,8 @@ on_names s w name q explicit st g e x8 = grind (arith, known_same, named_over, o
 
 -- ## each change
 
-late_map : (f : Session → Session) (q : Option Session) → ((p : Session) → is_late p.stage ≡ true → is_late (f p).stage ≡ true) → LateIn q → LateIn (option_map f q)
+late_map : (f : Session → Session) (q : Option Session) → ((p : Session) → is_late p.stage ≡ true → is_late (f p).stage ≡ true) → LateIn q
+    → LateIn (option_map f q)
 late_map f q keeps h = grind arith
 
 late_ended : (p : Session) → is_late p.stage ≡ true → is_late (agenda_ended p).stage ≡ true
@@ -278,14 +282,17 @@ module _ (s : Plan) (st : State) where
   abbrev With : State → Course → Type 0
   With x d = NamesKnown s (record x { course = d })
 
-  goes_bare : (x : State) (d : Course) → d.members ≡ x.course.members → Follows x.course.agenda x.course.members x.course.outcome d.agenda d.members d.outcome → IsBare x → With x d
+  goes_bare : (x : State) (d : Course) → d.members ≡ x.course.members → Follows x.course.agenda x.course.members x.course.outcome d.agenda d.members d.outcome
+      → IsBare x → With x d
   goes_bare x d e f h = inl (record { explicit = h.explicit; members = e ∙ h.members; agenda = bare_follows x.course.agenda x.course d f h.agenda })
 
-  goes_gathered : (x : State) (d : Course) → Keeps x.course d → Follows x.course.agenda x.course.members x.course.outcome d.agenda d.members d.outcome → IsGathered s x → With x d
+  goes_gathered : (x : State) (d : Course) → Keeps x.course d → Follows x.course.agenda x.course.members x.course.outcome d.agenda d.members d.outcome
+      → IsGathered s x → With x d
   goes_gathered x d k f h = inr (gathered_course s x d k (asks_follows x.course.agenda d.agenda x.course d f k.fit h.agenda) h)
 
   on_prepare : (q : Session) (x : State) → LetsGo call.Prepare q st → NamesKnown s st → With st (called s st (Prepares q) st.course)
-  on_prepare q x g h = inr (gathered_prepared s q.mode st.clock st (over h) (subst LateIn (sym g.stands) (prepares_late q.stage (has_writers q.context) g.allowed))) where
+  on_prepare q x g h = inr
+      (gathered_prepared s q.mode st.clock st (over h) (subst LateIn (sym g.stands) (prepares_late q.stage (has_writers q.context) g.allowed))) where
     over : NamesKnown s st → AreOver (known_metas s st) st.explicit
     over (inl k) = over_nothing (known_metas s st) st.explicit k.explicit
     over (inr k) = k.over
@@ -300,27 +307,35 @@ module _ (s : Plan) (st : State) where
   on_called x (Times now) i k (inr h) = goes_gathered x _ (keeps_timed now x.course h.agenda) (goes_timed now x.course) h
   on_called x Gathers i k (inl h) =
       let c = record x.course { rows = map row_gathered x.course.rows } in
-      inl (record { explicit = h.explicit; members = (begun_members Gather _ [] st.clock c).members ∙ h.members; agenda = bare_begun_agenda Gather _ [] st.clock c (inl refl) })
+      inl (record { explicit = h.explicit; members = (begun_members Gather _ [] st.clock c).members
+          ∙ h.members; agenda = bare_begun_agenda Gather _ [] st.clock c (inl refl) })
   on_called x Gathers i k (inr h) =
-      absurd (opened_not_late i.session.stage (has_writers i.session.context) i.goes.allowed (late_at x.session i.session (ap (λ (y : State). y.session) k ∙ i.goes.stands) h.late))
+      absurd (opened_not_late i.session.stage (has_writers i.session.context) i.goes.allowed
+          (late_at x.session i.session (ap (λ (y : State). y.session) k ∙ i.goes.stands) h.late))
   on_called x (Prepares q) i k h = subst (λ (y : State). With y (called s st (Prepares q) y.course)) (sym k) (on_prepare q x i.0 (subst (NamesKnown s) k h))
   on_called x Snapshots i k (inl h) =
-      inl (record { explicit = h.explicit; members = (begun_members Snapshot _ _ st.clock x.course).members ∙ h.members; agenda = bare_begun_agenda Snapshot _ _ st.clock x.course (inr h.members) })
-  on_called x Snapshots i k (inr h) = inr (gathered_course s x _ (begun_members Snapshot _ _ st.clock x.course) (fit_begun_agenda Snapshot x.course.members _ st.clock x.course refl h.members) h)
+      inl (record { explicit = h.explicit; members = (begun_members Snapshot _ _ st.clock x.course).members
+          ∙ h.members; agenda = bare_begun_agenda Snapshot _ _ st.clock x.course (inr h.members) })
+  on_called x Snapshots i k (inr h) = inr
+      (gathered_course s x _ (begun_members Snapshot _ _ st.clock x.course) (fit_begun_agenda Snapshot x.course.members _ st.clock x.course refl h.members) h)
   on_called x Completes i k (inl h) =
       let test = λ (m : Member). not (has_row_failed x.course.rows m.writer) in
-      inl (record { explicit = h.explicit; members = (begun_members Complete _ [] st.clock x.course).members ∙ h.members; agenda = bare_begun_agenda Complete _ [] st.clock x.course (inr (ap (filter test) h.members)) })
+      inl (record { explicit = h.explicit; members = (begun_members Complete _ [] st.clock x.course).members
+          ∙ h.members; agenda = bare_begun_agenda Complete _ [] st.clock x.course (inr (ap (filter test) h.members)) })
   on_called x Completes i k (inr h) =
       let test = λ (m : Member). not (has_row_failed x.course.rows m.writer) in
-      inr (gathered_course s x _ (begun_members Complete _ [] st.clock x.course) (fit_begun_agenda Complete _ [] st.clock x.course refl (λ w e. h.members w (filter_member test x.course.members w e))) h)
+      inr (gathered_course s x _ (begun_members Complete _ [] st.clock x.course)
+          (fit_begun_agenda Complete _ [] st.clock x.course refl (λ w e. h.members w (filter_member test x.course.members w e))) h)
   on_called x (Disables w) i k (inl h) = inl (record { explicit = h.explicit; members = h.members; agenda = h.agenda })
   on_called x (Disables w) i k (inr h) =
-      absurd (opened_not_late i.session.stage (has_writers i.session.context) i.goes.allowed (late_at x.session i.session (ap (λ (y : State). y.session) k ∙ i.goes.stands) h.late))
+      absurd (opened_not_late i.session.stage (has_writers i.session.context) i.goes.allowed
+          (late_at x.session i.session (ap (λ (y : State). y.session) k ∙ i.goes.stands) h.late))
   on_called x (Fails why) i k (inl h) = inl (record { explicit = h.explicit; members = h.members; agenda = tt })
   on_called x (Fails why) i k (inr h) = inr (gathered_course s x _ (keeps_failed why x.course) tt h)
   on_called x Releases i k h = inl (record { explicit = k.1; members = refl; agenda = tt })
 
-  on_step : (e : Event) (x : State) (step : SessionStep) → IsStepDue e st x step → NamesKnown s x → NamesKnown s (record x { session = session_after st step x.session })
+  on_step : (e : Event) (x : State) (step : SessionStep) → IsStepDue e st x step → NamesKnown s x
+      → NamesKnown s (record x { session = session_after st step x.session })
   on_step e x Closes i h = inl (record { explicit = i.0; members = i.1; agenda = subst BareAgenda (sym i.2) tt })
   on_step e x step i (inl h) = inl (bare_same x _ refl refl h)
   on_step e x (Opens lane c all) i (inr h) = no_late x.session (ap (λ (y : State). y.session) i.1.2 ∙ i.1.1) h.late
@@ -330,14 +345,16 @@ module _ (s : Plan) (st : State) where
 
   none_named : (x : State) (pairs : List Pair) → pairs ≡ [] → NamesKnown s x → NamesKnown s (record x { explicit = pairs })
   none_named x pairs e (inl h) = inl (record { explicit = e; members = h.members; agenda = h.agenda })
-  none_named x pairs e (inr h) = inr (record { over = over_nothing (known_metas s (record x { explicit = pairs })) pairs e; members = h.members; agenda = h.agenda; late = h.late })
+  none_named x pairs e (inr h) = inr
+      (record { over = over_nothing (known_metas s (record x { explicit = pairs })) pairs e; members = h.members; agenda = h.agenda; late = h.late })
 
   names_apply : (e : Event) (m : Mark) (c : Change) (x : State) → Comes s e m st x c → NamesKnown s x → NamesKnown s (apply x c)
   names_apply e m (CourseIs c) x i h = subst (With x) (sym i.is) (on_called x i.call i.due i.stands h)
   names_apply e m (SessionIs q) x i h = subst (λ p. NamesKnown s (record x { session = p })) (sym i.is) (on_step e x i.step i.due h)
   names_apply e m (NamesPairs pairs) x (inl i) h = none_named x pairs i h
   names_apply e m (NamesPairs pairs) x (inr i) h =
-      subst (λ (y : State). NamesKnown s (record y { explicit = pairs })) (sym i.first) (on_names s i.writer i.name i.session pairs st i.goes i.named (subst (NamesKnown s) i.first h))
+      subst (λ (y : State). NamesKnown s (record y { explicit = pairs })) (sym i.first)
+          (on_names s i.writer i.name i.session pairs st i.goes i.named (subst (NamesKnown s) i.first h))
   names_apply e m c x i h = same s x (apply x c) refl refl (λ l. l) h
 
 names_from : (s : Plan) (st : State) (acts : List Act) → NamesKnown s st → NamesKnown s (fold (after s) st acts)

@@ -1,6 +1,7 @@
 -- From the Cut until the volume's Release the image of the set in progress names no block: its point is the end of the
 -- volume's effective writes, and it uses no slot.
-use Rattle.std.proofs.Common.{◌≡◌, ◌⊎◌, ℕ, ◌+◌, ◌==◌, ◌<◌, zero, suc, List, [], ◌∷◌, ◌++◌, Option, Some, None, refl, Bool, true, false, filter, length, drop, ap, sym, ◌∙◌, subst, find, fold, inl, inr, arith}
+use Rattle.std.proofs.Common.{◌≡◌, ◌⊎◌, ℕ, ◌+◌, ◌==◌, ◌<◌, zero, suc, List, [], ◌∷◌, ◌++◌, Option, Some, None, refl, Bool, true, false, filter, length, drop}
+use Rattle.std.proofs.Common.{ap, sym, ◌∙◌, subst, find, fold, inl, inr, arith}
 use Rattle.std.specs.Prelude.{option_map, is_some, ◌&&◌, not, if◌then◌else◌, nat_lt, slice_get}
 use Rattle.std.specs.List.{range_with_len}
 use Rattle.std.proofs.Math.Seq.{drop-length}
@@ -24,7 +25,8 @@ use Rattle.vss_model.specs.Acts.{Act, after, state}
 use Rattle.vss_model.specs.Cut.{is_provider, is_cut_group}
 use Rattle.vss_model.specs.Facts.{IsOrderly}
 use Rattle.vss_model.specs.declared.event.Event.{Event}
-use Rattle.vss_model.specs.Changes.{Change, Passes, SessionIs, Names, StartsSet, AddsVolume, IsCutAt, CourseIs, Settles, Writes, Cuts, Reverts, RevertsPart, DropsSet, Drops, Evicts, apply}
+use Rattle.vss_model.specs.Changes.{Change, Passes, SessionIs, Names, StartsSet, AddsVolume, IsCutAt, CourseIs, Settles, Writes, Cuts, Reverts, RevertsPart}
+use Rattle.vss_model.specs.Changes.{DropsSet, Drops, Evicts, apply}
 use Rattle.vss_model.proofs.Changes.{Comes, is_end, by_changes}
 use Rattle.vss_model.proofs.FewerImages.{is_cut, no_cut}
 use Rattle.vss_model.proofs.Appending.{state-append}
@@ -160,9 +162,11 @@ unused_fact m v h = record {
 }
 
 abbrev Holds : Bool → ℕ → State → Type 0
-Holds m v x = HoldsIn (λ a o. SetUnused m v a o (history_of x v)) (λ o. NoImage o (history_of x v).images) (unused_fact m v (history_of x v)) (in_progress x) x.course.agenda x.course.outcome
+Holds m v x = HoldsIn (λ a o. SetUnused m v a o (history_of x v)) (λ o. NoImage o (history_of x v).images) (unused_fact m v (history_of x v))
+    (in_progress x) x.course.agenda x.course.outcome
 
-with_volumes : (m : Bool) (v : ℕ) (hs : List History) (x : State) → Fewer m (history_of x v) (history_in (slice_get hs v)) → Holds m v x → Holds m v (record x { volumes = hs })
+with_volumes : (m : Bool) (v : ℕ) (hs : List History) (x : State) → Fewer m (history_of x v) (history_in (slice_get hs v)) → Holds m v x
+    → Holds m v (record x { volumes = hs })
 with_volumes m v hs x f (inl h) = inl (set_fewer m v x.course.agenda (in_progress x) (history_of x v) (history_in (slice_get hs v)) f h)
 with_volumes m v hs x f (inr h) = inr h
 
@@ -180,10 +184,13 @@ unnumbered : (n m : ℕ) (images : List Image) → UpTo m images → m < n → p
 unnumbered n m [] h l = refl
 unnumbered n m (i ∷ images) h l = let ih = unnumbered n m images h.1 l in grind (arith, common_steps)
 
-starts_unused : (m : Bool) (v : ℕ) (r : SetRow) (st x : State) → x.sets ≡ st.sets → x.volumes ≡ st.volumes → r.number ≡ length st.sets + 1 → runs st ≡ false → IsOrderly st → Unused m v st → Unused m v (record x { sets = x.sets ++ r ∷ [] })
+starts_unused : (m : Bool) (v : ℕ) (r : SetRow) (st x : State) → x.sets ≡ st.sets → x.volumes ≡ st.volumes → r.number ≡ length st.sets + 1 → runs st ≡ false
+    → IsOrderly st → Unused m v st → Unused m v (record x { sets = x.sets ++ r ∷ [] })
 starts_unused m v r st x e f number quiet o h =
     let images = (history_of st v).images in
-    let none = found_no_image st.sets r images (unnumbered r.number (length st.sets) images (images_up_to st.sets st.volumes v o.numbered o.live) (newer r.number (length st.sets) number)) (quiet_no_image m v st.course.agenda (in_progress st) (history_of st v) quiet h) in
+    let none = found_no_image st.sets r images
+        (unnumbered r.number (length st.sets) images (images_up_to st.sets st.volumes v o.numbered o.live) (newer r.number (length st.sets) number))
+        (quiet_no_image m v st.course.agenda (in_progress st) (history_of st v) quiet h) in
     no_image_any m v x.course.agenda (find (λ q. is_running q.result) (x.sets ++ r ∷ [])) (history_of x v)
     (subst (λ hs. NoImage (find (λ q. is_running q.result) (x.sets ++ r ∷ [])) (history_in (slice_get hs v)).images) (sym f)
     (subst (λ rows. NoImage (find (λ q. is_running q.result) (rows ++ r ∷ [])) images) (sym e) none)) where
@@ -201,7 +208,8 @@ on_other m v u f x e h = subst (SetUnused m v x.course.agenda (in_progress x)) (
 on_put : (m : Bool) (v u : ℕ) (w : Write) (st x : State) → is_held st v ≡ m → is_held st u ≡ false → Unused m v x → Unused m v (record x { volumes = change_at u (written w) x.volumes })
 on_put true v u w st x e free h = on_other true v u (written w) x (apart (is_held st) u v free e) h
 on_put false v u w st x e free h =
-    set_fewer false v x.course.agenda (in_progress x) (history_of x v) _ (each_change (Fewer false) (fewer_same false) (written w) (λ y. record { writes = λ f. absurd cc; images = λ n p f. f }) u x.volumes v) h
+    set_fewer false v x.course.agenda (in_progress x) (history_of x v) _
+        (each_change (Fewer false) (fewer_same false) (written w) (λ y. record { writes = λ f. absurd cc; images = λ n p f. f }) u x.volumes v) h
 
 on_reverted : (m : Bool) (v u : ℕ) (f : History → History) (st : State) → ((h : History) → Fewer false h (f h)) → is_in_set u (in_progress st) ≡ false → Unused m v st → Unused m v (record st { volumes = change_at u f st.volumes })
 on_reverted m v u f st less e h = by_cases (u == v) refl where
@@ -214,13 +222,16 @@ on_reverted m v u f st less e h = by_cases (u == v) refl where
 
 -- ## each change
 
-by_held : (m : Bool) (v : ℕ) (x : State) (hs : List History) → (Unused m v x → Unused m v (record x { volumes = hs })) → Holds m v x → Holds m v (record x { volumes = hs })
+by_held : (m : Bool) (v : ℕ) (x : State) (hs : List History) → (Unused m v x → Unused m v (record x { volumes = hs })) → Holds m v x
+    → Holds m v (record x { volumes = hs })
 by_held m v x hs f (inl h) = inl (f h)
 by_held m v x hs f (inr h) = inr h
 
-on_end : (m : Bool) (v : ℕ) (s : Plan) (e : Event) (mark : Mark) (st : State) (c : Change) (x : State) → is_end c ≡ true → Comes s e mark st x c → Holds m v x → Holds m v (apply x c)
+on_end : (m : Bool) (v : ℕ) (s : Plan) (e : Event) (mark : Mark) (st : State) (c : Change) (x : State) → is_end c ≡ true → Comes s e mark st x c → Holds m v x
+    → Holds m v (apply x c)
 on_end m v s e mark st (SessionIs q) x f i h = h
-on_end m v s e mark st (Settles o) x f i h = inl (on_settled (λ a p. SetUnused m v a p (history_of x v)) (λ p. NoImage p (history_of x v).images) (unused_fact m v (history_of x v)) x o i h)
+on_end m v s e mark st (Settles o) x f i h = inl
+    (on_settled (λ a p. SetUnused m v a p (history_of x v)) (λ p. NoImage p (history_of x v).images) (unused_fact m v (history_of x v)) x o i h)
 on_end m v s e mark st (DropsSet n) x f i h = with_volumes m v _ x (each_map (Fewer m) (fewer_same m) (dropped n) (fewer_dropped m n) x.volumes v) h
 on_end m v s e mark st _ x f i h = absurd cc
 
@@ -228,13 +239,17 @@ module _ (m : Bool) (v : ℕ) (s : Plan) (e : Event) (mark : Mark) (st : State) 
   on_change : (c : Change) (x : State) → is_cut c ≡ false → Comes s e mark st x c → Holds m v x → Holds m v (apply x c)
   on_change (CourseIs c) x f i h =
       subst (λ (d : Course). Holds m v (record x { course = d })) (sym i.is)
-      (on_called (λ a p. SetUnused m v a p (history_of x v)) (λ p. NoImage p (history_of x v).images) (unused_fact m v (history_of x v)) s st x (λ g. subst (Unused m v) (sym g) own) i.call i.due i.stands h)
+      (on_called (λ a p. SetUnused m v a p (history_of x v)) (λ p. NoImage p (history_of x v).images) (unused_fact m v (history_of x v)) s st x
+          (λ g. subst (Unused m v) (sym g) own) i.call i.due i.stands h)
   on_change (StartsSet r) x f i h = inl (starts_unused m v r st x i.before i.volumes (ap (λ (q : SetRow). q.number) i.row) i.goes.quiet o own)
-  on_change (AddsVolume n u) x f i h = inl (subst (λ (y : State). Unused m v (change_set n (with_volume u) y)) (sym i.first) (on_adds m v u n st i.goes.quiet own))
+  on_change (AddsVolume n u) x f i h = inl
+      (subst (λ (y : State). Unused m v (change_set n (with_volume u) y)) (sym i.first) (on_adds m v u n st i.goes.quiet own))
   on_change (Writes u w) x f i h = by_held m v x _ (on_put m v u w st x held i.free) h
-  on_change (Reverts u n p) x f i h = by_held m v x _ (on_reverted m v u (reverted n p) x (fewer_reverted n p) (ap (λ (y : State). is_in_set u (in_progress y)) i.2 ∙ i.0.free)) h
+  on_change (Reverts u n p) x f i h = by_held m v x _
+      (on_reverted m v u (reverted n p) x (fewer_reverted n p) (ap (λ (y : State). is_in_set u (in_progress y)) i.2 ∙ i.0.free)) h
   on_change (RevertsPart u blocks n p k) x f i h =
-      by_held m v x _ (on_reverted m v u (reverted_in_part blocks n p k) x (fewer_reverted_in_part blocks n p k) (ap (λ (y : State). is_in_set u (in_progress y)) i.2 ∙ i.0.free)) h
+      by_held m v x _ (on_reverted m v u (reverted_in_part blocks n p k) x (fewer_reverted_in_part blocks n p k)
+          (ap (λ (y : State). is_in_set u (in_progress y)) i.2 ∙ i.0.free)) h
   on_change (Drops n u) x f i h = with_volumes m v _ x (each_change (Fewer m) (fewer_same m) (dropped n) (fewer_dropped m n) u x.volumes v) h
   on_change (Evicts n group) x f i h = with_volumes m v _ x (each_gone (Fewer m) (fewer_same m) n (fewer_after m n) group x.volumes v) h
   on_change (IsCutAt n now) x f i h = absurd cc
@@ -305,13 +320,15 @@ ever_unused v a o h g = grind arith
 rests : (m : Bool) (s : Plan) (past : List Act) (act : Act) (v : ℕ) → Holds m v (after s (state s past) act) → Unused m v (after s (state s past) act)
 rests m s past act v h =
     let x = after s (state s past) act in
-    at_rest (λ a o. SetUnused m v a o (history_of x v)) (λ o. NoImage o (history_of x v).images) (unused_fact m v (history_of x v)) x (subst IsOrderly (state-append s past act) (orderly s (past ++ act ∷ []))) h
+    at_rest (λ a o. SetUnused m v a o (history_of x v)) (λ o. NoImage o (history_of x v).images) (unused_fact m v (history_of x v)) x
+        (subst IsOrderly (state-append s past act) (orderly s (past ++ act ∷ []))) h
 
 on_no_cut : (m : Bool) (s : Plan) (past : List Act) (act : Act) (v : ℕ) → is_held (state s past) v ≡ m → (is_provider act.event && is_cut_group (open_group (left_now (state s past)))) ≡ false → Unused m v (state s past) → Unused m v (after s (state s past) act)
 on_no_cut m s past act v held e h =
     let st = state s past in
     rests m s past act v
-    (by_changes (Holds m v) s st act (λ c x i g. on_change m v s act.event act.mark st held (orderly s past) h c x (no_cut s act.event act.mark st x c e i) i g) (inl h))
+    (by_changes (Holds m v) s st act (λ c x i g. on_change m v s act.event act.mark st held (orderly s past) h c x (no_cut s act.event act.mark st x c e i) i g)
+        (inl h))
 
 on_held_if : (m : Bool) (s : Plan) (past : List Act) (act : Act) (v : ℕ) → is_held (state s past) v ≡ m → (is_provider act.event && is_cut_group (open_group (left_now (state s past)))) ≡ false → Unused true v (state s past) → Unused true v (after s (state s past) act)
 on_held_if m s past act v held e h = grind (arith, on_no_cut, ever_unused, released_unused)
@@ -326,8 +343,10 @@ on_act_if true s past act v e h =
     let x = cut_set (Some r.set) st in
     rests true s past act v
     (by_cut (Holds true v) s st act r.set parts.0 parts.1 r.is (on_end true v s act.event act.mark st)
-    (moves_in (λ a o. SetUnused true v a o (history_of x v)) (λ o. NoImage o (history_of x v).images) (unused_fact true v (history_of x v)) (in_progress x) st.course.agenda st.course.members st.course.outcome _ _ _
-    (moves_stepped true st.clock st.course (working_at_cut (left_now st) parts.1)) (goes_stepped true st.clock st.course) (inl (cut_unused s past v r.set parts.1 c r.is))))
+    (moves_in (λ a o. SetUnused true v a o (history_of x v)) (λ o. NoImage o (history_of x v).images) (unused_fact true v (history_of x v))
+        (in_progress x) st.course.agenda st.course.members st.course.outcome _ _ _
+    (moves_stepped true st.clock st.course (working_at_cut (left_now st) parts.1)) (goes_stepped true st.clock st.course)
+        (inl (cut_unused s past v r.set parts.1 c r.is))))
 
 unused_fold : (s : Plan) (v : ℕ) (past acts : List Act) → Unused true v (state s past) → Unused true v (fold (after s) (state s past) acts)
 unused_fold s v past [] h = h

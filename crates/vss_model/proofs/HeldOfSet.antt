@@ -13,7 +13,8 @@ use Rattle.set_agenda.specs.declared.kind.Kind.TheVariants.{Gather, Prepare, Sna
 use Rattle.set_agenda.specs.declared.member.Member.{Member}
 use Rattle.set_agenda.specs.declared.place.Place.{Place}
 use Rattle.set_agenda.specs.Agenda.{Agenda, left, all_say, next_member, has_said, is_held as holds, is_frozen as freezes}
-use Rattle.set_agenda.specs.Course.{Course, posted, failed as course_failed, settled, begun, told, answered as course_answered, worked, stepped as course_stepped, timed as course_timed, released}
+use Rattle.set_agenda.specs.Course.{Course, posted, failed as course_failed, settled, begun, told, answered as course_answered, worked}
+use Rattle.set_agenda.specs.Course.{stepped as course_stepped, timed as course_timed, released}
 use Rattle.scenario.specs.Plan.{Plan}
 use Rattle.vss_model.specs.State.{State, SetRow, start, is_running, in_progress, is_held, is_frozen}
 use Rattle.vss_model.specs.Ending.{runs}
@@ -25,7 +26,8 @@ use Rattle.vss_model.specs.Laws.{RunsSnapshot}
 use Rattle.set_agenda.proofs.CourseRule.{IsKeptFrom, from_settled, from_answered, from_timed}
 use Rattle.vss_model.proofs.Rows.{none_runs}
 use Rattle.vss_model.specs.Changes.{Change, CourseIs, StartsSet, AddsVolume, IsCutAt, Settles, apply}
-use Rattle.vss_model.proofs.Changes.{CourseCall, Answers, Steps, Times, Gathers, Prepares, Snapshots, Completes, Disables, called, IsDue, Stands, Comes, by_all_changes}
+use Rattle.vss_model.proofs.Changes.{CourseCall, Answers, Steps, Times, Gathers, Prepares, Snapshots, Completes, Disables, called, IsDue, Stands, Comes}
+use Rattle.vss_model.proofs.Changes.{by_all_changes}
 use Rattle.vss_model.proofs.CutLog.{said_stays}
 
 -- ## the fact
@@ -108,7 +110,8 @@ tied_follows : (a : Option Agenda) (ms : List Member) (o : SetOutcome) (b : Opti
 tied_follows a ms o b ns p r f h = grind arith
 
 -- an agenda begins
-tied_begun : (k : Kind) (ms : List Member) (vs : List ℕ) (now : ℕ) (c : Course) (r : Option SetRow) → IsOf k vs ms c.members r → Tied (begun k ms vs now c).agenda (begun k ms vs now c).members r
+tied_begun : (k : Kind) (ms : List Member) (vs : List ℕ) (now : ℕ) (c : Course) (r : Option SetRow) → IsOf k vs ms c.members r
+    → Tied (begun k ms vs now c).agenda (begun k ms vs now c).members r
 unfolding begun posted settled
 tied_begun k ms vs now c r h = grind arith
 
@@ -136,14 +139,17 @@ tied-row_cut a ms n now o h = grind arith
 
 -- ## each change keeps it
 
-tied_called : (s : Plan) (st x : State) (call : CourseCall) → IsDue st x.course call → Stands st x call → IsTied x → Tied (called s st call x.course).agenda (called s st call x.course).members (in_progress x)
+tied_called : (s : Plan) (st x : State) (call : CourseCall) → IsDue st x.course call → Stands st x call → IsTied x
+    → Tied (called s st call x.course).agenda (called s st call x.course).members (in_progress x)
 unfolding course_failed released
-tied_called s st x (Answers w said) i k h = tied_follows x.course.agenda x.course.members x.course.outcome _ _ _ (in_progress x) (goes_answered w said st.clock x.course) h
+tied_called s st x (Answers w said) i k h = tied_follows x.course.agenda x.course.members x.course.outcome _ _ _ (in_progress x)
+    (goes_answered w said st.clock x.course) h
 tied_called s st x (Steps ok) i k h = tied_follows x.course.agenda x.course.members x.course.outcome _ _ _ (in_progress x) (goes_stepped ok st.clock x.course) h
 tied_called s st x (Times now) i k h = tied_follows x.course.agenda x.course.members x.course.outcome _ _ _ (in_progress x) (goes_timed now x.course) h
 tied_called s st x Gathers i k h = tied_begun Gather _ [] st.clock _ (in_progress x) tt
 tied_called s st x (Prepares q) i k h = tied_begun Prepare _ [] st.clock _ (in_progress x) tt
-tied_called s st x Snapshots i k h = tied_begun Snapshot _ _ st.clock x.course (in_progress x) (own_set (in_progress st) (in_progress x) x.course.members (ap in_progress k.0) k.1)
+tied_called s st x Snapshots i k h = tied_begun Snapshot _ _ st.clock x.course (in_progress x)
+    (own_set (in_progress st) (in_progress x) x.course.members (ap in_progress k.0) k.1)
 tied_called s st x Completes i k h = tied_begun Complete _ [] st.clock x.course (in_progress x) tt
 tied_called s st x (Disables w) i k h = h
 tied_called s st x _ i k h = tt
@@ -155,7 +161,8 @@ tied_apply : (s : Plan) (e : Event) (m : Mark) (st : State) (c : Change) (x : St
 tied_apply s e m st (CourseIs c) x i h = subst (λ (d : Course). Tied d.agenda d.members (in_progress x)) (sym i.is) (tied_called s st x i.call i.due i.stands h)
 tied_apply s e m st (StartsSet r) x i h = quiet_tied st x _ i.course i.goes.quiet
 tied_apply s e m st (AddsVolume n v) x i h = quiet_tied st x _ (ap (λ (y : State). y.course) i.first) i.goes.quiet
-tied_apply s e m st (IsCutAt n now) x i h = subst (Tied x.course.agenda x.course.members) (sym (find-row_cut n now x.sets)) (tied-row_cut x.course.agenda x.course.members n now (in_progress x) h)
+tied_apply s e m st (IsCutAt n now) x i h = subst (Tied x.course.agenda x.course.members) (sym (find-row_cut n now x.sets))
+    (tied-row_cut x.course.agenda x.course.members n now (in_progress x) h)
 tied_apply s e m st (Settles o) x i h = tied_none x.course.agenda x.course.members _ i.0
 tied_apply s e m st _ x i h = h
 

@@ -1,5 +1,6 @@
 -- Every act keeps what the images show.
-use Rattle.std.proofs.Common.{◌≡◌, ℕ, ◌+◌, ◌==◌, ◌<◌, ◌≤◌, zero, suc, List, [], ◌∷◌, ◌++◌, Option, Some, None, refl, Bool, true, false, map, length, take, ap, sym, ◌∙◌, subst, find, fold, inl, inr, arith}
+use Rattle.std.proofs.Common.{◌≡◌, ℕ, ◌+◌, ◌==◌, ◌<◌, ◌≤◌, zero, suc, List, [], ◌∷◌, ◌++◌, Option, Some, None, refl, Bool, true, false, map, length, take, ap}
+use Rattle.std.proofs.Common.{sym, ◌∙◌, subst, find, fold, inl, inr, arith}
 use Rattle.std.specs.Prelude.{option_map, ◌⊎◌, ◌&&◌, if◌then◌else◌, slice_get}
 use Rattle.std.proofs.lemmas.List.Folds.{list_any-append}
 use Rattle.std.proofs.Math.Seq.{take-append_seam}
@@ -27,8 +28,10 @@ use Rattle.vss_model.specs.Acts.{Act, after, state}
 use Rattle.vss_model.specs.Facts.{NumberedFrom, OverButNewest, IsOfSession, IsOrderly}
 use Rattle.vss_model.specs.Cut.{is_provider, is_cut_group, is_set, is_cut_of, cut_if, cut_from, cut, IsShownAt, IsCutAt}
 use Rattle.vss_model.specs.declared.event.Event.{Event}
-use Rattle.vss_model.specs.Changes.{Change, Passes, SessionIs, Names, StartsSet, AddsVolume, IsCutAt as CutsAt, CourseIs, Settles, Writes, Cuts, Reverts, RevertsPart, DropsSet, Drops, Evicts, apply}
-use Rattle.vss_model.proofs.Changes.{CourseCall, Answers, Steps, Times, Gathers, Prepares, Snapshots, Completes, Disables, Fails, Releases, called, IsDue, Stands, Comes, is_end, by_changes}
+use Rattle.vss_model.specs.Changes.{Change, Passes, SessionIs, Names, StartsSet, AddsVolume, IsCutAt as CutsAt, CourseIs, Settles, Writes, Cuts, Reverts}
+use Rattle.vss_model.specs.Changes.{RevertsPart, DropsSet, Drops, Evicts, apply}
+use Rattle.vss_model.proofs.Changes.{CourseCall, Answers, Steps, Times, Gathers, Prepares, Snapshots, Completes, Disables, Fails, Releases, called, IsDue}
+use Rattle.vss_model.proofs.Changes.{Stands, Comes, is_end, by_changes}
 use Rattle.vss_model.proofs.FewerImages.{is_cut, no_cut}
 use Rattle.vss_model.proofs.Rows.{none_runs}
 use Rattle.vss_model.proofs.Appending.{state-append}
@@ -74,7 +77,8 @@ module _ (R : Option Agenda → Option SetRow → Type 0) (U : Option SetRow →
   ends_in found a o p true e m h = inl (k.any None found (k.plain a found (plain_kind a.kind o p e m) h))
   ends_in found a o p false e m h = inr (refl, e)
 
-  pub moves_in : (found : Option SetRow) (a : Option Agenda) (ms : List Member) (o : SetOutcome) (b : Option Agenda) (ns : List Member) (p : SetOutcome) → Moves a o b p → Follows a ms o b ns p → HoldsIn found a o → HoldsIn found b p
+  pub moves_in : (found : Option SetRow) (a : Option Agenda) (ms : List Member) (o : SetOutcome) (b : Option Agenda) (ns : List Member) (p : SetOutcome)
+      → Moves a o b p → Follows a ms o b ns p → HoldsIn found a o → HoldsIn found b p
   moves_in found None ms o None ns p m f (inl h) = inl h
   moves_in found None ms o None ns p m f (inr h) = inr (refl, ap is_running m ∙ h.1)
   moves_in found None ms o (Some b) ns p m f h = absurd m
@@ -85,15 +89,19 @@ module _ (R : Option Agenda → Option SetRow → Type 0) (U : Option SetRow →
   module _ (s : Plan) (st x : State) (first : x ≡ st → R x.course.agenda (in_progress x)) where
     begins_in : (a : Option Agenda) (p : SetOutcome) → x ≡ st → runs st ≡ false → HoldsIn (in_progress x) a p
     begins_in a p e f =
-        inl (k.any a (in_progress x) (k.quiet (in_progress x) (subst (λ b. R b (in_progress x)) (ap (λ (y : State). y.course.agenda) e ∙ none_runs st.course.agenda f) (first e))))
+        inl (k.any a (in_progress x)
+            (k.quiet (in_progress x) (subst (λ b. R b (in_progress x)) (ap (λ (y : State). y.course.agenda) e ∙ none_runs st.course.agenda f) (first e))))
 
     pub on_called : (call : CourseCall) → IsDue st x.course call → Stands st x call → HoldsIn (in_progress x) x.course.agenda x.course.outcome
         → HoldsIn (in_progress x) (called s st call x.course).agenda (called s st call x.course).outcome
     unfolding course_failed released
-    on_called (Answers w said) i j h = moves_in (in_progress x) x.course.agenda x.course.members x.course.outcome _ _ _ (moves_answered w said st.clock x.course) (goes_answered w said st.clock x.course) h
+    on_called (Answers w said) i j h = moves_in (in_progress x) x.course.agenda x.course.members x.course.outcome _ _ _
+        (moves_answered w said st.clock x.course) (goes_answered w said st.clock x.course) h
     on_called (Steps ok) i j h =
-        moves_in (in_progress x) x.course.agenda x.course.members x.course.outcome _ _ _ (moves_stepped ok st.clock x.course (subst (λ c. is_working (left c.agenda) ≡ true) (sym i.1) i.0)) (goes_stepped ok st.clock x.course) h
-    on_called (Times now) i j h = moves_in (in_progress x) x.course.agenda x.course.members x.course.outcome _ _ _ (moves_timed now x.course) (goes_timed now x.course) h
+        moves_in (in_progress x) x.course.agenda x.course.members x.course.outcome _ _ _
+            (moves_stepped ok st.clock x.course (subst (λ c. is_working (left c.agenda) ≡ true) (sym i.1) i.0)) (goes_stepped ok st.clock x.course) h
+    on_called (Times now) i j h = moves_in (in_progress x) x.course.agenda x.course.members x.course.outcome _ _ _ (moves_timed now x.course)
+        (goes_timed now x.course) h
     on_called Gathers i j h = begins_in _ _ j i.goes.quiet
     on_called (Prepares q) i j h = begins_in _ _ j i.0.quiet
     on_called Snapshots i j h = begins_in _ _ j.0 i.goes.quiet
@@ -102,11 +110,14 @@ module _ (R : Option Agenda → Option SetRow → Type 0) (U : Option SetRow →
     on_called (Fails why) i j h = inr (refl, refl)
     on_called Releases i j h = inl (subst (R None) (sym j.0) (k.none None))
 
-  over_rows : (a : Option Agenda) (o : SetOutcome) (rows : List SetRow) → U (find (λ r. is_running r.result) rows) → R a (find (λ r. is_running r.result) (map (row_settled o) rows))
-  over_rows a Running rows h = k.any a _ (subst U (sym (find-settled_running rows)) (k.rows (λ r. record r { result = Running }) (λ r. refl) (find (λ r. is_running r.result) rows) h))
+  over_rows : (a : Option Agenda) (o : SetOutcome) (rows : List SetRow) → U (find (λ r. is_running r.result) rows)
+      → R a (find (λ r. is_running r.result) (map (row_settled o) rows))
+  over_rows a Running rows h = k.any a _
+      (subst U (sym (find-settled_running rows)) (k.rows (λ r. record r { result = Running }) (λ r. refl) (find (λ r. is_running r.result) rows) h))
   over_rows a o rows h = subst (R a) (sym (find-settled_over o refl rows)) (k.none a)
 
-  pub on_settled : (x : State) (o : SetOutcome) → (x.course.agenda ≡ None) × (o ≡ x.course.outcome) → HoldsIn (in_progress x) x.course.agenda x.course.outcome → R x.course.agenda (in_progress (apply x (Settles o)))
+  pub on_settled : (x : State) (o : SetOutcome) → (x.course.agenda ≡ None) × (o ≡ x.course.outcome) → HoldsIn (in_progress x) x.course.agenda x.course.outcome
+      → R x.course.agenda (in_progress (apply x (Settles o)))
   on_settled x o i (inl h) = over_rows x.course.agenda o x.sets (k.quiet (in_progress x) (subst (λ a. R a (in_progress x)) i.0 h))
   on_settled x o i (inr h) = subst (R x.course.agenda) (sym (find-settled_over o (ap is_running i.1 ∙ h.1) x.sets)) (k.none x.course.agenda)
 
@@ -130,7 +141,8 @@ Uncut k (Some r) = k r.number ≡ None
 made_in_none : (o : Option (List History)) → o ≡ None → (a : Option Agenda) → MadeIn o a
 made_in_none o e a = grind arith
 
-made_goes : (o : Option (List History)) (a b : Agenda) (ms ns : List Member) (p q : SetOutcome) → IsSameAgenda a b ms ns p q → MadeIn o (Some a) → MadeIn o (Some b)
+made_goes : (o : Option (List History)) (a b : Agenda) (ms ns : List Member) (p q : SetOutcome) → IsSameAgenda a b ms ns p q → MadeIn o (Some a)
+    → MadeIn o (Some b)
 made_goes o a b ms ns p q e h = grind arith
 
 cut_fact : (k : Known) → IsSetFact (Progress k) (Uncut k)
@@ -165,10 +177,16 @@ changed_number b f r e = grind arith
 pub changed_result : (b : Bool) (f : SetRow → SetRow) (r : SetRow) → (f r).result ≡ r.result → (if b then f r else r).result ≡ r.result
 changed_result b f r e = grind arith
 
-rows_change : (k : Known) (f : SetRow → SetRow) → ((r : SetRow) → (f r).number ≡ r.number) → ((r : SetRow) → (f r).result ≡ r.result) → (x : State) → IsCut k x → IsCut k (record x { sets = map f x.sets })
-rows_change k f number result x h = record { shown = h.shown; progress = by_cases h.progress; fresh = fresh_length k (length (map f x.sets)) (length x.sets) (length-map x.sets f) h.fresh } where
-  by_cases : Progress k x.course.agenda (in_progress x) ⊎ IsOver x.course.agenda x.course.outcome → Progress k x.course.agenda (find (λ r. is_running r.result) (map f x.sets)) ⊎ IsOver x.course.agenda x.course.outcome
-  by_cases (inl p) = inl (subst (Progress k x.course.agenda) (sym (find-map f (λ r. ap is_running (result r)) x.sets)) (progress_same k x.course.agenda f number (in_progress x) p))
+rows_change : (k : Known) (f : SetRow → SetRow) → ((r : SetRow) → (f r).number ≡ r.number) → ((r : SetRow) → (f r).result ≡ r.result) → (x : State) → IsCut k x
+    → IsCut k (record x { sets = map f x.sets })
+rows_change k f number result x
+    h = record { shown = h.shown; progress = by_cases h.progress; fresh = fresh_length k (length (map f x.sets)) (length x.sets)
+    (length-map x.sets f) h.fresh } where
+  by_cases : Progress k x.course.agenda (in_progress x) ⊎ IsOver x.course.agenda x.course.outcome
+      → Progress k x.course.agenda (find (λ r. is_running r.result) (map f x.sets)) ⊎ IsOver x.course.agenda x.course.outcome
+  by_cases (inl p) = inl
+      (subst (Progress k x.course.agenda) (sym (find-map f (λ r. ap is_running (result r)) x.sets))
+      (progress_same k x.course.agenda f number (in_progress x) p))
   by_cases (inr p) = inr p
 
 with_volumes : (k : Known) (hs : List History) (x : State) → AllShown k 0 hs → IsCut k x → IsCut k (record x { volumes = hs })
@@ -184,7 +202,8 @@ row_number n (q ∷ rows) r e = head_if (q.number == n) refl e (row_number n row
 pub kept_point : (n : ℕ) (o : Option SetRow) (p : Option ℕ) (x : Kept) → ((r : SetRow) → o ≡ Some r → r.number ≡ n) → kept_of o p ≡ Some x → (x.row.number ≡ n) × (p ≡ Some x.point)
 kept_point n o p x number e = grind arith
 
-on_end : (k : Known) (s : Plan) (e : Event) (m : Mark) (st : State) (c : Change) (x : State) → is_end c ≡ true → Comes s e m st x c → IsCut k x → IsCut k (apply x c)
+on_end : (k : Known) (s : Plan) (e : Event) (m : Mark) (st : State) (c : Change) (x : State) → is_end c ≡ true → Comes s e m st x c → IsCut k x
+    → IsCut k (apply x c)
 on_end k s e m st (SessionIs q) x f i h = record { shown = h.shown; progress = h.progress; fresh = h.fresh }
 on_end k s e m st (Settles o) x f i h = record {
   shown = h.shown;
@@ -194,17 +213,21 @@ on_end k s e m st (Settles o) x f i h = record {
 on_end k s e m st (DropsSet n) x f i h = with_volumes k _ x (all-map k (dropped n) (shown-dropped n k) 0 x.volumes h.shown) h
 on_end k s e m st _ x f i h = absurd cc
 
-on_change : (k : Known) (s : Plan) (e : Event) (m : Mark) (st : State) (own : Progress k st.course.agenda (in_progress st)) → (c : Change) (x : State) → is_cut c ≡ false → Comes s e m st x c → IsCut k x → IsCut k (apply x c)
+on_change : (k : Known) (s : Plan) (e : Event) (m : Mark) (st : State) (own : Progress k st.course.agenda (in_progress st)) → (c : Change) (x : State)
+    → is_cut c ≡ false → Comes s e m st x c → IsCut k x → IsCut k (apply x c)
 on_change k s e m st own (CourseIs c) x f i h = record {
   shown = h.shown;
   progress = subst (λ (d : Course). HoldsIn (Progress k) (Uncut k) (cut_fact k) (in_progress x) d.agenda d.outcome) (sym i.is)
-      (on_called (Progress k) (Uncut k) (cut_fact k) s st x (λ g. subst (λ (y : State). Progress k y.course.agenda (in_progress y)) (sym g) own) i.call i.due i.stands h.progress);
+      (on_called (Progress k) (Uncut k) (cut_fact k) s st x
+          (λ g. subst (λ (y : State). Progress k y.course.agenda (in_progress y)) (sym g) own) i.call i.due i.stands h.progress);
   fresh = h.fresh;
 }
 on_change k s e m st own (StartsSet r) x f i h = record {
   shown = h.shown;
-  progress = inl (found_append k x.course.agenda x.sets r (h.fresh r.number (newer (length x.sets) (length st.sets) r.number (ap length i.before) (ap (λ (q : SetRow). q.number) i.row)))
-      (subst (λ rows. Progress k x.course.agenda (find (λ q. is_running q.result) rows)) (sym i.before) (subst (λ (c : Course). Progress k c.agenda (in_progress st)) (sym i.course) own)));
+  progress = inl (found_append k x.course.agenda x.sets r
+      (h.fresh r.number (newer (length x.sets) (length st.sets) r.number (ap length i.before) (ap (λ (q : SetRow). q.number) i.row)))
+      (subst (λ rows. Progress k x.course.agenda (find (λ q. is_running q.result) rows)) (sym i.before)
+          (subst (λ (c : Course). Progress k c.agenda (in_progress st)) (sym i.course) own)));
   fresh = λ n l. h.fresh n (less (length x.sets) (length (x.sets ++ r ∷ [])) n (length_push x.sets r) l);
 } where
   newer : (a b n : ℕ) → a ≡ b → n ≡ b + 1 → a < n
@@ -212,7 +235,8 @@ on_change k s e m st own (StartsSet r) x f i h = record {
 
   less : (a b n : ℕ) → b ≡ a + 1 → b < n → a < n
   less a b n e l = omega arith
-on_change k s e m st own (AddsVolume n v) x f i h = rows_change k (row_changed n (with_volume v)) (λ r. changed_number (r.number == n) (with_volume v) r refl) (λ r. changed_result (r.number == n) (with_volume v) r refl) x h
+on_change k s e m st own (AddsVolume n v) x f i h = rows_change k (row_changed n (with_volume v)) (λ r. changed_number (r.number == n) (with_volume v) r refl)
+    (λ r. changed_result (r.number == n) (with_volume v) r refl) x h
 on_change k s e m st own (Writes v w) x f i h = with_volumes k _ x (all-change_at k (written w) v 0 x.volumes (λ u y a g. shown-written w k u y g) h.shown) h
 on_change k s e m st own (Reverts v n p) x f i h =
     let r = i.0 in
@@ -224,7 +248,8 @@ on_change k s e m st own (Reverts v n p) x f i h =
     (subst (λ o. point_in r.set (history_in o).images ≡ Some p) (ap (λ (z : State). slice_get z.volumes v) (sym i.2) ∙ a) (parts.1 ∙ ap Some (sym r.point)))) g)
     h.shown)
     h
-on_change k s e m st own (RevertsPart v blocks n p j) x f i h = with_volumes k _ x (all-change_at k _ v 0 x.volumes (λ u y a g. shown-reverted_in_part blocks k u n p j y g) h.shown) h
+on_change k s e m st own (RevertsPart v blocks n p j) x f i h = with_volumes k _ x
+    (all-change_at k _ v 0 x.volumes (λ u y a g. shown-reverted_in_part blocks k u n p j y g) h.shown) h
 on_change k s e m st own (Drops n v) x f i h = with_volumes k _ x (all-change_at k (dropped n) v 0 x.volumes (λ u y a g. shown-dropped n k u y g) h.shown) h
 on_change k s e m st own (Evicts n group) x f i h = with_volumes k _ x (all-gone k n group 0 x.volumes h.shown) h
 on_change k s e m st own (Passes n) x f i h = record { shown = h.shown; progress = h.progress; fresh = h.fresh }
@@ -349,21 +374,26 @@ ends_snapshot k o p e m = grind arith
 says_made : (k : Known) (b : Agenda) (found : Option SetRow) → SaysCut (Some b) → Progress k (Some b) found
 says_made k b found h = grind arith
 
-cut_holds : (k : Known) (a : Agenda) (o : SetOutcome) (b : Option Agenda) (p : SetOutcome) (found : Option SetRow) → a.kind ≡ Snapshot → Moves (Some a) o b p → SaysCut b → HoldsIn (Progress k) (Uncut k) (cut_fact k) found b p
+cut_holds : (k : Known) (a : Agenda) (o : SetOutcome) (b : Option Agenda) (p : SetOutcome) (found : Option SetRow) → a.kind ≡ Snapshot → Moves (Some a) o b p
+    → SaysCut b → HoldsIn (Progress k) (Uncut k) (cut_fact k) found b p
 cut_holds k a o None p found e m h = inr (refl, ends_snapshot a.kind o p e m)
 cut_holds k a o (Some b) p found e m h = inl (says_made k b found h)
 
-on_cut : (k : Known) (act : Act) (st : State) (r : SetRow) → is_provider act.event ≡ true → is_cut_group (open_group (left_now st)) ≡ true → CutsNow st → in_progress st ≡ Some r → IsOrderly st → IsCut k st
+on_cut : (k : Known) (act : Act) (st : State) (r : SetRow) → is_provider act.event ≡ true → is_cut_group (open_group (left_now st)) ≡ true → CutsNow st
+    → in_progress st ≡ Some r → IsOrderly st → IsCut k st
     → IsCut (next_known k st act) (record (cut_set (Some r) st) { course = course_stepped true st.clock st.course })
 on_cut k act st r p g c e o h =
     let l = next_known k st act in
     let new = newest k st r c e o h in
     let d = course_stepped true st.clock st.course in
-    let moves : Moves (Some c.agenda) st.course.outcome d.agenda d.outcome = subst (λ a. Moves a st.course.outcome d.agenda d.outcome) c.runs (moves_stepped true st.clock st.course (working_at_cut (left_now st) g)) in
+    let moves : Moves (Some c.agenda) st.course.outcome d.agenda d.outcome = subst (λ a. Moves a st.course.outcome d.agenda d.outcome) c.runs
+        (moves_stepped true st.clock st.course (working_at_cut (left_now st) g)) in
     record {
-      shown = shown_cut_each k l r.number r.volumes st.volumes 0 st.volumes new.none (known_stays k st act) (cut_now k st act r p g e (new.none r.number (own r.number))) (λ j. ap (slice_get st.volumes) (zero_plus j)) h.shown;
+      shown = shown_cut_each k l r.number r.volumes st.volumes 0 st.volumes new.none (known_stays k st act)
+          (cut_now k st act r p g e (new.none r.number (own r.number))) (λ j. ap (slice_get st.volumes) (zero_plus j)) h.shown;
       progress = cut_holds l c.agenda st.course.outcome d.agenda d.outcome _ c.kind moves (says_stepped st.clock st.course c.agenda c.runs c.kind c.at);
-      fresh = fresh_length l (length (map (row_cut r.number st.clock) st.sets)) (length st.sets) (length-map st.sets (row_cut r.number st.clock)) (λ m i. later_unknown k st act r m e (along r.number (length st.sets) m new.number i) (h.fresh m i));
+      fresh = fresh_length l (length (map (row_cut r.number st.clock) st.sets)) (length st.sets) (length-map st.sets (row_cut r.number st.clock))
+          (λ m i. later_unknown k st act r m e (along r.number (length st.sets) m new.number i) (h.fresh m i));
     }
   where
     own : (a : ℕ) → a ≤ a
@@ -385,7 +415,8 @@ on_act_if false s past act k e h =
     let st = state s past in
     know_more k (next_known k st act) (after s st act)
     (λ n. not_cut_now k st act n (parts_not (is_provider act.event) (is_cut_group (open_group (left_now st))) (is_set n (in_progress st)) e))
-    (by_changes (IsCut k) s st act (λ c x i g. on_change k s act.event act.mark st (progress_now k st (orderly s past) h) c x (no_cut s act.event act.mark st x c e i) i g) h)
+    (by_changes (IsCut k) s st act
+        (λ c x i g. on_change k s act.event act.mark st (progress_now k st (orderly s past) h) c x (no_cut s act.event act.mark st x c e i) i g) h)
 on_act_if true s past act k e h =
     let st = state s past in
     let parts = both (is_provider act.event) (is_cut_group (open_group (left_now st))) e in
