@@ -240,8 +240,14 @@ Rests c d = (d.outcome ≡ c.outcome) ⊎ (d.agenda ≡ None)
 
 rests : (c : Course) → IsKeptFrom (Rests c) c
 unfolding posted told worked course_failed
-rests c = record { stays = inl refl; posts = λ before d h. h; says = λ o said now ws i. inl refl; works = λ now. inl refl; fails = λ why d e h. inr
-    refl; closes = λ a d e f h. inr refl }
+rests c = record {
+  stays = inl refl;
+  posts = λ before d h. h;
+  says = λ o said now ws i. inl refl;
+  works = λ now. inl refl;
+  fails = λ why d e h. inr refl;
+  closes = λ a d e f h. inr refl;
+}
 
 rests_called : (s : Plan) (st : State) (call : CourseCall) (c : Course) → IsDue st c call → Rests c (called s st call c)
 unfolding course_failed released
@@ -298,9 +304,9 @@ module _ (s : Plan) (e : Event) (m : Mark) (st : State) where
   come_ends AgendaEnds x y same none = (record { step = EndsAgenda; is = ap (option_map agenda_ended) (sym same); due = tt }, ((none, refl), tt))
   come_ends (SetFails why) x y same
       none = (record { step = FailsSet why; is = ap (option_map (set_failed why)) (sym same); due = tt }, ((none, refl), by_set (in_progress y) _)) where
-    by_set : (o : Option SetRow) (z : State) → Come s e m st z (drops o)
-    by_set None z = tt
-    by_set (Some r) z = (tt, tt)
+        by_set : (o : Option SetRow) (z : State) → Come s e m st z (drops o)
+        by_set None z = tt
+        by_set (Some r) z = (tt, tt)
 
   come_on : (ran : Bool) (c : Course) (x y : State) → x.session ≡ y.session → Rests y.course c → IsCalled s st x c → Come s e m st x (goes_on ran c y)
   come_on ran c x y same h
@@ -310,9 +316,10 @@ module _ (s : Plan) (e : Event) (m : Mark) (st : State) where
       → Come s e m st x (fails o why st)
   unfolding course_failed
   come_fails None why x f same session = tt
-  come_fails (Some r) why x f same session =
-      (record { call = Fails why; is = ap (course_failed why) (sym same); due = (r, (f, same)); stands = tt }, come_ends (SetFails why)
-          (record x { course = course_failed why st.course }) st session refl)
+  come_fails (Some r) why x f same session = (
+    record { call = Fails why; is = ap (course_failed why) (sym same); due = (r, (f, same)); stands = tt },
+    come_ends (SetFails why) (record x { course = course_failed why st.course }) st session refl,
+  )
 
   -- a set in progress has failed before
   none_aborted : (o : Option SetRow) → in_progress st ≡ o → in_progress (fold apply st (fails o AsyncCancelled st)) ≡ None
@@ -329,10 +336,14 @@ module _ (s : Plan) (e : Event) (m : Mark) (st : State) where
       → Come s e m st x (closes q x)
   unfolding released
   come_closes q x none was = (
-    inl refl, (record { call = Releases; is = refl; due = was; stands = (none, refl) }, (
-      record { step = Closes; is = refl; due = (refl, refl, refl) },
-      by_context (apply (apply (apply x (Names [])) (CourseIs (released x.course))) (SessionIs None)) q.context q.set,
-    )),
+    inl refl,
+    (
+      record { call = Releases; is = refl; due = was; stands = (none, refl) },
+      (
+        record { step = Closes; is = refl; due = (refl, refl, refl) },
+        by_context (apply (apply (apply x (Names [])) (CourseIs (released x.course))) (SessionIs None)) q.context q.set,
+      ),
+    ),
   )
     where
       by_context : (z : State) (c : Context) (set : Option ℕ) → Come s e m st z (releases c set)
@@ -354,15 +365,22 @@ module _ (s : Plan) (e : Event) (m : Mark) (st : State) where
   makes_on : (ran : Bool) (c : CourseCall) → IsDue st st.course c → Stands st st c
       → Makes (followed ran (called s st c st.course) st) (goes_on ran (called s st c st.course) st)
   makes_on ran c i k = let d = called s st c st.course in
-      record { is = sym (goes_on_own ran d st); come = come_on ran d st st refl (rests_called s st c st.course i)
-          (record { call = c; is = refl; due = i; stands = k }) }
+      record {
+        is = sym (goes_on_own ran d st);
+        come = come_on ran d st st refl (rests_called s st c st.course i) (record { call = c; is = refl; due = i; stands = k });
+      }
 
   makes_passes : (n : ℕ) → ticks_of st e ≡ Some n → Makes (ticked n st) (passes n st)
   unfolding ticked
-  makes_passes n f = record { is = sym
-      (goes_on_is (runs st) (timed (st.clock + n) st.course) (later n st) st (record { course = refl; session = refl; set = refl })); come = (f, come_on
-      (runs st) (timed (st.clock + n) st.course) (later n st) st refl (rests_called s st (Times (st.clock + n)) st.course refl)
-      (record { call = Times (st.clock + n); is = refl; due = refl; stands = tt })) }
+  makes_passes n f = record {
+    is = sym (goes_on_is (runs st) (timed (st.clock + n) st.course) (later n st) st (record { course = refl; session = refl; set = refl }));
+    come = (
+      f,
+      come_on
+          (runs st) (timed (st.clock + n) st.course) (later n st) st refl (rests_called s st (Times (st.clock + n)) st.course refl)
+          (record { call = Times (st.clock + n); is = refl; due = refl; stands = tt }),
+    );
+  }
 
   makes_fails : (why : VssResult) → Makes (failed why st) (fails (in_progress st) why st)
   makes_fails why = record { is = sym (fails_is (in_progress st) why st st (as_before st)); come = come_fails (in_progress st) why st refl refl refl }
@@ -416,8 +434,14 @@ module _ (s : Plan) (e : Event) (m : Mark) (st : State) where
       let x = cut_set (Some r) st in
       record {
         is = sym (goes_on_is (runs st) c x st (record { course = refl; session = refl; set = in_progress_cut r.number st.clock st }));
-        come = ((known st refl, refl, refl), ((known (apply st (IsCutAt r.number st.clock)) refl, sym (ap volumes_of f)), come_on (runs st) c x st refl
-            (rests_called s st (Steps true) st.course (w, refl)) (record { call = Steps true; is = refl; due = (w, refl); stands = tt })));
+        come = (
+          (known st refl, refl, refl),
+          (
+            (known (apply st (IsCutAt r.number st.clock)) refl, sym (ap volumes_of f)),
+            come_on (runs st) c x st refl
+                (rests_called s st (Steps true) st.course (w, refl)) (record { call = Steps true; is = refl; due = (w, refl); stands = tt }),
+          ),
+        );
       }
 
   makes_cut_in : (o : Option SetRow) → is_working (left_now st) ≡ true → in_progress st ≡ o → is_provider e ≡ true → is_cut_group (open_group (left_now st)) ≡ true
@@ -514,7 +538,7 @@ module _ (s : Plan) (st : State) where
         let x = record st { session = Some (opened lane c all); explicit = [] } in
         subst (λ q. Makes s (Line lane (op.Begin n all)) m st x (session_calls s lane (op.Begin n all) q st)) (sym e)
         (subst (λ o. Makes s (Line lane (op.Begin n all)) m st x (SessionIs (option_map (λ y. opened lane y all) o) ∷ Names [] ∷ [])) (sym f)
-            (record { is = refl; come = (record { step = Opens lane c all; is = refl; due = (n, (refl, e, refl)) }, (inl refl, tt)) }));
+        (record { is = refl; come = (record { step = Opens lane c all; is = refl; due = (n, (refl, e, refl)) }, (inl refl, tt)) }));
     disables = λ lane w q m g i. owned lane (op.Disable w) m q _ g.stands
         (one (Line lane (op.Disable w)) m (CourseIs (called s st (Disables w) st.course))
         (record { call = Disables w; is = refl; due = record { session = q; goes = g; course = refl }; stands = refl }));
@@ -523,11 +547,16 @@ module _ (s : Plan) (st : State) where
     names = λ lane w full q explicit m g e i.
         owned lane (op.Component w full) m q _ g.stands
         (subst (λ x. Makes s (Line lane (op.Component w full)) m st (apply st (Names explicit)) (names x)) (sym e)
-            (one (Line lane (op.Component w full)) m (Names explicit)
-            (inr (record { session = q; goes = g; writer = w; name = token s full; named = e; first = refl }))));
+        (one (Line lane (op.Component w full)) m (Names explicit)
+        (inr (record { session = q; goes = g; writer = w; name = token s full; named = e; first = refl }))));
     starts = λ lane q m g e i. owned lane op.Start m q _ g.stands
-        (record { is = refl; come = (record { step = Starts
-        q; is = refl; due = (g, refl) }, (record { session = q; goes = g; free = e; row = refl; before = refl; course = refl; volumes = refl }, tt)) });
+        (record {
+          is = refl;
+          come = (
+            record { step = Starts q; is = refl; due = (g, refl) },
+            (record { session = q; goes = g; free = e; row = refl; before = refl; course = refl; volumes = refl }, tt),
+          );
+        });
     adds = λ lane v r q m g e f i.
         owned lane (op.Add v) m q _ g.stands
         (subst (λ x. Makes s (Line lane (op.Add v)) m st (apply st (AddsVolume r.number v)) (adds v x)) (sym e)

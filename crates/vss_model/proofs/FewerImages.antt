@@ -61,7 +61,7 @@ pub fewer_after_cut : (s : Plan) (st : State) (act : Act) (r : SetRow) → is_pr
 fewer_after_cut s st act r e f g =
     let x = cut_set (Some r) st in
     by_cut_alone (λ y. FewerIn x.volumes y.volumes) s st act r e f g (λ c y i j h. fewer_in_over x.volumes y.volumes _ h (fewer_apply c y i))
-        (fewer_in_same x.volumes)
+    (fewer_in_same x.volumes)
 
 -- ## where the course goes on
 

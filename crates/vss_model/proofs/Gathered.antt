@@ -293,9 +293,9 @@ module _ (s : Plan) (st : State) where
   on_prepare : (q : Session) (x : State) → LetsGo call.Prepare q st → NamesKnown s st → With st (called s st (Prepares q) st.course)
   on_prepare q x g h = inr
       (gathered_prepared s q.mode st.clock st (over h) (subst LateIn (sym g.stands) (prepares_late q.stage (has_writers q.context) g.allowed))) where
-    over : NamesKnown s st → AreOver (known_metas s st) st.explicit
-    over (inl k) = over_nothing (known_metas s st) st.explicit k.explicit
-    over (inr k) = k.over
+        over : NamesKnown s st → AreOver (known_metas s st) st.explicit
+        over (inl k) = over_nothing (known_metas s st) st.explicit k.explicit
+        over (inr k) = k.over
 
   on_called : (x : State) (call : CourseCall) → IsDue st x.course call → Stands st x call → NamesKnown s x → With x (called s st call x.course)
   unfolding course_failed released
@@ -307,29 +307,41 @@ module _ (s : Plan) (st : State) where
   on_called x (Times now) i k (inr h) = goes_gathered x _ (keeps_timed now x.course h.agenda) (goes_timed now x.course) h
   on_called x Gathers i k (inl h) =
       let c = record x.course { rows = map row_gathered x.course.rows } in
-      inl (record { explicit = h.explicit; members = (begun_members Gather _ [] st.clock c).members
-          ∙ h.members; agenda = bare_begun_agenda Gather _ [] st.clock c (inl refl) })
+      inl (record {
+        explicit = h.explicit;
+        members = (begun_members Gather _ [] st.clock c).members
+            ∙ h.members;
+        agenda = bare_begun_agenda Gather _ [] st.clock c (inl refl);
+      })
   on_called x Gathers i k (inr h) =
       absurd (opened_not_late i.session.stage (has_writers i.session.context) i.goes.allowed
-          (late_at x.session i.session (ap (λ (y : State). y.session) k ∙ i.goes.stands) h.late))
+      (late_at x.session i.session (ap (λ (y : State). y.session) k ∙ i.goes.stands) h.late))
   on_called x (Prepares q) i k h = subst (λ (y : State). With y (called s st (Prepares q) y.course)) (sym k) (on_prepare q x i.0 (subst (NamesKnown s) k h))
   on_called x Snapshots i k (inl h) =
-      inl (record { explicit = h.explicit; members = (begun_members Snapshot _ _ st.clock x.course).members
-          ∙ h.members; agenda = bare_begun_agenda Snapshot _ _ st.clock x.course (inr h.members) })
+      inl (record {
+        explicit = h.explicit;
+        members = (begun_members Snapshot _ _ st.clock x.course).members
+            ∙ h.members;
+        agenda = bare_begun_agenda Snapshot _ _ st.clock x.course (inr h.members);
+      })
   on_called x Snapshots i k (inr h) = inr
       (gathered_course s x _ (begun_members Snapshot _ _ st.clock x.course) (fit_begun_agenda Snapshot x.course.members _ st.clock x.course refl h.members) h)
   on_called x Completes i k (inl h) =
       let test = λ (m : Member). not (has_row_failed x.course.rows m.writer) in
-      inl (record { explicit = h.explicit; members = (begun_members Complete _ [] st.clock x.course).members
-          ∙ h.members; agenda = bare_begun_agenda Complete _ [] st.clock x.course (inr (ap (filter test) h.members)) })
+      inl (record {
+        explicit = h.explicit;
+        members = (begun_members Complete _ [] st.clock x.course).members
+            ∙ h.members;
+        agenda = bare_begun_agenda Complete _ [] st.clock x.course (inr (ap (filter test) h.members));
+      })
   on_called x Completes i k (inr h) =
       let test = λ (m : Member). not (has_row_failed x.course.rows m.writer) in
       inr (gathered_course s x _ (begun_members Complete _ [] st.clock x.course)
-          (fit_begun_agenda Complete _ [] st.clock x.course refl (λ w e. h.members w (filter_member test x.course.members w e))) h)
+      (fit_begun_agenda Complete _ [] st.clock x.course refl (λ w e. h.members w (filter_member test x.course.members w e))) h)
   on_called x (Disables w) i k (inl h) = inl (record { explicit = h.explicit; members = h.members; agenda = h.agenda })
   on_called x (Disables w) i k (inr h) =
       absurd (opened_not_late i.session.stage (has_writers i.session.context) i.goes.allowed
-          (late_at x.session i.session (ap (λ (y : State). y.session) k ∙ i.goes.stands) h.late))
+      (late_at x.session i.session (ap (λ (y : State). y.session) k ∙ i.goes.stands) h.late))
   on_called x (Fails why) i k (inl h) = inl (record { explicit = h.explicit; members = h.members; agenda = tt })
   on_called x (Fails why) i k (inr h) = inr (gathered_course s x _ (keeps_failed why x.course) tt h)
   on_called x Releases i k h = inl (record { explicit = k.1; members = refl; agenda = tt })
@@ -354,7 +366,7 @@ module _ (s : Plan) (st : State) where
   names_apply e m (NamesPairs pairs) x (inl i) h = none_named x pairs i h
   names_apply e m (NamesPairs pairs) x (inr i) h =
       subst (λ (y : State). NamesKnown s (record y { explicit = pairs })) (sym i.first)
-          (on_names s i.writer i.name i.session pairs st i.goes i.named (subst (NamesKnown s) i.first h))
+      (on_names s i.writer i.name i.session pairs st i.goes i.named (subst (NamesKnown s) i.first h))
   names_apply e m c x i h = same s x (apply x c) refl refl (λ l. l) h
 
 names_from : (s : Plan) (st : State) (acts : List Act) → NamesKnown s st → NamesKnown s (fold (after s) st acts)

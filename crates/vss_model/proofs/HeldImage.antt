@@ -189,8 +189,8 @@ starts_unused : (m : Bool) (v : ℕ) (r : SetRow) (st x : State) → x.sets ≡ 
 starts_unused m v r st x e f number quiet o h =
     let images = (history_of st v).images in
     let none = found_no_image st.sets r images
-        (unnumbered r.number (length st.sets) images (images_up_to st.sets st.volumes v o.numbered o.live) (newer r.number (length st.sets) number))
-        (quiet_no_image m v st.course.agenda (in_progress st) (history_of st v) quiet h) in
+    (unnumbered r.number (length st.sets) images (images_up_to st.sets st.volumes v o.numbered o.live) (newer r.number (length st.sets) number))
+    (quiet_no_image m v st.course.agenda (in_progress st) (history_of st v) quiet h) in
     no_image_any m v x.course.agenda (find (λ q. is_running q.result) (x.sets ++ r ∷ [])) (history_of x v)
     (subst (λ hs. NoImage (find (λ q. is_running q.result) (x.sets ++ r ∷ [])) (history_in (slice_get hs v)).images) (sym f)
     (subst (λ rows. NoImage (find (λ q. is_running q.result) (rows ++ r ∷ [])) images) (sym e) none)) where
@@ -209,7 +209,7 @@ on_put : (m : Bool) (v u : ℕ) (w : Write) (st x : State) → is_held st v ≡ 
 on_put true v u w st x e free h = on_other true v u (written w) x (apart (is_held st) u v free e) h
 on_put false v u w st x e free h =
     set_fewer false v x.course.agenda (in_progress x) (history_of x v) _
-        (each_change (Fewer false) (fewer_same false) (written w) (λ y. record { writes = λ f. absurd cc; images = λ n p f. f }) u x.volumes v) h
+    (each_change (Fewer false) (fewer_same false) (written w) (λ y. record { writes = λ f. absurd cc; images = λ n p f. f }) u x.volumes v) h
 
 on_reverted : (m : Bool) (v u : ℕ) (f : History → History) (st : State) → ((h : History) → Fewer false h (f h)) → is_in_set u (in_progress st) ≡ false → Unused m v st → Unused m v (record st { volumes = change_at u f st.volumes })
 on_reverted m v u f st less e h = by_cases (u == v) refl where
@@ -240,7 +240,7 @@ module _ (m : Bool) (v : ℕ) (s : Plan) (e : Event) (mark : Mark) (st : State) 
   on_change (CourseIs c) x f i h =
       subst (λ (d : Course). Holds m v (record x { course = d })) (sym i.is)
       (on_called (λ a p. SetUnused m v a p (history_of x v)) (λ p. NoImage p (history_of x v).images) (unused_fact m v (history_of x v)) s st x
-          (λ g. subst (Unused m v) (sym g) own) i.call i.due i.stands h)
+      (λ g. subst (Unused m v) (sym g) own) i.call i.due i.stands h)
   on_change (StartsSet r) x f i h = inl (starts_unused m v r st x i.before i.volumes (ap (λ (q : SetRow). q.number) i.row) i.goes.quiet o own)
   on_change (AddsVolume n u) x f i h = inl
       (subst (λ (y : State). Unused m v (change_set n (with_volume u) y)) (sym i.first) (on_adds m v u n st i.goes.quiet own))
@@ -249,7 +249,7 @@ module _ (m : Bool) (v : ℕ) (s : Plan) (e : Event) (mark : Mark) (st : State) 
       (on_reverted m v u (reverted n p) x (fewer_reverted n p) (ap (λ (y : State). is_in_set u (in_progress y)) i.2 ∙ i.0.free)) h
   on_change (RevertsPart u blocks n p k) x f i h =
       by_held m v x _ (on_reverted m v u (reverted_in_part blocks n p k) x (fewer_reverted_in_part blocks n p k)
-          (ap (λ (y : State). is_in_set u (in_progress y)) i.2 ∙ i.0.free)) h
+      (ap (λ (y : State). is_in_set u (in_progress y)) i.2 ∙ i.0.free)) h
   on_change (Drops n u) x f i h = with_volumes m v _ x (each_change (Fewer m) (fewer_same m) (dropped n) (fewer_dropped m n) u x.volumes v) h
   on_change (Evicts n group) x f i h = with_volumes m v _ x (each_gone (Fewer m) (fewer_same m) n (fewer_after m n) group x.volumes v) h
   on_change (IsCutAt n now) x f i h = absurd cc
@@ -321,14 +321,14 @@ rests : (m : Bool) (s : Plan) (past : List Act) (act : Act) (v : ℕ) → Holds 
 rests m s past act v h =
     let x = after s (state s past) act in
     at_rest (λ a o. SetUnused m v a o (history_of x v)) (λ o. NoImage o (history_of x v).images) (unused_fact m v (history_of x v)) x
-        (subst IsOrderly (state-append s past act) (orderly s (past ++ act ∷ []))) h
+    (subst IsOrderly (state-append s past act) (orderly s (past ++ act ∷ []))) h
 
 on_no_cut : (m : Bool) (s : Plan) (past : List Act) (act : Act) (v : ℕ) → is_held (state s past) v ≡ m → (is_provider act.event && is_cut_group (open_group (left_now (state s past)))) ≡ false → Unused m v (state s past) → Unused m v (after s (state s past) act)
 on_no_cut m s past act v held e h =
     let st = state s past in
     rests m s past act v
     (by_changes (Holds m v) s st act (λ c x i g. on_change m v s act.event act.mark st held (orderly s past) h c x (no_cut s act.event act.mark st x c e i) i g)
-        (inl h))
+    (inl h))
 
 on_held_if : (m : Bool) (s : Plan) (past : List Act) (act : Act) (v : ℕ) → is_held (state s past) v ≡ m → (is_provider act.event && is_cut_group (open_group (left_now (state s past)))) ≡ false → Unused true v (state s past) → Unused true v (after s (state s past) act)
 on_held_if m s past act v held e h = grind (arith, on_no_cut, ever_unused, released_unused)
@@ -344,9 +344,9 @@ on_act_if true s past act v e h =
     rests true s past act v
     (by_cut (Holds true v) s st act r.set parts.0 parts.1 r.is (on_end true v s act.event act.mark st)
     (moves_in (λ a o. SetUnused true v a o (history_of x v)) (λ o. NoImage o (history_of x v).images) (unused_fact true v (history_of x v))
-        (in_progress x) st.course.agenda st.course.members st.course.outcome _ _ _
+    (in_progress x) st.course.agenda st.course.members st.course.outcome _ _ _
     (moves_stepped true st.clock st.course (working_at_cut (left_now st) parts.1)) (goes_stepped true st.clock st.course)
-        (inl (cut_unused s past v r.set parts.1 c r.is))))
+    (inl (cut_unused s past v r.set parts.1 c r.is))))
 
 unused_fold : (s : Plan) (v : ℕ) (past acts : List Act) → Unused true v (state s past) → Unused true v (fold (after s) (state s past) acts)
 unused_fold s v past [] h = h

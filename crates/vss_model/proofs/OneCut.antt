@@ -90,7 +90,7 @@ module _ (R : Option Agenda → Option SetRow → Type 0) (U : Option SetRow →
     begins_in : (a : Option Agenda) (p : SetOutcome) → x ≡ st → runs st ≡ false → HoldsIn (in_progress x) a p
     begins_in a p e f =
         inl (k.any a (in_progress x)
-            (k.quiet (in_progress x) (subst (λ b. R b (in_progress x)) (ap (λ (y : State). y.course.agenda) e ∙ none_runs st.course.agenda f) (first e))))
+        (k.quiet (in_progress x) (subst (λ b. R b (in_progress x)) (ap (λ (y : State). y.course.agenda) e ∙ none_runs st.course.agenda f) (first e))))
 
     pub on_called : (call : CourseCall) → IsDue st x.course call → Stands st x call → HoldsIn (in_progress x) x.course.agenda x.course.outcome
         → HoldsIn (in_progress x) (called s st call x.course).agenda (called s st call x.course).outcome
@@ -99,7 +99,7 @@ module _ (R : Option Agenda → Option SetRow → Type 0) (U : Option SetRow →
         (moves_answered w said st.clock x.course) (goes_answered w said st.clock x.course) h
     on_called (Steps ok) i j h =
         moves_in (in_progress x) x.course.agenda x.course.members x.course.outcome _ _ _
-            (moves_stepped ok st.clock x.course (subst (λ c. is_working (left c.agenda) ≡ true) (sym i.1) i.0)) (goes_stepped ok st.clock x.course) h
+        (moves_stepped ok st.clock x.course (subst (λ c. is_working (left c.agenda) ≡ true) (sym i.1) i.0)) (goes_stepped ok st.clock x.course) h
     on_called (Times now) i j h = moves_in (in_progress x) x.course.agenda x.course.members x.course.outcome _ _ _ (moves_timed now x.course)
         (goes_timed now x.course) h
     on_called Gathers i j h = begins_in _ _ j i.goes.quiet
@@ -180,14 +180,18 @@ changed_result b f r e = grind arith
 rows_change : (k : Known) (f : SetRow → SetRow) → ((r : SetRow) → (f r).number ≡ r.number) → ((r : SetRow) → (f r).result ≡ r.result) → (x : State) → IsCut k x
     → IsCut k (record x { sets = map f x.sets })
 rows_change k f number result x
-    h = record { shown = h.shown; progress = by_cases h.progress; fresh = fresh_length k (length (map f x.sets)) (length x.sets)
-    (length-map x.sets f) h.fresh } where
-  by_cases : Progress k x.course.agenda (in_progress x) ⊎ IsOver x.course.agenda x.course.outcome
-      → Progress k x.course.agenda (find (λ r. is_running r.result) (map f x.sets)) ⊎ IsOver x.course.agenda x.course.outcome
-  by_cases (inl p) = inl
-      (subst (Progress k x.course.agenda) (sym (find-map f (λ r. ap is_running (result r)) x.sets))
-      (progress_same k x.course.agenda f number (in_progress x) p))
-  by_cases (inr p) = inr p
+    h = record {
+      shown = h.shown;
+      progress = by_cases h.progress;
+      fresh = fresh_length k (length (map f x.sets)) (length x.sets)
+          (length-map x.sets f) h.fresh;
+    } where
+      by_cases : Progress k x.course.agenda (in_progress x) ⊎ IsOver x.course.agenda x.course.outcome
+          → Progress k x.course.agenda (find (λ r. is_running r.result) (map f x.sets)) ⊎ IsOver x.course.agenda x.course.outcome
+      by_cases (inl p) = inl
+          (subst (Progress k x.course.agenda) (sym (find-map f (λ r. ap is_running (result r)) x.sets))
+          (progress_same k x.course.agenda f number (in_progress x) p))
+      by_cases (inr p) = inr p
 
 with_volumes : (k : Known) (hs : List History) (x : State) → AllShown k 0 hs → IsCut k x → IsCut k (record x { volumes = hs })
 with_volumes k hs x shown h = record { shown = shown; progress = h.progress; fresh = h.fresh }
@@ -219,7 +223,7 @@ on_change k s e m st own (CourseIs c) x f i h = record {
   shown = h.shown;
   progress = subst (λ (d : Course). HoldsIn (Progress k) (Uncut k) (cut_fact k) (in_progress x) d.agenda d.outcome) (sym i.is)
       (on_called (Progress k) (Uncut k) (cut_fact k) s st x
-          (λ g. subst (λ (y : State). Progress k y.course.agenda (in_progress y)) (sym g) own) i.call i.due i.stands h.progress);
+      (λ g. subst (λ (y : State). Progress k y.course.agenda (in_progress y)) (sym g) own) i.call i.due i.stands h.progress);
   fresh = h.fresh;
 }
 on_change k s e m st own (StartsSet r) x f i h = record {
@@ -227,7 +231,7 @@ on_change k s e m st own (StartsSet r) x f i h = record {
   progress = inl (found_append k x.course.agenda x.sets r
       (h.fresh r.number (newer (length x.sets) (length st.sets) r.number (ap length i.before) (ap (λ (q : SetRow). q.number) i.row)))
       (subst (λ rows. Progress k x.course.agenda (find (λ q. is_running q.result) rows)) (sym i.before)
-          (subst (λ (c : Course). Progress k c.agenda (in_progress st)) (sym i.course) own)));
+      (subst (λ (c : Course). Progress k c.agenda (in_progress st)) (sym i.course) own)));
   fresh = λ n l. h.fresh n (less (length x.sets) (length (x.sets ++ r ∷ [])) n (length_push x.sets r) l);
 } where
   newer : (a b n : ℕ) → a ≡ b → n ≡ b + 1 → a < n
@@ -387,7 +391,7 @@ on_cut k act st r p g c e o h =
     let new = newest k st r c e o h in
     let d = course_stepped true st.clock st.course in
     let moves : Moves (Some c.agenda) st.course.outcome d.agenda d.outcome = subst (λ a. Moves a st.course.outcome d.agenda d.outcome) c.runs
-        (moves_stepped true st.clock st.course (working_at_cut (left_now st) g)) in
+    (moves_stepped true st.clock st.course (working_at_cut (left_now st) g)) in
     record {
       shown = shown_cut_each k l r.number r.volumes st.volumes 0 st.volumes new.none (known_stays k st act)
           (cut_now k st act r p g e (new.none r.number (own r.number))) (λ j. ap (slice_get st.volumes) (zero_plus j)) h.shown;
@@ -416,7 +420,7 @@ on_act_if false s past act k e h =
     know_more k (next_known k st act) (after s st act)
     (λ n. not_cut_now k st act n (parts_not (is_provider act.event) (is_cut_group (open_group (left_now st))) (is_set n (in_progress st)) e))
     (by_changes (IsCut k) s st act
-        (λ c x i g. on_change k s act.event act.mark st (progress_now k st (orderly s past) h) c x (no_cut s act.event act.mark st x c e i) i g) h)
+    (λ c x i g. on_change k s act.event act.mark st (progress_now k st (orderly s past) h) c x (no_cut s act.event act.mark st x c e i) i g) h)
 on_act_if true s past act k e h =
     let st = state s past in
     let parts = both (is_provider act.event) (is_cut_group (open_group (left_now st))) e in

@@ -131,7 +131,7 @@ at_cut s past act r e f g h =
     by_cut_alone (HasRoom l) s st act r e f g (on_change l s act.event act.mark st)
     (subst (Roomy l x.volumes) (sym (find-row_cut r.number st.clock st.sets ∙ ap (option_map (row_cut r.number st.clock)) g))
     (λ v among. at_volume v (l (row_cut r.number st.clock r).number) refl
-        (subst (λ vs. is_among v vs ≡ true) (volumes-row_cut_if (r.number == r.number) st.clock r) among)))
+    (subst (λ vs. is_among v vs ≡ true) (volumes-row_cut_if (r.number == r.number) st.clock r) among)))
   where
     uncut : cut s r.number past ≡ None
     uncut = not_cut_yet s past r (cuts s past f) g
