@@ -6,7 +6,8 @@ use Rattle.promises.proofs.Words.{Write, dropped, said_of, Group, Kind, Gather}
 use Rattle.promises.proofs.Words.{Prepare, Snapshot, Complete, Member, Agenda, Open, order_of, groups_left, left, open_group, next_volume, open_place, open_order, order_now, is_done, is_working}
 use Rattle.promises.proofs.Words.{all_say, spent_of, takers, Session, opened, Op, begins_agenda, Target, target_of, Plan, Event, Reply, Fine, Coded, Deleted, Idled, Stepped, State, SetRow, Kept}
 use Rattle.promises.proofs.Words.{start, is_complete, in_progress, row_of, row_changed, left_now, Act, enabled, order_of_writer, answer_reply, step_reply, idle_now, happens, reply, after, state}
-use Rattle.promises.proofs.Words.{is_pending, Settles, outcome_is_running, agenda-concluded, true_not_false, orderly, has_complete, running_incomplete, incomplete_map, incomplete_append}
+use Rattle.promises.proofs.Words.{is_pending, Settles, outcome_is_running, true_not_false, orderly, has_complete, running_incomplete, incomplete_map}
+use Rattle.promises.proofs.Words.{incomplete_append}
 use Rattle.promises.proofs.Words.{complete_found, Deed, Spoke, Made, deeds_lost, deeds_of, deeds_if, is_snapshot_line, way_after, way_from, way, Covers, covered, after_enabled, after_not_enabled}
 use Rattle.promises.proofs.Words.{not_complete}
 use Rattle.std.proofs.Common.{◌≡◌, ◌∙◌, ℕ, ◌+◌, ◌==◌, List, [], ◌∷◌, ◌++◌, ◌⊎◌, Option, Some, None, refl, Bool, true, false, ap, sym, subst, inl, inr, map, fold}
@@ -18,13 +19,14 @@ use Rattle.set_agenda.specs.Course.{Course, posted, failed as course_failed, set
 use Rattle.set_agenda.specs.Course.{stepped as course_stepped, limits_now, fails_set, released}
 use Rattle.scenario.specs.declared.op.Op.TheVariants as op
 use Rattle.vss_model.specs.declared.event.Event.TheVariants.{Line, Answer as AnswerEvent, Provider, Idle}
-use Rattle.vss_model.specs.Ending.{ending, followed, runs, failed_in, failed}
+use Rattle.vss_model.specs.Ending.{followed, runs, failed_in, failed}
 use Rattle.vss_model.specs.Images.{Replied, refused, cleared, set_loses_image, with_room_if, put, write, reverted_as}
 use Rattle.vss_model.specs.Sessions.{new_set, new_number, with_volume, has_no_volume, volumes_of, start_set, change_set, disable, is_disabled, selected, closed}
 use Rattle.vss_model.specs.Steps.{answered, step_made, is_flush, is_failed_step, stepped_as, stepped, ticked, later}
 use Rattle.vss_model.specs.Effects.{line_ticks, lost, lost_after, lost_order, lost_order_if}
 use Rattle.vss_model.proofs.LogRule.{Running, unspoken}
 use Rattle.vss_model.proofs.OneCut.{changed_number, changed_result}
+use Rattle.promises.proofs.BusyAgendas.{course_followed}
 use Rattle.promises.proofs.Clock.{clock-answered, clock-stepped_as, clock-ticked, write_ticks}
 use Rattle.promises.proofs.Incomplete.{done_followed, incomplete_closed, incomplete_failed, incomplete_made, incomplete_revert, incomplete_write}
 use Rattle.promises.proofs.Speaks.{deed_in, said_at, Speaks, Grows, made_now, lost_told, grows_answered, grows_stepped, grows_timed}
@@ -91,15 +93,11 @@ module _ (G : Agenda → Type 0) (k : IsKeptAlong G) where
 
   -- ## the state
 
-  agenda-followed : (ran : Bool) (c : Course) (st : State) → (followed ran c st).course.agenda ≡ c.agenda
-  unfolding followed
-  agenda-followed ran c st = agenda-concluded (ending st.course.outcome c.outcome ran c.agenda) (record st { course = c })
-
   abbrev Stands : List Deed → State → Type 0
   Stands so_far st = Running (Tells so_far) st.course.agenda
 
   on_followed : (so_far : List Deed) (ran : Bool) (c : Course) (st : State) → Running (Tells so_far) c.agenda → Stands so_far (followed ran c st)
-  on_followed so_far ran c st h = subst (Running (Tells so_far)) (sym (agenda-followed ran c st)) h
+  on_followed so_far ran c st h = subst (λ (d : Course). Running (Tells so_far) d.agenda) (sym (course_followed ran c st)) h
 
   on_failed_in : (so_far : List Deed) (o : Option SetRow) (why : VssResult) (st : State) → Stands so_far st → Stands so_far (failed_in o why st)
   unfolding course_failed

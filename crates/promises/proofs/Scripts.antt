@@ -1,25 +1,26 @@
 -- A writer answers by its script: how often it was asked, as the acts tell it, is how many groups of that order have opened for it.
-use Rattle.promises.proofs.Words.{list_any, sum_by-append, Level, Order, VssResult, AsyncCancelled, BadState, SetOutcome, Said, row_gathered, Mark, Writer, Move}
-use Rattle.promises.proofs.Words.{Write, Scripted, said_of, answer_in, is_row_for, scripted_answer, Group, Orders, PreCommit, Flush, Hold, Cut, Commit, Release, PostCommit, Kind}
-use Rattle.promises.proofs.Words.{Member, Place, Running as RunningLimit, spent_of, Session, Plan, script_of, Event, State, SetRow, in_progress, left_now, followed, runs, failed_in}
-use Rattle.promises.proofs.Words.{failed, Act, order_of_writer, idle_now, after, state, acts, acts_if, answer_event, script_event, state-run, acts-append, Settles, said_stays}
-use Rattle.promises.proofs.Words.{among_filter, is_owed, is_asked_anew, asked_from, times_asked, written_in, AnswersByScript, Deed, Covers, covered, after_enabled, after_not_enabled, by_if}
+use Rattle.promises.proofs.Words.{list_any, sum_by-append, Level, Order, VssResult, AsyncCancelled, SetOutcome, Said, row_gathered, Mark, Writer, Move}
+use Rattle.promises.proofs.Words.{Scripted, answer_in, is_row_for, scripted_answer, Group, Orders, PreCommit, Flush, Hold, Cut, Commit, Release, PostCommit}
+use Rattle.promises.proofs.Words.{Kind}
+use Rattle.promises.proofs.Words.{Member, Place, Running as RunningLimit, spent_of, Plan, script_of, Event, State, runs}
+use Rattle.promises.proofs.Words.{Act, order_of_writer, after, state, acts, acts_if, answer_event, script_event, state-run, acts-append, Settles, said_stays}
+use Rattle.promises.proofs.Words.{among_filter, is_owed, is_asked_anew, asked_from, times_asked, written_in, AnswersByScript, Deed}
 use Rattle.promises.proofs.Words.{append_nothing, and-false, none_runs}
 use Rattle.std.proofs.Common.{◌≡◌, ◌∙◌, ℕ, ◌+◌, ◌==◌, List, [], ◌∷◌, ◌++◌, Option, Some, None, refl, Bool, true, false, ap, sym, subst, inl, inr, map, filter, find, fold, arith}
 use Rattle.std.specs.Prelude.{◌&&◌, ◌||◌, not, is_some, count_by, if◌then◌else◌}
 use Rattle.std.proofs.lemmas.Bool.{and_from, and_parts, or_left, or_right}
 use Rattle.set_agenda.specs.declared.kind.Kind.TheVariants as kind
 use Rattle.set_agenda.specs.Agenda.{Agenda, Open, places, group_code, same_order, same_place, order_of, is_orders, members_of, waited_for, with_group}
-use Rattle.set_agenda.specs.Agenda.{left_from, groups_left, left, open_group, open_place, waits_now, is_among, order_if, open_order, is_working, is_done}
+use Rattle.set_agenda.specs.Agenda.{left_from, groups_left, left, open_place, waits_now, is_among, order_if, open_order, is_working, is_done}
 use Rattle.set_agenda.specs.Agenda.{all_say}
 use Rattle.set_agenda.specs.Course.{OrderGroup, Course, group_of_orders, opens, posted, sent, failed as course_failed, settled, begun, told, answered_to}
 use Rattle.set_agenda.specs.Course.{answered as course_answered, worked, stepped_as as course_stepped_as, stepped as course_stepped, limits_now, lost_to}
 use Rattle.set_agenda.specs.Course.{treated, timed as course_timed, released}
-use Rattle.vss_model.specs.Images.{Replied, refused, cleared, set_loses_image, with_room_if, put, write, reverted_as}
-use Rattle.vss_model.specs.Sessions.{has_no_volume, closed}
-use Rattle.vss_model.specs.Steps.{answered, step_made, is_flush, is_failed_step, stepped_as, stepped, ticked, later}
+use Rattle.vss_model.specs.Sessions.{closed}
 use Rattle.promises.proofs.Truth.{not_itself, same_number}
-use Rattle.promises.proofs.BusyAgendas.{course_followed}
+use Rattle.vss_model.specs.Changes.{Change, CourseIs, apply}
+use Rattle.vss_model.proofs.Changes.{CourseCall, Answers, Steps, Times, Gathers, Prepares, Snapshots, Completes, Disables, Fails, Releases, called, IsDue}
+use Rattle.vss_model.proofs.Changes.{Comes, by_changes}
 use Rattle.promises.proofs.Heard.{same_group}
 use Rattle.promises.proofs.Speaks.{Grows, grows_answered, grows_stepped, grows_timed}
 use Rattle.promises.proofs.Stages.{failed_stays, closed_stays, grown}
@@ -265,95 +266,40 @@ module _ (w : ℕ) (o : Order) where
 
 -- ## every act
 
-released_agenda : (c : Course) → ((released c).agenda ≡ None) × ((released c).opened ≡ c.opened)
-unfolding released
-released_agenda c = (refl, refl)
-
-closed_course : (q : Session) (x : State) → (closed q x).course ≡ released x.course
-unfolding closed
-closed_course q x = refl
-
-failed_opened : (r : Option SetRow) (why : VssResult) (x : State) → (failed_in r why x).course.opened ≡ x.course.opened
-failed_opened r why x = grind (arith, opened_failed)
-
 module _ (s : Plan) (w : ℕ) (o : Order) (st : State) where
   abbrev To : Course → Type 0
   To d = Asks w o st.course d
 
-  abbrev Next : Event → Mark → Replied → Type 0
-  Next event mark x = To x.1.course
-
-  as_it_was : To st.course
-  as_it_was = asks_still w o st.course st.course refl refl
-
-  on_followed : (ran : Bool) (c : Course) (x : State) → To c → To (followed ran c x).course
-  on_followed ran c x h = subst To (sym (course_followed ran c x)) h
-
-  on_failed : (r : Option SetRow) (why : VssResult) (x : State) → x.course ≡ st.course → To (failed_in r why x).course
-  on_failed r why x e = grind (arith, as_it_was, asks_none, failed_agenda, opened_failed)
-
-  on_room : (b : Bool) (x : State) → x.course ≡ st.course → To (with_room_if b x).course
-  on_room b x e = grind (arith, on_failed, as_it_was)
-
-  on_put : (v : ℕ) (b : Write) (mark : Mark) (x : State) → To x.course → To (put v b mark x).course
-  on_put v b mark x h = grind arith
-
-  on_write : (v : ℕ) (b : Write) (mark : Mark) → To (write s v b mark st).1.course
-  unfolding write
-  on_write v b mark = on_put v b mark _ (on_room (set_loses_image (in_progress st) st.volumes (cleared s v b.block st).volumes) (cleared s v b.block st) refl)
-
-  on_reverts : (v : ℕ) (k : _) (mark : Mark) → To (reverted_as s v k mark st).1.course
-  on_reverts v k mark = grind (arith, as_it_was)
-
-  on_end : (q : Session) → To (closed q (failed AsyncCancelled st)).course
-  on_end q = grind (arith, closed_course, asks_none, released_agenda, failed_opened)
-
-  on_ticks : (n : ℕ) → To (ticked n st).course
-  unfolding ticked
-  on_ticks n = on_followed (runs st) (course_timed (st.clock + n) st.course) (later n st) (asks_timed w o (st.clock + n) st.course)
-
-  on_answers : (u : ℕ) (said : Said) → is_some (order_of_writer st u) ≡ true → To (answered u said st).course
-  unfolding answered
-  on_answers u said e = on_followed (runs st) (course_answered u said st.clock st.course) st (asks_answered w o u said st.clock st.course e)
-
-  on_steps : (mark : Mark) → is_working (left_now st) ≡ true → To (stepped mark st).course
-  unfolding stepped
-  on_steps mark e = by_test (is_failed_step (is_flush (open_group (left_now st))) mark) (open_group (left_now st)) where
-    by_test : (b : Bool) (g : Option Group) → To (stepped_as b g st).course
-    by_test true g = on_followed (runs st) (course_stepped false st.clock st.course) st (asks_stepped w o false st.clock st.course e)
-    by_test false g = on_followed (runs st) (course_stepped true st.clock st.course) (step_made g st) (asks_stepped w o true st.clock st.course e)
-
   begins : (k : Kind) (ms : List Member) (vs : List ℕ) (c : Course) → runs st ≡ false → c.agenda ≡ st.course.agenda → c.opened ≡ st.course.opened
-      → To (followed true (begun k ms vs st.clock c) st).course
-  begins k ms vs c e f g = grind (arith, on_followed, asks_begun, none_runs)
+      → To (begun k ms vs st.clock c)
+  begins k ms vs c e f g = let none = none_runs st.course.agenda e in asks_begun w o k ms vs st.clock st.course c none (f ∙ none) g
 
-  every_act : Covers Next s st
-  every_act = record {
-    stays = λ lane p mark said e f. as_it_was;
-    writes = λ lane p v b mark e f. on_write v b mark;
-    reverts = λ lane n v k mark e f. on_reverts v k mark;
-    deletes_set = λ lane n c mark e. as_it_was;
-    deletes_image = λ lane n v k mark e. as_it_was;
-    ticks = λ lane n mark. on_ticks n;
-    begins = λ lane n all c mark e f. as_it_was;
-    disables = λ lane u q mark g. asks_still w o st.course (record st.course { disabled = st.course.disabled ++ u ∷ [] }) refl refl;
-    gathers = λ lane q mark g. begins kind.Gather _ [] (record st.course { rows = map row_gathered st.course.rows }) g.quiet refl refl;
-    names = λ lane u full q explicit mark g named. as_it_was;
-    starts = λ lane q mark g e. as_it_was;
-    adds = λ lane v r q mark g e f. as_it_was;
-    prepares = λ lane q mark g. by_if (λ r. To r.1.course) (has_no_volume (in_progress st)) (refused BadState st) _ as_it_was
-        (begins kind.Prepare _ [] (record st.course { members = _ }) g.quiet refl refl);
-    snapshots = λ lane q mark g. by_if (λ r. To r.1.course) (has_no_volume (in_progress st)) (refused BadState st) _ as_it_was (begins kind.Snapshot st.course.members _ st.course g.quiet refl refl);
-    completes = λ lane q mark g. begins kind.Complete _ [] st.course g.quiet refl refl;
-    aborts = λ lane q mark e. on_failed (in_progress st) AsyncCancelled st refl;
-    ends = λ lane q mark e. on_end q;
-    answers = λ u answer mark e. on_answers u (said_of answer) e;
-    steps = λ mark e. on_steps mark e;
-    idles = λ mark e. on_ticks (idle_now st);
-  }
+  abbrev Called : CourseCall → Course → Type 0
+  Called call c = To (called s st call c)
+
+  to_called : (call : CourseCall) (c : Course) → IsDue st c call → Called call c
+  unfolding released
+  to_called (Answers u said) c i = subst (Called (Answers u said)) (sym i.1) (asks_answered w o u said st.clock st.course i.0)
+  to_called (Steps ok) c i = subst (Called (Steps ok)) (sym i.1) (asks_stepped w o ok st.clock st.course i.0)
+  to_called (Times now) c i = subst (Called (Times now)) (sym i) (asks_timed w o now st.course)
+  to_called Gathers c i = subst (Called Gathers) (sym i.course)
+      (begins kind.Gather _ [] (record st.course { rows = map row_gathered st.course.rows }) i.goes.quiet refl refl)
+  to_called (Prepares q) c i = subst (Called (Prepares q)) (sym i.1) (begins kind.Prepare _ [] (record st.course { members = _ }) i.0.quiet refl refl)
+  to_called Snapshots c i = subst (Called Snapshots) (sym i.course) (begins kind.Snapshot st.course.members _ st.course i.goes.quiet refl refl)
+  to_called Completes c i = subst (Called Completes) (sym i.course) (begins kind.Complete _ [] st.course i.goes.quiet refl refl)
+  to_called (Disables u) c i = subst (Called (Disables u)) (sym i.course)
+      (asks_still w o st.course (record st.course { disabled = st.course.disabled ++ u ∷ [] }) refl refl)
+  to_called (Fails why) c i = subst (Called (Fails why)) (sym i.1.1)
+      (asks_none w o st.course (course_failed why st.course) (failed_agenda why st.course) (opened_failed w o why st.course))
+  to_called Releases c (inl e) = asks_none w o st.course (released c) refl (ap (λ (d : Course). d.opened) e)
+  to_called Releases c (inr e) = asks_none w o st.course (released c) refl (ap (λ (d : Course). d.opened) e ∙ opened_failed w o AsyncCancelled st.course)
+
+  to_apply : (e : Event) (m : Mark) (c : Change) (x : State) → Comes s e m st x c → To x.course → To (apply x c).course
+  to_apply e m (CourseIs c) x i h = subst To (sym i.is) (to_called i.call x.course i.due)
+  to_apply e m _ x i h = h
 
   on_act : (act : Act) → To (after s st act).course
-  on_act act = grind (arith, after_enabled, covered, every_act, after_not_enabled, as_it_was)
+  on_act act = by_changes (λ x. To x.course) s st act (to_apply act.event act.mark) (asks_still w o st.course st.course refl refl)
 
 asked_is : (s : Plan) (w : ℕ) (o : Order) (st : State) (n : ℕ) (acts : List Act) → n ≡ sent st.course w o → asked_from s st w o n acts ≡ sent (fold (after s) st acts).course w o
 asked_is s w o st n [] e = e

@@ -68,7 +68,6 @@ pub use Rattle.scenario.specs.Bounds.{IsPlan, begins_agenda, group_slots, is_beg
 pub use Rattle.scenario.specs.Calls.{Target, line_of, target_in, target_of}
 pub use Rattle.vss_model.proofs.CourseCalls.{Settles, Stops, asked_if, asked_waits, first_among, not_ok_of_ok}
 pub use Rattle.vss_model.proofs.FlushFails.{flush_fails, outcome_is_running}
-pub use Rattle.vss_model.proofs.Freed.{agenda-concluded}
 pub use Rattle.vss_model.proofs.Orderly.{other_way, true_not_false}
 pub use Rattle.vss_model.proofs.Rows.{complete_found, found_above, has_complete, incomplete_append, incomplete_map, incomplete_settled, kind_is, none_runs, result-settled, row_running, row_settles}
 pub use Rattle.vss_model.proofs.Rows.{running_found, running_incomplete}

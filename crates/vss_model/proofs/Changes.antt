@@ -1,16 +1,15 @@
 -- The state after an act is that after its changes, and what is known of each change where it comes: `e` and `m` are the event
 -- and the mark of the act, `st` the state before it, and `x` that to which the change is applied.
-use Rattle.std.proofs.Common.{◌≡◌, ◌∙◌, ℕ, List, [], ◌∷◌, ◌++◌, ◌+◌, fold, length, Option, Some, None, refl, Bool, true, false, sym, subst, ap, arith}
-use Rattle.std.specs.Prelude.{◌&&◌, not, if◌then◌else◌, option_map, is_some}
+use Rattle.std.proofs.Common.{◌≡◌, ◌∙◌, ℕ, List, [], ◌∷◌, ◌++◌, ◌+◌, fold, length, Option, Some, None, refl, Bool, true, false, sym, subst, ap, inl, inr, arith}
+use Rattle.std.specs.Prelude.{◌⊎◌, ◌&&◌, not, if◌then◌else◌, option_map, is_some}
 use Rattle.std.proofs.lemmas.List.Sums.{fold-append}
 use Rattle.std.proofs.lemmas.Grind.{common_steps}
 use Rattle.vss_names.specs.declared.context.Context.{Context}
 use Rattle.vss_names.specs.declared.context.Context.TheVariants.{Backup, AppRollback, NasRollback}
 use Rattle.vss_names.specs.declared.order.Order.{Order}
 use Rattle.vss_names.specs.declared.set_outcome.SetOutcome.{SetOutcome}
-use Rattle.vss_names.specs.declared.set_outcome.SetOutcome.TheVariants.{Failed}
 use Rattle.vss_names.specs.declared.vss_result.VssResult.{VssResult}
-use Rattle.vss_names.specs.declared.vss_result.VssResult.TheVariants.{AsyncCancelled, InsufficientStorage}
+use Rattle.vss_names.specs.declared.vss_result.VssResult.TheVariants.{AsyncCancelled, BadState, InsufficientStorage}
 use Rattle.block_data.specs.declared.payload.Payload.{Payload}
 use Rattle.block_data.specs.PayloadBytes.{payload_bytes}
 use Rattle.write_history.specs.declared.mark.Mark.{Mark}
@@ -21,36 +20,41 @@ use Rattle.writer_calls.specs.declared.answer.Answer.{Answer}
 use Rattle.writer_calls.specs.Script.{said_of}
 use Rattle.set_agenda.specs.declared.group.Group.{Group}
 use Rattle.set_agenda.specs.declared.group.Group.TheVariants.{Cut}
-use Rattle.set_agenda.specs.Agenda.{open_group, next_volume, is_working}
-use Rattle.set_agenda.specs.Course.{Course, answered as course_answered, stepped as course_stepped, timed, gathered, prepared, snapshot_begun, completing, failed as course_failed, released}
-use Rattle.component_doc.specs.Selection.{takers}
+use Rattle.set_agenda.specs.declared.kind.Kind.TheVariants.{Gather, Prepare, Snapshot, Complete}
+use Rattle.set_agenda.specs.Agenda.{Agenda, left, open_group, next_volume, is_working}
+use Rattle.set_agenda.proofs.CourseRule.{IsKeptFrom, from_answered, from_stepped, from_timed, from_begun}
+use Rattle.set_agenda.specs.Course.{Course, posted, told, worked, answered as course_answered, stepped as course_stepped, timed, gathered, prepared}
+use Rattle.set_agenda.specs.Course.{snapshot_begun, completing, failed as course_failed, released}
+use Rattle.component_doc.specs.Selection.{Pair, Names as NamesNow, naming, takers}
 use Rattle.requestor.specs.declared.session_call.SessionCall.{SessionCall}
 use Rattle.requestor.specs.declared.session_call.SessionCall.TheVariants as call
-use Rattle.requestor.specs.Session.{Session, makes_set, opened}
+use Rattle.requestor.specs.Session.{Session, makes_set, opened, started, agenda_ended, set_failed}
 use Rattle.scenario.specs.declared.line.Line.{Line as Does}
 use Rattle.scenario.specs.declared.line.Line.TheVariants as does
 use Rattle.scenario.specs.declared.op.Op.{Op}
 use Rattle.scenario.specs.declared.op.Op.TheVariants as op
 use Rattle.scenario.specs.Calls.{Target, target_in, line_of}
-use Rattle.scenario.specs.Plan.{Plan}
+use Rattle.scenario.specs.Plan.{Plan, token}
 use Rattle.vss_model.specs.declared.event.Event.{Event}
 use Rattle.vss_model.specs.declared.event.Event.TheVariants.{Line, Answer as AnswerEvent, Provider, Idle}
 use Rattle.vss_model.specs.Reply.{Reply}
 use Rattle.vss_model.specs.Replies.{leaves_all}
 use Rattle.vss_model.specs.State.{State, SetRow, Kept, in_progress, left_now, is_held, kept_image}
-use Rattle.vss_model.specs.Ending.{Ending, SetFails, ending, images_dropped, concluded, followed, runs, failed_in, failed}
-use Rattle.vss_model.specs.Images.{Replied, write, reverted_as, put, with_room_if, is_in_set, reply_of_mark}
-use Rattle.vss_model.specs.Sessions.{is_disabled, selected, new_number, new_set, add_refusal, has_no_volume, volumes_of, closed}
+use Rattle.vss_model.specs.Ending.{Ending, NothingEnds, AgendaEnds, SetFails, ending, images_dropped, concluded, followed, runs, failed_in, failed}
+use Rattle.vss_model.specs.Images.{Replied, refused, write, reverted_as, put, with_room_if, is_in_set, reply_of_mark}
+use Rattle.vss_model.specs.Sessions.{is_disabled, known_metas, selected, new_number, new_set, add_refusal, has_no_volume, volumes_of, pending, closed}
 use Rattle.vss_model.specs.Steps.{cut_set, is_flush, is_failed_step, stepped_as, stepped, later, ticked, answered, row_cut}
 use Rattle.vss_model.specs.Lines.{does as line_does}
 use Rattle.vss_model.specs.Effects.{ticks_of}
 use Rattle.vss_model.specs.Acts.{Act, enabled, happens, reply, after, order_of_writer, idle_now, answer_reply, step_reply}
 use Rattle.vss_model.specs.Cut.{is_provider, is_cut_group}
 use Rattle.vss_model.specs.Laws.{LetsGo}
-use Rattle.vss_model.specs.Changes.{Change, Passes, SessionIs, Names, StartsSet, AddsVolume, IsCutAt, CourseIs, Writes, Cuts, Reverts, RevertsPart, DropsSet, Drops, apply, drops, ends, goes_on, fails, makes_room, puts, reverts, deletes, names, adds, releases, closes, calls, session_calls, passes, cuts, steps, does_change, event_changes, changes}
+use Rattle.vss_model.specs.Changes.{Change, Passes, SessionIs, Names, StartsSet, AddsVolume, IsCutAt, CourseIs, Settles, Writes, Cuts, Reverts, RevertsPart}
+use Rattle.vss_model.specs.Changes.{DropsSet, Drops, apply, drops, ends, goes_on, fails, makes_room, puts, reverts, deletes, names, adds, releases, closes}
+use Rattle.vss_model.specs.Changes.{calls, session_calls, passes, cuts, steps, does_change, event_changes, changes}
 use Rattle.vss_model.proofs.ByEvent.{Covers, covered, by_if, some_same, may_change, after_enabled, after_not_enabled}
 use Rattle.vss_model.proofs.Rows.{number-cut}
-use Rattle.vss_model.proofs.Orderly.{find-map}
+use Rattle.vss_model.proofs.Orderly.{find-map, find-settled_over}
 use Rattle.vss_model.proofs.Rule.{no_set_of}
 
 -- ## what is known of a change
@@ -61,6 +65,8 @@ pub record IsStart (st x : State) (r : SetRow) : Type 0 where
   pub free : makes_set session.stage ≡ false
   pub row : r ≡ new_set (new_number st) session.context
   pub before : x.sets ≡ st.sets
+  pub course : x.course ≡ st.course
+  pub volumes : x.volumes ≡ st.volumes
 
 pub record IsAdd (st x : State) (n v : ℕ) : Type 0 where
   pub row : SetRow
@@ -142,23 +148,72 @@ IsDue st c Snapshots = IsLetGo call.Snapshot st c
 IsDue st c Completes = IsLetGo call.Complete st c
 IsDue st c (Disables w) = IsLetGo call.Disable st c
 IsDue st c (Fails why) = (r : SetRow) × ((in_progress st ≡ Some r) × (c ≡ st.course))
-IsDue st c Releases = Unit {0}
+IsDue st c Releases = (c ≡ st.course) ⊎ (c ≡ course_failed AsyncCancelled st.course)
+
+-- and what of the other parts of the state
+abbrev pub Stands : State → State → CourseCall → Type 0
+Stands st x Gathers = x ≡ st
+Stands st x (Prepares q) = x ≡ st
+Stands st x Snapshots = (x ≡ st) × (has_no_volume (in_progress st) ≡ false)
+Stands st x Completes = x ≡ st
+Stands st x (Disables w) = x ≡ st
+Stands st x Releases = (in_progress x ≡ None) × (x.explicit ≡ [])
+Stands st x _ = Unit {0}
 
 pub record IsCalled (s : Plan) (st x : State) (c : Course) : Type 0 where
   pub call : CourseCall
   pub is : c ≡ called s st call x.course
   pub due : IsDue st x.course call
+  pub stands : Stands st x call
+
+-- what becomes of the session
+pub data SessionStep : Type 0 where
+  Opens : ℕ → Context → Bool → SessionStep
+  Starts : Session → SessionStep
+  EndsAgenda : SessionStep
+  FailsSet : VssResult → SessionStep
+  Closes : SessionStep
+
+abbrev pub session_after : State → SessionStep → Option Session → Option Session
+session_after st (Opens lane c all) q = Some (opened lane c all)
+session_after st (Starts own) q = Some (started (new_number st) own)
+session_after st EndsAgenda q = option_map agenda_ended q
+session_after st (FailsSet why) q = option_map (set_failed why) q
+session_after st Closes q = None
+
+abbrev pub IsStepDue : Event → State → State → SessionStep → Type 0
+IsStepDue e st x (Opens lane c all) = (n : ℕ) × ((e ≡ Line lane (op.Begin n all)) × (st.session ≡ None) × (x ≡ st))
+IsStepDue e st x (Starts own) = LetsGo call.Start own st × (x ≡ st)
+IsStepDue e st x Closes = (x.explicit ≡ []) × (x.course.members ≡ []) × (x.course.agenda ≡ None)
+IsStepDue e st x _ = Unit {0}
+
+-- a component is named
+pub record IsNamed (s : Plan) (st x : State) (pairs : List Pair) : Type 0 where
+  pub session : Session
+  pub goes : LetsGo call.Component session st
+  pub writer : ℕ
+  pub name : List ℕ
+  pub named : naming (known_metas s st) writer name st.explicit ≡ NamesNow pairs
+  pub first : x ≡ st
+
+pub record IsSession (e : Event) (st x : State) (q : Option Session) : Type 0 where
+  pub step : SessionStep
+  pub is : q ≡ session_after st step x.session
+  pub due : IsStepDue e st x step
 
 abbrev pub Comes : Plan → Event → Mark → State → State → Change → Type 0
 Comes s e m st x (Passes n) = ticks_of st e ≡ Some n
 Comes s e m st x (StartsSet r) = IsStart st x r
 Comes s e m st x (AddsVolume n v) = IsAdd st x n v
 Comes s e m st x (CourseIs c) = IsCalled s st x c
+Comes s e m st x (SessionIs q) = IsSession e st x q
+Comes s e m st x (Names pairs) = (pairs ≡ []) ⊎ IsNamed s st x pairs
+Comes s e m st x (Settles o) = (x.course.agenda ≡ None) × (o ≡ x.course.outcome)
 Comes s e m st x (IsCutAt n now) = IsCut e st x n × (x ≡ st) × (now ≡ st.clock)
 Comes s e m st x (Cuts n vs) = IsCut e st x n × (vs ≡ volumes_of (in_progress st))
 Comes s e m st x (Writes v w) = IsWrite e m st v w
-Comes s e m st x (Reverts v n p) = IsRevert e st v n p × (m ≡ Clean)
-Comes s e m st x (RevertsPart v blocks n p k) = IsRevert e st v n p × (m ≡ FaultAfter k)
+Comes s e m st x (Reverts v n p) = IsRevert e st v n p × (m ≡ Clean) × (x ≡ st)
+Comes s e m st x (RevertsPart v blocks n p k) = IsRevert e st v n p × (m ≡ FaultAfter k) × (x ≡ st)
 Comes s e m st x _ = Unit {0}
 
 -- of a list of changes, the first to x
@@ -169,6 +224,42 @@ Come s e m st x (c ∷ cs) = Comes s e m st x c × Come s e m st (apply x c) cs
 come-append : (s : Plan) (e : Event) (m : Mark) (st x : State) (cs ds : List Change) → Come s e m st x cs → Come s e m st (fold apply x cs) ds → Come s e m st x (cs ++ ds)
 come-append s e m st x [] ds h g = g
 come-append s e m st x (c ∷ cs) ds h g = (h.0, come-append s e m st (apply x c) cs ds h.1 g)
+
+-- ## where a set or an agenda ends, no agenda runs
+
+abbrev EndsNone : Ending → Option Agenda → Type 0
+EndsNone NothingEnds a = Unit {0}
+EndsNone _ a = a ≡ None
+
+ends_none : (o p : SetOutcome) (ran : Bool) (a : Option Agenda) → (p ≡ o) ⊎ (a ≡ None) → EndsNone (ending o p ran a) a
+ends_none o p ran a h = grind arith
+
+-- a call leaves the outcome, or no agenda runs after it
+abbrev Rests : Course → Course → Type 0
+Rests c d = (d.outcome ≡ c.outcome) ⊎ (d.agenda ≡ None)
+
+rests : (c : Course) → IsKeptFrom (Rests c) c
+unfolding posted told worked course_failed
+rests c = record {
+  stays = inl refl;
+  posts = λ before d h. h;
+  says = λ o said now ws i. inl refl;
+  works = λ now. inl refl;
+  fails = λ why d e h. inr refl;
+  closes = λ a d e f h. inr refl;
+}
+
+rests_called : (s : Plan) (st : State) (call : CourseCall) (c : Course) → IsDue st c call → Rests c (called s st call c)
+unfolding course_failed released
+rests_called s st (Answers w said) c i = from_answered (Rests c) c (rests c) w said st.clock
+rests_called s st (Steps ok) c i = from_stepped (Rests c) c (rests c) ok st.clock (subst (λ d. is_working (left d.agenda) ≡ true) (sym i.1) i.0)
+rests_called s st (Times now) c i = from_timed (Rests c) c (rests c) now
+rests_called s st Gathers c i = from_begun (Rests c) c (rests c) Gather _ [] st.clock _ (inl refl)
+rests_called s st (Prepares q) c i = from_begun (Rests c) c (rests c) Prepare _ [] st.clock _ (inl refl)
+rests_called s st Snapshots c i = from_begun (Rests c) c (rests c) Snapshot _ _ st.clock _ (inl refl)
+rests_called s st Completes c i = from_begun (Rests c) c (rests c) Complete _ [] st.clock _ (inl refl)
+rests_called s st (Disables w) c i = inl refl
+rests_called s st _ c i = inr refl
 
 -- ## the course goes on
 
@@ -208,18 +299,52 @@ unfolding closed
 closes_is q x = grind (arith, common_steps)
 
 module _ (s : Plan) (e : Event) (m : Mark) (st : State) where
-  come_ends : (g : Ending) (o : SetOutcome) (x y : State) → Come s e m st x (ends g o y)
-  come_ends g o x y = grind (arith, common_steps)
+  come_ends : (g : Ending) (x y : State) → x.session ≡ y.session → EndsNone g x.course.agenda → Come s e m st x (ends g x.course.outcome y)
+  come_ends NothingEnds x y same none = tt
+  come_ends AgendaEnds x y same none = (record { step = EndsAgenda; is = ap (option_map agenda_ended) (sym same); due = tt }, ((none, refl), tt))
+  come_ends (SetFails why) x y same
+      none = (record { step = FailsSet why; is = ap (option_map (set_failed why)) (sym same); due = tt }, ((none, refl), by_set (in_progress y) _)) where
+        by_set : (o : Option SetRow) (z : State) → Come s e m st z (drops o)
+        by_set None z = tt
+        by_set (Some r) z = (tt, tt)
 
-  come_on : (ran : Bool) (c : Course) (x y : State) → IsCalled s st x c → Come s e m st x (goes_on ran c y)
-  come_on ran c x y i = (i, come_ends (ending y.course.outcome c.outcome ran c.agenda) c.outcome (record x { course = c }) y)
+  come_on : (ran : Bool) (c : Course) (x y : State) → x.session ≡ y.session → Rests y.course c → IsCalled s st x c → Come s e m st x (goes_on ran c y)
+  come_on ran c x y same h
+      i = (i, come_ends (ending y.course.outcome c.outcome ran c.agenda) (record x { course = c }) y same (ends_none y.course.outcome c.outcome ran c.agenda h))
 
-  come_fails : (o : Option SetRow) (why : VssResult) (x : State) → in_progress st ≡ o → x.course ≡ st.course → Come s e m st x (fails o why st)
-  come_fails None why x f same = tt
-  come_fails (Some r) why x f same = (record { call = Fails why; is = ap (course_failed why) (sym same); due = (r, (f, same)) }, come_ends (SetFails why) (Failed why) (record x { course = course_failed why st.course }) st)
+  come_fails : (o : Option SetRow) (why : VssResult) (x : State) → in_progress st ≡ o → x.course ≡ st.course → x.session ≡ st.session
+      → Come s e m st x (fails o why st)
+  unfolding course_failed
+  come_fails None why x f same session = tt
+  come_fails (Some r) why x f same session = (
+    record { call = Fails why; is = ap (course_failed why) (sym same); due = (r, (f, same)); stands = tt },
+    come_ends (SetFails why) (record x { course = course_failed why st.course }) st session refl,
+  )
 
-  come_closes : (q : Session) (x : State) → Come s e m st x (closes q x)
-  come_closes q x = (record { call = Releases; is = refl; due = tt }, (tt, (tt, by_context (apply (apply (apply x (CourseIs (released x.course))) (SessionIs None)) (Names [])) q.context q.set)))
+  -- a set in progress has failed before
+  none_aborted : (o : Option SetRow) → in_progress st ≡ o → in_progress (fold apply st (fails o AsyncCancelled st)) ≡ None
+  none_aborted None f = f
+  none_aborted (Some r) f = grind (arith, common_steps, dropped_is, find-settled_over)
+
+  aborted : (o : Option SetRow)
+      → ((fold apply st (fails o AsyncCancelled st)).course ≡ st.course)
+      ⊎ ((fold apply st (fails o AsyncCancelled st)).course ≡ course_failed AsyncCancelled st.course)
+  aborted None = inl refl
+  aborted (Some r) = inr (grind (arith, common_steps, dropped_is))
+
+  come_closes : (q : Session) (x : State) → in_progress x ≡ None → (x.course ≡ st.course) ⊎ (x.course ≡ course_failed AsyncCancelled st.course)
+      → Come s e m st x (closes q x)
+  unfolding released
+  come_closes q x none was = (
+    inl refl,
+    (
+      record { call = Releases; is = refl; due = was; stands = (none, refl) },
+      (
+        record { step = Closes; is = refl; due = (refl, refl, refl) },
+        by_context (apply (apply (apply x (Names [])) (CourseIs (released x.course))) (SessionIs None)) q.context q.set,
+      ),
+    ),
+  )
     where
       by_context : (z : State) (c : Context) (set : Option ℕ) → Come s e m st z (releases c set)
       by_context z Backup None = tt
@@ -237,15 +362,28 @@ module _ (s : Plan) (e : Event) (m : Mark) (st : State) where
   makes_none : Makes st []
   makes_none = record { is = refl; come = tt }
 
-  makes_on : (ran : Bool) (c : CourseCall) → IsDue st st.course c → Makes (followed ran (called s st c st.course) st) (goes_on ran (called s st c st.course) st)
-  makes_on ran c i = grind (arith, common_steps, goes_on_own, come_on)
+  makes_on : (ran : Bool) (c : CourseCall) → IsDue st st.course c → Stands st st c
+      → Makes (followed ran (called s st c st.course) st) (goes_on ran (called s st c st.course) st)
+  makes_on ran c i k = let d = called s st c st.course in
+      record {
+        is = sym (goes_on_own ran d st);
+        come = come_on ran d st st refl (rests_called s st c st.course i) (record { call = c; is = refl; due = i; stands = k });
+      }
 
   makes_passes : (n : ℕ) → ticks_of st e ≡ Some n → Makes (ticked n st) (passes n st)
   unfolding ticked
-  makes_passes n f = record { is = sym (goes_on_is (runs st) (timed (st.clock + n) st.course) (later n st) st (record { course = refl; session = refl; set = refl })); come = (f, come_on (runs st) (timed (st.clock + n) st.course) (later n st) st (record { call = Times (st.clock + n); is = refl; due = refl })) }
+  makes_passes n f = record {
+    is = sym (goes_on_is (runs st) (timed (st.clock + n) st.course) (later n st) st (record { course = refl; session = refl; set = refl }));
+    come = (
+      f,
+      come_on
+          (runs st) (timed (st.clock + n) st.course) (later n st) st refl (rests_called s st (Times (st.clock + n)) st.course refl)
+          (record { call = Times (st.clock + n); is = refl; due = refl; stands = tt }),
+    );
+  }
 
   makes_fails : (why : VssResult) → Makes (failed why st) (fails (in_progress st) why st)
-  makes_fails why = record { is = sym (fails_is (in_progress st) why st st (as_before st)); come = come_fails (in_progress st) why st refl refl }
+  makes_fails why = record { is = sym (fails_is (in_progress st) why st st (as_before st)); come = come_fails (in_progress st) why st refl refl refl }
 
   makes_end : (lane : ℕ) (q : Session) → Makes (closed q (failed AsyncCancelled st)) (calls s lane op.End q st)
   makes_end lane q =
@@ -253,14 +391,16 @@ module _ (s : Plan) (e : Event) (m : Mark) (st : State) where
       let x = fold apply st cs in
       record {
         is = sym (fold-append apply st cs (closes q x) ∙ closes_is q x ∙ ap (closed q) (fails_is (in_progress st) AsyncCancelled st st (as_before st)));
-        come = come-append s e m st st cs (closes q x) (come_fails (in_progress st) AsyncCancelled st refl refl) (come_closes q x);
+        come = come-append s e m st st cs (closes q x) (come_fails (in_progress st) AsyncCancelled st refl refl refl)
+            (come_closes q x (none_aborted (in_progress st) refl) (aborted (in_progress st)));
       }
 
   room_is : (b : Bool) (hs : List History) → fold apply (record st { volumes = hs }) (if b then fails (in_progress st) InsufficientStorage st else []) ≡ with_room_if b (record st { volumes = hs })
   room_is b hs = grind (arith, common_steps, fails_is)
 
-  room_comes : (b : Bool) (x : State) → x.course ≡ st.course → Come s e m st x (if b then fails (in_progress st) InsufficientStorage st else [])
-  room_comes b x same = grind (arith, common_steps, come_fails)
+  room_comes : (b : Bool) (x : State) → x.course ≡ st.course → x.session ≡ st.session
+      → Come s e m st x (if b then fails (in_progress st) InsufficientStorage st else [])
+  room_comes b x same session = grind (arith, common_steps, come_fails)
 
   puts_is : (k : Mark) (v : ℕ) (w : Write) (x : State) → fold apply x (puts v w k) ≡ put v w k x
   puts_is k v w x = grind (arith, common_steps)
@@ -285,7 +425,8 @@ module _ (s : Plan) (e : Event) (m : Mark) (st : State) where
   abbrev next_of : Bool → Course
   next_of ok = called s st (Steps ok) st.course
 
-  makes_cut : (r : SetRow) → is_working (left_now st) ≡ true → in_progress st ≡ Some r → is_provider e ≡ true → is_cut_group (open_group (left_now st)) ≡ true
+  pub makes_cut : (r : SetRow) → is_working (left_now st) ≡ true → in_progress st ≡ Some r → is_provider e ≡ true
+      → is_cut_group (open_group (left_now st)) ≡ true
       → Makes (followed (runs st) (next_of true) (cut_set (Some r) st)) (IsCutAt r.number st.clock ∷ Cuts r.number r.volumes ∷ goes_on (runs st) (next_of true) st)
   makes_cut r w f g h =
       let c = next_of true in
@@ -293,18 +434,25 @@ module _ (s : Plan) (e : Event) (m : Mark) (st : State) where
       let x = cut_set (Some r) st in
       record {
         is = sym (goes_on_is (runs st) c x st (record { course = refl; session = refl; set = in_progress_cut r.number st.clock st }));
-        come = ((known st refl, refl, refl), ((known (apply st (IsCutAt r.number st.clock)) refl, sym (ap volumes_of f)), come_on (runs st) c x st (record { call = Steps true; is = refl; due = (w, refl) })));
+        come = (
+          (known st refl, refl, refl),
+          (
+            (known (apply st (IsCutAt r.number st.clock)) refl, sym (ap volumes_of f)),
+            come_on (runs st) c x st refl
+                (rests_called s st (Steps true) st.course (w, refl)) (record { call = Steps true; is = refl; due = (w, refl); stands = tt }),
+          ),
+        );
       }
 
   makes_cut_in : (o : Option SetRow) → is_working (left_now st) ≡ true → in_progress st ≡ o → is_provider e ≡ true → is_cut_group (open_group (left_now st)) ≡ true
       → Makes (followed (runs st) (next_of true) (cut_set o st)) (cuts true o st.clock ++ goes_on (runs st) (next_of true) st)
-  makes_cut_in None w f g h = makes_on (runs st) (Steps true) (w, refl)
+  makes_cut_in None w f g h = makes_on (runs st) (Steps true) (w, refl) tt
   makes_cut_in (Some r) w f g h = makes_cut r w f g h
 
   makes_steps : (b : Bool) (g : Option Group) → is_working (left_now st) ≡ true → is_provider e ≡ true → open_group (left_now st) ≡ g → Makes (stepped_as b g st) (steps b g st)
-  makes_steps true g w f h = makes_on (runs st) (Steps false) (w, refl)
+  makes_steps true g w f h = makes_on (runs st) (Steps false) (w, refl) tt
   makes_steps false (Some Cut) w f h = makes_cut_in (in_progress st) w refl f (ap is_cut_group h)
-  makes_steps false _ w f h = makes_on (runs st) (Steps true) (w, refl)
+  makes_steps false _ w f h = makes_on (runs st) (Steps true) (w, refl) tt
 
   makes_stepped : is_working (left_now st) ≡ true → is_provider e ≡ true → Makes (stepped m st) (steps (is_failed_step (is_flush (open_group (left_now st))) m) (open_group (left_now st)) st)
   unfolding stepped
@@ -312,7 +460,7 @@ module _ (s : Plan) (e : Event) (m : Mark) (st : State) where
 
   makes_answer : (w : ℕ) (said : Said) → is_some (order_of_writer st w) ≡ true → Makes (answered w said st) (goes_on (runs st) (course_answered w said st.clock st.course) st)
   unfolding answered
-  makes_answer w said i = makes_on (runs st) (Answers w said) (i, refl)
+  makes_answer w said i = makes_on (runs st) (Answers w said) (i, refl) tt
 
 -- ## every act
 
@@ -369,6 +517,12 @@ module _ (s : Plan) (st : State) where
   one : (e : Event) (m : Mark) (c : Change) → Comes s e m st st c → Makes s e m st (apply st c) (c ∷ [])
   one e m c h = record { is = refl; come = (h, tt) }
 
+  snapshots : (b : Bool) (lane : ℕ) (q : Session) (m : Mark) → has_no_volume (in_progress st) ≡ b → LetsGo call.Snapshot q st
+      → Happens (Line lane op.Snapshot) m (if b then refused BadState st else pending (snapshot_begun (volumes_of (in_progress st)) st.clock st.course) st)
+  snapshots true lane q m e g = λ i. makes_none s (Line lane op.Snapshot) m st
+  snapshots false lane q m e g = λ i. owned lane op.Snapshot m q _ g.stands
+      (makes_on s (Line lane op.Snapshot) m st true Snapshots (record { session = q; goes = g; course = refl }) (refl, e))
+
   covers : Covers Happens s st
   covers = record {
     stays = λ lane o m told e f i. subst (Makes s (Line lane o) m st st) (sym (stays_quiet told lane o m (may_change o) refl f.refused)) (makes_none s (Line lane o) m st);
@@ -383,20 +537,35 @@ module _ (s : Plan) (st : State) where
     begins = λ lane n all c m e f i.
         let x = record st { session = Some (opened lane c all); explicit = [] } in
         subst (λ q. Makes s (Line lane (op.Begin n all)) m st x (session_calls s lane (op.Begin n all) q st)) (sym e)
-        (subst (λ o. Makes s (Line lane (op.Begin n all)) m st x (SessionIs (option_map (λ y. opened lane y all) o) ∷ Names [] ∷ [])) (sym f) (record { is = refl; come = (tt, (tt, tt)) }));
-    disables = λ lane w q m g i. owned lane (op.Disable w) m q _ g.stands (one (Line lane (op.Disable w)) m (CourseIs (called s st (Disables w) st.course)) (record { call = Disables w; is = refl; due = record { session = q; goes = g; course = refl } }));
-    gathers = λ lane q m g i. owned lane op.Gather m q _ g.stands (makes_on s (Line lane op.Gather) m st true Gathers (record { session = q; goes = g; course = refl }));
+        (subst (λ o. Makes s (Line lane (op.Begin n all)) m st x (SessionIs (option_map (λ y. opened lane y all) o) ∷ Names [] ∷ [])) (sym f)
+        (record { is = refl; come = (record { step = Opens lane c all; is = refl; due = (n, (refl, e, refl)) }, (inl refl, tt)) }));
+    disables = λ lane w q m g i. owned lane (op.Disable w) m q _ g.stands
+        (one (Line lane (op.Disable w)) m (CourseIs (called s st (Disables w) st.course))
+        (record { call = Disables w; is = refl; due = record { session = q; goes = g; course = refl }; stands = refl }));
+    gathers = λ lane q m g i. owned lane op.Gather m q _ g.stands
+        (makes_on s (Line lane op.Gather) m st true Gathers (record { session = q; goes = g; course = refl }) refl);
     names = λ lane w full q explicit m g e i.
         owned lane (op.Component w full) m q _ g.stands
-        (subst (λ x. Makes s (Line lane (op.Component w full)) m st (apply st (Names explicit)) (names x)) (sym e) (one (Line lane (op.Component w full)) m (Names explicit) tt));
-    starts = λ lane q m g e i. owned lane op.Start m q _ g.stands (record { is = refl; come = (tt, (record { session = q; goes = g; free = e; row = refl; before = refl }, tt)) });
+        (subst (λ x. Makes s (Line lane (op.Component w full)) m st (apply st (Names explicit)) (names x)) (sym e)
+        (one (Line lane (op.Component w full)) m (Names explicit)
+        (inr (record { session = q; goes = g; writer = w; name = token s full; named = e; first = refl }))));
+    starts = λ lane q m g e i. owned lane op.Start m q _ g.stands
+        (record {
+          is = refl;
+          come = (
+            record { step = Starts q; is = refl; due = (g, refl) },
+            (record { session = q; goes = g; free = e; row = refl; before = refl; course = refl; volumes = refl }, tt),
+          );
+        });
     adds = λ lane v r q m g e f i.
         owned lane (op.Add v) m q _ g.stands
         (subst (λ x. Makes s (Line lane (op.Add v)) m st (apply st (AddsVolume r.number v)) (adds v x)) (sym e)
         (one (Line lane (op.Add v)) m (AddsVolume r.number v) (record { row = r; session = q; goes = g; found = e; number = refl; allowed = f; first = refl })));
-    prepares = λ lane q m g. by_if (Happens (Line lane op.Prepare) m) (has_no_volume (in_progress st)) _ _ (λ i. makes_none s (Line lane op.Prepare) m st) (λ i. owned lane op.Prepare m q _ g.stands (makes_on s (Line lane op.Prepare) m st true (Prepares q) (g, refl)));
-    snapshots = λ lane q m g. by_if (Happens (Line lane op.Snapshot) m) (has_no_volume (in_progress st)) _ _ (λ i. makes_none s (Line lane op.Snapshot) m st) (λ i. owned lane op.Snapshot m q _ g.stands (makes_on s (Line lane op.Snapshot) m st true Snapshots (record { session = q; goes = g; course = refl })));
-    completes = λ lane q m g i. owned lane op.Complete m q _ g.stands (makes_on s (Line lane op.Complete) m st true Completes (record { session = q; goes = g; course = refl }));
+    prepares = λ lane q m g. by_if (Happens (Line lane op.Prepare) m) (has_no_volume (in_progress st)) _ _ (λ i. makes_none s (Line lane op.Prepare) m st)
+        (λ i. owned lane op.Prepare m q _ g.stands (makes_on s (Line lane op.Prepare) m st true (Prepares q) (g, refl) refl));
+    snapshots = λ lane q m g. snapshots (has_no_volume (in_progress st)) lane q m refl g;
+    completes = λ lane q m g i. owned lane op.Complete m q _ g.stands
+        (makes_on s (Line lane op.Complete) m st true Completes (record { session = q; goes = g; course = refl }) refl);
     aborts = λ lane q m e i. owned lane op.Abort m q _ e (makes_fails s (Line lane op.Abort) m st AsyncCancelled);
     ends = λ lane q m e i. owned lane op.End m q _ e (makes_end s (Line lane op.End) m st lane q);
     answers = λ w a m e i. subst (Makes s (AnswerEvent w a) m st _) (sym (of_answer (order_of_writer st w) a _)) (makes_answer s (AnswerEvent w a) m st w (said_of a) e);
@@ -416,6 +585,23 @@ module _ (P : State → Type 0) (s : Plan) (e : Event) (m : Mark) (st : State) (
   pub by_list : (cs : List Change) (x : State) → Come s e m st x cs → P x → P (fold apply x cs)
   by_list [] x h p = p
   by_list (c ∷ cs) x h p = by_list cs (apply x c) h.1 (keeps c x h.0 p)
+
+-- the changes with which an agenda or a set ends
+abbrev pub is_end : Change → Bool
+is_end (SessionIs q) = true
+is_end (Settles o) = true
+is_end (DropsSet n) = true
+is_end _ = false
+
+module _ (P : State → Type 0) (s : Plan) (e : Event) (m : Mark) (st : State) (keeps : (c : Change) (x : State) → is_end c ≡ true → Comes s e m st x c → P x → P (apply x c)) where
+  by_drops : (o : Option SetRow) (x : State) → Come s e m st x (drops o) → P x → P (fold apply x (drops o))
+  by_drops None x i h = h
+  by_drops (Some r) x i h = keeps (DropsSet r.number) x refl i.0 h
+
+  pub by_ends : (g : Ending) (o : SetOutcome) (x y : State) → Come s e m st x (ends g o y) → P x → P (fold apply x (ends g o y))
+  by_ends NothingEnds o x y i h = h
+  by_ends AgendaEnds o x y i h = keeps (Settles o) _ refl i.1.0 (keeps (SessionIs _) x refl i.0 h)
+  by_ends (SetFails why) o x y i h = by_drops (in_progress y) _ i.1.1 (keeps (Settles o) _ refl i.1.0 (keeps (SessionIs _) x refl i.0 h))
 
 -- what each change keeps, where it comes, every act keeps
 pub by_changes : (P : State → Type 0) (s : Plan) (st : State) (act : Act) → ((c : Change) (x : State) → Comes s act.event act.mark st x c → P x → P (apply x c)) → P st → P (after s st act)

@@ -48,7 +48,6 @@ use Rattle.vss_model.proofs.Spoken.{new_said, cut_open}
 use Rattle.vss_model.proofs.Rows.{has_complete, running_incomplete, incomplete_settled, incomplete_map, incomplete_append, complete_found, none_runs}
 use Rattle.vss_model.proofs.Volumes.{at, Each, each_map, each_change, change_other, as_many_map, as_many_change, as_many_gone, as_many_cut}
 use Rattle.vss_model.proofs.FewerImages.{as_many_volumes}
-use Rattle.vss_model.proofs.Freed.{agenda-concluded}
 use Rattle.vss_model.proofs.FlushFails.{outcome_is_running}
 
 -- ## the Cut step in the log
@@ -282,6 +281,9 @@ unmade_if done k j ms vs now c m = grind arith
 unmade_begun : (k : Kind) (ms : List Member) (vs : List ℕ) (now : ℕ) (c : Course) → Made (begun k ms vs now c).agenda → ⊥
 unfolding begun posted settled
 unmade_begun k ms vs now c m = unmade_if (is_done (groups_left (unspoken k ms vs now))) k k ms vs now c m
+
+agenda-concluded : (e : Ending) (st : State) → (concluded e st).course.agenda ≡ st.course.agenda
+agenda-concluded e st = grind arith
 
 agenda_followed : (ran : Bool) (c : Course) (st : State) → (followed ran c st).course.agenda ≡ c.agenda
 unfolding followed

@@ -1,5 +1,5 @@
 -- The Cut step: it does not fail, and cuts the set in progress; the provider's other steps change nothing but the course.
-use Rattle.std.proofs.Common.{◌≡◌, List, Option, Some, refl, Bool, true, false, ap, ◌∙◌, arith}
+use Rattle.std.proofs.Common.{◌≡◌, List, Option, Some, refl, Bool, true, false, ap, ◌∙◌, sym, subst, arith}
 use Rattle.std.specs.Prelude.{◌&&◌}
 use Rattle.write_history.specs.declared.mark.Mark.{Mark}
 use Rattle.set_agenda.specs.declared.group.Group.{Group}
@@ -11,17 +11,16 @@ use Rattle.set_agenda.specs.Course.{stepped as course_stepped}
 use Rattle.scenario.specs.Plan.{Plan}
 use Rattle.vss_model.specs.declared.event.Event.{Event}
 use Rattle.vss_model.specs.State.{State, SetRow, in_progress, left_now}
-use Rattle.vss_model.specs.Ending.{followed, runs}
+use Rattle.vss_model.specs.Ending.{ending, followed, runs}
 use Rattle.vss_model.specs.Steps.{cut_set, step_made, is_flush, is_failed_step, stepped_as, stepped}
 use Rattle.vss_model.specs.Acts.{Act, after, enabled, happens, after_if}
 use Rattle.vss_model.specs.Cut.{is_provider, is_cut_group}
+use Rattle.vss_model.specs.Changes.{Change, apply}
+use Rattle.vss_model.proofs.Changes.{Comes, is_end, by_ends, makes_cut}
 use Rattle.vss_model.proofs.HeldOfSet.{IsOf}
 use Rattle.vss_model.proofs.AtCut.{CutsNow}
 
 -- ## tests
-
-pub second_not : (a b : Bool) → (a && b) ≡ false → a ≡ true → b ≡ false
-second_not a b e f = grind arith
 
 pub both : (a b : Bool) → (a && b) ≡ true → (a ≡ true) × (b ≡ true)
 both a b e = grind arith
@@ -69,3 +68,14 @@ has_set_in o st a k ms e f h = grind arith
 
 pub has_set : (st : State) → CutsNow st → HasSet st
 has_set st c = has_set_in (in_progress st) st c.agenda c.agenda.kind st.course.members refl c.kind c.of_set
+
+-- what holds of the state with the images of the cut and the course after the step, and is kept where something ends, holds after the act
+pub by_cut : (P : State → Type 0) (s : Plan) (st : State) (act : Act) (r : SetRow) → is_provider act.event ≡ true
+    → is_cut_group (open_group (left_now st)) ≡ true → in_progress st ≡ Some r
+    → ((c : Change) (x : State) → is_end c ≡ true → Comes s act.event act.mark st x c → P x → P (apply x c))
+    → P (record (cut_set (Some r) st) { course = course_stepped true st.clock st.course }) → P (after s st act)
+by_cut P s st act r e f g keeps h =
+    let makes = makes_cut s act.event act.mark st r (working_at_cut (left_now st) f) g e f in
+    let c = course_stepped true st.clock st.course in
+    subst P (sym (after_cut s st act e f ∙ ap (λ o. followed (runs st) c (cut_set o st)) g ∙ makes.is))
+    (by_ends P s act.event act.mark st keeps (ending st.course.outcome c.outcome (runs st) c.agenda) c.outcome _ st makes.come.1.1.1 h)

@@ -5,7 +5,7 @@ use Rattle.std.proofs.lemmas.Grind.{common_steps}
 use Rattle.write_history.specs.declared.mark.Mark.{Mark}
 use Rattle.write_history.specs.History.{History, fresh, dropped, written, reverted, reverted_in_part}
 use Rattle.set_agenda.specs.Agenda.{open_group}
-use Rattle.set_agenda.specs.Course.{Course}
+use Rattle.set_agenda.specs.Course.{Course, stepped as course_stepped}
 use Rattle.scenario.specs.Plan.{Plan}
 use Rattle.scenario.specs.declared.volume_row.VolumeRow.{VolumeRow}
 use Rattle.vss_model.specs.declared.event.Event.{Event}
@@ -14,7 +14,9 @@ use Rattle.vss_model.specs.Ending.{Ending, SetFails, ending, images_dropped, con
 use Rattle.vss_model.specs.Acts.{Act, after, state}
 use Rattle.vss_model.specs.Cut.{is_provider, is_cut_group}
 use Rattle.vss_model.specs.Changes.{Change, IsCutAt, Writes, Cuts, Reverts, RevertsPart, DropsSet, Drops, Evicts, apply}
-use Rattle.vss_model.proofs.Changes.{Comes, by_changes}
+use Rattle.vss_model.specs.Steps.{cut_set}
+use Rattle.vss_model.proofs.Changes.{Comes, is_end, by_changes}
+use Rattle.vss_model.proofs.CutStep.{by_cut}
 use Rattle.vss_model.proofs.Volumes.{FewerIn, fewer_in_same, fewer_in_over, fewer_in_map, fewer_in_change, fewer_in_gone, fewer_dropped, fewer_written, fewer_reverted, fewer_in_part, as_many_cut}
 
 abbrev pub is_cut : Change → Bool
@@ -43,6 +45,23 @@ pub fewer_after : (s : Plan) (st : State) (act : Act) → (is_provider act.event
 fewer_after s st act f =
     by_changes (λ x. FewerIn st.volumes x.volumes) s st act
     (λ c x i h. fewer_in_over st.volumes x.volumes _ h (fewer_apply c x (no_cut s act.event act.mark st x c f i))) (fewer_in_same st.volumes)
+
+end_no_cut : (c : Change) → is_end c ≡ true → is_cut c ≡ false
+end_no_cut c e = grind arith
+
+-- nor does what ends with it
+pub by_cut_alone : (P : State → Type 0) (s : Plan) (st : State) (act : Act) (r : SetRow) → is_provider act.event ≡ true
+    → is_cut_group (open_group (left_now st)) ≡ true → in_progress st ≡ Some r
+    → ((c : Change) (x : State) → is_cut c ≡ false → Comes s act.event act.mark st x c → P x → P (apply x c))
+    → P (record (cut_set (Some r) st) { course = course_stepped true st.clock st.course }) → P (after s st act)
+by_cut_alone P s st act r e f g keeps h = by_cut P s st act r e f g (λ c x i. keeps c x (end_no_cut c i)) h
+
+pub fewer_after_cut : (s : Plan) (st : State) (act : Act) (r : SetRow) → is_provider act.event ≡ true → is_cut_group (open_group (left_now st)) ≡ true
+    → in_progress st ≡ Some r → FewerIn (cut_set (Some r) st).volumes (after s st act).volumes
+fewer_after_cut s st act r e f g =
+    let x = cut_set (Some r) st in
+    by_cut_alone (λ y. FewerIn x.volumes y.volumes) s st act r e f g (λ c y i j h. fewer_in_over x.volumes y.volumes _ h (fewer_apply c y i))
+    (fewer_in_same x.volumes)
 
 -- ## where the course goes on
 

@@ -1,111 +1,59 @@
 -- Right after an act in which the set in progress fails no agenda runs, so no volume is held and no writer stands frozen.
-use Rattle.std.proofs.Common.{◌≡◌, ℕ, ◌+◌, List, [], ◌∷◌, ◌++◌, ◌⊎◌, Option, Some, None, refl, Bool, true, false, ap, ◌∙◌, subst, inl, inr, arith}
-use Rattle.std.specs.Prelude.{is_some}
-use Rattle.vss_names.specs.declared.context.Context.{Context}
-use Rattle.vss_names.specs.declared.vss_result.VssResult.{VssResult}
-use Rattle.vss_names.specs.declared.vss_result.VssResult.TheVariants.{AsyncCancelled}
-use Rattle.writer_state.specs.declared.said.Said.{Said}
+use Rattle.std.proofs.Common.{◌≡◌, ℕ, ◌+◌, List, [], ◌∷◌, ◌++◌, ◌⊎◌, Option, Some, None, refl, true, false, map, sym, ap, ◌∙◌, subst, inl, inr, arith}
+use Rattle.vss_names.specs.declared.set_outcome.SetOutcome.{SetOutcome}
+use Rattle.vss_model.specs.declared.event.Event.{Event}
 use Rattle.write_history.specs.declared.mark.Mark.{Mark}
-use Rattle.write_history.specs.History.{Write}
-use Rattle.set_agenda.specs.declared.group.Group.{Group}
-use Rattle.set_agenda.specs.declared.kind.Kind.TheVariants.{Gather, Prepare, Snapshot, Complete}
-use Rattle.set_agenda.specs.Agenda.{Agenda, open_group, is_working, is_held as holds, is_frozen as freezes}
-use Rattle.set_agenda.specs.Course.{Course, failed as course_failed, released}
-use Rattle.requestor.specs.Session.{Session}
+use Rattle.set_agenda.specs.Agenda.{Agenda, left, is_working, is_held as holds, is_frozen as freezes}
+use Rattle.set_agenda.specs.Course.{failed as course_failed, released}
 use Rattle.scenario.specs.Plan.{Plan}
-use Rattle.writer_calls.specs.Script.{said_of}
-use Rattle.vss_model.specs.State.{State, SetRow, Kept, in_progress, row_of, left_now, is_held, is_frozen}
-use Rattle.vss_model.specs.Ending.{Ending, ending, concluded, followed, runs, failed_in, failed}
-use Rattle.vss_model.specs.Images.{cleared, set_loses_image, with_room_if, put, write, reverted_as}
-use Rattle.vss_model.specs.Sessions.{begin_in, new_set, new_number, with_volume, has_no_volume, closed}
-use Rattle.vss_model.specs.Steps.{answered, is_flush, is_failed_step, stepped_as, stepped, ticked, later}
-use Rattle.vss_model.specs.Acts.{idle_now, Act, after, state}
-use Rattle.vss_model.specs.Facts.{NumberedFrom, IsOfSession, has_failed, is_live}
+use Rattle.vss_model.specs.State.{State, SetRow, in_progress, row_of, is_held, is_frozen}
+use Rattle.vss_model.specs.Sessions.{with_volume}
+use Rattle.vss_model.specs.Steps.{with_cut}
+use Rattle.vss_model.specs.Acts.{Act, after, state}
+use Rattle.vss_model.specs.Facts.{NumberedFrom, has_failed, is_live}
 use Rattle.vss_model.proofs.Appending.{state-append}
-use Rattle.vss_model.proofs.ByEvent.{Covers, Next, after_covered, by_if}
-use Rattle.vss_model.proofs.Orderly.{live-map, live_append, live_found, true_not_false}
-use Rattle.vss_model.proofs.OrderlyActs.{Moves, MovesOn, moves_answered, moves_stepped, moves_timed, orderly, same_changed}
+use Rattle.vss_model.specs.Changes.{Change, CourseIs, StartsSet, AddsVolume, IsCutAt, Settles, apply}
+use Rattle.vss_model.proofs.Changes.{CourseCall, Answers, Steps, Times, Gathers, Prepares, Snapshots, Completes, Disables, called, IsDue, Stands, Comes}
+use Rattle.vss_model.proofs.Changes.{by_changes}
+use Rattle.vss_model.proofs.Orderly.{IsSameRow, live-map, live_append, live_found, true_not_false}
+use Rattle.vss_model.proofs.OrderlyActs.{Moves, moves_answered, moves_stepped, moves_timed, orderly, same_changed}
 use Rattle.vss_model.proofs.Failures.{failed_not_live}
-use Rattle.vss_model.proofs.Causes.{Fails, none_begun, live_followed, live_stepped_as, outcome_running}
 
 -- set n has not failed, or no agenda runs
 abbrev pub LiveOrIdle : ℕ → State → Type 0
 LiveOrIdle n st = (is_live st.sets n ≡ true) ⊎ (st.course.agenda ≡ None)
 
-pub agenda-concluded : (e : Ending) (st : State) → (concluded e st).course.agenda ≡ st.course.agenda
-agenda-concluded e st = grind arith
+idle_moves : (a : Option Agenda) (o : SetOutcome) (b : Option Agenda) (p : SetOutcome) → a ≡ None → Moves a o b p → b ≡ None
+idle_moves a o b p e m = grind arith
 
-module _ (n : ℕ) where
-  ends_idle : (a b : Option Agenda) (c : Course) (st : State) → c.agenda ≡ b → Moves a st.course.outcome b c.outcome → is_live st.sets n ≡ true → LiveOrIdle n (concluded (ending st.course.outcome c.outcome (is_some a) b) (record st { course = c }))
-  ends_idle a b c st e m h = grind arith
+module _ (n : ℕ) (s : Plan) (st : State) (live : is_live st.sets n ≡ true) where
+  idle_called : (x : State) (call : CourseCall) → IsDue st x.course call → Stands st x call → LiveOrIdle n x
+      → LiveOrIdle n (record x { course = called s st call x.course })
+  unfolding course_failed released
+  idle_called x call i k (inl h) = inl h
+  idle_called x (Answers w said) i k (inr h) = inr (idle_moves x.course.agenda x.course.outcome _ _ h (moves_answered w said st.clock x.course))
+  idle_called x (Steps ok) i k (inr h) = inr
+      (idle_moves x.course.agenda x.course.outcome _ _ h (moves_stepped ok st.clock x.course (subst (λ c. is_working (left c.agenda) ≡ true) (sym i.1) i.0)))
+  idle_called x (Times now) i k (inr h) = inr (idle_moves x.course.agenda x.course.outcome _ _ h (moves_timed now x.course))
+  idle_called x Gathers i k (inr h) = inl (ap (λ (y : State). is_live y.sets n) k ∙ live)
+  idle_called x (Prepares q) i k (inr h) = inl (ap (λ (y : State). is_live y.sets n) k ∙ live)
+  idle_called x Snapshots i k (inr h) = inl (ap (λ (y : State). is_live y.sets n) k.0 ∙ live)
+  idle_called x Completes i k (inr h) = inl (ap (λ (y : State). is_live y.sets n) k ∙ live)
+  idle_called x (Disables w) i k (inr h) = inr h
+  idle_called x _ i k (inr h) = inr refl
 
-  idle_followed : (c : Course) (st : State) → MovesOn st.course c → is_live st.sets n ≡ true → LiveOrIdle n (followed (runs st) c st)
-  unfolding followed
-  idle_followed c st m h = ends_idle st.course.agenda c.agenda c st refl m h
+  rows_live : (f : SetRow → SetRow) (x : State) → IsSameRow f → LiveOrIdle n x → LiveOrIdle n (record x { sets = map f x.sets })
+  rows_live f x same (inl h) = inl (live-map f same x.sets n ∙ h)
+  rows_live f x same (inr h) = inr h
 
-  idle_answers : (w : ℕ) (said : Said) (st : State) → is_live st.sets n ≡ true → LiveOrIdle n (answered w said st)
-  unfolding answered
-  idle_answers w said st h = idle_followed _ st (moves_answered w said st.clock st.course) h
-
-  idle_ticks : (k : ℕ) (st : State) → is_live st.sets n ≡ true → LiveOrIdle n (ticked k st)
-  unfolding ticked
-  idle_ticks k st h = idle_followed _ (later k st) (moves_timed (st.clock + k) st.course) h
-
-  idle_stepped_as : (fails : Bool) (g : Option Group) (st : State) → is_working (left_now st) ≡ true → Fails st.course ≡ false → is_live st.sets n ≡ true → LiveOrIdle n (stepped_as fails g st)
-  idle_stepped_as true g st w f h = idle_followed _ st (moves_stepped false st.clock st.course w) h
-  idle_stepped_as false g st w f h = inl (live_stepped_as n false g st refl f h)
-
-  idle_steps : (mark : Mark) (st : State) → is_working (left_now st) ≡ true → Fails st.course ≡ false → is_live st.sets n ≡ true → LiveOrIdle n (stepped mark st)
-  unfolding stepped
-  idle_steps mark st w f h = idle_stepped_as (is_failed_step (is_flush (open_group (left_now st))) mark) (open_group (left_now st)) st w f h
-
-  idle_failed : (o : Option SetRow) (r : SetRow) (why : VssResult) (st : State) → o ≡ Some r → LiveOrIdle n (failed_in o why st)
-  unfolding course_failed
-  idle_failed o r why st e = grind arith
-
-  idle_room : (b : Bool) (r : SetRow) (st : State) → in_progress st ≡ Some r → is_live st.sets n ≡ true → LiveOrIdle n (with_room_if b st)
-  idle_room b r st e h = grind (arith, idle_failed)
-
-  idle_put : (v : ℕ) (w : Write) (mark : Mark) (st : State) → LiveOrIdle n st → LiveOrIdle n (put v w mark st)
-  idle_put v w mark st h = grind arith
-
-  idle_write : (s : Plan) (v : ℕ) (w : Write) (mark : Mark) (r : SetRow) (st : State) → in_progress st ≡ Some r → is_live st.sets n ≡ true → LiveOrIdle n (write s v w mark st).1
-  unfolding write
-  idle_write s v w mark r st e h = idle_put v w mark _ (idle_room (set_loses_image (in_progress st) st.volumes (cleared s v w.block st).volumes) r (cleared s v w.block st) e h)
-
-  idle_revert : (s : Plan) (v : ℕ) (k : Kept) (mark : Mark) (st : State) → is_live st.sets n ≡ true → LiveOrIdle n (reverted_as s v k mark st).1
-  idle_revert s v k mark st h = grind arith
-
-  idle_begin : (lane : ℕ) (all : Bool) (c : Option Context) (st : State) → is_live st.sets n ≡ true → LiveOrIdle n (begin_in lane all c st).1
-  idle_begin lane all c st h = grind arith
-
-  idle_end : (q : Session) (st : State) → LiveOrIdle n (closed q st)
-  unfolding closed released
-  idle_end q st = inr refl
-
-  idle_at : (s : Plan) (st : State) (r : SetRow) → in_progress st ≡ Some r → Fails st.course ≡ false → is_live st.sets n ≡ true → Covers (Next (LiveOrIdle n)) s st
-  idle_at s st r e f h = record {
-    stays = λ lane op mark told i c. inl h;
-    writes = λ lane op v w mark i g. idle_write s v w mark r st e h;
-    reverts = λ lane m v k mark i g. idle_revert s v k mark st h;
-    ticks = λ lane k mark. idle_ticks k st h;
-    idles = λ mark g. idle_ticks (idle_now st) st h;
-    deletes_set = λ lane m c mark g. inl h;
-    deletes_image = λ lane m v k mark g. inl h;
-    names = λ lane w full q explicit mark g i. inl h;
-    disables = λ lane w q mark g. inl h;
-    starts = λ lane q mark g i. inl (live_append st.sets (new_set (new_number st) q.context) n h);
-    adds = λ lane v q x mark g i j. inl (live-map _ (same_changed q.number (with_volume v) (λ y. refl) (λ y. refl)) st.sets n ∙ h);
-    aborts = λ lane q mark i. idle_failed (in_progress st) r AsyncCancelled st e;
-    ends = λ lane q mark i. idle_end q (failed AsyncCancelled st);
-    begins = λ lane m all c mark g i. idle_begin lane all (Some c) st h;
-    gathers = λ lane q mark g. inl (live_followed n true _ st (none_begun Gather _ [] st.clock _ f) h);
-    prepares = λ lane q mark g. by_if (λ r. LiveOrIdle n r.1) (has_no_volume (in_progress st)) _ _ (inl h) (inl (live_followed n true _ st (none_begun Prepare _ [] st.clock _ f) h));
-    snapshots = λ lane q mark g. by_if (λ r. LiveOrIdle n r.1) (has_no_volume (in_progress st)) _ _ (inl h) (inl (live_followed n true _ st (none_begun Snapshot st.course.members _ st.clock st.course f) h));
-    completes = λ lane q mark g. inl (live_followed n true _ st (none_begun Complete _ [] st.clock _ f) h);
-    answers = λ w answer mark g. idle_answers w (said_of answer) st h;
-    steps = λ mark g. idle_steps mark st g f h;
-  }
+  idle_apply : (e : Event) (m : Mark) (c : Change) (x : State) → Comes s e m st x c → LiveOrIdle n x → LiveOrIdle n (apply x c)
+  idle_apply e m (CourseIs c) x i h = subst (λ d. LiveOrIdle n (record x { course = d })) (sym i.is) (idle_called x i.call i.due i.stands h)
+  idle_apply e m (StartsSet r) x i (inl h) = inl (live_append x.sets r n h)
+  idle_apply e m (StartsSet r) x i (inr h) = inr h
+  idle_apply e m (AddsVolume k v) x i h = rows_live _ x (same_changed k (with_volume v) (λ y. refl) (λ y. refl)) h
+  idle_apply e m (IsCutAt k now) x i h = rows_live _ x (same_changed k (with_cut now) (λ y. refl) (λ y. refl)) h
+  idle_apply e m (Settles o) x i h = inr i.0
+  idle_apply e m _ x i h = h
 
 -- ## after an act that fails the set
 
@@ -117,8 +65,7 @@ pub idle_after : (s : Plan) (so_far : List Act) (act : Act) (r q : SetRow) → i
 idle_after s so_far act r q e f g =
     let st = state s so_far in
     let live = live_found st.sets r e in
-    let runs = outcome_running st.session st.course.outcome r (subst (λ o. IsOfSession st.session st.course.outcome o) e (orderly s so_far).session) in
-    by_cases (after_covered (LiveOrIdle r.number) s st (idle_at r.number s st r e runs live) (inl live) act) where
+    by_cases (by_changes (LiveOrIdle r.number) s st act (idle_apply r.number s st live act.event act.mark) (inl live)) where
       by_cases : LiveOrIdle r.number (after s (state s so_far) act) → (after s (state s so_far) act).course.agenda ≡ None
       by_cases (inl h) = absurd (true_not_false (is_live (after s (state s so_far) act).sets r.number) h (failed_not_live 1 r.number (after s (state s so_far) act).sets q (numbered_after s so_far act) f g))
       by_cases (inr h) = h

@@ -1,13 +1,13 @@
 -- Before its writers are gathered a session names nothing and nobody takes part; from then on what it names are selectable
 -- components of writers that it knows, and only they take part.
 use Rattle.std.proofs.Common.{◌≡◌, ℕ, ◌+◌, ◌==◌, ◌<◌, zero, suc, List, [], ◌∷◌, ◌++◌, ◌⊎◌, Option, Some, None, refl, Bool, true, false, map, filter, ap, sym, ◌∙◌, subst, fold, inl, inr, arith}
-use Rattle.std.specs.Prelude.{is_some, ◌&&◌, ◌||◌, not, if◌then◌else◌, slice_get, length}
+use Rattle.std.specs.Prelude.{option_map, is_some, ◌&&◌, ◌||◌, not, if◌then◌else◌, slice_get, length}
 use Rattle.std.specs.List.{list_any}
-use Rattle.vss_names.specs.declared.context.Context.{Context}
 use Rattle.vss_names.specs.declared.vss_result.VssResult.{VssResult}
 use Rattle.vss_names.specs.declared.vss_result.VssResult.TheVariants.{AsyncCancelled}
 use Rattle.writer_state.specs.declared.said.Said.{Said}
 use Rattle.writer_state.specs.declared.writer_row.WriterRow.{WriterRow}
+use Rattle.writer_state.specs.WriterRow.{row_gathered}
 use Rattle.write_history.specs.declared.mark.Mark.{Mark}
 use Rattle.write_history.specs.History.{Write, dropped}
 use Rattle.writer_meta.specs.Metadata.{Meta}
@@ -21,29 +21,34 @@ use Rattle.set_agenda.specs.declared.kind.Kind.{Kind}
 use Rattle.set_agenda.specs.declared.kind.Kind.TheVariants.{Gather, Prepare, Snapshot, Complete}
 use Rattle.set_agenda.specs.declared.member.Member.{Member}
 use Rattle.set_agenda.specs.Agenda.{Agenda, is_among, open_group}
-use Rattle.set_agenda.specs.Course.{Course, change_at, posted, settled, begun, failed as course_failed, member_if, members_from, is_member, answered as course_answered, stepped as course_stepped, timed as course_timed, released}
+use Rattle.set_agenda.specs.Course.{Course, change_at, posted, settled, begun, failed as course_failed, member_if, members_from, is_member, has_row_failed}
+use Rattle.set_agenda.specs.Course.{answered as course_answered, stepped as course_stepped, timed as course_timed, released}
 use Rattle.requestor.specs.declared.mode.Mode.{Mode}
 use Rattle.requestor.specs.declared.mode.Mode.TheVariants.{Components, All}
 use Rattle.requestor.specs.declared.stage.Stage.{Stage}
 use Rattle.requestor.specs.declared.stage.Stage.TheVariants.{Opened, Gathered, Started}
 use Rattle.requestor.specs.declared.session_call.SessionCall.TheVariants as call
-use Rattle.requestor.specs.Session.{Session, has_writers}
+use Rattle.requestor.specs.Session.{Session, has_writers, agenda_ended, set_failed}
 use Rattle.requestor.specs.Check.{is_stage}
-use Rattle.scenario.specs.Plan.{token, Plan, WriterPlan}
+use Rattle.scenario.specs.Plan.{Plan, WriterPlan}
 use Rattle.writer_calls.specs.Script.{said_of}
 use Rattle.vss_model.specs.State.{State, SetRow, Kept, start, in_progress, left_now}
 use Rattle.vss_model.specs.Ending.{Ending, ending, concluded, followed, runs, failed_in, failed}
 use Rattle.vss_model.specs.Images.{with_room_if, put, write, reverted_as}
-use Rattle.vss_model.specs.Sessions.{begin_in, disable, has_failed_identify, has_no_volume, start_set, change_set, with_volume, selected_in, is_known, meta_if, known_from, known_metas, closed}
-use Rattle.vss_model.specs.Steps.{answered, cut_set, step_made, is_flush, is_failed_step, stepped_as, stepped, ticked, later}
+use Rattle.vss_model.specs.Sessions.{has_failed_identify, has_no_volume, start_set, change_set, with_volume, selected_in, is_known, meta_if, known_from}
+use Rattle.vss_model.specs.Sessions.{known_metas, closed}
+use Rattle.vss_model.specs.Steps.{answered, step_made, is_flush, is_failed_step, stepped_as, stepped, ticked, later}
 use Rattle.vss_model.specs.Acts.{idle_now, Act, after, state}
 use Rattle.vss_model.specs.Laws.{LetsGo}
 use Rattle.vss_model.specs.Facts.{IsAgendaOf}
+use Rattle.vss_model.specs.declared.event.Event.{Event}
+use Rattle.vss_model.specs.Changes.{Change, SessionIs, Names as NamesPairs, CourseIs, apply}
+use Rattle.vss_model.proofs.Changes.{CourseCall, Answers, Steps, Times, Gathers, Prepares, Snapshots, Completes, Disables, Fails, Releases, called, IsDue}
+use Rattle.vss_model.proofs.Changes.{Stands, SessionStep, Opens, Starts, EndsAgenda, FailsSet, Closes, session_after, IsStepDue, Comes, by_all_changes}
 use Rattle.vss_model.proofs.OrderlyActs.{orderly}
 use Rattle.vss_model.proofs.ByEvent.{Covers, Next, after_covered, by_if}
 use Rattle.vss_model.proofs.Rows.{none_runs}
 use Rattle.vss_model.proofs.Orderly.{true_not_false}
-use Rattle.vss_model.proofs.LogRule.{course-step_made}
 use Rattle.vss_model.proofs.HeldOfSet.{Follows, goes_answered, goes_stepped, goes_timed}
 use Rattle.vss_model.proofs.KnownWriters.{is_unfit, AsFit, AsksFitIn, is_gathering, Keeps, keeps_failed, keeps_answered, keeps_stepped, keeps_timed, members_answered, members_timed}
 use Rattle.vss_model.proofs.Named.{AreOver, known_same, named_over}
@@ -78,26 +83,13 @@ record IsGathered (s : Plan) (st : State) : Type 0 where
 pub course-concluded : (e : Ending) (st : State) → (concluded e st).course ≡ st.course
 course-concluded e st = grind arith
 
-bare_concluded : (e : Ending) (st : State) → IsBare st → IsBare (concluded e st)
-bare_concluded e st h = grind arith
-
-gathered_concluded : (s : Plan) (e : Ending) (st : State) → IsGathered s st → IsGathered s (concluded e st)
-gathered_concluded s e st h = grind arith
-
-bare_followed : (ran : Bool) (c : Course) (st : State) → c.members ≡ [] → BareAgenda c.agenda → IsBare st → IsBare (followed ran c st)
-unfolding followed
-bare_followed ran c st e f h = grind arith
-
-gathered_followed : (s : Plan) (ran : Bool) (c : Course) (st : State) → Keeps st.course c → AsksFitIn c.agenda c.rows → IsGathered s st → IsGathered s (followed ran c st)
-unfolding followed
-gathered_followed s ran c st k a h =
-    gathered_concluded s (ending st.course.outcome c.outcome ran c.agenda) (record st { course = c })
-    (record {
-      over = subst (λ ms. AreOver ms st.explicit) (sym (known_same s st (record st { course = c }) k.disabled k.fit)) h.over;
-      members = λ w f. k.fit w ∙ h.members w (subst (λ ms. is_member ms w ≡ true) k.members f);
-      agenda = a;
-      late = h.late;
-    })
+gathered_course : (s : Plan) (x : State) (d : Course) → Keeps x.course d → AsksFitIn d.agenda d.rows → IsGathered s x → IsGathered s (record x { course = d })
+gathered_course s x d k a h = record {
+  over = subst (λ ms. AreOver ms x.explicit) (sym (known_same s x (record x { course = d }) k.disabled k.fit)) h.over;
+  members = λ w f. k.fit w ∙ h.members w (subst (λ ms. is_member ms w ≡ true) k.members f);
+  agenda = a;
+  late = h.late;
+}
 
 bare_follows : (a : Option Agenda) (c d : Course) → Follows a c.members c.outcome d.agenda d.members d.outcome → BareAgenda a → BareAgenda d.agenda
 bare_follows a c d f h = grind arith
@@ -118,12 +110,6 @@ bare_begun_agenda k ms vs now c h = grind arith
 fit_begun_agenda : (k : Kind) (ms : List Member) (vs : List ℕ) (now : ℕ) (c : Course) → is_gathering k ≡ false → ((w : ℕ) → is_member ms w ≡ true → is_unfit c.rows w ≡ false) → AsksFitIn (begun k ms vs now c).agenda (begun k ms vs now c).rows
 unfolding begun posted settled
 fit_begun_agenda k ms vs now c e h = grind arith
-
-bare_begun : (k : Kind) (ms : List Member) (vs : List ℕ) (now : ℕ) (c : Course) (st : State) → c.members ≡ [] → (is_gathering k ≡ true) ⊎ (ms ≡ []) → IsBare st → IsBare (followed true (begun k ms vs now c) st)
-bare_begun k ms vs now c st e g h = grind (arith, bare_followed, begun_members, bare_begun_agenda)
-
-gathered_begun : (s : Plan) (k : Kind) (ms : List Member) (vs : List ℕ) (now : ℕ) (st : State) → is_gathering k ≡ false → ((w : ℕ) → is_member ms w ≡ true → is_unfit st.course.rows w ≡ false) → IsGathered s st → IsGathered s (followed true (begun k ms vs now st.course) st)
-gathered_begun s k ms vs now st e fit h = gathered_followed s true (begun k ms vs now st.course) st (begun_members k ms vs now st.course) (fit_begun_agenda k ms vs now st.course e fit) h
 
 -- ## who takes part is known
 
@@ -225,9 +211,8 @@ participants_fit : (s : Plan) (mode : Mode) (st : State) (w : ℕ) → AreOver (
 participants_fit s mode st w over e = grind (arith, taker_known, filter_passes, member_passes)
 
 gathered_prepared : (s : Plan) (mode : Mode) (now : ℕ) (st : State) → AreOver (known_metas s st) st.explicit → LateIn st.session
-    → IsGathered s (followed true (begun Prepare (participants s mode st) [] now (record st.course { members = participants s mode st })) st)
-unfolding followed
-gathered_prepared s mode now st over late = grind (arith, begun_members, gathered_concluded, known_same, participants_fit, fit_begun_agenda)
+    → IsGathered s (record st { course = begun Prepare (participants s mode st) [] now (record st.course { members = participants s mode st }) })
+gathered_prepared s mode now st over late = grind (arith, begun_members, known_same, participants_fit, fit_begun_agenda)
 
 -- ## what changes neither names nor course
 
@@ -244,78 +229,21 @@ NamesKnown s st = IsBare st ⊎ IsGathered s st
 same : (s : Plan) (st x : State) → x.explicit ≡ st.explicit → x.course ≡ st.course → (LateIn st.session → LateIn x.session) → NamesKnown s st → NamesKnown s x
 same s st x e f late x6 = grind (arith, bare_same, gathered_same)
 
--- ## the agenda goes on
-
-on_answers : (s : Plan) (w : ℕ) (said : Said) (st : State) → NamesKnown s st → NamesKnown s (answered w said st)
-unfolding answered
-on_answers s w said st (inl h) =
-    let d = course_answered w said st.clock st.course in
-    inl (bare_followed (runs st) d st (members_answered w said st.clock st.course ∙ h.members) (bare_follows st.course.agenda st.course d (goes_answered w said st.clock st.course) h.agenda) h)
-on_answers s w said st (inr h) =
-    let d = course_answered w said st.clock st.course in
-    let k = keeps_answered w said st.clock st.course h.agenda in
-    inr (gathered_followed s (runs st) d st k (asks_follows st.course.agenda d.agenda st.course d (goes_answered w said st.clock st.course) k.fit h.agenda) h)
-
-on_ticks : (s : Plan) (n : ℕ) (st : State) → NamesKnown s st → NamesKnown s (ticked n st)
-unfolding ticked
-on_ticks s n st (inl h) =
-    let d = course_timed (st.clock + n) st.course in
-    inl (bare_followed (runs st) d (later n st) (members_timed (st.clock + n) st.course ∙ h.members) (bare_follows st.course.agenda st.course d (goes_timed (st.clock + n) st.course) h.agenda) (bare_same st (later n st) refl refl h))
-on_ticks s n st (inr h) =
-    let d = course_timed (st.clock + n) st.course in
-    let k = keeps_timed (st.clock + n) st.course h.agenda in
-    inr (gathered_followed s (runs st) d (later n st) k (asks_follows st.course.agenda d.agenda st.course d (goes_timed (st.clock + n) st.course) k.fit h.agenda) (gathered_same s st (later n st) refl refl h.late h))
-
-stepped_on : (s : Plan) (ok ran : Bool) (now : ℕ) (x : State) → NamesKnown s x → NamesKnown s (followed ran (course_stepped ok now x.course) x)
-stepped_on s ok ran now x (inl h) =
-    let d = course_stepped ok now x.course in
-    inl (bare_followed ran d x ((keeps_stepped ok now x.course).members ∙ h.members) (bare_follows x.course.agenda x.course d (goes_stepped ok now x.course) h.agenda) h)
-stepped_on s ok ran now x (inr h) =
-    let d = course_stepped ok now x.course in
-    let k = keeps_stepped ok now x.course in
-    inr (gathered_followed s ran d x k (asks_follows x.course.agenda d.agenda x.course d (goes_stepped ok now x.course) k.fit h.agenda) h)
-
-explicit-cut_set : (o : Option SetRow) (st : State) → (cut_set o st).explicit ≡ st.explicit
-explicit-cut_set o st = grind arith
-
-session-cut_set : (o : Option SetRow) (st : State) → (cut_set o st).session ≡ st.session
-session-cut_set o st = grind arith
-
-made_same : (s : Plan) (g : Option Group) (st : State) → NamesKnown s st → NamesKnown s (step_made g st)
-made_same s g st h = grind (arith, same, explicit-cut_set, course-step_made, session-cut_set)
-
-on_stepped_as : (s : Plan) (fails : Bool) (g : Option Group) (st : State) → NamesKnown s st → NamesKnown s (stepped_as fails g st)
-on_stepped_as s true g st h = stepped_on s false (runs st) st.clock st h
-on_stepped_as s false g st h =
-    subst (λ c. NamesKnown s (followed (runs st) (course_stepped true st.clock c) (step_made g st))) (course-step_made g st) (stepped_on s true (runs st) st.clock (step_made g st) (made_same s g st h))
-
-on_steps : (s : Plan) (mark : Mark) (st : State) → NamesKnown s st → NamesKnown s (stepped mark st)
-unfolding stepped
-on_steps s mark st h = on_stepped_as s (is_failed_step (is_flush (open_group (left_now st))) mark) (open_group (left_now st)) st h
-
--- ## failures and writes
-
 pub failed_agenda : (why : VssResult) (c : Course) → (course_failed why c).agenda ≡ None
 unfolding course_failed
 failed_agenda why c = refl
 
-on_failed : (s : Plan) (o : Option SetRow) (why : VssResult) (x : State) → NamesKnown s x → NamesKnown s (failed_in o why x)
-on_failed s o why x h = grind (arith, bare_concluded, keeps_failed, failed_agenda, gathered_concluded, known_same)
+-- an agenda of some of the participants
+pub filter_member : (test : Member → Bool) (ms : List Member) (w : ℕ) → is_member (filter test ms) w ≡ true → is_member ms w ≡ true
+filter_member test [] w e = e
+filter_member test (m ∷ ms) w e = by_test (test m) e (filter_member test ms w) where
+  or_along : (a b c : Bool) → (b ≡ true → c ≡ true) → (a || b) ≡ true → (a || c) ≡ true
+  or_along true b c f e = refl
+  or_along false b c f e = f e
 
-on_room : (s : Plan) (b : Bool) (x : State) → NamesKnown s x → NamesKnown s (with_room_if b x)
-on_room s b x h = grind (arith, on_failed)
-
-on_put : (s : Plan) (v : ℕ) (w : Write) (mark : Mark) (x : State) → NamesKnown s x → NamesKnown s (put v w mark x)
-on_put s v w mark x h = grind (arith, same)
-
-on_write : (s : Plan) (v : ℕ) (w : Write) (mark : Mark) (st : State) → NamesKnown s st → NamesKnown s (write s v w mark st).1
-unfolding write
-on_write s v w mark st h = grind (arith, on_put, on_room, same)
-
-on_revert : (s : Plan) (v : ℕ) (k : Kept) (mark : Mark) (st : State) → NamesKnown s st → NamesKnown s (reverted_as s v k mark st).1
-on_revert s v k mark st h = grind (arith, same)
-
--- ## session calls
+  by_test : (b : Bool) → is_member (if b then m ∷ filter test ms else filter test ms) w ≡ true → (is_member (filter test ms) w ≡ true → is_member ms w ≡ true) → ((m.writer == w) || is_member ms w) ≡ true
+  by_test true e ih = or_along (m.writer == w) (is_member (filter test ms) w) (is_member ms w) ih e
+  by_test false e ih = or_right (m.writer == w) (is_member ms w) (ih e)
 
 late_at : (q : Option Session) (x : Session) → q ≡ Some x → LateIn q → is_late x.stage ≡ true
 late_at q x e h = subst LateIn e h
@@ -338,70 +266,111 @@ over_nothing ms ps e = subst (AreOver ms) (sym e) refl
 on_names : (s : Plan) (w : ℕ) (name : List ℕ) (q : Session) (explicit : List Pair) (st : State) → LetsGo call.Component q st → naming (known_metas s st) w name st.explicit ≡ Names explicit → NamesKnown s st → NamesKnown s (record st { explicit = explicit })
 on_names s w name q explicit st g e x8 = grind (arith, known_same, named_over, over_nothing, nobody, none_runs, names_late)
 
-on_disables : (s : Plan) (w : ℕ) (q : Session) (st : State) → LetsGo call.Disable q st → NamesKnown s st → NamesKnown s (disable w st).1
-on_disables s w q st g x5 = grind arith
+-- ## each change
 
-on_starts : (s : Plan) (q : Session) (st : State) → NamesKnown s st → NamesKnown s (start_set q st).1
-on_starts s q st h = same s st (start_set q st).1 refl refl (λ l. refl) h
+late_map : (f : Session → Session) (q : Option Session) → ((p : Session) → is_late p.stage ≡ true → is_late (f p).stage ≡ true) → LateIn q
+    → LateIn (option_map f q)
+late_map f q keeps h = grind arith
 
-on_end : (s : Plan) (q : Session) (st : State) → NamesKnown s (closed q st)
-unfolding closed released
-on_end s q st = inl (record { explicit = refl; members = refl; agenda = tt })
+late_ended : (p : Session) → is_late p.stage ≡ true → is_late (agenda_ended p).stage ≡ true
+late_ended p e = grind arith
 
-on_begin : (s : Plan) (lane : ℕ) (all : Bool) (c : Option Context) (st : State) → st.session ≡ None → NamesKnown s st → NamesKnown s (begin_in lane all c st).1
-on_begin s lane all c st e h = grind arith
+no_late : {X : Type 0} (q : Option Session) → q ≡ None → LateIn q → X
+no_late q e h = absurd (subst LateIn e h)
 
-on_gather : (s : Plan) (q : Session) (ms : List Member) (c : Course) (st : State) → LetsGo call.Gather q st → c.members ≡ st.course.members → NamesKnown s st → NamesKnown s (followed true (begun Gather ms [] st.clock c) st)
-on_gather s q ms c st g e x7 = grind (arith, bare_begun, opened_not_late, late_at)
+module _ (s : Plan) (st : State) where
+  abbrev With : State → Course → Type 0
+  With x d = NamesKnown s (record x { course = d })
 
-on_prepare : (s : Plan) (q : Session) (st : State) → LetsGo call.Prepare q st → NamesKnown s st → NamesKnown s (followed true (begun Prepare (participants s q.mode st) [] st.clock (record st.course { members = participants s q.mode st })) st)
-on_prepare s q st g x4 = grind (arith, gathered_prepared, over_nothing, prepares_late)
+  goes_bare : (x : State) (d : Course) → d.members ≡ x.course.members → Follows x.course.agenda x.course.members x.course.outcome d.agenda d.members d.outcome
+      → IsBare x → With x d
+  goes_bare x d e f h = inl (record { explicit = h.explicit; members = e ∙ h.members; agenda = bare_follows x.course.agenda x.course d f h.agenda })
 
--- an agenda of some of the participants
-pub filter_member : (test : Member → Bool) (ms : List Member) (w : ℕ) → is_member (filter test ms) w ≡ true → is_member ms w ≡ true
-filter_member test [] w e = e
-filter_member test (m ∷ ms) w e = by_test (test m) e (filter_member test ms w) where
-  or_along : (a b c : Bool) → (b ≡ true → c ≡ true) → (a || b) ≡ true → (a || c) ≡ true
-  or_along true b c f e = refl
-  or_along false b c f e = f e
+  goes_gathered : (x : State) (d : Course) → Keeps x.course d → Follows x.course.agenda x.course.members x.course.outcome d.agenda d.members d.outcome
+      → IsGathered s x → With x d
+  goes_gathered x d k f h = inr (gathered_course s x d k (asks_follows x.course.agenda d.agenda x.course d f k.fit h.agenda) h)
 
-  by_test : (b : Bool) → is_member (if b then m ∷ filter test ms else filter test ms) w ≡ true → (is_member (filter test ms) w ≡ true → is_member ms w ≡ true) → ((m.writer == w) || is_member ms w) ≡ true
-  by_test true e ih = or_along (m.writer == w) (is_member (filter test ms) w) (is_member ms w) ih e
-  by_test false e ih = or_right (m.writer == w) (is_member ms w) (ih e)
+  on_prepare : (q : Session) (x : State) → LetsGo call.Prepare q st → NamesKnown s st → With st (called s st (Prepares q) st.course)
+  on_prepare q x g h = inr
+      (gathered_prepared s q.mode st.clock st (over h) (subst LateIn (sym g.stands) (prepares_late q.stage (has_writers q.context) g.allowed))) where
+        over : NamesKnown s st → AreOver (known_metas s st) st.explicit
+        over (inl k) = over_nothing (known_metas s st) st.explicit k.explicit
+        over (inr k) = k.over
 
-on_part : (s : Plan) (k : Kind) (test : Member → Bool) (vs : List ℕ) (st : State) → is_gathering k ≡ false → NamesKnown s st → NamesKnown s (followed true (begun k (filter test st.course.members) vs st.clock st.course) st)
-on_part s k test vs st e x6 = grind (arith, bare_begun, gathered_begun, filter_member)
+  on_called : (x : State) (call : CourseCall) → IsDue st x.course call → Stands st x call → NamesKnown s x → With x (called s st call x.course)
+  unfolding course_failed released
+  on_called x (Answers w said) i k (inl h) = goes_bare x _ (members_answered w said st.clock x.course) (goes_answered w said st.clock x.course) h
+  on_called x (Answers w said) i k (inr h) = goes_gathered x _ (keeps_answered w said st.clock x.course h.agenda) (goes_answered w said st.clock x.course) h
+  on_called x (Steps ok) i k (inl h) = goes_bare x _ (keeps_stepped ok st.clock x.course).members (goes_stepped ok st.clock x.course) h
+  on_called x (Steps ok) i k (inr h) = goes_gathered x _ (keeps_stepped ok st.clock x.course) (goes_stepped ok st.clock x.course) h
+  on_called x (Times now) i k (inl h) = goes_bare x _ (members_timed now x.course) (goes_timed now x.course) h
+  on_called x (Times now) i k (inr h) = goes_gathered x _ (keeps_timed now x.course h.agenda) (goes_timed now x.course) h
+  on_called x Gathers i k (inl h) =
+      let c = record x.course { rows = map row_gathered x.course.rows } in
+      inl (record {
+        explicit = h.explicit;
+        members = (begun_members Gather _ [] st.clock c).members
+            ∙ h.members;
+        agenda = bare_begun_agenda Gather _ [] st.clock c (inl refl);
+      })
+  on_called x Gathers i k (inr h) =
+      absurd (opened_not_late i.session.stage (has_writers i.session.context) i.goes.allowed
+      (late_at x.session i.session (ap (λ (y : State). y.session) k ∙ i.goes.stands) h.late))
+  on_called x (Prepares q) i k h = subst (λ (y : State). With y (called s st (Prepares q) y.course)) (sym k) (on_prepare q x i.0 (subst (NamesKnown s) k h))
+  on_called x Snapshots i k (inl h) =
+      inl (record {
+        explicit = h.explicit;
+        members = (begun_members Snapshot _ _ st.clock x.course).members
+            ∙ h.members;
+        agenda = bare_begun_agenda Snapshot _ _ st.clock x.course (inr h.members);
+      })
+  on_called x Snapshots i k (inr h) = inr
+      (gathered_course s x _ (begun_members Snapshot _ _ st.clock x.course) (fit_begun_agenda Snapshot x.course.members _ st.clock x.course refl h.members) h)
+  on_called x Completes i k (inl h) =
+      let test = λ (m : Member). not (has_row_failed x.course.rows m.writer) in
+      inl (record {
+        explicit = h.explicit;
+        members = (begun_members Complete _ [] st.clock x.course).members
+            ∙ h.members;
+        agenda = bare_begun_agenda Complete _ [] st.clock x.course (inr (ap (filter test) h.members));
+      })
+  on_called x Completes i k (inr h) =
+      let test = λ (m : Member). not (has_row_failed x.course.rows m.writer) in
+      inr (gathered_course s x _ (begun_members Complete _ [] st.clock x.course)
+      (fit_begun_agenda Complete _ [] st.clock x.course refl (λ w e. h.members w (filter_member test x.course.members w e))) h)
+  on_called x (Disables w) i k (inl h) = inl (record { explicit = h.explicit; members = h.members; agenda = h.agenda })
+  on_called x (Disables w) i k (inr h) =
+      absurd (opened_not_late i.session.stage (has_writers i.session.context) i.goes.allowed
+      (late_at x.session i.session (ap (λ (y : State). y.session) k ∙ i.goes.stands) h.late))
+  on_called x (Fails why) i k (inl h) = inl (record { explicit = h.explicit; members = h.members; agenda = tt })
+  on_called x (Fails why) i k (inr h) = inr (gathered_course s x _ (keeps_failed why x.course) tt h)
+  on_called x Releases i k h = inl (record { explicit = k.1; members = refl; agenda = tt })
 
-on_all : (s : Plan) (k : Kind) (vs : List ℕ) (st : State) → is_gathering k ≡ false → NamesKnown s st → NamesKnown s (followed true (begun k st.course.members vs st.clock st.course) st)
-on_all s k vs st e x5 = grind (arith, bare_begun, gathered_begun)
+  on_step : (e : Event) (x : State) (step : SessionStep) → IsStepDue e st x step → NamesKnown s x
+      → NamesKnown s (record x { session = session_after st step x.session })
+  on_step e x Closes i h = inl (record { explicit = i.0; members = i.1; agenda = subst BareAgenda (sym i.2) tt })
+  on_step e x step i (inl h) = inl (bare_same x _ refl refl h)
+  on_step e x (Opens lane c all) i (inr h) = no_late x.session (ap (λ (y : State). y.session) i.1.2 ∙ i.1.1) h.late
+  on_step e x (Starts own) i (inr h) = inr (gathered_same s x _ refl refl refl h)
+  on_step e x EndsAgenda i (inr h) = inr (gathered_same s x _ refl refl (late_map agenda_ended x.session late_ended h.late) h)
+  on_step e x (FailsSet why) i (inr h) = inr (gathered_same s x _ refl refl (late_map (set_failed why) x.session (λ p f. refl) h.late) h)
 
-kept_at : (s : Plan) (st : State) → NamesKnown s st → Covers (Next (NamesKnown s)) s st
-kept_at s st h = record {
-  stays = λ lane op mark told e c. h;
-  writes = λ lane op v w mark e f. on_write s v w mark st h;
-  reverts = λ lane n v k mark f g. on_revert s v k mark st h;
-  ticks = λ lane n mark. on_ticks s n st h;
-  idles = λ mark e. on_ticks s (idle_now st) st h;
-  deletes_set = λ lane n c mark f. same s st _ refl refl (λ l. l) h;
-  deletes_image = λ lane n v k mark f. same s st _ refl refl (λ l. l) h;
-  names = λ lane w full q explicit mark g f. on_names s w (token s full) q explicit st g f h;
-  disables = λ lane w q mark g. on_disables s w q st g h;
-  starts = λ lane q mark g f. on_starts s q st h;
-  adds = λ lane v r q mark g f i. same s st _ refl refl (λ l. l) h;
-  aborts = λ lane q mark f. on_failed s (in_progress st) AsyncCancelled st h;
-  ends = λ lane q mark f. on_end s q (failed AsyncCancelled st);
-  begins = λ lane m all c mark g f. on_begin s lane all (Some c) st g h;
-  gathers = λ lane q mark g. on_gather s q _ _ st g refl h;
-  prepares = λ lane q mark g. by_if (λ r. NamesKnown s r.1) (has_no_volume (in_progress st)) _ _ h (on_prepare s q st g h);
-  snapshots = λ lane q mark g. by_if (λ r. NamesKnown s r.1) (has_no_volume (in_progress st)) _ _ h (on_all s Snapshot _ st refl h);
-  completes = λ lane q mark g. on_part s Complete _ [] st refl h;
-  answers = λ w answer mark g. on_answers s w (said_of answer) st h;
-  steps = λ mark g. on_steps s mark st h;
-}
+  none_named : (x : State) (pairs : List Pair) → pairs ≡ [] → NamesKnown s x → NamesKnown s (record x { explicit = pairs })
+  none_named x pairs e (inl h) = inl (record { explicit = e; members = h.members; agenda = h.agenda })
+  none_named x pairs e (inr h) = inr
+      (record { over = over_nothing (known_metas s (record x { explicit = pairs })) pairs e; members = h.members; agenda = h.agenda; late = h.late })
+
+  names_apply : (e : Event) (m : Mark) (c : Change) (x : State) → Comes s e m st x c → NamesKnown s x → NamesKnown s (apply x c)
+  names_apply e m (CourseIs c) x i h = subst (With x) (sym i.is) (on_called x i.call i.due i.stands h)
+  names_apply e m (SessionIs q) x i h = subst (λ p. NamesKnown s (record x { session = p })) (sym i.is) (on_step e x i.step i.due h)
+  names_apply e m (NamesPairs pairs) x (inl i) h = none_named x pairs i h
+  names_apply e m (NamesPairs pairs) x (inr i) h =
+      subst (λ (y : State). NamesKnown s (record y { explicit = pairs })) (sym i.first)
+      (on_names s i.writer i.name i.session pairs st i.goes i.named (subst (NamesKnown s) i.first h))
+  names_apply e m c x i h = same s x (apply x c) refl refl (λ l. l) h
 
 names_from : (s : Plan) (st : State) (acts : List Act) → NamesKnown s st → NamesKnown s (fold (after s) st acts)
-names_from s st [] h = h
-names_from s st (act ∷ acts) h = names_from s (after s st act) acts (after_covered (NamesKnown s) s st (kept_at s st h) h act)
+names_from s st acts h = by_all_changes (NamesKnown s) s (λ e m old. names_apply s old e m) st acts h
 
 names_over : (s : Plan) (st : State) → NamesKnown s st → AreOver (known_metas s st) st.explicit
 names_over s st x2 = grind arith

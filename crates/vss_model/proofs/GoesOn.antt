@@ -1,47 +1,37 @@
 -- A legal trail that is not complete can go on.
 use Rattle.std.proofs.Common.{◌≡◌, ℕ, ◌+◌, ◌==◌, zero, suc, List, [], ◌∷◌, ◌++◌, Option, Some, None, refl, Bool, true, false, ap, sym, ◌∙◌, subst, inl, inr, drop, cond, arith}
 use Rattle.std.proofs.lemmas.List.Sums.{sum_by-append}
-use Rattle.std.specs.Prelude.{◌⊎◌, is_none, length, ◌&&◌, ◌||◌, not, slice_get}
+use Rattle.std.specs.Prelude.{option_map, ◌⊎◌, is_none, length, ◌&&◌, ◌||◌, not, slice_get}
 use Rattle.std.specs.List.{list_all, range_with_len}
 use Rattle.std.proofs.lemmas.Bool.{and_from, and_parts, eq-eqb, eqb-true}
 use Rattle.std.proofs.lemmas.Grind.{common_steps}
-use Rattle.vss_names.specs.declared.context.Context.{Context}
-use Rattle.vss_names.specs.declared.vss_result.VssResult.{VssResult}
-use Rattle.vss_names.specs.declared.vss_result.VssResult.TheVariants.{AsyncCancelled}
-use Rattle.writer_state.specs.declared.said.Said.{Said}
 use Rattle.write_history.specs.declared.actor.Actor.{Actor}
 use Rattle.write_history.specs.declared.actor.Actor.TheVariants.{Lane, Writer, Advance, Idle as IdleActor}
 use Rattle.write_history.specs.declared.mark.Mark.{Mark}
 use Rattle.write_history.specs.declared.mark.Mark.TheVariants.{Clean}
 use Rattle.write_history.specs.declared.move_item.Move.{Move}
-use Rattle.write_history.specs.History.{Write}
-use Rattle.set_agenda.specs.declared.group.Group.{Group}
 use Rattle.set_agenda.specs.Agenda.{is_asking, is_working}
-use Rattle.set_agenda.specs.Course.{Course, released}
-use Rattle.requestor.specs.declared.session_call.SessionCall.{SessionCall}
-use Rattle.requestor.specs.declared.session_call.SessionCall.TheVariants as call
-use Rattle.requestor.specs.Session.{Session}
+use Rattle.requestor.specs.Session.{Session, agenda_ended, set_failed}
 use Rattle.scenario.specs.declared.op.Op.{Op}
 use Rattle.scenario.specs.declared.op.Op.TheVariants.{End}
 use Rattle.scenario.specs.Plan.{Plan, LaneLine, lines_of}
 use Rattle.vss_model.specs.declared.event.Event.{Event}
 use Rattle.vss_model.specs.declared.event.Event.TheVariants.{Line}
-use Rattle.vss_model.specs.State.{State, SetRow, Kept, in_progress, left_now}
-use Rattle.vss_model.specs.Ending.{Ending, ending, concluded, followed, runs, failed_in, failed}
-use Rattle.vss_model.specs.Images.{put, reverted_as}
-use Rattle.vss_model.specs.Sessions.{begin_in, has_no_volume, closed}
+use Rattle.vss_model.specs.State.{State, left_now}
+use Rattle.vss_model.specs.Ending.{runs}
+use Rattle.vss_model.specs.Sessions.{closed}
 use Rattle.vss_model.specs.Lines.{called, line}
-use Rattle.vss_model.specs.Steps.{answered, step_made, stepped_as, stepped, ticked, later}
 use Rattle.vss_model.specs.Acts.{Act, after, enabled, line_enabled}
-use Rattle.vss_model.specs.Laws.{IsKeptByWrites}
 use Rattle.vss_model.specs.Trail.{Run, begin, is_lane, cursor, next_line, line_event, answer_event, script_event, event_of, act_of, after_event, moved}
 use Rattle.vss_model.specs.Trail.{run_from, run, event_enabled, can_act, none_can_act, may_move, allows as allows_mark, is_legal_move, is_legal_from}
 use Rattle.vss_model.specs.Trail.{is_legal, is_used_up, is_complete}
 use Rattle.scenario.specs.Bounds.{is_begin, is_end, has_end, ends_sessions}
 use Rattle.vss_model.specs.GoesOn.{EndsSessions, CanGoOn}
-use Rattle.vss_model.proofs.ByEvent.{after_enabled, by_if}
+use Rattle.vss_model.proofs.ByEvent.{after_enabled}
 use Rattle.vss_model.proofs.Rows.{none_runs}
-use Rattle.vss_model.proofs.Rule.{IsKeptButSteps, begins_at, on_after_steps}
+use Rattle.vss_model.specs.Changes.{Change, SessionIs, apply}
+use Rattle.vss_model.proofs.Changes.{SessionStep, Opens, Starts, EndsAgenda, FailsSet, Closes, session_after, IsStepDue, Comes, by_changes}
+use Rattle.vss_model.proofs.Rule.{begins_at}
 use Rattle.vss_model.proofs.Appending.{state-run, moves-run}
 use Rattle.vss_model.proofs.Orderly.{true_not_false}
 use Rattle.vss_model.proofs.Waiting.{working_or_asking}
@@ -59,78 +49,27 @@ IsOf o (Some q) = q.owner ≡ o
 abbrev Owned : ℕ → State → Type 0
 Owned o st = IsOf o st.session
 
-owned_concluded : (o : ℕ) (e : Ending) (st : State) → Owned o st → Owned o (concluded e st)
-owned_concluded o e st h = grind arith
-
-owned_followed : (o : ℕ) (ran : Bool) (c : Course) (st : State) → Owned o st → Owned o (followed ran c st)
-unfolding followed
-owned_followed o ran c st h = owned_concluded o (ending st.course.outcome c.outcome ran c.agenda) (record st { course = c }) h
-
-owned_cut : (o : ℕ) (g : Option Group) (st : State) → Owned o st → Owned o (step_made g st)
-owned_cut o g st h = grind arith
-
-owned_stepped_as : (o : ℕ) (fails : Bool) (g : Option Group) (st : State) → Owned o st → Owned o (stepped_as fails g st)
-owned_stepped_as o true g st h = owned_followed o (runs st) _ st h
-owned_stepped_as o false g st h = owned_followed o (runs st) _ (step_made g st) (owned_cut o g st h)
-
-owned_stepped : (o : ℕ) (mark : Mark) (st : State) → Owned o st → Owned o (stepped mark st)
-unfolding stepped
-owned_stepped o mark st h = owned_stepped_as o _ _ st h
-
-owned_answered : (o w : ℕ) (said : Said) (st : State) → Owned o st → Owned o (answered w said st)
-unfolding answered
-owned_answered o w said st h = owned_followed o (runs st) _ st h
-
-owned_ticked : (o n : ℕ) (st : State) → Owned o st → Owned o (ticked n st)
-unfolding ticked
-owned_ticked o n st h = owned_followed o (runs st) _ (later n st) h
-
-owned_failed_in : (o : ℕ) (r : Option SetRow) (why : VssResult) (st : State) → Owned o st → Owned o (failed_in r why st)
-owned_failed_in o r why st h = grind arith
-
-owned_closed : (o : ℕ) (q : Session) (st : State) → Owned o (closed q st)
-unfolding closed released
-owned_closed o q st = tt
-
 owned_by : (o : ℕ) (q : Session) (x : Option Session) → x ≡ Some q → IsOf o x → q.owner ≡ o
 owned_by o q x e h = subst (IsOf o) e h
 
-owned_changes : (o : ℕ) → IsKeptButSteps (Owned o)
-owned_changes o = record {
-  answers = λ w said st e h. owned_answered o w said st h;
-  ticks = owned_ticked o;
-  fails = λ why st h. owned_failed_in o (in_progress st) why st h;
-  gathers = λ s q st g h. owned_followed o true _ st h;
-  prepares = λ s q st g h. by_if (λ r. Owned o r.1) (has_no_volume (in_progress st)) _ _ h (owned_followed o true _ st h);
-  snapshots = λ q st g h. by_if (λ r. Owned o r.1) (has_no_volume (in_progress st)) _ _ h (owned_followed o true _ st h);
-  completes = λ q st g h. owned_followed o true _ st h;
-  clears = λ s v b st h. h;
-  deletes_set = λ n st h. h;
-  deletes_image = λ n v st h. h;
-  names = λ q explicit st g h. h;
-  disables = λ w q st g h. h;
-  starts = λ q st g e h. owned_by o q st.session g.stands h;
-  adds = λ v r q st g e f h. h;
-  ends = λ q st e h. owned_closed o q (failed AsyncCancelled st);
-}
-
-owned_puts : (o v : ℕ) (w : Write) (mark : Mark) (x : State) → Owned o x → Owned o (put v w mark x)
-owned_puts o v w mark x h = grind arith
-
-owned_reverts : (o : ℕ) (s : Plan) (v : ℕ) (k : Kept) (mark : Mark) (st : State) → Owned o st → Owned o (reverted_as s v k mark st).1
-owned_reverts o s v k mark st h = grind arith
-
-owned_writes : (o : ℕ) (st : State) → IsKeptByWrites (Owned o) st
-owned_writes o st = record { puts = λ v e w mark x h. owned_puts o v w mark x h; reverts = λ s n v k mark e f h. owned_reverts o s v k mark st h }
+owned_map : (o : ℕ) (f : Session → Session) (q : Option Session) → ((p : Session) → (f p).owner ≡ p.owner) → IsOf o q → IsOf o (option_map f q)
+owned_map o f q same h = grind arith
 
 -- a session is begun by the lane of the act alone
-begun_by : (o lane : ℕ) (all : Bool) (c : Option Context) (st : State) → lane ≡ o → Owned o st → Owned o (begin_in lane all c st).1
-begun_by o lane all c st e h = grind arith
+module _ (o : ℕ) (s : Plan) (st : State) (act : Act) (begins : (lane : ℕ) → begins_at lane act.event ≡ true → st.session ≡ None → lane ≡ o) where
+  owned_step : (x : State) (step : SessionStep) → IsStepDue act.event st x step → Owned o x → IsOf o (session_after st step x.session)
+  owned_step x (Opens lane c all) i h = begins lane (ap (begins_at lane) i.1.0 ∙ eq-eqb lane lane refl) i.1.1
+  owned_step x (Starts own) i h = owned_by o own x.session (ap (λ (y : State). y.session) i.1 ∙ i.0.stands) h
+  owned_step x EndsAgenda i h = owned_map o agenda_ended x.session (λ p. refl) h
+  owned_step x (FailsSet why) i h = owned_map o (set_failed why) x.session (λ p. refl) h
+  owned_step x Closes i h = tt
 
-owned_after : (o : ℕ) (s : Plan) (st : State) (act : Act) → ((lane : ℕ) → begins_at lane act.event ≡ true → st.session ≡ None → lane ≡ o) → Owned o st → Owned o (after s st act)
-owned_after o s st act begins h =
-    on_after_steps (Owned o) (owned_changes o) s st act (owned_writes o st) (λ e f. owned_stepped o act.mark st h)
-    (λ lane all c e f. begun_by o lane all c st (begins lane e f) h) h
+  owned_apply : (c : Change) (x : State) → Comes s act.event act.mark st x c → Owned o x → Owned o (apply x c)
+  owned_apply (SessionIs q) x i h = subst (IsOf o) (sym i.is) (owned_step x i.step i.due h)
+  owned_apply _ x i h = h
+
+  owned_after : Owned o st → Owned o (after s st act)
+  owned_after h = by_changes (Owned o) s st act owned_apply h
 
 in_both : (q : Option Session) → IsOf 0 q → IsOf 1 q → q ≡ None
 in_both q h i = grind arith

@@ -1,46 +1,44 @@
 -- From the Cut until the volume's Release the image of the set in progress names no block: its point is the end of the
 -- volume's effective writes, and it uses no slot.
-use Rattle.std.proofs.Common.{◌≡◌, ◌⊎◌, ℕ, ◌+◌, ◌==◌, ◌<◌, zero, suc, List, [], ◌∷◌, ◌++◌, Option, Some, None, refl, Bool, true, false, map, filter, length, drop, ap, sym, ◌∙◌, subst, find, fold, inl, arith}
+use Rattle.std.proofs.Common.{◌≡◌, ◌⊎◌, ℕ, ◌+◌, ◌==◌, ◌<◌, zero, suc, List, [], ◌∷◌, ◌++◌, Option, Some, None, refl, Bool, true, false, filter, length, drop}
+use Rattle.std.proofs.Common.{ap, sym, ◌∙◌, subst, find, fold, inl, inr, arith}
 use Rattle.std.specs.Prelude.{option_map, is_some, ◌&&◌, not, if◌then◌else◌, nat_lt, slice_get}
 use Rattle.std.specs.List.{range_with_len}
 use Rattle.std.proofs.Math.Seq.{drop-length}
 use Rattle.std.proofs.lemmas.Bool.{eq-eqb, eqb-true}
 use Rattle.std.proofs.lemmas.Grind.{common_steps}
-use Rattle.vss_names.specs.declared.context.Context.{Context}
-use Rattle.vss_names.specs.declared.vss_result.VssResult.TheVariants.{AsyncCancelled}
 use Rattle.vss_names.specs.declared.set_outcome.SetOutcome.{SetOutcome}
-use Rattle.writer_state.specs.declared.said.Said.{Said}
 use Rattle.write_history.specs.declared.mark.Mark.{Mark}
 use Rattle.write_history.specs.History.{Write, Image, History, point_in, names, blocks_named, dropped, written, reverted, reverted_in_part, after_set, cut as history_cut, AreLater, AreInTime}
 use Rattle.write_history.specs.Slots.{named, used_by}
-use Rattle.set_agenda.specs.declared.group.Group.{Group}
 use Rattle.set_agenda.specs.declared.group.Group.TheVariants.{Hold, Release}
 use Rattle.set_agenda.specs.declared.member.Member.{Member}
-use Rattle.set_agenda.specs.Agenda.{Agenda, open_group, has_said, plain, is_among, is_snapshot, is_working, is_held as holds}
-use Rattle.set_agenda.specs.Course.{Course, change_at, stepped as course_stepped, released}
-use Rattle.requestor.specs.Session.{Session}
+use Rattle.set_agenda.specs.Agenda.{Agenda, open_group, has_said, plain, is_among, is_snapshot, is_held as holds}
+use Rattle.set_agenda.specs.Course.{Course, change_at, released}
 use Rattle.scenario.specs.Plan.{Plan}
-use Rattle.vss_model.specs.State.{State, SetRow, Kept, is_running, in_progress, history_in, history_of, left_now, is_held}
-use Rattle.vss_model.specs.Ending.{Ending, NothingEnds, AgendaEnds, SetFails, ending, row_settled, images_dropped, concluded, followed, runs, failed}
-use Rattle.vss_model.specs.Images.{put, is_in_set, reverted_as}
-use Rattle.vss_model.specs.Sessions.{begin_in, has_no_volume, start_set, with_volume, change_set, closed}
-use Rattle.vss_model.specs.Steps.{answered, cut_if, cut_each, row_cut, cut_set, is_flush, is_failed_step, stepped_as, stepped, ticked, later}
+use Rattle.vss_model.specs.State.{State, SetRow, is_running, in_progress, history_in, history_of, left_now, is_held}
+use Rattle.vss_model.specs.Ending.{runs}
+use Rattle.vss_model.specs.Images.{is_in_set}
+use Rattle.vss_model.specs.Sessions.{with_volume, change_set}
+use Rattle.vss_model.specs.Steps.{cut_if, cut_each, row_cut, cut_set}
 use Rattle.vss_model.specs.Acts.{Act, after, state}
 use Rattle.vss_model.specs.Cut.{is_provider, is_cut_group}
-use Rattle.vss_model.specs.Laws.{IsKeptByWrites}
 use Rattle.vss_model.specs.Facts.{IsOrderly}
-use Rattle.vss_model.proofs.Rule.{IsKeptButSteps, but_steps, on_after_steps, working_of}
+use Rattle.vss_model.specs.declared.event.Event.{Event}
+use Rattle.vss_model.specs.Changes.{Change, Passes, SessionIs, Names, StartsSet, AddsVolume, IsCutAt, CourseIs, Settles, Writes, Cuts, Reverts, RevertsPart}
+use Rattle.vss_model.specs.Changes.{DropsSet, Drops, Evicts, apply}
+use Rattle.vss_model.proofs.Changes.{Comes, is_end, by_changes}
+use Rattle.vss_model.proofs.FewerImages.{is_cut, no_cut}
 use Rattle.vss_model.proofs.Appending.{state-append}
-use Rattle.vss_model.proofs.Orderly.{true_not_false, find-map, find-settled_over, find-settled_running}
-use Rattle.vss_model.proofs.OrderlyActs.{Moves, MovesOn, moves_answered, moves_stepped, moves_timed, ending_idle, ending_on, none_after, kept_by_changes as orderly_changes, kept_by_writes as orderly_writes, orderly}
-use Rattle.vss_model.proofs.HeldOfSet.{IsSameAgenda, Follows, GoesOn, goes_answered, goes_stepped, goes_timed, find-row_cut, volumes-row_cut_if}
+use Rattle.vss_model.proofs.Orderly.{true_not_false, find-map}
+use Rattle.vss_model.proofs.OrderlyActs.{moves_stepped, orderly}
+use Rattle.vss_model.proofs.HeldOfSet.{IsSameAgenda, goes_stepped, find-row_cut, volumes-row_cut_if}
 use Rattle.vss_model.proofs.HeldWrites.{apart}
 use Rattle.vss_model.proofs.AtCut.{CutsNow, cuts, held_at_cut}
-use Rattle.vss_model.proofs.CutStep.{second_not, both, step_made_same, working_at_cut, after_cut, has_set}
-use Rattle.vss_model.proofs.OneCut.{ends_settle, plain_kind, changed_number, changed_result, uncut_at_cut, images_in_time}
+use Rattle.vss_model.proofs.CutStep.{both, working_at_cut, has_set, by_cut}
+use Rattle.vss_model.proofs.OneCut.{IsSetFact, HoldsIn, moves_in, on_called, on_settled, at_rest, changed_number, changed_result, uncut_at_cut, images_in_time}
 use Rattle.vss_model.proofs.NewestImage.{UpTo, image_of, images_up_to, newest_image}
 use Rattle.vss_model.proofs.Rows.{apart as apart_below}
-use Rattle.vss_model.proofs.ByEvent.{by_if}
 use Rattle.vss_model.proofs.Volumes.{each_map, each_change, each_gone, change_other}
 
 -- ## the fact
@@ -115,10 +113,6 @@ fewer_reverted_in_part blocks n point m h = record { writes = λ e. absurd cc; i
 fewer_after : (m : Bool) (n : ℕ) (h : History) → Fewer m h (record { writes = h.writes; images = after_set n h.images })
 fewer_after m n h = record { writes = λ e. refl; images = λ k p e. kept_images (λ x. nat_lt n x) k p h.images e }
 
-fewer-images_dropped : (m : Bool) (o : Option SetRow) (hs : List History) (v : ℕ) → Fewer m (history_in (slice_get hs v)) (history_in (slice_get (images_dropped o hs) v))
-fewer-images_dropped m None hs v = fewer_same m _
-fewer-images_dropped m (Some r) hs v = each_map (Fewer m) (fewer_same m) (dropped r.number) (fewer_dropped m r.number) hs v
-
 -- ## the fact with fewer images
 
 set_fewer : (m : Bool) (v : ℕ) (a : Option Agenda) (o : Option SetRow) (h k : History) → Fewer m h k → SetUnused m v a o h → SetUnused m v a o k
@@ -152,57 +146,29 @@ no_image_fewer m o h k f e = grind arith
 no_image_rows : (f : SetRow → SetRow) → ((r : SetRow) → (f r).number ≡ r.number) → (o : Option SetRow) (images : List Image) → NoImage o images → NoImage (option_map f o) images
 no_image_rows f same o images e = grind arith
 
-no_image_settled : (p : SetOutcome) (rows : List SetRow) (images : List Image) → NoImage (find (λ r. is_running r.result) rows) images → NoImage (find (λ r. is_running r.result) (map (row_settled p) rows)) images
-no_image_settled p rows images e = grind (arith, find-settled_running, no_image_rows, find-settled_over)
-
--- ## the course goes on
+-- ## the rule of the set in progress
 
 set_follows : (m : Bool) (v : ℕ) (a b : Agenda) (ms ns : List Member) (o q : SetOutcome) (found : Option SetRow) (h : History) → IsSameAgenda a b ms ns o q → SetUnused m v (Some a) found h → SetUnused m v (Some b) found h
 set_follows m v a b ms ns o q found h f g = grind arith
 
-no_set : (m : Bool) (v : ℕ) (x : State) → in_progress x ≡ None → Unused m v x
-no_set m v x e = subst (λ o. SetUnused m v x.course.agenda o (history_of x v)) (sym e) tt
+unused_fact : (m : Bool) (v : ℕ) (h : History) → IsSetFact (λ a o. SetUnused m v a o h) (λ o. NoImage o h.images)
+unused_fact m v h = record {
+  none = λ a. tt;
+  any = λ a o e. no_image_any m v a o h e;
+  quiet = λ o g. quiet_no_image m v None o h refl g;
+  plain = λ a o e g. plain_no_image m v a o h e g;
+  goes = λ a b ms ns o p found e g. set_follows m v a b ms ns o p found h e g;
+  rows = λ f same o e. no_image_rows f same o h.images e;
+}
 
-none_concluded : (m : Bool) (v : ℕ) (e : Ending) (x : State) → NoImage (in_progress x) (history_of x v).images → Unused m v (concluded e x)
-none_concluded m v NothingEnds x h = no_image_any m v x.course.agenda (in_progress x) (history_of x v) h
-none_concluded m v AgendaEnds x h = no_image_any m v x.course.agenda _ (history_of x v) (no_image_settled x.course.outcome x.sets (history_of x v).images h)
-none_concluded m v (SetFails why) x h =
-    no_image_any m v x.course.agenda _ _
-    (no_image_fewer m _ (history_of x v) _ (fewer-images_dropped m (in_progress x) x.volumes v) (no_image_settled x.course.outcome x.sets (history_of x v).images h))
+abbrev Holds : Bool → ℕ → State → Type 0
+Holds m v x = HoldsIn (λ a o. SetUnused m v a o (history_of x v)) (λ o. NoImage o (history_of x v).images) (unused_fact m v (history_of x v))
+    (in_progress x) x.course.agenda x.course.outcome
 
--- the agenda ends: that of the snapshot with its set, which is not in progress any more
-ended_if : (b : Bool) (m : Bool) (v : ℕ) (a : Agenda) (c : Course) (st : State) → is_running c.outcome ≡ b → Moves (Some a) st.course.outcome None c.outcome → SetUnused m v (Some a) (in_progress st) (history_of st v)
-    → Unused m v (concluded (ending st.course.outcome c.outcome true None) (record st { course = c }))
-ended_if b m v a c st e g h = grind (arith, none_concluded, plain_no_image, plain_kind, no_set, ends_settle, find-settled_over)
-
-on_course : (m : Bool) (v : ℕ) (a b : Option Agenda) (c : Course) (st : State) → c.agenda ≡ b → Moves a st.course.outcome b c.outcome → Follows a st.course.members st.course.outcome b c.members c.outcome
-    → SetUnused m v a (in_progress st) (history_of st v) → Unused m v (concluded (ending st.course.outcome c.outcome (is_some a) b) (record st { course = c }))
-on_course m v a b c st e g f h = grind (arith, ending_idle, no_image_any, quiet_no_image, ending_on, set_follows, ended_if)
-
-goes : (m : Bool) (v : ℕ) (c : Course) (st : State) → MovesOn st.course c → GoesOn st.course c → Unused m v st → Unused m v (followed (runs st) c st)
-unfolding followed
-goes m v c st g f h = on_course m v st.course.agenda c.agenda c st refl g f h
-
--- an agenda begins: none ran, so the set in progress has no image
-begun_unused : (m : Bool) (v : ℕ) (ran : Bool) (c : Course) (st : State) → runs st ≡ false → Unused m v st → Unused m v (followed ran c st)
-unfolding followed
-begun_unused m v ran c st e h = grind (arith, none_concluded, quiet_no_image)
-
--- ## each change
-
-on_answers : (m : Bool) (v w : ℕ) (said : Said) (st : State) → Unused m v st → Unused m v (answered w said st)
-unfolding answered
-on_answers m v w said st h = goes m v _ st (moves_answered w said st.clock st.course) (goes_answered w said st.clock st.course) h
-
-on_ticks : (m : Bool) (v n : ℕ) (st : State) → Unused m v st → Unused m v (ticked n st)
-unfolding ticked
-on_ticks m v n st h = goes m v _ (later n st) (moves_timed (st.clock + n) st.course) (goes_timed (st.clock + n) st.course) h
-
-on_begins : (m : Bool) (v lane : ℕ) (all : Bool) (c : Option Context) (st : State) → Unused m v st → Unused m v (begin_in lane all c st).1
-on_begins m v lane all c st h = grind arith
-
-with_volumes : (m : Bool) (v : ℕ) (hs : List History) (st : State) → Fewer m (history_of st v) (history_in (slice_get hs v)) → Unused m v st → Unused m v (record st { volumes = hs })
-with_volumes m v hs st f h = set_fewer m v st.course.agenda (in_progress st) (history_of st v) (history_in (slice_get hs v)) f h
+with_volumes : (m : Bool) (v : ℕ) (hs : List History) (x : State) → Fewer m (history_of x v) (history_in (slice_get hs v)) → Holds m v x
+    → Holds m v (record x { volumes = hs })
+with_volumes m v hs x f (inl h) = inl (set_fewer m v x.course.agenda (in_progress x) (history_of x v) (history_in (slice_get hs v)) f h)
+with_volumes m v hs x f (inr h) = inr h
 
 -- a set is started: it has no image
 found_no_image : (rows : List SetRow) (r : SetRow) (images : List Image) → point_in r.number images ≡ None → NoImage (find (λ q. is_running q.result) rows) images → NoImage (find (λ q. is_running q.result) (rows ++ r ∷ [])) images
@@ -218,39 +184,21 @@ unnumbered : (n m : ℕ) (images : List Image) → UpTo m images → m < n → p
 unnumbered n m [] h l = refl
 unnumbered n m (i ∷ images) h l = let ih = unnumbered n m images h.1 l in grind (arith, common_steps)
 
-on_starts : (m : Bool) (v : ℕ) (q : Session) (st : State) → runs st ≡ false → IsOrderly st → Unused m v st → Unused m v (start_set q st).1
-on_starts m v q st e o h = grind (arith, no_image_any, found_no_image, unnumbered, images_up_to, quiet_no_image)
+starts_unused : (m : Bool) (v : ℕ) (r : SetRow) (st x : State) → x.sets ≡ st.sets → x.volumes ≡ st.volumes → r.number ≡ length st.sets + 1 → runs st ≡ false
+    → IsOrderly st → Unused m v st → Unused m v (record x { sets = x.sets ++ r ∷ [] })
+starts_unused m v r st x e f number quiet o h =
+    let images = (history_of st v).images in
+    let none = found_no_image st.sets r images
+    (unnumbered r.number (length st.sets) images (images_up_to st.sets st.volumes v o.numbered o.live) (newer r.number (length st.sets) number))
+    (quiet_no_image m v st.course.agenda (in_progress st) (history_of st v) quiet h) in
+    no_image_any m v x.course.agenda (find (λ q. is_running q.result) (x.sets ++ r ∷ [])) (history_of x v)
+    (subst (λ hs. NoImage (find (λ q. is_running q.result) (x.sets ++ r ∷ [])) (history_in (slice_get hs v)).images) (sym f)
+    (subst (λ rows. NoImage (find (λ q. is_running q.result) (rows ++ r ∷ [])) images) (sym e) none)) where
+      newer : (n k : ℕ) → n ≡ k + 1 → k < n
+      newer n k e = omega (arith, e)
 
 on_adds : (m : Bool) (v u n : ℕ) (st : State) → runs st ≡ false → Unused m v st → Unused m v (change_set n (with_volume u) st)
 on_adds m v u n st e h = grind (arith, no_image_any, find-map, changed_result, no_image_rows, changed_number, quiet_no_image)
-
-in_progress-closed : (q : Session) (x : State) → in_progress (closed q x) ≡ in_progress x
-unfolding closed released
-in_progress-closed q x = refl
-
-abbrev Holds : Bool → ℕ → State → Type 0
-Holds m v st = IsOrderly st × Unused m v st
-
-kept_but_steps : (m : Bool) (v : ℕ) → IsKeptButSteps (Holds m v)
-kept_but_steps m v =
-    let o : IsKeptButSteps IsOrderly = but_steps IsOrderly orderly_changes in
-    record {
-      answers = λ w said st e h. (o.answers w said st e h.0, on_answers m v w said st h.1);
-      ticks = λ n st h. (o.ticks n st h.0, on_ticks m v n st h.1);
-      fails = λ why st h. (o.fails why st h.0, no_set m v (failed why st) (none_after (in_progress st) why st refl));
-      gathers = λ s q st g h. (o.gathers s q st g h.0, begun_unused m v true _ st g.quiet h.1);
-      prepares = λ s q st g h. (o.prepares s q st g h.0, by_if (λ r. Unused m v r.1) (has_no_volume (in_progress st)) _ _ h.1 (begun_unused m v true _ st g.quiet h.1));
-      snapshots = λ q st g h. (o.snapshots q st g h.0, by_if (λ r. Unused m v r.1) (has_no_volume (in_progress st)) _ _ h.1 (begun_unused m v true _ st g.quiet h.1));
-      completes = λ q st g h. (o.completes q st g h.0, begun_unused m v true _ st g.quiet h.1);
-      clears = λ s u b st h. (o.clears s u b st h.0, with_volumes m v _ st (each_gone (Fewer m) (fewer_same m) _ (fewer_after m _) _ st.volumes v) h.1);
-      deletes_set = λ n st h. (o.deletes_set n st h.0, with_volumes m v _ st (each_map (Fewer m) (fewer_same m) (dropped n) (fewer_dropped m n) st.volumes v) h.1);
-      deletes_image = λ n u st h. (o.deletes_image n u st h.0, with_volumes m v _ st (each_change (Fewer m) (fewer_same m) (dropped n) (fewer_dropped m n) u st.volumes v) h.1);
-      names = λ q explicit st g h. (o.names q explicit st g h.0, h.1);
-      disables = λ w q st g h. (o.disables w q st g h.0, h.1);
-      starts = λ q st g e h. (o.starts q st g e h.0, on_starts m v q st g.quiet h.0 h.1);
-      adds = λ u r q st g e f h. (o.adds u r q st g e f h.0, on_adds m v u r.number st g.quiet h.1);
-      ends = λ q st e h. (o.ends q st e h.0, no_set m v (closed q (failed AsyncCancelled st)) (in_progress-closed q (failed AsyncCancelled st) ∙ none_after (in_progress st) AsyncCancelled st refl));
-    }
 
 -- ## writes
 
@@ -260,10 +208,8 @@ on_other m v u f x e h = subst (SetUnused m v x.course.agenda (in_progress x)) (
 on_put : (m : Bool) (v u : ℕ) (w : Write) (st x : State) → is_held st v ≡ m → is_held st u ≡ false → Unused m v x → Unused m v (record x { volumes = change_at u (written w) x.volumes })
 on_put true v u w st x e free h = on_other true v u (written w) x (apart (is_held st) u v free e) h
 on_put false v u w st x e free h =
-    with_volumes false v _ x (each_change (Fewer false) (fewer_same false) (written w) (λ y. record { writes = λ f. absurd cc; images = λ n p f. f }) u x.volumes v) h
-
-on_puts : (m : Bool) (v u : ℕ) (w : Write) (mark : Mark) (st x : State) → is_held st v ≡ m → is_held st u ≡ false → Unused m v x → Unused m v (put u w mark x)
-on_puts m v u w mark st x e free h = grind (arith, on_put)
+    set_fewer false v x.course.agenda (in_progress x) (history_of x v) _
+    (each_change (Fewer false) (fewer_same false) (written w) (λ y. record { writes = λ f. absurd cc; images = λ n p f. f }) u x.volumes v) h
 
 on_reverted : (m : Bool) (v u : ℕ) (f : History → History) (st : State) → ((h : History) → Fewer false h (f h)) → is_in_set u (in_progress st) ≡ false → Unused m v st → Unused m v (record st { volumes = change_at u f st.volumes })
 on_reverted m v u f st less e h = by_cases (u == v) refl where
@@ -274,28 +220,43 @@ on_reverted m v u f st less e h = by_cases (u == v) refl where
       (outside_no_image m v st.course.agenda (in_progress st) (history_of st v) (subst (λ x. is_in_set x (in_progress st) ≡ false) (eqb-true u v g) e) h))
   by_cases false g = on_other m v u f st g h
 
-on_reverts : (m : Bool) (v : ℕ) (s : Plan) (u : ℕ) (k : Kept) (mark : Mark) (st : State) → is_in_set u (in_progress st) ≡ false → Unused m v st → Unused m v (reverted_as s u k mark st).1
-on_reverts m v s u k mark st e h = grind (arith, on_reverted, fewer_reverted, fewer_reverted_in_part)
+-- ## each change
 
-kept_by_writes : (m : Bool) (v : ℕ) (st : State) → is_held st v ≡ m → IsKeptByWrites (Holds m v) st
-kept_by_writes m v st e =
-    let o : IsKeptByWrites IsOrderly st = orderly_writes st in
-    record {
-      puts = λ u free w mark x h. (o.puts u free w mark x h.0, on_puts m v u w mark st x e free h.1);
-      reverts = λ s n u k mark kept out h. (o.reverts s n u k mark kept out h.0, on_reverts m v s u k mark st out h.1);
-    }
+by_held : (m : Bool) (v : ℕ) (x : State) (hs : List History) → (Unused m v x → Unused m v (record x { volumes = hs })) → Holds m v x
+    → Holds m v (record x { volumes = hs })
+by_held m v x hs f (inl h) = inl (f h)
+by_held m v x hs f (inr h) = inr h
 
--- ## the steps but the Cut
+on_end : (m : Bool) (v : ℕ) (s : Plan) (e : Event) (mark : Mark) (st : State) (c : Change) (x : State) → is_end c ≡ true → Comes s e mark st x c → Holds m v x
+    → Holds m v (apply x c)
+on_end m v s e mark st (SessionIs q) x f i h = h
+on_end m v s e mark st (Settles o) x f i h = inl
+    (on_settled (λ a p. SetUnused m v a p (history_of x v)) (λ p. NoImage p (history_of x v).images) (unused_fact m v (history_of x v)) x o i h)
+on_end m v s e mark st (DropsSet n) x f i h = with_volumes m v _ x (each_map (Fewer m) (fewer_same m) (dropped n) (fewer_dropped m n) x.volumes v) h
+on_end m v s e mark st _ x f i h = absurd cc
 
-on_stepped_as : (m : Bool) (v : ℕ) (fails : Bool) (g : Option Group) (st : State) → is_cut_group g ≡ false → is_working (left_now st) ≡ true → Unused m v st → Unused m v (stepped_as fails g st)
-on_stepped_as m v true g st e w h = goes m v _ st (moves_stepped false st.clock st.course w) (goes_stepped false st.clock st.course) h
-on_stepped_as m v false g st e w h =
-    subst (λ x. Unused m v (followed (runs st) (course_stepped true st.clock st.course) x)) (sym (step_made_same g st e))
-    (goes m v _ st (moves_stepped true st.clock st.course w) (goes_stepped true st.clock st.course) h)
-
-on_steps : (m : Bool) (v : ℕ) (mark : Mark) (st : State) → is_cut_group (open_group (left_now st)) ≡ false → is_working (left_now st) ≡ true → Unused m v st → Unused m v (stepped mark st)
-unfolding stepped
-on_steps m v mark st e w h = on_stepped_as m v (is_failed_step (is_flush (open_group (left_now st))) mark) (open_group (left_now st)) st e w h
+module _ (m : Bool) (v : ℕ) (s : Plan) (e : Event) (mark : Mark) (st : State) (held : is_held st v ≡ m) (o : IsOrderly st) (own : Unused m v st) where
+  on_change : (c : Change) (x : State) → is_cut c ≡ false → Comes s e mark st x c → Holds m v x → Holds m v (apply x c)
+  on_change (CourseIs c) x f i h =
+      subst (λ (d : Course). Holds m v (record x { course = d })) (sym i.is)
+      (on_called (λ a p. SetUnused m v a p (history_of x v)) (λ p. NoImage p (history_of x v).images) (unused_fact m v (history_of x v)) s st x
+      (λ g. subst (Unused m v) (sym g) own) i.call i.due i.stands h)
+  on_change (StartsSet r) x f i h = inl (starts_unused m v r st x i.before i.volumes (ap (λ (q : SetRow). q.number) i.row) i.goes.quiet o own)
+  on_change (AddsVolume n u) x f i h = inl
+      (subst (λ (y : State). Unused m v (change_set n (with_volume u) y)) (sym i.first) (on_adds m v u n st i.goes.quiet own))
+  on_change (Writes u w) x f i h = by_held m v x _ (on_put m v u w st x held i.free) h
+  on_change (Reverts u n p) x f i h = by_held m v x _
+      (on_reverted m v u (reverted n p) x (fewer_reverted n p) (ap (λ (y : State). is_in_set u (in_progress y)) i.2 ∙ i.0.free)) h
+  on_change (RevertsPart u blocks n p k) x f i h =
+      by_held m v x _ (on_reverted m v u (reverted_in_part blocks n p k) x (fewer_reverted_in_part blocks n p k)
+      (ap (λ (y : State). is_in_set u (in_progress y)) i.2 ∙ i.0.free)) h
+  on_change (Drops n u) x f i h = with_volumes m v _ x (each_change (Fewer m) (fewer_same m) (dropped n) (fewer_dropped m n) u x.volumes v) h
+  on_change (Evicts n group) x f i h = with_volumes m v _ x (each_gone (Fewer m) (fewer_same m) n (fewer_after m n) group x.volumes v) h
+  on_change (IsCutAt n now) x f i h = absurd cc
+  on_change (Cuts n vs) x f i h = absurd cc
+  on_change (Passes n) x f i h = h
+  on_change (Names ps) x f i h = h
+  on_change c x f i h = on_end m v s e mark st c x refl i h
 
 -- ## the Cut step
 
@@ -356,15 +317,18 @@ released_unused v a o h e g = grind arith
 ever_unused : (v : ℕ) (a : Option Agenda) (o : Option SetRow) (h : History) → SetUnused false v a o h → SetUnused true v a o h
 ever_unused v a o h g = grind arith
 
+rests : (m : Bool) (s : Plan) (past : List Act) (act : Act) (v : ℕ) → Holds m v (after s (state s past) act) → Unused m v (after s (state s past) act)
+rests m s past act v h =
+    let x = after s (state s past) act in
+    at_rest (λ a o. SetUnused m v a o (history_of x v)) (λ o. NoImage o (history_of x v).images) (unused_fact m v (history_of x v)) x
+    (subst IsOrderly (state-append s past act) (orderly s (past ++ act ∷ []))) h
+
 on_no_cut : (m : Bool) (s : Plan) (past : List Act) (act : Act) (v : ℕ) → is_held (state s past) v ≡ m → (is_provider act.event && is_cut_group (open_group (left_now (state s past)))) ≡ false → Unused m v (state s past) → Unused m v (after s (state s past) act)
 on_no_cut m s past act v held e h =
     let st = state s past in
-    (on_after_steps (Holds m v) (kept_but_steps m v) s st act (kept_by_writes m v st held)
-    (λ f g. (
-      orderly_changes.steps act.mark st (working_of s st act.event f g) (orderly s past),
-      on_steps m v act.mark st (second_not (is_provider act.event) (is_cut_group (open_group (left_now st))) e g) (working_of s st act.event f g) h,
-    ))
-    (λ lane all c f g. (orderly_changes.begins lane all c st g (orderly s past), on_begins m v lane all c st h)) (orderly s past, h)).1
+    rests m s past act v
+    (by_changes (Holds m v) s st act (λ c x i g. on_change m v s act.event act.mark st held (orderly s past) h c x (no_cut s act.event act.mark st x c e i) i g)
+    (inl h))
 
 on_held_if : (m : Bool) (s : Plan) (past : List Act) (act : Act) (v : ℕ) → is_held (state s past) v ≡ m → (is_provider act.event && is_cut_group (open_group (left_now (state s past)))) ≡ false → Unused true v (state s past) → Unused true v (after s (state s past) act)
 on_held_if m s past act v held e h = grind (arith, on_no_cut, ever_unused, released_unused)
@@ -376,10 +340,13 @@ on_act_if true s past act v e h =
     let parts = both (is_provider act.event) (is_cut_group (open_group (left_now st))) e in
     let c = cuts s past parts.1 in
     let r = has_set st c in
-    subst (Unused true v) (sym (after_cut s st act parts.0 parts.1))
-    (subst (λ o. Unused true v (followed (runs st) (course_stepped true st.clock st.course) (cut_set o st))) (sym r.is)
-    (goes true v (course_stepped true st.clock st.course) (cut_set (Some r.set) st) (moves_stepped true st.clock st.course (working_at_cut (left_now st) parts.1)) (goes_stepped true st.clock st.course)
-    (cut_unused s past v r.set parts.1 c r.is)))
+    let x = cut_set (Some r.set) st in
+    rests true s past act v
+    (by_cut (Holds true v) s st act r.set parts.0 parts.1 r.is (on_end true v s act.event act.mark st)
+    (moves_in (λ a o. SetUnused true v a o (history_of x v)) (λ o. NoImage o (history_of x v).images) (unused_fact true v (history_of x v))
+    (in_progress x) st.course.agenda st.course.members st.course.outcome _ _ _
+    (moves_stepped true st.clock st.course (working_at_cut (left_now st) parts.1)) (goes_stepped true st.clock st.course)
+    (inl (cut_unused s past v r.set parts.1 c r.is))))
 
 unused_fold : (s : Plan) (v : ℕ) (past acts : List Act) → Unused true v (state s past) → Unused true v (fold (after s) (state s past) acts)
 unused_fold s v past [] h = h

@@ -1,37 +1,34 @@
 -- A running snapshot agenda is that of the one set in progress, with its volumes and participants.
-use Rattle.std.proofs.Common.{◌≡◌, ℕ, ◌+◌, List, [], ◌∷◌, Option, Some, None, refl, Bool, true, false, map, sym, subst, find, fold, arith}
+use Rattle.std.proofs.Common.{◌≡◌, ℕ, List, [], ◌∷◌, Option, Some, None, refl, Bool, true, false, map, ap, ◌∙◌, sym, subst, find, arith}
 use Rattle.std.specs.Prelude.{option_map, if◌then◌else◌}
 use Rattle.std.proofs.lemmas.Grind.{common_steps}
-use Rattle.vss_names.specs.declared.context.Context.{Context}
 use Rattle.vss_names.specs.declared.order.Order.{Order}
 use Rattle.vss_names.specs.declared.vss_result.VssResult.{VssResult}
-use Rattle.vss_names.specs.declared.vss_result.VssResult.TheVariants.{BadState, AsyncCancelled}
 use Rattle.vss_names.specs.declared.set_outcome.SetOutcome.{SetOutcome}
 use Rattle.writer_state.specs.declared.said.Said.{Said}
 use Rattle.writer_state.specs.declared.said.Said.TheVariants.{Ok}
 use Rattle.write_history.specs.declared.mark.Mark.{Mark}
-use Rattle.set_agenda.specs.declared.group.Group.{Group}
-use Rattle.set_agenda.specs.declared.group.Group.TheVariants.{Cut}
 use Rattle.set_agenda.specs.declared.kind.Kind.{Kind}
 use Rattle.set_agenda.specs.declared.kind.Kind.TheVariants.{Gather, Prepare, Snapshot, Complete}
 use Rattle.set_agenda.specs.declared.member.Member.{Member}
 use Rattle.set_agenda.specs.declared.place.Place.{Place}
-use Rattle.set_agenda.specs.Agenda.{Agenda, groups_left, left, all_say, is_done, open_group, next_member, has_said, is_held as holds, is_frozen as freezes}
-use Rattle.set_agenda.specs.Course.{Course, posted, failed as course_failed, settled_if, settled, begun, snapshot_begun, told, answered as course_answered, worked, stepped as course_stepped, timed as course_timed, released}
-use Rattle.requestor.specs.Session.{Session}
+use Rattle.set_agenda.specs.Agenda.{Agenda, left, all_say, next_member, has_said, is_held as holds, is_frozen as freezes}
+use Rattle.set_agenda.specs.Course.{Course, posted, failed as course_failed, settled, begun, told, answered as course_answered, worked}
+use Rattle.set_agenda.specs.Course.{stepped as course_stepped, timed as course_timed, released}
 use Rattle.scenario.specs.Plan.{Plan}
-use Rattle.vss_model.specs.State.{State, SetRow, start, is_running, in_progress, left_now, is_held, is_frozen}
-use Rattle.vss_model.specs.Ending.{Ending, NothingEnds, ending, concluded, followed, runs, failed_in, failed}
-use Rattle.vss_model.specs.Images.{refused}
-use Rattle.vss_model.specs.Sessions.{begin_in, pending, has_no_volume, volumes_of, closed}
-use Rattle.vss_model.specs.Steps.{answered, row_cut, cut_set, step_made, is_flush, is_failed_step, stepped_as, stepped, ticked, later}
-use Rattle.vss_model.specs.Acts.{Act, after, state}
-use Rattle.vss_model.specs.Laws.{IsKeptByChanges, IsKeptByWrites, RunsSnapshot}
+use Rattle.vss_model.specs.State.{State, SetRow, start, is_running, in_progress, is_held, is_frozen}
+use Rattle.vss_model.specs.Ending.{runs}
+use Rattle.vss_model.specs.Sessions.{has_no_volume, volumes_of}
+use Rattle.vss_model.specs.Steps.{row_cut}
+use Rattle.vss_model.specs.declared.event.Event.{Event}
+use Rattle.vss_model.specs.Acts.{Act, state}
+use Rattle.vss_model.specs.Laws.{RunsSnapshot}
 use Rattle.set_agenda.proofs.CourseRule.{IsKeptFrom, from_settled, from_answered, from_timed}
 use Rattle.vss_model.proofs.Rows.{none_runs}
-use Rattle.vss_model.proofs.Rule.{on_after}
+use Rattle.vss_model.specs.Changes.{Change, CourseIs, StartsSet, AddsVolume, IsCutAt, Settles, apply}
+use Rattle.vss_model.proofs.Changes.{CourseCall, Answers, Steps, Times, Gathers, Prepares, Snapshots, Completes, Disables, called, IsDue, Stands, Comes}
+use Rattle.vss_model.proofs.Changes.{by_all_changes}
 use Rattle.vss_model.proofs.CutLog.{said_stays}
-use Rattle.vss_model.proofs.ByEvent.{by_if}
 
 -- ## the fact
 
@@ -109,54 +106,17 @@ goes_stepped false now c = goes_posted c c _ (goes_failed _ c c)
 pub goes_timed : (now : ℕ) (c : Course) → GoesOn c (course_timed now c)
 goes_timed now c = from_timed (GoesOn c) c (goes_kept c) now
 
--- ## what follows
-
--- where something ends, no agenda runs
-abbrev EndsNone : Ending → Option Agenda → Type 0
-EndsNone NothingEnds a = Unit {0}
-EndsNone _ a = a ≡ None
-
-ends_none : (a : Option Agenda) (ms : List Member) (o : SetOutcome) (ran : Bool) (b : Option Agenda) (ns : List Member) (p : SetOutcome) → Follows a ms o b ns p → EndsNone (ending o p ran b) b
-ends_none a ms o ran b ns p f = grind arith
-
-tied_concluded : (e : Ending) (st : State) → EndsNone e st.course.agenda → IsTied st → IsTied (concluded e st)
-tied_concluded e st n h = grind arith
-
 tied_follows : (a : Option Agenda) (ms : List Member) (o : SetOutcome) (b : Option Agenda) (ns : List Member) (p : SetOutcome) (r : Option SetRow) → Follows a ms o b ns p → Tied a ms r → Tied b ns r
 tied_follows a ms o b ns p r f h = grind arith
 
--- a course that is tied to the set, and ends nothing while its agenda runs
-tied_course : (ran : Bool) (c : Course) (st : State) → EndsNone (ending st.course.outcome c.outcome ran c.agenda) c.agenda → Tied c.agenda c.members (in_progress st) → IsTied (followed ran c st)
-unfolding followed
-tied_course ran c st n h = tied_concluded (ending st.course.outcome c.outcome ran c.agenda) (record st { course = c }) n h
+-- an agenda begins
+tied_begun : (k : Kind) (ms : List Member) (vs : List ℕ) (now : ℕ) (c : Course) (r : Option SetRow) → IsOf k vs ms c.members r
+    → Tied (begun k ms vs now c).agenda (begun k ms vs now c).members r
+unfolding begun posted settled
+tied_begun k ms vs now c r h = grind arith
 
-tied_followed : (ran : Bool) (c : Course) (st : State) → GoesOn st.course c → IsTied st → IsTied (followed ran c st)
-tied_followed ran c st g h = grind (arith, tied_course, ends_none, tied_follows)
-
--- ## an agenda begins
-
--- its course is tied to the set, and ends nothing while it runs
-record IsBegunWell (o : SetOutcome) (ran : Bool) (r : Option SetRow) (c : Course) : Type 0 where
-  ends : EndsNone (ending o c.outcome ran c.agenda) c.agenda
-  tied : Tied c.agenda c.members r
-
-begun_if : (done : Bool) (k : Kind) (a : Agenda) (c : Course) (o : SetOutcome) (ran : Bool) (r : Option SetRow) → c.agenda ≡ Some a → c.outcome ≡ o → Tied (Some a) c.members r → IsBegunWell o ran r (settled_if done k c)
-begun_if done k a c o ran r e f h = grind arith
-
-posted_well : (before c : Course) (o : SetOutcome) (ran : Bool) (r : Option SetRow) → IsBegunWell o ran r c → IsBegunWell o ran r (posted before c)
-unfolding posted
-posted_well before c o ran r h = record { ends = h.ends; tied = h.tied }
-
-begun_well : (k : Kind) (ms : List Member) (vs : List ℕ) (now : ℕ) (c : Course) (o : SetOutcome) (ran : Bool) (r : Option SetRow) → c.outcome ≡ o → IsOf k vs ms c.members r → IsBegunWell o ran r (begun k ms vs now c)
-unfolding begun settled
-begun_well k ms vs now c o ran r f h =
-    let a : Agenda = record { kind = k; members = ms; volumes = vs; begun = now; log = [] } in
-    posted_well c _ o ran r (begun_if (is_done (groups_left a)) k a (record c { agenda = Some a }) o ran r refl f h)
-
-tied_begun : (k : Kind) (ms : List Member) (vs : List ℕ) (now : ℕ) (c : Course) (st : State) → c.outcome ≡ st.course.outcome → IsOf k vs ms c.members (in_progress st) → IsTied (followed true (begun k ms vs now c) st)
-tied_begun k ms vs now c st f h =
-    let well = begun_well k ms vs now c st.course.outcome true (in_progress st) f h in
-    tied_course true (begun k ms vs now c) st well.ends well.tied
+own_set : (o p : Option SetRow) (ms : List Member) → p ≡ o → has_no_volume o ≡ false → IsOf Snapshot (volumes_of o) ms ms p
+own_set o p ms e f = grind arith
 
 -- ## the Cut step
 
@@ -177,80 +137,37 @@ find-row_cut n now (r ∷ rows) = let ih = find-row_cut n now rows in grind (ari
 tied-row_cut : (a : Option Agenda) (ms : List Member) (n now : ℕ) (o : Option SetRow) → Tied a ms o → Tied a ms (option_map (row_cut n now) o)
 tied-row_cut a ms n now o h = grind arith
 
-tied_cut : (o : Option SetRow) (st : State) → IsTied st → IsTied (cut_set o st)
-tied_cut o st h = grind (arith, find-row_cut, tied-row_cut)
-
-tied_step : (g : Option Group) (st : State) → IsTied st → IsTied (step_made g st)
-tied_step (Some Cut) st h = tied_cut (in_progress st) st h
-tied_step _ st h = h
-
-course-step_made : (g : Option Group) (st : State) → (step_made g st).course ≡ st.course
-course-step_made g st = grind arith
-
 -- ## each change keeps it
 
-on_answers : (w : ℕ) (said : Said) (st : State) → IsTied st → IsTied (answered w said st)
-unfolding answered
-on_answers w said st h = tied_followed (runs st) _ st (goes_answered w said st.clock st.course) h
+tied_called : (s : Plan) (st x : State) (call : CourseCall) → IsDue st x.course call → Stands st x call → IsTied x
+    → Tied (called s st call x.course).agenda (called s st call x.course).members (in_progress x)
+unfolding course_failed released
+tied_called s st x (Answers w said) i k h = tied_follows x.course.agenda x.course.members x.course.outcome _ _ _ (in_progress x)
+    (goes_answered w said st.clock x.course) h
+tied_called s st x (Steps ok) i k h = tied_follows x.course.agenda x.course.members x.course.outcome _ _ _ (in_progress x) (goes_stepped ok st.clock x.course) h
+tied_called s st x (Times now) i k h = tied_follows x.course.agenda x.course.members x.course.outcome _ _ _ (in_progress x) (goes_timed now x.course) h
+tied_called s st x Gathers i k h = tied_begun Gather _ [] st.clock _ (in_progress x) tt
+tied_called s st x (Prepares q) i k h = tied_begun Prepare _ [] st.clock _ (in_progress x) tt
+tied_called s st x Snapshots i k h = tied_begun Snapshot _ _ st.clock x.course (in_progress x)
+    (own_set (in_progress st) (in_progress x) x.course.members (ap in_progress k.0) k.1)
+tied_called s st x Completes i k h = tied_begun Complete _ [] st.clock x.course (in_progress x) tt
+tied_called s st x (Disables w) i k h = h
+tied_called s st x _ i k h = tt
 
-on_stepped_as : (fails : Bool) (g : Option Group) (st : State) → IsTied st → IsTied (stepped_as fails g st)
-on_stepped_as true g st h = tied_followed (runs st) _ st (goes_stepped false st.clock st.course) h
-on_stepped_as false g st h =
-    let Q : Course → Type 0 = λ c. GoesOn c (course_stepped true st.clock st.course) in
-    tied_followed (runs st) _ (step_made g st) (subst Q (sym (course-step_made g st)) (goes_stepped true st.clock st.course)) (tied_step g st h)
+quiet_tied : (st x : State) (r : Option SetRow) → x.course ≡ st.course → runs st ≡ false → Tied x.course.agenda x.course.members r
+quiet_tied st x r e f = tied_none x.course.agenda x.course.members r (ap (λ (c : Course). c.agenda) e ∙ none_runs st.course.agenda f)
 
-on_steps : (mark : Mark) (st : State) → IsTied st → IsTied (stepped mark st)
-unfolding stepped
-on_steps mark st h = on_stepped_as (is_failed_step (is_flush (open_group (left_now st))) mark) (open_group (left_now st)) st h
-
-on_ticks : (n : ℕ) (st : State) → IsTied st → IsTied (ticked n st)
-unfolding ticked
-on_ticks n st h = tied_followed (runs st) _ (later n st) (goes_timed (st.clock + n) st.course) h
-
-on_failed_in : (o : Option SetRow) (why : VssResult) (st : State) → IsTied st → IsTied (failed_in o why st)
-unfolding course_failed
-on_failed_in o why st h = grind arith
-
-on_begins : (lane : ℕ) (all : Bool) (c : Option Context) (st : State) → IsTied st → IsTied (begin_in lane all c st).1
-on_begins lane all c st h = grind arith
-
-on_snapshot : (o : Option SetRow) (st : State) → in_progress st ≡ o → IsTied st → IsTied (if has_no_volume o then refused BadState st else pending (snapshot_begun (volumes_of o) st.clock st.course) st).1
-on_snapshot o st e h = grind (arith, by_if, tied_begun)
-
-on_closes : (q : Session) (st : State) → IsTied (closed q st)
-unfolding closed released
-on_closes q st = tt
-
-kept_by_changes : IsKeptByChanges IsTied
-kept_by_changes = record {
-  answers = λ w said st e h. on_answers w said st h;
-  steps = λ mark st e h. on_steps mark st h;
-  ticks = on_ticks;
-  fails = λ why st h. on_failed_in (in_progress st) why st h;
-  gathers = λ s q st e h. tied_begun Gather _ [] st.clock _ st refl tt;
-  prepares = λ s q st e h. by_if (λ r. IsTied r.1) (has_no_volume (in_progress st)) _ _ h (tied_begun Prepare _ [] st.clock _ st refl tt);
-  snapshots = λ q st e h. on_snapshot (in_progress st) st refl h;
-  completes = λ q st e h. tied_begun Complete _ [] st.clock _ st refl tt;
-  clears = λ s v b st h. h;
-  deletes_set = λ n st h. h;
-  deletes_image = λ n v st h. h;
-  begins = λ lane all c st e h. on_begins lane all c st h;
-  names = λ q explicit st e h. h;
-  disables = λ w q st e h. h;
-  starts = λ q st e f h. tied_none st.course.agenda st.course.members _ (none_runs st.course.agenda e.quiet);
-  adds = λ v r q st e f g h. tied_none st.course.agenda st.course.members _ (none_runs st.course.agenda e.quiet);
-  ends = λ q st e h. on_closes q (failed AsyncCancelled st);
-}
-
-kept_by_writes : (st : State) → IsKeptByWrites IsTied st
-kept_by_writes st = grind arith
-
-tied_fold : (s : Plan) (st : State) (acts : List Act) → IsTied st → IsTied (fold (after s) st acts)
-tied_fold s st [] h = h
-tied_fold s st (act ∷ acts) h = tied_fold s (after s st act) acts (on_after IsTied kept_by_changes s st act (kept_by_writes st) h)
+tied_apply : (s : Plan) (e : Event) (m : Mark) (st : State) (c : Change) (x : State) → Comes s e m st x c → IsTied x → IsTied (apply x c)
+tied_apply s e m st (CourseIs c) x i h = subst (λ (d : Course). Tied d.agenda d.members (in_progress x)) (sym i.is) (tied_called s st x i.call i.due i.stands h)
+tied_apply s e m st (StartsSet r) x i h = quiet_tied st x _ i.course i.goes.quiet
+tied_apply s e m st (AddsVolume n v) x i h = quiet_tied st x _ (ap (λ (y : State). y.course) i.first) i.goes.quiet
+tied_apply s e m st (IsCutAt n now) x i h = subst (Tied x.course.agenda x.course.members) (sym (find-row_cut n now x.sets))
+    (tied-row_cut x.course.agenda x.course.members n now (in_progress x) h)
+tied_apply s e m st (Settles o) x i h = tied_none x.course.agenda x.course.members _ i.0
+tied_apply s e m st _ x i h = h
 
 pub tied : (s : Plan) (acts : List Act) → IsTied (state s acts)
-tied s acts = tied_fold s (start s) acts tt
+tied s acts = by_all_changes IsTied s (tied_apply s) (start s) acts tt
 
 -- ## what a held volume and a frozen writer mean
 

@@ -6,23 +6,21 @@ use Rattle.std.proofs.lemmas.Bool.{and_from, eqb-true}
 use Rattle.std.proofs.lemmas.Grind.{common_steps}
 use Rattle.write_history.specs.History.{Image, History, fresh, point_in}
 use Rattle.set_agenda.specs.Agenda.{open_group, is_among}
-use Rattle.set_agenda.specs.Course.{stepped as course_stepped}
 use Rattle.scenario.specs.Plan.{Plan}
 use Rattle.scenario.specs.declared.volume_row.VolumeRow.{VolumeRow}
-use Rattle.vss_model.specs.State.{State, SetRow, in_progress, left_now, history_of, has_image}
-use Rattle.vss_model.specs.Ending.{followed, runs}
+use Rattle.vss_model.specs.State.{SetRow, in_progress, left_now, history_of, has_image}
 use Rattle.vss_model.specs.Images.{is_in_set}
-use Rattle.vss_model.specs.Steps.{cut_if as image_cut_if, cut_each, cut_set}
+use Rattle.vss_model.specs.Steps.{cut_if as image_cut_if, cut_each}
 use Rattle.vss_model.specs.Acts.{Act, after, state}
 use Rattle.vss_model.specs.Cut.{is_provider, is_cut_group, is_set, is_cut_of, cut_if, cut}
 use Rattle.vss_model.proofs.Appending.{state-append}
 use Rattle.vss_model.proofs.Orderly.{true_not_false}
 use Rattle.vss_model.proofs.AtCut.{CutsNow, cuts}
-use Rattle.vss_model.proofs.CutStep.{both, after_cut, has_set}
+use Rattle.vss_model.proofs.CutStep.{both, has_set}
 use Rattle.vss_model.proofs.CutAppend.{or_cut, append_nothing, cut-append}
 use Rattle.vss_model.proofs.OneCut.{not_cut_yet, all_three}
 use Rattle.vss_model.proofs.Volumes.{at}
-use Rattle.vss_model.proofs.FewerImages.{fewer_after, fewer_followed}
+use Rattle.vss_model.proofs.FewerImages.{fewer_after, fewer_after_cut}
 
 -- ## the images of the Cut step
 
@@ -72,10 +70,7 @@ cut_now : (s : Plan) (past : List Act) (act : Act) (r : SetRow) → is_provider 
     → AllOfSets s past → (n v : ℕ) → has_image n (history_of (after s (state s past) act) v) ≡ true → CutWith s v (or_cut (cut s n past) (cut_if (is_cut_of n (state s past) act) past None))
 cut_now s past act r e f c g h n v i =
     let st = state s past in
-    let x : State = followed (runs st) (course_stepped true st.clock st.course) (cut_set (Some r) st) in
-    let same : after s st act ≡ x = after_cut s st act e f ∙ ap (λ o. followed (runs st) (course_stepped true st.clock st.course) (cut_set o st)) g in
-    let fewer = (fewer_followed (runs st) (course_stepped true st.clock st.course) (cut_set (Some r) st)).each v in
-    by_image (cut_there r.number r.volumes n 0 v st.volumes (fewer.sets n (subst (λ (y : State). has_image n (history_of y v) ≡ true) same i))) where
+    by_image (cut_there r.number r.volumes n 0 v st.volumes (((fewer_after_cut s st act r e f g).each v).sets n i)) where
       zero_plus : (a : ℕ) → 0 + a ≡ a
       zero_plus a = omega arith
 

@@ -1,48 +1,125 @@
 -- Every act keeps what the images show.
-use Rattle.std.proofs.Common.{◌≡◌, ℕ, ◌+◌, ◌==◌, ◌<◌, ◌≤◌, zero, suc, List, [], ◌∷◌, ◌++◌, Option, Some, None, refl, Bool, true, false, map, length, take, ap, sym, ◌∙◌, subst, find, fold, arith}
-use Rattle.std.specs.Prelude.{option_map, is_some, ◌&&◌, if◌then◌else◌, slice_get}
+use Rattle.std.proofs.Common.{◌≡◌, ℕ, ◌+◌, ◌==◌, ◌<◌, ◌≤◌, zero, suc, List, [], ◌∷◌, ◌++◌, Option, Some, None, refl, Bool, true, false, map, length, take, ap}
+use Rattle.std.proofs.Common.{sym, ◌∙◌, subst, find, fold, inl, inr, arith}
+use Rattle.std.specs.Prelude.{option_map, ◌⊎◌, ◌&&◌, if◌then◌else◌, slice_get}
 use Rattle.std.proofs.lemmas.List.Folds.{list_any-append}
 use Rattle.std.proofs.Math.Seq.{take-append_seam}
 use Rattle.std.proofs.lemmas.List.{length_push, length-map}
 use Rattle.std.proofs.lemmas.Bool.{eqb-true, ltb-true}
 use Rattle.std.proofs.lemmas.Grind.{common_steps}
-use Rattle.vss_names.specs.declared.context.Context.{Context}
-use Rattle.vss_names.specs.declared.context.Context.TheVariants.{Backup, AppRollback, NasRollback}
-use Rattle.vss_names.specs.declared.vss_result.VssResult.{VssResult}
-use Rattle.vss_names.specs.declared.vss_result.VssResult.TheVariants.{AsyncCancelled}
 use Rattle.vss_names.specs.declared.set_outcome.SetOutcome.{SetOutcome}
-use Rattle.writer_state.specs.declared.said.Said.{Said}
+use Rattle.vss_names.specs.declared.set_outcome.SetOutcome.TheVariants.{Running}
+use Rattle.set_agenda.specs.declared.member.Member.{Member}
 use Rattle.writer_state.specs.declared.said.Said.TheVariants.{Ok}
 use Rattle.write_history.specs.declared.mark.Mark.{Mark}
-use Rattle.write_history.specs.declared.mark.Mark.TheVariants.{Clean, Fault, FaultAfter}
 use Rattle.write_history.specs.History.{Write, Image, History, content, fresh, point_in, dropped, written, reverted, AreLater, AreInTime}
-use Rattle.set_agenda.specs.declared.group.Group.{Group}
 use Rattle.set_agenda.specs.declared.kind.Kind.{Kind}
 use Rattle.set_agenda.specs.declared.kind.Kind.TheVariants.{Snapshot}
-use Rattle.set_agenda.specs.Agenda.{Agenda, is_working, groups_left, open_group, next_member, all_say, is_snapshot, is_among}
-use Rattle.set_agenda.specs.Course.{Course, posted, settled_in, settled, worked, stepped as course_stepped, released}
+use Rattle.set_agenda.specs.Agenda.{Agenda, left, is_working, groups_left, open_group, next_member, all_say, is_snapshot, is_among}
+use Rattle.set_agenda.specs.Course.{Course, posted, settled_in, settled, worked, failed as course_failed, stepped as course_stepped, released}
 use Rattle.requestor.specs.Session.{Session}
-use Rattle.scenario.specs.Plan.{Plan, blocks_of}
+use Rattle.scenario.specs.Plan.{Plan}
 use Rattle.scenario.specs.declared.volume_row.VolumeRow.{VolumeRow}
-use Rattle.vss_model.specs.State.{State, SetRow, Kept, start, is_running, in_progress, row_of, history_in, history_of, left_now, kept_of, kept_image}
-use Rattle.vss_model.specs.Ending.{Ending, NothingEnds, ending, row_settled, images_dropped, concluded, followed, runs, failed_in, failed}
-use Rattle.vss_model.specs.Images.{put, reverted_as}
-use Rattle.vss_model.specs.Sessions.{begin_in, has_no_volume, start_set, new_set, with_volume, change_set, images_released, closed}
-use Rattle.vss_model.specs.Steps.{answered, cut_if as history_cut_if, cut_each, row_cut, cut_set, is_flush, is_failed_step, stepped_as, stepped, ticked, later}
+use Rattle.vss_model.specs.State.{State, SetRow, row_changed, Kept, start, is_running, in_progress, row_of, history_in, history_of, left_now, kept_of}
+use Rattle.vss_model.specs.Ending.{row_settled, runs}
+use Rattle.vss_model.specs.Sessions.{with_volume}
+use Rattle.vss_model.specs.Steps.{cut_if as history_cut_if, cut_each, row_cut, cut_set, later}
 use Rattle.vss_model.specs.Acts.{Act, after, state}
-use Rattle.vss_model.specs.Laws.{IsKeptByWrites}
-use Rattle.vss_model.specs.Facts.{NumberedFrom, OverButNewest, IsOrderly}
+use Rattle.vss_model.specs.Facts.{NumberedFrom, OverButNewest, IsOfSession, IsOrderly}
 use Rattle.vss_model.specs.Cut.{is_provider, is_cut_group, is_set, is_cut_of, cut_if, cut_from, cut, IsShownAt, IsCutAt}
-use Rattle.vss_model.proofs.Rule.{IsKeptButSteps, on_after_steps, working_of}
+use Rattle.vss_model.specs.declared.event.Event.{Event}
+use Rattle.vss_model.specs.Changes.{Change, Passes, SessionIs, Names, StartsSet, AddsVolume, IsCutAt as CutsAt, CourseIs, Settles, Writes, Cuts, Reverts}
+use Rattle.vss_model.specs.Changes.{RevertsPart, DropsSet, Drops, Evicts, apply}
+use Rattle.vss_model.proofs.Changes.{CourseCall, Answers, Steps, Times, Gathers, Prepares, Snapshots, Completes, Disables, Fails, Releases, called, IsDue}
+use Rattle.vss_model.proofs.Changes.{Stands, Comes, is_end, by_changes}
+use Rattle.vss_model.proofs.FewerImages.{is_cut, no_cut}
+use Rattle.vss_model.proofs.Rows.{none_runs}
 use Rattle.vss_model.proofs.Appending.{state-append}
 use Rattle.vss_model.proofs.Orderly.{find-map, find-settled_over, find-settled_running}
-use Rattle.vss_model.proofs.OrderlyActs.{EndsIn, Moves, MovesOn, moves_answered, moves_stepped, moves_timed, ending_idle, ending_on, none_after, orderly}
-use Rattle.vss_model.proofs.HeldOfSet.{Follows, GoesOn, goes_answered, goes_stepped, goes_timed}
+use Rattle.vss_model.proofs.OrderlyActs.{EndsIn, Moves, moves_answered, moves_stepped, moves_timed, orderly}
+use Rattle.vss_model.proofs.HeldOfSet.{IsSameAgenda, Follows, goes_answered, goes_stepped, goes_timed}
 use Rattle.vss_model.proofs.CutLog.{is_cut_made}
 use Rattle.vss_model.proofs.AtCut.{IsAtCut, CutsNow, cuts, cut_is_open}
-use Rattle.vss_model.proofs.CutStep.{second_not, both, step_made_same, working_at_cut, after_cut, has_set}
+use Rattle.vss_model.proofs.CutStep.{both, working_at_cut, has_set, by_cut}
 use Rattle.vss_model.proofs.CutHistory.{Above, Shown, no_greater, Known, writes_at, ShownIn, IsShown, AllShown, all-map, all-change_at, all-gone, all_along, shown-reverted, shown-reverted_in_part, shown-dropped, shown-written, shown-cut, below-known, shown_at, append_none}
-use Rattle.vss_model.proofs.ByEvent.{by_if}
+
+-- ## facts of the set in progress
+
+pub plain_kind : (k : Kind) (o p : SetOutcome) → is_running p ≡ true → EndsIn k o p → is_snapshot k ≡ false
+plain_kind k o p e h = grind arith
+
+-- the agenda of the set is over, and its row does not say so yet
+abbrev pub IsOver : Option Agenda → SetOutcome → Type 0
+IsOver a o = (a ≡ None) × (is_running o ≡ false)
+
+-- R is of the running agenda and the set in progress, and U says that the set has none of it yet
+pub record IsSetFact (R : Option Agenda → Option SetRow → Type 0) (U : Option SetRow → Type 0) : Type 0 where
+  pub none : (a : Option Agenda) → R a None
+  pub any : (a : Option Agenda) (o : Option SetRow) → U o → R a o
+  pub quiet : (o : Option SetRow) → R None o → U o
+  pub plain : (a : Agenda) (o : Option SetRow) → is_snapshot a.kind ≡ false → R (Some a) o → U o
+  pub goes : (a b : Agenda) (ms ns : List Member) (o p : SetOutcome) (found : Option SetRow) → IsSameAgenda a b ms ns o p → R (Some a) found → R (Some b) found
+  pub rows : (f : SetRow → SetRow) → ((r : SetRow) → (f r).number ≡ r.number) → (o : Option SetRow) → U o → U (option_map f o)
+
+pub no_set_over : (q : Option Session) (o : SetOutcome) (found : Option SetRow) → IsOfSession q o found → is_running o ≡ false → found ≡ None
+no_set_over q o found h e = grind arith
+
+module _ (R : Option Agenda → Option SetRow → Type 0) (U : Option SetRow → Type 0) (k : IsSetFact R U) where
+  abbrev pub HoldsIn : Option SetRow → Option Agenda → SetOutcome → Type 0
+  HoldsIn found a o = R a found ⊎ IsOver a o
+
+  -- between acts
+  pub at_rest : (x : State) → IsOrderly x → HoldsIn (in_progress x) x.course.agenda x.course.outcome → R x.course.agenda (in_progress x)
+  at_rest x i (inl h) = h
+  at_rest x i (inr h) = subst (R x.course.agenda) (sym (no_set_over x.session x.course.outcome (in_progress x) i.session h.1)) (k.none x.course.agenda)
+
+  ends_in : (found : Option SetRow) (a : Agenda) (o p : SetOutcome) (b : Bool) → is_running p ≡ b → EndsIn a.kind o p → R (Some a) found → HoldsIn found None p
+  ends_in found a o p true e m h = inl (k.any None found (k.plain a found (plain_kind a.kind o p e m) h))
+  ends_in found a o p false e m h = inr (refl, e)
+
+  pub moves_in : (found : Option SetRow) (a : Option Agenda) (ms : List Member) (o : SetOutcome) (b : Option Agenda) (ns : List Member) (p : SetOutcome)
+      → Moves a o b p → Follows a ms o b ns p → HoldsIn found a o → HoldsIn found b p
+  moves_in found None ms o None ns p m f (inl h) = inl h
+  moves_in found None ms o None ns p m f (inr h) = inr (refl, ap is_running m ∙ h.1)
+  moves_in found None ms o (Some b) ns p m f h = absurd m
+  moves_in found (Some a) ms o None ns p m f (inl h) = ends_in found a o p (is_running p) refl m h
+  moves_in found (Some a) ms o (Some b) ns p m f (inl h) = inl (k.goes a b ms ns o p found f h)
+  moves_in found (Some a) ms o b ns p m f (inr h) = absurd cc
+
+  module _ (s : Plan) (st x : State) (first : x ≡ st → R x.course.agenda (in_progress x)) where
+    begins_in : (a : Option Agenda) (p : SetOutcome) → x ≡ st → runs st ≡ false → HoldsIn (in_progress x) a p
+    begins_in a p e f =
+        inl (k.any a (in_progress x)
+        (k.quiet (in_progress x) (subst (λ b. R b (in_progress x)) (ap (λ (y : State). y.course.agenda) e ∙ none_runs st.course.agenda f) (first e))))
+
+    pub on_called : (call : CourseCall) → IsDue st x.course call → Stands st x call → HoldsIn (in_progress x) x.course.agenda x.course.outcome
+        → HoldsIn (in_progress x) (called s st call x.course).agenda (called s st call x.course).outcome
+    unfolding course_failed released
+    on_called (Answers w said) i j h = moves_in (in_progress x) x.course.agenda x.course.members x.course.outcome _ _ _
+        (moves_answered w said st.clock x.course) (goes_answered w said st.clock x.course) h
+    on_called (Steps ok) i j h =
+        moves_in (in_progress x) x.course.agenda x.course.members x.course.outcome _ _ _
+        (moves_stepped ok st.clock x.course (subst (λ c. is_working (left c.agenda) ≡ true) (sym i.1) i.0)) (goes_stepped ok st.clock x.course) h
+    on_called (Times now) i j h = moves_in (in_progress x) x.course.agenda x.course.members x.course.outcome _ _ _ (moves_timed now x.course)
+        (goes_timed now x.course) h
+    on_called Gathers i j h = begins_in _ _ j i.goes.quiet
+    on_called (Prepares q) i j h = begins_in _ _ j i.0.quiet
+    on_called Snapshots i j h = begins_in _ _ j.0 i.goes.quiet
+    on_called Completes i j h = begins_in _ _ j i.goes.quiet
+    on_called (Disables w) i j h = h
+    on_called (Fails why) i j h = inr (refl, refl)
+    on_called Releases i j h = inl (subst (R None) (sym j.0) (k.none None))
+
+  over_rows : (a : Option Agenda) (o : SetOutcome) (rows : List SetRow) → U (find (λ r. is_running r.result) rows)
+      → R a (find (λ r. is_running r.result) (map (row_settled o) rows))
+  over_rows a Running rows h = k.any a _
+      (subst U (sym (find-settled_running rows)) (k.rows (λ r. record r { result = Running }) (λ r. refl) (find (λ r. is_running r.result) rows) h))
+  over_rows a o rows h = subst (R a) (sym (find-settled_over o refl rows)) (k.none a)
+
+  pub on_settled : (x : State) (o : SetOutcome) → (x.course.agenda ≡ None) × (o ≡ x.course.outcome) → HoldsIn (in_progress x) x.course.agenda x.course.outcome
+      → R x.course.agenda (in_progress (apply x (Settles o)))
+  on_settled x o i (inl h) = over_rows x.course.agenda o x.sets (k.quiet (in_progress x) (subst (λ a. R a (in_progress x)) i.0 h))
+  on_settled x o i (inr h) = subst (R x.course.agenda) (sym (find-settled_over o (ap is_running i.1 ∙ h.1) x.sets)) (k.none x.course.agenda)
 
 -- ## the fact
 
@@ -61,136 +138,28 @@ abbrev Uncut : Known → Option SetRow → Type 0
 Uncut k None = Unit {0}
 Uncut k (Some r) = k r.number ≡ None
 
-record IsCut (k : Known) (st : State) : Type 0 where
-  shown : AllShown k 0 st.volumes
-  progress : Progress k st.course.agenda (in_progress st)
-  fresh : (n : ℕ) → length st.sets < n → k n ≡ None
-
 made_in_none : (o : Option (List History)) → o ≡ None → (a : Option Agenda) → MadeIn o a
 made_in_none o e a = grind arith
 
-uncut_progress : (k : Known) (a : Option Agenda) (o : Option SetRow) → Uncut k o → Progress k a o
-uncut_progress k a o h = grind arith
+made_goes : (o : Option (List History)) (a b : Agenda) (ms ns : List Member) (p q : SetOutcome) → IsSameAgenda a b ms ns p q → MadeIn o (Some a)
+    → MadeIn o (Some b)
+made_goes o a b ms ns p q e h = grind arith
 
-quiet_uncut : (k : Known) (a : Option Agenda) (o : Option SetRow) → is_some a ≡ false → Progress k a o → Uncut k o
-quiet_uncut k a o e h = grind arith
+cut_fact : (k : Known) → IsSetFact (Progress k) (Uncut k)
+cut_fact k = grind (arith, made_in_none, made_goes)
 
--- ## rows that change
+record IsCut (k : Known) (x : State) : Type 0 where
+  shown : AllShown k 0 x.volumes
+  progress : HoldsIn (Progress k) (Uncut k) (cut_fact k) (in_progress x) x.course.agenda x.course.outcome
+  fresh : (n : ℕ) → length x.sets < n → k n ≡ None
 
-uncut_same : (k : Known) (f : SetRow → SetRow) → ((r : SetRow) → (f r).number ≡ r.number) → (o : Option SetRow) → Uncut k o → Uncut k (option_map f o)
-uncut_same k f same o h = grind arith
-
-progress_same : (k : Known) (a : Option Agenda) (f : SetRow → SetRow) → ((r : SetRow) → (f r).number ≡ r.number) → (o : Option SetRow) → Progress k a o → Progress k a (option_map f o)
-progress_same k a f same o h = grind arith
-
-uncut_settled_at : (k : Known) (p : SetOutcome) (rows : List SetRow) → Uncut k (find (λ r. is_running r.result) rows) → Uncut k (find (λ r. is_running r.result) (map (row_settled p) rows))
-uncut_settled_at k p rows h = grind (arith, find-settled_running, uncut_same, find-settled_over)
-
-uncut_concluded : (k : Known) (e : Ending) (st : State) → Uncut k (in_progress st) → Uncut k (in_progress (concluded e st))
-uncut_concluded k NothingEnds st h = h
-uncut_concluded k _ st h = uncut_settled_at k st.course.outcome st.sets h
+-- ## each change
 
 fresh_length : (k : Known) (m n : ℕ) → m ≡ n → ((i : ℕ) → n < i → k i ≡ None) → (i : ℕ) → m < i → k i ≡ None
 fresh_length k m n e h i l = h i (subst (λ x. x < i) e l)
 
-fresh_concluded : (k : Known) (e : Ending) (st : State) → ((n : ℕ) → length st.sets < n → k n ≡ None) → (n : ℕ) → length (concluded e st).sets < n → k n ≡ None
-fresh_concluded k e st h = grind (arith, fresh_length, length-map)
-
-shown_images : (k : Known) (o : Option SetRow) (hs : List History) → AllShown k 0 hs → AllShown k 0 (images_dropped o hs)
-shown_images k None hs h = h
-shown_images k (Some r) hs h = all-map k (dropped r.number) (shown-dropped r.number k) 0 hs h
-
-shown_concluded : (k : Known) (e : Ending) (st : State) → AllShown k 0 st.volumes → AllShown k 0 (concluded e st).volumes
-shown_concluded k e st h = grind (arith, shown_images)
-
--- ## the course goes on
-
--- the agenda of the set goes on after what it has said
-abbrev GoesFrom : Known → Option Agenda → Option SetRow → Type 0
-GoesFrom k None o = Unit {0}
-GoesFrom k (Some b) o = Progress k (Some b) o
-
--- an agenda that is no snapshot's has an uncut set
-abbrev PlainUncut : Known → Option Agenda → Option SetRow → Type 0
-PlainUncut k None o = Unit {0}
-PlainUncut k (Some a) o = is_snapshot a.kind ≡ false → Uncut k o
-
-pub ends_settle : (o p : SetOutcome) (st : State) → in_progress (concluded (ending o p true None) st) ≡ find (λ r. is_running r.result) (map (row_settled st.course.outcome) st.sets)
-ends_settle o p st = grind arith
-
-pub plain_kind : (k : Kind) (o p : SetOutcome) → is_running p ≡ true → EndsIn k o p → is_snapshot k ≡ false
-plain_kind k o p e h = grind arith
-
-over_settled : (b : Bool) (k : Known) (p : SetOutcome) (rows : List SetRow) → is_running p ≡ b → (b ≡ true → Uncut k (find (λ r. is_running r.result) rows)) → Uncut k (find (λ r. is_running r.result) (map (row_settled p) rows))
-over_settled true k p rows e h = uncut_settled_at k p rows (h refl)
-over_settled false k p rows e h = subst (Uncut k) (sym (find-settled_over p e rows)) tt
-
--- where no agenda runs
-abbrev IdleProgress : Known → Option Agenda → Option SetRow → Type 0
-IdleProgress k None o = Progress k None o
-IdleProgress k (Some a) o = Unit {0}
-
-progress_at : (k : Known) (a b : Option Agenda) (c : Course) (st : State) → Moves a st.course.outcome b c.outcome → IdleProgress k a (in_progress st) → GoesFrom k b (in_progress st) → PlainUncut k a (in_progress st)
-    → Progress k b (in_progress (concluded (ending st.course.outcome c.outcome (is_some a) b) (record st { course = c })))
-progress_at k None None c st m h g u = grind (arith, common_steps, ending_idle)
-progress_at k None (Some b) c st m h g u = absurd m
-progress_at k (Some a) (Some b) c st m h g u = grind (arith, common_steps, ending_on)
-progress_at k (Some a) None c st m h g u =
-    uncut_progress k None _
-    (subst (Uncut k) (sym (ends_settle st.course.outcome c.outcome (record st { course = c })))
-    (over_settled (is_running c.outcome) k c.outcome st.sets refl (λ e. u (plain_kind a.kind st.course.outcome c.outcome e m))))
-
-cut_followed : (k : Known) (c : Course) (st : State) → MovesOn st.course c → IdleProgress k st.course.agenda (in_progress st) → GoesFrom k c.agenda (in_progress st) → PlainUncut k st.course.agenda (in_progress st)
-    → AllShown k 0 st.volumes → ((n : ℕ) → length st.sets < n → k n ≡ None) → IsCut k (followed (runs st) c st)
-unfolding followed
-cut_followed k c st m i g u shown fresh = grind (arith, common_steps, shown_concluded, progress_at, fresh_concluded)
-
-idle_progress : (k : Known) (a : Option Agenda) (o : Option SetRow) → Progress k a o → IdleProgress k a o
-idle_progress k a o h = grind arith
-
-goes_from : (k : Known) (a : Option Agenda) (c d : Course) (o : Option SetRow) → c.agenda ≡ a → (b : Option Agenda) → d.agenda ≡ b → Follows a c.members c.outcome b d.members d.outcome → Progress k a o → GoesFrom k b o
-goes_from k a c d o e b f g h = grind arith
-
-plain_uncut : (k : Known) (a : Option Agenda) (o : Option SetRow) → Progress k a o → PlainUncut k a o
-plain_uncut k a o h = grind arith
-
-goes : (k : Known) (c : Course) (st : State) → MovesOn st.course c → GoesOn st.course c → IsCut k st → IsCut k (followed (runs st) c st)
-goes k c st m g h =
-    cut_followed k c st m (idle_progress k st.course.agenda (in_progress st) h.progress) (goes_from k st.course.agenda st.course c (in_progress st) refl c.agenda refl g h.progress) (plain_uncut k st.course.agenda (in_progress st) h.progress) h.shown h.fresh
-
--- an agenda begins: none ran, so the set in progress was not cut
-cut_begun : (k : Known) (ran : Bool) (c : Course) (st : State) → runs st ≡ false → IsCut k st → IsCut k (followed ran c st)
-unfolding followed
-cut_begun k ran c st e h =
-    let x : State = record st { course = c } in
-    let end = ending st.course.outcome c.outcome ran c.agenda in
-    record {
-      shown = shown_concluded k end x h.shown;
-      progress = uncut_progress k _ _ (uncut_concluded k end x (quiet_uncut k st.course.agenda (in_progress st) e h.progress));
-      fresh = fresh_concluded k end x h.fresh;
-    }
-
--- ## each change
-
-on_answers : (k : Known) (w : ℕ) (said : Said) (st : State) → IsCut k st → IsCut k (answered w said st)
-unfolding answered
-on_answers k w said st h = goes k _ st (moves_answered w said st.clock st.course) (goes_answered w said st.clock st.course) h
-
-cut_later : (k : Known) (n : ℕ) (st : State) → IsCut k st → IsCut k (later n st)
-cut_later k n st h = record { shown = h.shown; progress = h.progress; fresh = h.fresh }
-
-on_ticks : (k : Known) (n : ℕ) (st : State) → IsCut k st → IsCut k (ticked n st)
-unfolding ticked
-on_ticks k n st h = goes k _ (later n st) (moves_timed (st.clock + n) st.course) (goes_timed (st.clock + n) st.course) (cut_later k n st h)
-
-on_fails_in : (k : Known) (o : Option SetRow) (why : VssResult) (st : State) → in_progress st ≡ o → IsCut k st → IsCut k (failed_in o why st)
-on_fails_in k o why st e h = grind (arith, shown_images, none_after, fresh_length, length-map)
-
-with_volumes : (k : Known) (hs : List History) (st : State) → AllShown k 0 hs → IsCut k st → IsCut k (record st { volumes = hs })
-with_volumes k hs st shown h = record { shown = shown; progress = h.progress; fresh = h.fresh }
-
-on_begins : (k : Known) (lane : ℕ) (all : Bool) (c : Option Context) (st : State) → IsCut k st → IsCut k (begin_in lane all c st).1
-on_begins k lane all c st h = grind arith
+progress_same : (k : Known) (a : Option Agenda) (f : SetRow → SetRow) → ((r : SetRow) → (f r).number ≡ r.number) → (o : Option SetRow) → Progress k a o → Progress k a (option_map f o)
+progress_same k a f same o h = grind arith
 
 -- a set is started: it was not cut
 found_append : (k : Known) (a : Option Agenda) (rows : List SetRow) (r : SetRow) → k r.number ≡ None → Progress k a (find (λ q. is_running q.result) rows) → Progress k a (find (λ q. is_running q.result) (rows ++ r ∷ []))
@@ -202,45 +171,30 @@ found_append k a (q ∷ rows) r e h = head_if (is_running q.result) h (found_app
   head_if true h ih = h
   head_if false h ih = ih h
 
-on_starts : (k : Known) (q : Session) (st : State) → IsCut k st → IsCut k (start_set q st).1
-on_starts k q st h =
-    let n = length st.sets + 1 in
-    record {
-      shown = h.shown;
-      progress = found_append k st.course.agenda st.sets (new_set n q.context) (h.fresh n (more (length st.sets))) h.progress;
-      fresh = λ m l. h.fresh m (less (length st.sets) (length (st.sets ++ new_set n q.context ∷ [])) m (length_push st.sets (new_set n q.context)) l);
-    } where
-      more : (a : ℕ) → a < a + 1
-      more a = omega arith
-
-      less : (a b m : ℕ) → b ≡ a + 1 → b < m → a < m
-      less a b m e l = omega arith
-
 pub changed_number : (b : Bool) (f : SetRow → SetRow) (r : SetRow) → (f r).number ≡ r.number → (if b then f r else r).number ≡ r.number
 changed_number b f r e = grind arith
 
 pub changed_result : (b : Bool) (f : SetRow → SetRow) (r : SetRow) → (f r).result ≡ r.result → (if b then f r else r).result ≡ r.result
 changed_result b f r e = grind arith
 
-rows_change : (k : Known) (f : SetRow → SetRow) → ((r : SetRow) → (f r).number ≡ r.number) → ((r : SetRow) → (f r).result ≡ r.result) → (st : State) → IsCut k st → IsCut k (record st { sets = map f st.sets })
-rows_change k f number result st h = grind (arith, find-map, progress_same, fresh_length, length-map)
+rows_change : (k : Known) (f : SetRow → SetRow) → ((r : SetRow) → (f r).number ≡ r.number) → ((r : SetRow) → (f r).result ≡ r.result) → (x : State) → IsCut k x
+    → IsCut k (record x { sets = map f x.sets })
+rows_change k f number result x
+    h = record {
+      shown = h.shown;
+      progress = by_cases h.progress;
+      fresh = fresh_length k (length (map f x.sets)) (length x.sets)
+          (length-map x.sets f) h.fresh;
+    } where
+      by_cases : Progress k x.course.agenda (in_progress x) ⊎ IsOver x.course.agenda x.course.outcome
+          → Progress k x.course.agenda (find (λ r. is_running r.result) (map f x.sets)) ⊎ IsOver x.course.agenda x.course.outcome
+      by_cases (inl p) = inl
+          (subst (Progress k x.course.agenda) (sym (find-map f (λ r. ap is_running (result r)) x.sets))
+          (progress_same k x.course.agenda f number (in_progress x) p))
+      by_cases (inr p) = inr p
 
-on_adds : (k : Known) (v n : ℕ) (st : State) → IsCut k st → IsCut k (change_set n (with_volume v) st)
-on_adds k v n st h = grind (arith, common_steps, rows_change, changed_number, changed_result)
-
-shown_released : (k : Known) (c : Context) (set : Option ℕ) (hs : List History) → AllShown k 0 hs → AllShown k 0 (images_released c set hs)
-shown_released k Backup None hs h = h
-shown_released k Backup (Some n) hs h = all-map k (dropped n) (shown-dropped n k) 0 hs h
-shown_released k AppRollback set hs h = h
-shown_released k NasRollback set hs h = h
-
-on_closed : (k : Known) (q : Session) (x : State) → in_progress x ≡ None → IsCut k x → IsCut k (closed q x)
-unfolding closed released
-on_closed k q x e h = grind (arith, shown_released)
-
-on_puts : (k : Known) (v : ℕ) (w : Write) (mark : Mark) (x : State) → IsCut k x → IsCut k (put v w mark x)
-on_puts k v w Clean x h = with_volumes k _ x (all-change_at k (written w) v 0 x.volumes (λ u y e g. shown-written w k u y g) h.shown) h
-on_puts k v w _ x h = h
+with_volumes : (k : Known) (hs : List History) (x : State) → AllShown k 0 hs → IsCut k x → IsCut k (record x { volumes = hs })
+with_volumes k hs x shown h = record { shown = shown; progress = h.progress; fresh = h.fresh }
 
 pub row_number : (n : ℕ) (rows : List SetRow) (r : SetRow) → find (λ q. q.number == n) rows ≡ Some r → r.number ≡ n
 row_number n [] r e = absurd cc
@@ -252,42 +206,61 @@ row_number n (q ∷ rows) r e = head_if (q.number == n) refl e (row_number n row
 pub kept_point : (n : ℕ) (o : Option SetRow) (p : Option ℕ) (x : Kept) → ((r : SetRow) → o ≡ Some r → r.number ≡ n) → kept_of o p ≡ Some x → (x.row.number ≡ n) × (p ≡ Some x.point)
 kept_point n o p x number e = grind arith
 
-on_reverts : (k : Known) (s : Plan) (n v : ℕ) (x : Kept) (mark : Mark) (st : State) → kept_image st n v ≡ Some x → IsCut k st → IsCut k (reverted_as s v x mark st).1
-on_reverts k s n v x Clean st e h =
-    let parts = kept_point n (row_of st n) (point_in n (history_of st v).images) x (λ r f. row_number n st.sets r f) e in
-    with_volumes k _ st
-    (all-change_at k (reverted x.row.number x.point) v 0 st.volumes
-    (λ u y f g. shown-reverted k u x.row.number x.point y
-    (subst (λ m. point_in m y.images ≡ Some x.point) (sym parts.0) (subst (λ o. point_in n (history_in o).images ≡ Some x.point) f parts.1)) g)
+on_end : (k : Known) (s : Plan) (e : Event) (m : Mark) (st : State) (c : Change) (x : State) → is_end c ≡ true → Comes s e m st x c → IsCut k x
+    → IsCut k (apply x c)
+on_end k s e m st (SessionIs q) x f i h = record { shown = h.shown; progress = h.progress; fresh = h.fresh }
+on_end k s e m st (Settles o) x f i h = record {
+  shown = h.shown;
+  progress = inl (on_settled (Progress k) (Uncut k) (cut_fact k) x o i h.progress);
+  fresh = fresh_length k (length (map (row_settled o) x.sets)) (length x.sets) (length-map x.sets (row_settled o)) h.fresh;
+}
+on_end k s e m st (DropsSet n) x f i h = with_volumes k _ x (all-map k (dropped n) (shown-dropped n k) 0 x.volumes h.shown) h
+on_end k s e m st _ x f i h = absurd cc
+
+on_change : (k : Known) (s : Plan) (e : Event) (m : Mark) (st : State) (own : Progress k st.course.agenda (in_progress st)) → (c : Change) (x : State)
+    → is_cut c ≡ false → Comes s e m st x c → IsCut k x → IsCut k (apply x c)
+on_change k s e m st own (CourseIs c) x f i h = record {
+  shown = h.shown;
+  progress = subst (λ (d : Course). HoldsIn (Progress k) (Uncut k) (cut_fact k) (in_progress x) d.agenda d.outcome) (sym i.is)
+      (on_called (Progress k) (Uncut k) (cut_fact k) s st x
+      (λ g. subst (λ (y : State). Progress k y.course.agenda (in_progress y)) (sym g) own) i.call i.due i.stands h.progress);
+  fresh = h.fresh;
+}
+on_change k s e m st own (StartsSet r) x f i h = record {
+  shown = h.shown;
+  progress = inl (found_append k x.course.agenda x.sets r
+      (h.fresh r.number (newer (length x.sets) (length st.sets) r.number (ap length i.before) (ap (λ (q : SetRow). q.number) i.row)))
+      (subst (λ rows. Progress k x.course.agenda (find (λ q. is_running q.result) rows)) (sym i.before)
+      (subst (λ (c : Course). Progress k c.agenda (in_progress st)) (sym i.course) own)));
+  fresh = λ n l. h.fresh n (less (length x.sets) (length (x.sets ++ r ∷ [])) n (length_push x.sets r) l);
+} where
+  newer : (a b n : ℕ) → a ≡ b → n ≡ b + 1 → a < n
+  newer a b n e f = omega (arith, e, f)
+
+  less : (a b n : ℕ) → b ≡ a + 1 → b < n → a < n
+  less a b n e l = omega arith
+on_change k s e m st own (AddsVolume n v) x f i h = rows_change k (row_changed n (with_volume v)) (λ r. changed_number (r.number == n) (with_volume v) r refl)
+    (λ r. changed_result (r.number == n) (with_volume v) r refl) x h
+on_change k s e m st own (Writes v w) x f i h = with_volumes k _ x (all-change_at k (written w) v 0 x.volumes (λ u y a g. shown-written w k u y g) h.shown) h
+on_change k s e m st own (Reverts v n p) x f i h =
+    let r = i.0 in
+    let parts = kept_point r.set (row_of st r.set) (point_in r.set (history_of st v).images) r.image (λ q g. row_number r.set st.sets q g) r.kept in
+    with_volumes k _ x
+    (all-change_at k (reverted n p) v 0 x.volumes
+    (λ u y a g. shown-reverted k u n p y
+    (subst (λ j. point_in j y.images ≡ Some p) (sym (r.number ∙ parts.0))
+    (subst (λ o. point_in r.set (history_in o).images ≡ Some p) (ap (λ (z : State). slice_get z.volumes v) (sym i.2) ∙ a) (parts.1 ∙ ap Some (sym r.point)))) g)
     h.shown)
     h
-on_reverts k s n v x Fault st e h = h
-on_reverts k s n v x (FaultAfter m) st e h =
-    with_volumes k _ st (all-change_at k _ v 0 st.volumes (λ u y f g. shown-reverted_in_part (blocks_of s v) k u x.row.number x.point m y g) h.shown) h
-
-kept_but_steps : (k : Known) → IsKeptButSteps (IsCut k)
-kept_but_steps k = record {
-  answers = λ w said st e h. on_answers k w said st h;
-  ticks = on_ticks k;
-  fails = λ why st h. on_fails_in k (in_progress st) why st refl h;
-  gathers = λ s q st g h. cut_begun k true _ st g.quiet h;
-  prepares = λ s q st g h. by_if (λ r. IsCut k r.1) (has_no_volume (in_progress st)) _ _ h (cut_begun k true _ st g.quiet h);
-  snapshots = λ q st g h. by_if (λ r. IsCut k r.1) (has_no_volume (in_progress st)) _ _ h (cut_begun k true _ st g.quiet h);
-  completes = λ q st g h. cut_begun k true _ st g.quiet h;
-  clears = λ s v b st h. with_volumes k _ st (all-gone k _ _ 0 st.volumes h.shown) h;
-  deletes_set = λ n st h. with_volumes k _ st (all-map k (dropped n) (shown-dropped n k) 0 st.volumes h.shown) h;
-  deletes_image = λ n v st h. with_volumes k _ st (all-change_at k (dropped n) v 0 st.volumes (λ u y e g. shown-dropped n k u y g) h.shown) h;
-  names = λ q explicit st g h. record { shown = h.shown; progress = h.progress; fresh = h.fresh };
-  disables = λ w q st g h. record { shown = h.shown; progress = h.progress; fresh = h.fresh };
-  starts = λ q st g e h. on_starts k q st h;
-  adds = λ v r q st g e f h. on_adds k v r.number st h;
-  ends = λ q st e h. on_closed k q (failed AsyncCancelled st) (none_after (in_progress st) AsyncCancelled st refl) (on_fails_in k (in_progress st) AsyncCancelled st refl h);
-}
-
-kept_by_writes : (k : Known) (st : State) → IsKeptByWrites (IsCut k) st
-kept_by_writes k st = grind (arith, on_puts, on_reverts)
-
--- ## the Cut step
+on_change k s e m st own (RevertsPart v blocks n p j) x f i h = with_volumes k _ x
+    (all-change_at k _ v 0 x.volumes (λ u y a g. shown-reverted_in_part blocks k u n p j y g) h.shown) h
+on_change k s e m st own (Drops n v) x f i h = with_volumes k _ x (all-change_at k (dropped n) v 0 x.volumes (λ u y a g. shown-dropped n k u y g) h.shown) h
+on_change k s e m st own (Evicts n group) x f i h = with_volumes k _ x (all-gone k n group 0 x.volumes h.shown) h
+on_change k s e m st own (Passes n) x f i h = record { shown = h.shown; progress = h.progress; fresh = h.fresh }
+on_change k s e m st own (Names ps) x f i h = record { shown = h.shown; progress = h.progress; fresh = h.fresh }
+on_change k s e m st own (CutsAt n now) x f i h = absurd cc
+on_change k s e m st own (Cuts n vs) x f i h = absurd cc
+on_change k s e m st own c x f i h = on_end k s e m st c x refl i h
 
 -- what is known after one more act
 abbrev pub or_else : Option (List History) → Option (List History) → Option (List History)
@@ -372,9 +345,6 @@ says_posted before c h = h
 says_stepped : (now : ℕ) (c : Course) (a : Agenda) → c.agenda ≡ Some a → a.kind ≡ Snapshot → IsAtCut a → SaysCut (course_stepped true now c).agenda
 says_stepped now c a e f g = says_posted c _ (says_settled (worked now c) (says_worked now c a e f g))
 
-says_from : (k : Known) (b : Option Agenda) (o : Option SetRow) → SaysCut b → GoesFrom k b o
-says_from k b o h = grind arith
-
 -- ## the state after the Cut step
 
 record IsNewest (k : Known) (st : State) (r : SetRow) : Type 0 where
@@ -384,8 +354,11 @@ record IsNewest (k : Known) (st : State) (r : SetRow) : Type 0 where
 made_not : (o : Option (List History)) (a : Agenda) → is_cut_made a.log ≡ false → MadeIn o (Some a) → o ≡ None
 made_not o a e h = grind arith
 
+progress_now : (k : Known) (st : State) → IsOrderly st → IsCut k st → Progress k st.course.agenda (in_progress st)
+progress_now k st o h = at_rest (Progress k) (Uncut k) (cut_fact k) st o h.progress
+
 newest : (k : Known) (st : State) (r : SetRow) → CutsNow st → in_progress st ≡ Some r → IsOrderly st → IsCut k st → IsNewest k st r
-newest k st r c e o h = grind (arith, newest_number, made_not, ltb-true)
+newest k st r c e o h = grind (arith, newest_number, made_not, ltb-true, progress_now)
 
 pub all_three : (a b c : Bool) → a ≡ true → b ≡ true → c ≡ true → (a && b && c) ≡ true
 all_three a b c e f g = grind arith
@@ -399,24 +372,33 @@ known_stays k st act m hs e = ap (λ o. or_else o (now_if (is_cut_of m st act) s
 later_unknown : (k : Known) (st : State) (act : Act) (r : SetRow) (m : ℕ) → in_progress st ≡ Some r → r.number < m → k m ≡ None → next_known k st act m ≡ None
 later_unknown k st act r m e l f = grind arith
 
-idle_none : (k : Known) (a : Option Agenda) (b : Agenda) (o : Option SetRow) → a ≡ Some b → IdleProgress k a o
-idle_none k a b o e = grind arith
+ends_snapshot : (k : Kind) (o p : SetOutcome) → k ≡ Snapshot → EndsIn k o p → is_running p ≡ false
+ends_snapshot k o p e m = grind arith
 
-plain_none : (k : Known) (a : Option Agenda) (b : Agenda) (o : Option SetRow) → a ≡ Some b → b.kind ≡ Snapshot → PlainUncut k a o
-plain_none k a b o e f = grind arith
+says_made : (k : Known) (b : Agenda) (found : Option SetRow) → SaysCut (Some b) → Progress k (Some b) found
+says_made k b found h = grind arith
 
-on_cut : (k : Known) (act : Act) (st : State) (r : SetRow) → is_provider act.event ≡ true → is_cut_group (open_group (left_now st)) ≡ true → is_working (left_now st) ≡ true → CutsNow st → in_progress st ≡ Some r → IsOrderly st → IsCut k st
-    → IsCut (next_known k st act) (followed (runs st) (course_stepped true st.clock st.course) (cut_set (Some r) st))
-on_cut k act st r p g w c e o h =
+cut_holds : (k : Known) (a : Agenda) (o : SetOutcome) (b : Option Agenda) (p : SetOutcome) (found : Option SetRow) → a.kind ≡ Snapshot → Moves (Some a) o b p
+    → SaysCut b → HoldsIn (Progress k) (Uncut k) (cut_fact k) found b p
+cut_holds k a o None p found e m h = inr (refl, ends_snapshot a.kind o p e m)
+cut_holds k a o (Some b) p found e m h = inl (says_made k b found h)
+
+on_cut : (k : Known) (act : Act) (st : State) (r : SetRow) → is_provider act.event ≡ true → is_cut_group (open_group (left_now st)) ≡ true → CutsNow st
+    → in_progress st ≡ Some r → IsOrderly st → IsCut k st
+    → IsCut (next_known k st act) (record (cut_set (Some r) st) { course = course_stepped true st.clock st.course })
+on_cut k act st r p g c e o h =
     let l = next_known k st act in
     let new = newest k st r c e o h in
-    let x : State = cut_set (Some r) st in
-    cut_followed l (course_stepped true st.clock st.course) x (moves_stepped true st.clock st.course w)
-    (idle_none l x.course.agenda c.agenda (in_progress x) c.runs)
-    (says_from l _ (in_progress x) (says_stepped st.clock st.course c.agenda c.runs c.kind c.at))
-    (plain_none l x.course.agenda c.agenda (in_progress x) c.runs c.kind)
-    (shown_cut_each k l r.number r.volumes st.volumes 0 st.volumes new.none (known_stays k st act) (cut_now k st act r p g e (new.none r.number (own r.number))) (λ j. ap (slice_get st.volumes) (zero_plus j)) h.shown)
-    (fresh_length l (length x.sets) (length st.sets) (length-map st.sets (row_cut r.number st.clock)) (λ m i. later_unknown k st act r m e (along r.number (length st.sets) m new.number i) (h.fresh m i)))
+    let d = course_stepped true st.clock st.course in
+    let moves : Moves (Some c.agenda) st.course.outcome d.agenda d.outcome = subst (λ a. Moves a st.course.outcome d.agenda d.outcome) c.runs
+    (moves_stepped true st.clock st.course (working_at_cut (left_now st) g)) in
+    record {
+      shown = shown_cut_each k l r.number r.volumes st.volumes 0 st.volumes new.none (known_stays k st act)
+          (cut_now k st act r p g e (new.none r.number (own r.number))) (λ j. ap (slice_get st.volumes) (zero_plus j)) h.shown;
+      progress = cut_holds l c.agenda st.course.outcome d.agenda d.outcome _ c.kind moves (says_stepped st.clock st.course c.agenda c.runs c.kind c.at);
+      fresh = fresh_length l (length (map (row_cut r.number st.clock) st.sets)) (length st.sets) (length-map st.sets (row_cut r.number st.clock))
+          (λ m i. later_unknown k st act r m e (along r.number (length st.sets) m new.number i) (h.fresh m i));
+    }
   where
     own : (a : ℕ) → a ≤ a
     own a = omega arith
@@ -426,18 +408,6 @@ on_cut k act st r p g w c e o h =
 
     along : (a b m : ℕ) → a ≡ b → b < m → a < m
     along a b m e l = omega arith
-
--- ## every step of the provider
-
-on_stepped_as : (k : Known) (fails : Bool) (g : Option Group) (st : State) → is_cut_group g ≡ false → is_working (left_now st) ≡ true → IsCut k st → IsCut k (stepped_as fails g st)
-on_stepped_as k true g st e w h = goes k _ st (moves_stepped false st.clock st.course w) (goes_stepped false st.clock st.course) h
-on_stepped_as k false g st e w h =
-    subst (λ x. IsCut k (followed (runs st) (course_stepped true st.clock st.course) x)) (sym (step_made_same g st e))
-    (goes k _ st (moves_stepped true st.clock st.course w) (goes_stepped true st.clock st.course) h)
-
-on_steps : (k : Known) (mark : Mark) (st : State) → is_cut_group (open_group (left_now st)) ≡ false → is_working (left_now st) ≡ true → IsCut k st → IsCut k (stepped mark st)
-unfolding stepped
-on_steps k mark st e w h = on_stepped_as k (is_failed_step (is_flush (open_group (left_now st))) mark) (open_group (left_now st)) st e w h
 
 -- ## every act
 
@@ -449,16 +419,15 @@ on_act_if false s past act k e h =
     let st = state s past in
     know_more k (next_known k st act) (after s st act)
     (λ n. not_cut_now k st act n (parts_not (is_provider act.event) (is_cut_group (open_group (left_now st))) (is_set n (in_progress st)) e))
-    (on_after_steps (IsCut k) (kept_but_steps k) s st act (kept_by_writes k st)
-    (λ f g. on_steps k act.mark st (second_not (is_provider act.event) (is_cut_group (open_group (left_now st))) e g) (working_of s st act.event f g) h) (λ lane all c f g. on_begins k lane all c st h) h)
+    (by_changes (IsCut k) s st act
+    (λ c x i g. on_change k s act.event act.mark st (progress_now k st (orderly s past) h) c x (no_cut s act.event act.mark st x c e i) i g) h)
 on_act_if true s past act k e h =
     let st = state s past in
     let parts = both (is_provider act.event) (is_cut_group (open_group (left_now st))) e in
     let c = cuts s past parts.1 in
     let r = has_set st c in
-    subst (IsCut (next_known k st act)) (sym (after_cut s st act parts.0 parts.1))
-    (subst (λ o. IsCut (next_known k st act) (followed (runs st) (course_stepped true st.clock st.course) (cut_set o st))) (sym r.is)
-    (on_cut k act st r.set parts.0 parts.1 (working_at_cut (left_now st) parts.1) c r.is (orderly s past) h))
+    let l = next_known k st act in
+    by_cut (IsCut l) s st act r.set parts.0 parts.1 r.is (on_end l s act.event act.mark st) (on_cut k act st r.set parts.0 parts.1 c r.is (orderly s past) h)
 
 on_act : (s : Plan) (past : List Act) (act : Act) (k : Known) → IsCut k (state s past) → IsCut (next_known k (state s past) act) (after s (state s past) act)
 on_act s past act k h = on_act_if (is_provider act.event && is_cut_group (open_group (left_now (state s past)))) s past act k refl h
@@ -498,7 +467,7 @@ fresh_shown v [] = tt
 fresh_shown v (r ∷ rows) = (tt, fresh_shown (v + 1) rows)
 
 cut_all : (s : Plan) (acts : List Act) → IsCut (known_from s nothing_known (start s) acts) (state s acts)
-cut_all s acts = cut_fold s [] nothing_known acts (record { shown = fresh_shown 0 s.volumes; progress = tt; fresh = λ n e. refl })
+cut_all s acts = cut_fold s [] nothing_known acts (record { shown = fresh_shown 0 s.volumes; progress = inl tt; fresh = λ n e. refl })
 
 -- where the Cut step is the next one, the set in progress has no image yet
 pub uncut_at_cut : (s : Plan) (acts : List Act) (r : SetRow) (v p : ℕ) → CutsNow (state s acts) → in_progress (state s acts) ≡ Some r → point_in r.number (history_of (state s acts) v).images ≡ Some p → ⊥

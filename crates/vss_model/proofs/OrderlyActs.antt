@@ -229,6 +229,10 @@ ending_idle o p e = grind arith
 pub ending_on : (o p : SetOutcome) (ran : Bool) (b : Agenda) → p ≡ o → ending o p ran (Some b) ≡ NothingEnds
 ending_on o p ran b e = grind arith
 
+pub ends_settle : (o p : SetOutcome) (st : State)
+    → in_progress (concluded (ending o p true None) st) ≡ find (λ r. is_running r.result) (map (row_settled st.course.outcome) st.sets)
+ends_settle o p st = grind arith
+
 agenda_along : (a b : Agenda) (q : Option Session) → b.kind ≡ a.kind → IsAgendaOf (Some a) q → IsAgendaOf (Some b) q
 agenda_along a b q e h = grind arith
 

@@ -11,10 +11,9 @@ use Rattle.vss_names.specs.declared.vss_result.VssResult.{VssResult}
 use Rattle.write_history.specs.declared.mark.Mark.{Mark}
 use Rattle.write_history.specs.History.{History}
 use Rattle.set_agenda.specs.Agenda.{open_group, is_among}
-use Rattle.set_agenda.specs.Course.{Course, stepped as course_stepped}
 use Rattle.scenario.specs.Plan.{Plan}
 use Rattle.vss_model.specs.State.{State, SetRow, is_running, in_progress, left_now, history_of}
-use Rattle.vss_model.specs.Ending.{Ending, NothingEnds, AgendaEnds, SetFails, ending, row_settled, concluded, followed, runs}
+use Rattle.vss_model.specs.Ending.{row_settled}
 use Rattle.vss_model.specs.Sessions.{most_images, with_volume, change_set, add_refusal}
 use Rattle.vss_model.specs.Steps.{cut_if as image_cut_if, cut_each, row_cut, cut_set}
 use Rattle.vss_model.specs.Acts.{Act, after, state}
@@ -27,11 +26,11 @@ use Rattle.vss_model.proofs.Changes.{IsAdd, Comes, by_changes}
 use Rattle.vss_model.proofs.Orderly.{find-map, find-settled_over, find-settled_running}
 use Rattle.vss_model.proofs.HeldOfSet.{find-row_cut, volumes-row_cut_if}
 use Rattle.vss_model.proofs.AtCut.{cuts}
-use Rattle.vss_model.proofs.CutStep.{both, after_cut, has_set}
+use Rattle.vss_model.proofs.CutStep.{both, has_set}
 use Rattle.vss_model.proofs.CutAppend.{or_cut, append_nothing, cut-append}
 use Rattle.vss_model.proofs.OneCut.{changed_result, not_cut_yet, all_three}
 use Rattle.vss_model.proofs.Volumes.{at, FewerIn}
-use Rattle.vss_model.proofs.FewerImages.{is_cut, no_cut, fewer_apply, fewer_images_dropped}
+use Rattle.vss_model.proofs.FewerImages.{is_cut, no_cut, fewer_apply, by_cut_alone}
 
 -- where each set was cut
 abbrev Cuts : Type 0
@@ -85,16 +84,6 @@ roomy_added b k hs v r room h = grind (arith, added)
 -- ## each change
 
 module _ (k : Cuts) where
-  on_concluded : (e : Ending) (st : State) → HasRoom k st → HasRoom k (concluded e st)
-  on_concluded NothingEnds st h = h
-  on_concluded AgendaEnds st h = roomy_settled k st.volumes st.course.outcome st.sets h
-  on_concluded (SetFails why) st h =
-      roomy_fewer k st.volumes _ (find (λ r. is_running r.result) (map (row_settled st.course.outcome) st.sets)) (fewer_images_dropped (in_progress st) st.volumes) (roomy_settled k st.volumes st.course.outcome st.sets h)
-
-  on_followed : (ran : Bool) (c : Course) (st : State) → HasRoom k st → HasRoom k (followed ran c st)
-  unfolding followed
-  on_followed ran c st h = on_concluded (ending st.course.outcome c.outcome ran c.agenda) (record st { course = c }) h
-
   added_room : (v : ℕ) (r : SetRow) (st : State) → in_progress st ≡ Some r → add_refusal v r st ≡ None → HasRoom k st → HasRoom k (change_set r.number (with_volume v) st)
   added_room v r st e f h = grind (arith, fewer_than, room_if, find-map, changed_result, roomy_added)
 
@@ -139,10 +128,10 @@ at_cut s past act r e f g h =
     let st = state s past in
     let l = known s (past ++ act ∷ []) in
     let x = cut_set (Some r) st in
-    subst (HasRoom l) (sym (after_cut s st act e f ∙ ap (λ o. followed (runs st) (course_stepped true st.clock st.course) (cut_set o st)) g))
-    (on_followed l (runs st) (course_stepped true st.clock st.course) x
+    by_cut_alone (HasRoom l) s st act r e f g (on_change l s act.event act.mark st)
     (subst (Roomy l x.volumes) (sym (find-row_cut r.number st.clock st.sets ∙ ap (option_map (row_cut r.number st.clock)) g))
-    (λ v among. by_cut v (l (row_cut r.number st.clock r).number) refl (subst (λ vs. is_among v vs ≡ true) (volumes-row_cut_if (r.number == r.number) st.clock r) among))))
+    (λ v among. at_volume v (l (row_cut r.number st.clock r).number) refl
+    (subst (λ vs. is_among v vs ≡ true) (volumes-row_cut_if (r.number == r.number) st.clock r) among)))
   where
     uncut : cut s r.number past ≡ None
     uncut = not_cut_yet s past r (cuts s past f) g
@@ -165,11 +154,11 @@ at_cut s past act r e f g h =
     now : is_cut_of r.number (state s past) act ≡ true
     now = all_three (is_provider act.event) (is_cut_group (open_group (left_now (state s past)))) (is_set r.number (in_progress (state s past))) e f (ap (is_set r.number) g ∙ eq-eqb r.number r.number refl)
 
-    by_cut : (v : ℕ) (o : Option (List Act)) → known s (past ++ act ∷ []) (row_cut r.number (state s past).clock r).number ≡ o → is_among v r.volumes ≡ true
+    at_volume : (v : ℕ) (o : Option (List Act)) → known s (past ++ act ∷ []) (row_cut r.number (state s past).clock r).number ≡ o → is_among v r.volumes ≡ true
         → place_for o + length (at (cut_set (Some r) (state s past)).volumes v).images ≤ most_images
-    by_cut v None none among =
+    at_volume v None none among =
         absurd (cut_known (cut s r.number past) (is_cut_of r.number (state s past) act) past now (sym (cut-append s r.number past act) ∙ ap (known s (past ++ act ∷ [])) (sym (number (r.number == r.number) (state s past).clock)) ∙ none))
-    by_cut v (Some x) is among =
+    at_volume v (Some x) is among =
         fits (length (at (cut_set (Some r) (state s past)).volumes v).images) (length (at (state s past).volumes v).images) most_images (one_longer r.number r.volumes 0 v (state s past).volumes)
         (subst (λ (o : Option (List Act)). place_for o + length (at (state s past).volumes v).images ≤ most_images) uncut ((subst (Roomy (known s past) (state s past).volumes) g h) v among))
 

@@ -18,9 +18,9 @@ pub use Rattle.vss_model.proofs.HeldImage.{held_parts, held_point, image_runs, n
 pub use Rattle.vss_model.proofs.HeldOfSet.{IsOf, Tied, find-row_cut, tied, volumes-row_cut_if}
 pub use Rattle.vss_model.proofs.LogRule.{IsKeptInLog, Running, course-step_made, in_log, unspoken}
 pub use Rattle.vss_model.proofs.NewestImage.{UpTo, images_up_to, newest_image}
-pub use Rattle.vss_model.proofs.OneCut.{ends_settle, images_in_time, newest_number, row_number, uncut_at_cut}
+pub use Rattle.vss_model.proofs.OneCut.{images_in_time, newest_number, row_number, uncut_at_cut}
 pub use Rattle.vss_model.proofs.Orderly.{find-append_new, find-map, find-settled_over, find-settled_running, live-filter, numbered-map, true_not_false}
-pub use Rattle.vss_model.proofs.OrderlyActs.{ending_idle, ending_on, none_after, orderly}
+pub use Rattle.vss_model.proofs.OrderlyActs.{ending_idle, ending_on, none_after, orderly, ends_settle}
 pub use Rattle.vss_model.proofs.RoomForImage.{room_with_image}
 pub use Rattle.vss_model.proofs.Rows.{found_above, has_complete, kind_is, none_below, none_ends, none_over, none_runs, number-cut, running_incomplete, settled_row, some_rows}
 pub use Rattle.vss_model.proofs.Spoken.{fewer_wait, new_said}

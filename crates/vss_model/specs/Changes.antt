@@ -147,7 +147,7 @@ releases AppRollback set = []
 releases NasRollback set = []
 
 abbrev pub closes : Session → State → List Change
-closes q st = CourseIs (released st.course) ∷ SessionIs None ∷ Names [] ∷ releases q.context q.set
+closes q st = Names [] ∷ CourseIs (released st.course) ∷ SessionIs None ∷ releases q.context q.set
 
 abbrev pub calls : Plan → ℕ → Op → Session → State → List Change
 calls s lane (op.Disable w) q st = CourseIs (let c = st.course in record c { disabled = c.disabled ++ w ∷ [] }) ∷ []
