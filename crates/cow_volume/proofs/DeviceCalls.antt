@@ -7,7 +7,7 @@ use Rattle.vss_names.specs.Faults.{HasCause}
 use Rattle.volume_device.specs.declared.device.Device.{Ghosts}
 use Rattle.cow_volume.specs.Tied.{CopiesValue}
 use Rattle.cow_volume.specs.Changes.{HasNoCopy}
-use Rattle.cow_volume.specs.Calls.{IsNow, IsShown, blocks_in}
+use Rattle.cow_volume.specs.Calls.{IsNow, IsShown, StillLasts, blocks_in}
 use Rattle.cow_volume.proofs.Group.{slice_get_inside}
 use Rattle.cow_volume.proofs.Reading.{group_now, group_shown_there}
 use Rattle.cow_volume.specs.Parts.{group_of, size_at, IsCalled, IsRead, IsPut}
@@ -54,6 +54,15 @@ called ghosts v devices before after r at tells size_is lends cause = record {
   unfailed = on_ok r (ghosts.count after ≡ ghosts.count before) cause.same;
 }
 
+-- a device that tells what it told, and of which the same lasts
+pub still_lasts : {D : Type 0} (ghosts : Ghosts D) (old new : D) → ghosts.told new ≡ ghosts.told old → ghosts.lasting new ≡ ghosts.lasting old → StillLasts ghosts old new
+still_lasts ghosts old new told lasting h = lasting ∙ h ∙ sym told
+
+-- after a flush that was refused, and after an accepted one
+pub flush_lasts : {D E : Type 0} (ghosts : Ghosts D) (old new : D) (r : Result Unit E) → ghosts.told new ≡ ghosts.told old → OnOk r (ghosts.lasting new ≡ ghosts.told new)
+    → OnErr r (ghosts.lasting new ≡ ghosts.lasting old) → StillLasts ghosts old new
+flush_lasts ghosts old new r told ok err = grind (arith, still_lasts)
+
 tells_after : {E : Type 0} (old new : Option (List (List ℕ))) (b : ℕ) (bytes : List ℕ) (r : Result Unit E) → OnOk r (new ≡ option_map (λ blocks. slice_set blocks b bytes) old) → OnErr r (new ≡ old)
     → is_some new ≡ is_some old
 tells_after old new b bytes r ok err = grind arith
@@ -62,12 +71,14 @@ pub device_put : {D E : Type 0} (ghosts : Ghosts D) (v b : ℕ) (bytes : List �
     → slice_get devices v ≡ Some before
     → OnOk r (ghosts.told after ≡ option_map (λ blocks. slice_set blocks b bytes) (ghosts.told before)) → OnErr r (ghosts.told after ≡ ghosts.told before)
     → ghosts.size after ≡ ghosts.size before → ghosts.lending after ≡ ghosts.lending before
+    → OnErr r (ghosts.lasting after ≡ ghosts.lasting before)
     → HasCause (ghosts.count before) (ghosts.count after) r
     → IsPut ghosts v b bytes devices (slice_set devices v after) (is_err r)
-device_put ghosts v b bytes devices before after r at written kept size_is lends cause = record {
+device_put ghosts v b bytes devices before after r at written kept size_is lends lasting cause = record {
   call = called ghosts v devices before after r at (tells_after (ghosts.told before) (ghosts.told after) b bytes r written kept) size_is lends cause;
   written = on_ok r (ghosts.told after ≡ option_map (λ blocks. slice_set blocks b bytes) (ghosts.told before)) written;
   kept = on_err r (ghosts.told after ≡ ghosts.told before) kept;
+  still = λ failed. still_lasts ghosts before after (on_err r _ kept failed) (on_err r _ lasting failed);
 }
 
 -- ## what a call answered

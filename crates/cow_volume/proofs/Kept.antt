@@ -9,7 +9,7 @@ use Rattle.diff_area.specs.declared.table_record.Record.{Record}
 use Rattle.cow_volume.specs.GroupValue.{GroupValue}
 use Rattle.cow_volume.specs.Tied.{CopiesValue}
 use Rattle.cow_volume.specs.StandsFor.{told_in, IsVolume, StandsFor}
-use Rattle.cow_volume.specs.Calls.{IsSameDevice, IsKept, IsUnfailed, IsQuiet, VolumeRose}
+use Rattle.cow_volume.specs.Calls.{IsSameDevice, IsKept, IsUnfailed, IsQuiet, LastsAt, StillLasts, VolumeRose}
 use Rattle.cow_volume.specs.Parts.{group_of, IsCalled}
 use Rattle.cow_volume.proofs.Group.{same_number, other_number, slice_get-set_same, slice_get-set_other, length-slice_set, slice_get_inside}
 use Rattle.volume_device.specs.declared.device.Device.{Ghosts}
@@ -38,6 +38,11 @@ map_set_told f (x ∷ xs) (suc v) before after at e = ap (λ ys. f x ∷ ys) (ma
 pub all_told : {D : Type 0} (ghosts : Ghosts D) (v : ℕ) (old new : List D) (failed : Bool)
     (call : IsCalled ghosts v old new failed) → ghosts.told call.after ≡ ghosts.told call.before → map ghosts.told new ≡ map ghosts.told old
 all_told ghosts v old new failed call e = ap (map ghosts.told) call.devices ∙ map_set_told ghosts.told old v call.before call.after call.was e
+
+-- what the devices tell lasts as before where it does of the one that was called
+all_last : {D : Type 0} (ghosts : Ghosts D) (v : ℕ) (old new : List D) (failed : Bool) (call : IsCalled ghosts v old new failed) → StillLasts ghosts call.before call.after
+    → (u : ℕ) → LastsAt ghosts u old → LastsAt ghosts u new
+all_last ghosts v old new failed call still u lasts d is = grind (arith, same_number, same_Some, slice_get-set_same, other_number, slice_get-set_other)
 
 -- the count of the device of a volume rose where the call failed
 pub volume_rose_if : {D : Type 0} (ghosts : Ghosts D) (v : ℕ) (old new : List D) (failed : Bool) (g h : CopiesValue D)
@@ -86,13 +91,16 @@ kept_called ghosts v old new failed c call = record {
 }
 
 pub quiet_called : {D : Type 0} (ghosts : Ghosts D) (v : ℕ) (old new : List D) (failed : Bool) (c : CopiesValue D)
-    (call : IsCalled ghosts v old new failed) → ghosts.told call.after ≡ ghosts.told call.before → IsQuiet ghosts (group_of old c) (group_of new c)
-quiet_called ghosts v old new failed c call e = record {
+    (call : IsCalled ghosts v old new failed) → ghosts.told call.after ≡ ghosts.told call.before → StillLasts ghosts call.before call.after
+    → IsQuiet ghosts (group_of old c) (group_of new c)
+quiet_called ghosts v old new failed c call e still = record {
   kept = kept_called ghosts v old new failed c call;
   records = refl;
   images = refl;
   blocks = all_told ghosts v old new failed call e;
   slots = refl;
+  blocks_last = all_last ghosts v old new failed call still;
+  slots_last = λ h. h;
 }
 
 -- the area's device was called
@@ -103,8 +111,8 @@ kept_area ghosts devices old new table tells later = grind arith
 
 pub quiet_area : {D : Type 0} (ghosts : Ghosts D) (devices : List D) (old new : CopiesValue D) → KeepsTable ghosts.size ghosts.lending old.area new.area
     → new.images ≡ old.images → ghosts.told new.area.device ≡ ghosts.told old.area.device → ghosts.count old.area.device ≤ ghosts.count new.area.device
-    → IsQuiet ghosts (group_of devices old) (group_of devices new)
-quiet_area ghosts devices old new table images same later = grind arith
+    → StillLasts ghosts old.area.device new.area.device → IsQuiet ghosts (group_of devices old) (group_of devices new)
+quiet_area ghosts devices old new table images same later still = grind arith
 
 -- the records changed in memory, and no device was called
 pub kept_records : {D : Type 0} (ghosts : Ghosts D) (devices : List D) (old new : CopiesValue D) → new.area.volumes ≡ old.area.volumes

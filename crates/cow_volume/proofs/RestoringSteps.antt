@@ -30,6 +30,7 @@ use Rattle.cow_volume.proofs.Clearing.{length-cleared}
 use Rattle.cow_volume.proofs.NewerGone.{without_newer, all_kept, point_kept, reverted_from, reverted_in_part_from}
 use Rattle.cow_volume.proofs.Reverting.{restores, restored_none, restored_below, point_within, block_kept, block_restored, next_restored}
 use Rattle.cow_volume.proofs.GroupReverts.{changed_at-twice, changed_at-agree, changed_at-none, restoring_at, restoring_all, up_to_sets}
+use Rattle.cow_volume.proofs.DeviceCalls.{still_lasts}
 use Rattle.cow_volume.proofs.Kept.{kept_itself, kept_further, sizes_kept, kept_records, kept_area, kept_called, quiet_area, quiet_called, quiet_further, quiet_stands, volume_rose_if}
 use Rattle.cow_volume.proofs.Kept.{unfailed_called}
 use Rattle.cow_volume.proofs.DroppingNewer.{most_of, images_row}
@@ -262,12 +263,12 @@ put_back ghosts devices after old new v set b slot bytes failed found table imag
 pub not_put_back : {D : Type 0} (ghosts : Ghosts D) (devices after : List D) (old new : CopiesValue D) (v set b slot : ℕ) (bytes : List ℕ)
     (failed : Bool) → IsFirstCopy old.area.records v set b slot → KeepsTable ghosts.size ghosts.lending old.area new.area → new.images ≡ old.images
     → ghosts.told new.area.device ≡ ghosts.told old.area.device → ghosts.count old.area.device ≤ ghosts.count new.area.device → ghosts.count new.area.device ≡ ghosts.count old.area.device
-    → IsPut ghosts v b bytes devices after failed → failed ≡ true → IsNotPutBack ghosts (group_of devices old) (group_of after new) v set b Volume
-not_put_back ghosts devices after old new v set b slot bytes failed found table images same later unfailed put e = record {
+    → ghosts.lasting new.area.device ≡ ghosts.lasting old.area.device → IsPut ghosts v b bytes devices after failed → failed ≡ true → IsNotPutBack ghosts (group_of devices old) (group_of after new) v set b Volume
+not_put_back ghosts devices after old new v set b slot bytes failed found table images same later unfailed lasting put e = record {
   slot = slot;
   found = found;
-  quiet = quiet_further ghosts (group_of devices old) (group_of devices new) (group_of after new) (quiet_area ghosts devices old new table images same later)
-      (quiet_called ghosts v devices after failed new put.call (put.kept e));
+  quiet = quiet_further ghosts (group_of devices old) (group_of devices new) (group_of after new) (quiet_area ghosts devices old new table images same later (still_lasts ghosts old.area.device new.area.device same lasting))
+      (quiet_called ghosts v devices after failed new put.call (put.kept e) (put.still e));
   rose = volume_rose_if ghosts v devices after failed old new put.call e unfailed;
 }
 

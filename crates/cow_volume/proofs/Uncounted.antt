@@ -81,7 +81,15 @@ module _ {D : Type 0} (ghosts : Ghosts D) where
   one_counted now new v set b (Some k) (Err cause) one = record {
     slot = one.slot;
     found = one.found;
-    quiet = record { kept = kept_uncounted now new one.quiet.kept; records = one.quiet.records; images = one.quiet.images; blocks = one.quiet.blocks; slots = one.quiet.slots };
+    quiet = record {
+      kept = kept_uncounted now new one.quiet.kept;
+      records = one.quiet.records;
+      images = one.quiet.images;
+      blocks = one.quiet.blocks;
+      slots = one.quiet.slots;
+      blocks_last = one.quiet.blocks_last;
+      slots_last = one.quiet.slots_last;
+    };
     rose = rose_uncounted v now new cause one.quiet.kept one.rose;
   }
 
@@ -96,7 +104,7 @@ module _ {D : Type 0} (ghosts : Ghosts D) where
       record {
         slot = slot;
         found = stopped.1;
-        quiet = record { kept = kept_itself (counted_as ghosts true) now; records = refl; images = refl; blocks = refl; slots = refl };
+        quiet = record { kept = kept_itself (counted_as ghosts true) now; records = refl; images = refl; blocks = refl; slots = refl; blocks_last = λ u h. h; slots_last = λ h. h };
         rose = record { before = d.0; now = d.0; was = d.1; is = d.1; rose = inr refl; devices = counts_set now.devices now.devices v refl; area = refl };
       }
 

@@ -115,13 +115,23 @@ IsWrite ghosts old new v w (Err fault) = IsUnwritten ghosts old new v w.block fa
 
 -- ## reads
 
--- only counts of devices may have changed: the group stands for what it stood for
+-- what the device tells lasts, if it did
+abbrev pub StillLasts : {D : Type 0} → Ghosts D → D → D → Type 0
+StillLasts ghosts old new = ghosts.lasting old ≡ ghosts.told old → ghosts.lasting new ≡ ghosts.told new
+
+-- what the device at a place tells lasts
+abbrev pub LastsAt : {D : Type 0} → Ghosts D → ℕ → List D → Type 0
+LastsAt {D = D} ghosts place devices = (d : D) → slice_get devices place ≡ Some d → ghosts.lasting d ≡ ghosts.told d
+
+-- only counts of devices may have changed: the group stands for what it stood for, and what lasted lasts
 pub record IsQuiet {D : Type 0} (ghosts : Ghosts D) (old new : GroupValue D) : Type 0 where
   pub kept : IsKept ghosts old new
   pub records : new.area.records ≡ old.area.records
   pub images : new.images ≡ old.images
   pub blocks : map ghosts.told new.devices ≡ map ghosts.told old.devices
   pub slots : ghosts.told new.area.device ≡ ghosts.told old.area.device
+  pub blocks_last : (v : ℕ) → LastsAt ghosts v old.devices → LastsAt ghosts v new.devices
+  pub slots_last : StillLasts ghosts old.area.device new.area.device
 
 -- the bytes are those of block b of volume v now, where its device and the area's tell
 abbrev pub IsNow : {D : Type 0} → (D → Option (List (List ℕ))) → GroupValue D → ℕ → ℕ → List ℕ → Type 0

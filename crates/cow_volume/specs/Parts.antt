@@ -6,7 +6,7 @@ use Rattle.volume_device.specs.declared.device.Device.{Ghosts}
 use Rattle.cow_volume.specs.GroupValue.{GroupValue}
 use Rattle.cow_volume.specs.Tied.{CopiesValue}
 use Rattle.cow_volume.specs.Changes.{IsFirstCopy, HasNoCopy}
-use Rattle.cow_volume.specs.Calls.{IsSameDevice, blocks_in, is_among}
+use Rattle.cow_volume.specs.Calls.{IsSameDevice, StillLasts, blocks_in, is_among}
 use Rattle.cow_volume.specs.declared.image_fault.ImageFault.{ImageFault}
 use Rattle.cow_volume.specs.declared.image_fault.ImageFault.TheVariants.{NoSuchImage, NoSuchBlock, Volume, Area}
 
@@ -38,6 +38,7 @@ pub record IsCalled {D : Type 0} (ghosts : Ghosts D) (v : ℕ) (old new : List D
 pub record IsRead {D : Type 0} (ghosts : Ghosts D) (v b : ℕ) (bytes : List ℕ) (old new : List D) (failed : Bool) : Type 0 where
   pub call : IsCalled ghosts v old new failed
   pub told_is : ghosts.told call.after ≡ ghosts.told call.before
+  pub still : StillLasts ghosts call.before call.after
   pub block : failed ≡ false → IfSome (ghosts.told call.before) (λ blocks. slice_get blocks b ≡ Some bytes)
 
 -- block b was written, where that did not fail
@@ -45,11 +46,13 @@ pub record IsPut {D : Type 0} (ghosts : Ghosts D) (v b : ℕ) (bytes : List ℕ)
   pub call : IsCalled ghosts v old new failed
   pub written : failed ≡ false → ghosts.told call.after ≡ option_map (λ blocks. slice_set blocks b bytes) (ghosts.told call.before)
   pub kept : failed ≡ true → ghosts.told call.after ≡ ghosts.told call.before
+  pub still : failed ≡ true → StillLasts ghosts call.before call.after
 
 -- it was flushed, where that did not fail
 pub record IsFlushed {D : Type 0} (ghosts : Ghosts D) (v : ℕ) (old new : List D) (failed : Bool) : Type 0 where
   pub call : IsCalled ghosts v old new failed
   pub told_is : ghosts.told call.after ≡ ghosts.told call.before
+  pub still : StillLasts ghosts call.before call.after
   pub lasts : failed ≡ false → ghosts.lasting call.after ≡ ghosts.told call.after
 
 -- ## what is lent

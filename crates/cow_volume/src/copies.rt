@@ -239,6 +239,7 @@ impl<D: Device> Copies<D> {
         requires whole { length out.old ≡ BLOCK }
         ensures block { OnOk result (IfSome (D.told self.old.area.device) (λ blocks. slice_get blocks (place_of_slot (length self.old.area.records) slot) ≡ Some out.new)) }
         ensures told { D.told self.new.area.device ≡ D.told self.old.area.device }
+        ensures lasting { D.lasting self.new.area.device ≡ D.lasting self.old.area.device }
         ensures table { KeepsTable D.size D.lending self.old.area self.new.area }
         ensures images { self.new.images ≡ self.old.images }
         ensures cause { HasCause (D.count self.old.area.device) (D.count self.new.area.device) result }
@@ -280,6 +281,7 @@ impl<D: Device> Copies<D> {
     /// Brings what was written to the area's device to where it lasts.
     pub(crate) fn flush(&mut self) -> Result<(), AreaFault>
         ensures lasts { OnOk result (D.lasting self.new.area.device ≡ D.told self.new.area.device) }
+        ensures lasting { OnErr result (D.lasting self.new.area.device ≡ D.lasting self.old.area.device) }
         ensures told { D.told self.new.area.device ≡ D.told self.old.area.device }
         ensures table { KeepsTable D.size D.lending self.old.area self.new.area }
         ensures images { self.new.images ≡ self.old.images }

@@ -177,6 +177,7 @@ impl<D: Device> Area<D> {
         requires whole { length out.old ≡ BLOCK }
         ensures block { OnOk result (IfSome (D.told self.old.device) (λ blocks. slice_get blocks (place_of_slot (length self.old.records) slot) ≡ Some out.new)) }
         ensures told { D.told self.new.device ≡ D.told self.old.device }
+        ensures lasting { D.lasting self.new.device ≡ D.lasting self.old.device }
         ensures table { KeepsTable D.size D.lending self.old self.new }
         ensures cause { HasCause (D.count self.old.device) (D.count self.new.device) result }
         ensures fault { IfErr result (λ fault. fault ≡ AreaFault.Device) }
@@ -257,6 +258,7 @@ impl<D: Device> Area<D> {
     /// Brings what was written to where it lasts.
     pub fn flush(&mut self) -> Result<(), AreaFault>
         ensures lasts { OnOk result (D.lasting self.new.device ≡ D.told self.new.device) }
+        ensures lasting { OnErr result (D.lasting self.new.device ≡ D.lasting self.old.device) }
         ensures told { D.told self.new.device ≡ D.told self.old.device }
         ensures table { KeepsTable D.size D.lending self.old self.new }
         ensures cause { HasCause (D.count self.old.device) (D.count self.new.device) result }

@@ -1,4 +1,4 @@
-ghost use Rattle.std.specs.Prelude.{◌≡◌, ◌<◌, ◌^◌, true, Some, All, IfOk, length, replicate};
+ghost use Rattle.std.specs.Prelude.{◌≡◌, ◌<◌, ◌^◌, true, Some, None, All, IfOk, if◌then◌else◌, length, replicate};
 ghost use Rattle.block_data.specs.Runs.{zeros};
 ghost use Rattle.block_data.specs.declared.block_buf.TheConstants.{BLOCK};
 
@@ -7,10 +7,12 @@ use std::alloc::Global;
 use volume_device::Device;
 use vss_names::{Failed, OutOfMemory};
 
-/// A row of blocks in memory, which shows and lends them. No call of it fails.
+/// A row of blocks in memory, which shows and lends them. No call of it fails. Its blocks last once they are flushed.
 #[derive(Drop)]
 pub struct RamDisk {
     blocks: Vec<BlockBuf>,
+    /// Whether a block was written since the last flush.
+    dirty: bool,
     ghost whole: { All (λ block. length block ≡ BLOCK) blocks.items },
     ghost in_range: { length blocks.items < 2 ^ 32 },
 }
@@ -24,7 +26,10 @@ impl RamDisk {
         for _index in 0..count {
             blocks.push(BlockBuf::zeroed(alloc)?)?;
         }
-        Ok(RamDisk { blocks })
+        Ok(RamDisk {
+            blocks,
+            dirty: false,
+        })
     }
 }
 
@@ -37,7 +42,7 @@ impl Device for RamDisk {
 
     ghost lending = { λ disk. true };
 
-    ghost lasting = { λ disk. Some disk.blocks.items };
+    ghost lasting = { λ disk. if disk.dirty then None else Some disk.blocks.items };
 
     fn blocks(&self) -> u32 {
         self.blocks.len() as u32
@@ -48,11 +53,13 @@ impl Device for RamDisk {
     }
 
     fn write(&mut self, index: u32, block: &[u8]) -> Result<(), Failed> {
+        self.dirty = true;
         let place = &mut self.blocks[index as usize];
         Ok(place.bytes_mut().copy_from_slice(block))
     }
 
     fn flush(&mut self) -> Result<(), Failed> {
+        self.dirty = false;
         Ok(())
     }
 

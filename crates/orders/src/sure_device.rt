@@ -1,5 +1,5 @@
 ghost use Rattle.std.specs.Prelude.{◌≡◌, [], length, Some, true};
-ghost use Rattle.volume_device.specs.InMemory.{blocks_of, reads_of, writes_of, flushes_of};
+ghost use Rattle.volume_device.specs.InMemory.{blocks_of, lasting_of, reads_of, writes_of, flushes_of};
 
 use volume_device::{Device, MemDevice};
 use vss_names::Failed;
@@ -38,7 +38,7 @@ impl Device for SureDevice {
 
     ghost lending = { λ d. true };
 
-    ghost lasting = { λ d. Some (blocks_of d.device) };
+    ghost lasting = { λ d. lasting_of d.device };
 
     fn blocks(&self) -> u32 {
         self.device.blocks()

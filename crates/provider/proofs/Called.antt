@@ -11,7 +11,7 @@ use Rattle.cow_volume.specs.declared.image_fault.ImageFault.TheVariants as image
 use Rattle.cow_volume.specs.declared.revert_fault.RevertFault.TheVariants.{NoSuchImage as NoImage}
 use Rattle.provider.proofs.Becoming.{changes, stays}
 use Rattle.provider.proofs.Found.{Found, blocks_here, device_is, history_here, image_of, own, sets_here, stands_here}
-use Rattle.provider.proofs.Flat.{rose_volume, rose_area, area_of_place, counts_same, devices_same, mapped_same}
+use Rattle.provider.proofs.Flat.{rose_volume, rose_area, area_of_place, counts_same, devices_same, lasts_same, mapped_same}
 use Rattle.provider.proofs.Kept.{kept_one, kept_itself, called_there}
 
 pub record Called {D : Type 0} (s : Plan) (old new : List (GroupValue D)) (v : ℕ) : Type 0 where
@@ -87,6 +87,8 @@ module _ {D : Type 0} (device : Ghosts D) {s : Plan} {old new : List (GroupValue
   quiet_of quiet = record {
     call = call_of quiet.kept;
     blocks = ap (λ (zs : List (GroupValue D)). map device.told (devices_of zs)) c.is ∙ mapped_same device.told old c.found.group c.found.here c.after c.found.at quiet.blocks quiet.slots;
+    lasts = subst (λ (zs : List (GroupValue D)). (place : ℕ) → LastsAt device place (devices_of old) → LastsAt device place (devices_of zs)) (sym c.is)
+        (lasts_same device old c.found.group c.found.here c.after c.found.at quiet.kept.devices quiet.blocks_last quiet.slots_last);
     stands = λ hs are. unchanged hs quiet.kept are
         (quiet_stands device.told c.found.here c.after (own c.found hs) (stands_here device.told c.found hs are) quiet.blocks quiet.images quiet.kept.volumes quiet.records quiet.slots);
   }

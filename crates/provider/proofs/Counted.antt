@@ -1,5 +1,6 @@
 -- Counting the devices of groups.
 use Rattle.std.proofs.Common.{◌≡◌, ℕ, ◌+◌, ◌<◌, ◌≤◌, ◌*◌, List, [], ◌∷◌, ◌++◌, length, take, refl, ap, sym, ◌∙◌, subst, arith, Some, slice_get, ◌==◌, Bool, true, false}
+use Rattle.provider.specs.Groups.{IsFit}
 use Rattle.provider.proofs.Words.{GroupValue, devices_of, length-append, nat_tests, take_next}
 use Rattle.vss_model.proofs.Words.{number_is}
 
@@ -10,6 +11,9 @@ devices_more (y ∷ groups) x =
     let long = length-append y.devices (y.area.device ∷ devices_of (groups ++ x ∷ [])) in
     let before = length-append y.devices (y.area.device ∷ devices_of groups) in
     omega (arith, rest, long, before)
+
+below_next : (k i : ℕ) → k < i + 1 → (k == i) ≡ false → k < i
+below_next k i low e = grind (arith, nat_tests)
 
 -- the groups so far have so many devices
 pub record AreCounted {D : Type 0} (groups : List (GroupValue D)) (i count : ℕ) : Type 0 where
@@ -38,8 +42,20 @@ counted_more {D = D} groups i count volumes x at many whole few c =
         let is : x ≡ y = cc in
         subst (λ (z : GroupValue D). length z.devices ≡ length z.area.volumes) is whole
     by_test k y low there false e =
-        let less : k < i = below k i low e in
+        let less : k < i = below_next k i low e in
         c.whole k y less there
-      where
-        below : (k i : ℕ) → k < i + 1 → (k == i) ≡ false → k < i
-        below k i low e = grind (arith, nat_tests)
+
+-- the devices of the groups so far fit
+abbrev pub FirstFit : {D : Type 0} → (D → ℕ) → List (GroupValue D) → ℕ → Type 0
+FirstFit {D = D} size groups i = (k : ℕ) (x : GroupValue D) → k < i → slice_get groups k ≡ Some x → IsFit size x
+
+pub fit_more : {D : Type 0} (size : D → ℕ) (groups : List (GroupValue D)) (i : ℕ) (x : GroupValue D) → slice_get groups i ≡ Some x → IsFit size x → FirstFit size groups i
+    → FirstFit size groups (i + 1)
+fit_more size groups i x at fit before k y low there = by_test (k == i) refl
+  where
+    by_test : (t : Bool) → (k == i) ≡ t → IsFit size y
+    by_test true e =
+        let one : Some x ≡ Some y = sym at ∙ ap (slice_get groups) (sym (number_is k i e)) ∙ there in
+        let is : x ≡ y = cc in
+        subst (λ (z : GroupValue _). IsFit size z) is fit
+    by_test false e = before k y (below_next k i low e) there

@@ -1,7 +1,7 @@
 -- The devices of all groups in their order: at which place each stands, and what is known of all of them from what is known of
 -- each group.
 use Rattle.std.proofs.Common.{◌≡◌, ◌<◌, ℕ, zero, suc, ◌+◌, ◌-◌, List, [], ◌∷◌, ◌++◌, length, refl, ap, sym, ◌∙◌, subst, arith, append_assoc, Some, map, slice_get, slice_set}
-use Rattle.provider.proofs.Words.{AreaRose, GroupValue, HasGroups, IsPlaceOf, IsUnfailed, Plan, Rose, RoseAlone, VolumeRose, VolumeRow, area_place, blocks_in_group, counts_of, devices_of, first_place}
+use Rattle.provider.proofs.Words.{AreaRose, Ghosts, GroupValue, HasGroups, IsPlaceOf, IsUnfailed, LastsAt, Plan, Rose, RoseAlone, StillLasts, VolumeRose, VolumeRow, area_place, blocks_in_group, counts_of, devices_of, first_place}
 use Rattle.provider.proofs.Words.{get_some_left, length-append, length-map, map-append, map-id, set-append_left, set-append_right, slice_get_map, slice_get_within, volume_place}
 use Rattle.provider.proofs.Words.{volumes_area, volumes_area_in}
 
@@ -202,3 +202,30 @@ pub devices_same : {D : Type 0} (groups : List (GroupValue D)) (g : ℕ) (x y : 
     → devices_of (slice_set groups g y) ≡ devices_of groups
 devices_same groups g x y at devices area =
     sym (map-id (devices_of (slice_set groups g y))) ∙ mapped_same (λ d. d) groups g x y at (ap (map (λ d. d)) devices) area ∙ map-id (devices_of groups)
+
+-- what the devices of one group tell lasts if it did, and so it is of all
+joined_last : {D : Type 0} (ghosts : Ghosts D) (xs ys zs ws : List D) → length ys ≡ length xs → ((v : ℕ) → LastsAt ghosts v xs → LastsAt ghosts v ys)
+    → ((v : ℕ) → LastsAt ghosts v zs → LastsAt ghosts v ws) → (place : ℕ) → LastsAt ghosts place (xs ++ zs) → LastsAt ghosts place (ys ++ ws)
+joined_last ghosts [] [] zs ws long first rest place lasts = rest place lasts
+joined_last ghosts [] (y ∷ ys) zs ws long first rest place lasts = absurd (omega arith)
+joined_last ghosts (x ∷ xs) [] zs ws long first rest place lasts = absurd (omega arith)
+joined_last ghosts (x ∷ xs) (y ∷ ys) zs ws long first rest zero lasts = first 0 lasts
+joined_last ghosts (x ∷ xs) (y ∷ ys) zs ws long first rest (suc place) lasts = joined_last ghosts xs ys zs ws (omega arith) (λ v. first (suc v)) rest place lasts
+
+one_last : {D : Type 0} (ghosts : Ghosts D) (x y : D) → StillLasts ghosts x y → (v : ℕ) → LastsAt ghosts v (x ∷ []) → LastsAt ghosts v (y ∷ [])
+one_last ghosts x y still zero lasts d at = let same : y ≡ d = cc in subst (λ (z : _). ghosts.lasting z ≡ ghosts.told z) same (still (lasts x refl))
+one_last ghosts x y still (suc v) lasts d at = cc
+
+pub lasts_same : {D : Type 0} (ghosts : Ghosts D) (groups : List (GroupValue D)) (g : ℕ) (x y : GroupValue D) → slice_get groups g ≡ Some x → length y.devices ≡ length x.devices
+    → ((v : ℕ) → LastsAt ghosts v x.devices → LastsAt ghosts v y.devices) → StillLasts ghosts x.area.device y.area.device
+    → (place : ℕ) → LastsAt ghosts place (devices_of groups) → LastsAt ghosts place (devices_of (slice_set groups g y))
+lasts_same ghosts [] g x y at long devices area = cc
+lasts_same {D = D} ghosts (z ∷ groups) zero x y at long devices area =
+    let is : z ≡ x = cc in
+    let rest = joined_last ghosts (x.area.device ∷ []) (y.area.device ∷ []) (devices_of groups) (devices_of groups) refl (one_last ghosts x.area.device y.area.device area) (λ v h. h) in
+    subst (λ (q : GroupValue D). (place : ℕ) → LastsAt ghosts place (devices_of (q ∷ groups)) → LastsAt ghosts place (devices_of (y ∷ groups))) (sym is)
+    (joined_last ghosts x.devices y.devices (x.area.device ∷ devices_of groups) (y.area.device ∷ devices_of groups) long devices rest)
+lasts_same ghosts (z ∷ groups) (suc g) x y at long devices area =
+    let more = slice_set groups g y in
+    joined_last ghosts (z.devices) z.devices (z.area.device ∷ devices_of groups) (z.area.device ∷ devices_of more) refl (λ v h. h)
+    (joined_last ghosts (z.area.device ∷ []) (z.area.device ∷ []) (devices_of groups) (devices_of more) refl (λ v h. h) (lasts_same ghosts groups g x y at long devices area))

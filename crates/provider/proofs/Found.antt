@@ -1,10 +1,13 @@
 -- The group of a volume is found among all groups, or called: what that says of the volume of the scenario.
 use Rattle.std.proofs.Common.{◌≡◌, ℕ, ◌<◌, List, length, refl, ap, sym, ◌∙◌, subst, arith, Bool, true, Option, Some, None, get_or, slice_get, is_some, IfSome, OnOk, Result}
 use Rattle.provider.proofs.Words.{AreGroups, AtPoint, GroupValue, HasGroups, HasImage, History, IfShown, IfStandFor, IsDigestAt, IsDigestShown, IsNow, IsPlaceOf, IsPointOf, Plan, ProviderValue}
-use Rattle.provider.proofs.Words.{StandsFor, VolumeRow, Write, and_parts, blocks_at, blocks_of, concat, content, contents, device_read, devices_of, history_at, is_among, of_group, one_place, place_at}
-use Rattle.provider.proofs.Words.{place_in, sets_at, sets_in, sets_of, sha256, slice_get_inside, told_at, told_in, used, used_by, volume_place}
+use Rattle.provider.proofs.Words.{StandsFor, VolumeRow, Write, and_parts, blocks_at, blocks_in, blocks_of, concat, content, contents, device_read, devices_of, history_at, is_among, of_group, one_place, place_at}
+use Rattle.provider.proofs.Words.{place_in, sets_at, sets_in, sets_of, sha256, slice_get_inside, slice_get_map, told_at, told_in, used, used_by, volume_place}
+use Rattle.diff_area.specs.Places.{blocks_for}
 use Rattle.provider.specs.Calls.{IsDigestTold}
-use Rattle.provider.specs.Words.{IsBytes, IsSeen, history_at as group_history_at}
+use Rattle.provider.specs.Devices.{AreSized}
+use Rattle.provider.specs.Groups.{AreFit}
+use Rattle.provider.specs.Words.{IsBytes, IsSeen, blocks_in as group_blocks_in, history_at as group_history_at}
 use Rattle.provider.proofs.Places.{history_of_place, group_below, group_there, within_there, blocks_are}
 use Rattle.provider.proofs.Looked.{point_among}
 use Rattle.provider.proofs.Flat.{volume_device_at, area_device_at, area_of_place}
@@ -155,3 +158,23 @@ some_map x0 x1 o h f = grind arith
 
 pub on_ok : {T E : Type 0} (P Q : Type 0) (r : Result T E) → (P → Q) → OnOk r P → OnOk r Q
 on_ok x0 x1 r f h = grind arith
+
+-- ## sizes
+
+-- the devices of groups that fit have the sizes of the scenario
+pub sized_of : {D : Type 0} (told : D → Option (List (List ℕ))) (size : D → ℕ) (s : Plan) (groups : List (GroupValue D)) (hs : List History) → HasGroups s groups → AreGroups told s groups hs
+    → AreFit size groups → AreSized size s (devices_of groups)
+sized_of {D = D} told size s groups hs has are fits = record {
+  volumes = λ v r d e at.
+      let f = found_row s groups v r has e in
+      let here = device_is f d at in
+      let one : slice_get f.here.area.volumes f.within ≡ Some (size d) =
+      ap (λ (ns : List ℕ). slice_get ns f.within) (sym (fits f.group f.here f.at).devices) ∙ slice_get_map size f.here.devices f.within d here in
+      sym (ap group_blocks_in one) ∙ blocks_here f ∙ ap blocks_in e;
+  areas = λ v r d e at.
+      let f = found_row s groups v r has e in
+      let there = area_device_at s groups f.group f.here has f.at in
+      let own : Some f.here.area.device ≡ Some d = sym there ∙ ap (slice_get (devices_of groups)) (sym (area_of_place s v f.group f.within f.place)) ∙ at in
+      let is : f.here.area.device ≡ d = cc in
+      sym (ap size is) ∙ (fits f.group f.here f.at).area ∙ ap blocks_for ((are.each f.group f.here f.at).slots v r e refl);
+}

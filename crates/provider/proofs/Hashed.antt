@@ -10,7 +10,7 @@ use Rattle.provider.proofs.Kept.{kept_itself, kept_then}
 -- ## after quiet calls
 
 pub quiet_same : {D : Type 0} (device : Ghosts D) (x : GroupValue D) → IsQuietGroup device x x
-quiet_same device x = record { kept = kept_itself device x; records = refl; images = refl; blocks = refl; slots = refl }
+quiet_same device x = record { kept = kept_itself device x; records = refl; images = refl; blocks = refl; slots = refl; blocks_last = λ v h. h; slots_last = λ h. h }
 
 pub quiet_then : {D : Type 0} (device : Ghosts D) (x y z : GroupValue D) → IsQuietGroup device x y → IsQuietGroup device y z → IsQuietGroup device x z
 quiet_then device x y z h k = grind (arith, kept_then)

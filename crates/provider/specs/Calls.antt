@@ -3,7 +3,7 @@ use Rattle.std.specs.Prelude.{ℕ, ◌≡◌, ◌<◌, ◌≤◌, ◌+◌, ◌&&
 use Rattle.std.specs.List.{concat, flat_map, range_with_len}
 use Rattle.vss_model.specs.Words.{Evicted, History, IsPlaceOf, Placed, Plan, Write, blocks_of, change_at, content, contents, count_images, dropped, evicted_of, evicted_up_to, gone_up_to, group_of}
 use Rattle.vss_model.specs.Words.{has_image, point_in, reverted, reverted_in_part, slots_of, to_restore, volume_in, written}
-use Rattle.provider.specs.Words.{Cause, Digested, Fault, Ghosts, GroupValue, ImageFault, IsBytes, NoSuchImage, RevertFault, counted_by, lacks_slot, sets_at, sha256}
+use Rattle.provider.specs.Words.{Cause, Digested, Fault, Ghosts, GroupValue, ImageFault, IsBytes, LastsAt, NoSuchImage, RevertFault, counted_by, lacks_slot, sets_at, sha256}
 use Rattle.cow_volume.specs.declared.cause.Cause.TheVariants as cause
 use Rattle.cow_volume.specs.declared.image_fault.ImageFault.TheVariants.{NoSuchBlock, Volume, Area}
 use Rattle.cow_volume.specs.declared.revert_fault.RevertFault.TheVariants.{NoSuchImage as NoImage}
@@ -59,10 +59,11 @@ pub record IsPut {D : Type 0} (device : Ghosts D) (s : Plan) (old new : List (Gr
 
 -- ## reads
 
--- only counts of devices may have changed: the groups stand for what they stood for, and each device tells what it told
+-- only counts of devices may have changed: the groups stand for what they stood for, each device tells what it told, and what lasted lasts
 pub record IsQuiet {D : Type 0} (device : Ghosts D) (s : Plan) (old new : List (GroupValue D)) (v : ℕ) : Type 0 where
   pub call : IsCallOn device s v old new
   pub blocks : map device.told (devices_of new) ≡ map device.told (devices_of old)
+  pub lasts : (place : ℕ) → LastsAt device place (devices_of old) → LastsAt device place (devices_of new)
   pub stands : IfStandFor device.told s old (AreGroups device.told s new)
 
 -- where volume v tells, this holds of its effective writes and the point that is shown: its present end, or that of the image of a set

@@ -3,6 +3,7 @@
 -- leaves. (This project's own.)
 use Rattle.std.specs.Prelude.{ℕ, ◌≡◌, ◌≤◌, ◌+◌, Bool, zero, suc, List, [], ◌∷◌, ◌++◌, length, map, Option, Some, None, is_some, slice_get, Result, Ok, Err}
 use Rattle.vss_model.specs.Words.{Plan, Rose, VolumeRow, blocks_in_group, copies, place_in, placed}
+use Rattle.diff_area.specs.Places.{blocks_for}
 use Rattle.provider.specs.Words.{AllTell, AreStored, Area, Cause, Ghosts, GroupValue, IsKept, NoSuchBlock, Volume, told_in}
 use Rattle.provider.specs.Groups.{HasGroups, AreGroups, IfStandFor}
 
@@ -61,6 +62,11 @@ tells_from told s devices v (r ∷ rows) = is_some (told_at told s devices v) �
 abbrev pub tells_of : {D : Type 0} → (D → Option (List (List ℕ))) → Plan → List D → List Bool
 tells_of told s devices = tells_from told s devices 0 s.volumes
 
+-- the device of each volume has as many blocks as the volume, and that of its area what the area's slots need
+pub record AreSized {D : Type 0} (size : D → ℕ) (s : Plan) (devices : List D) : Type 0 where
+  pub volumes : (v : ℕ) (r : VolumeRow) (d : D) → slice_get s.volumes v ≡ Some r → slice_get devices (volume_place s v) ≡ Some d → size d ≡ r.blocks
+  pub areas : (v : ℕ) (r : VolumeRow) (d : D) → slice_get s.volumes v ≡ Some r → slice_get devices (volumes_area s v) ≡ Some d → size d ≡ blocks_for r.slots
+
 -- ## what every call keeps
 
 -- no count falls
@@ -113,10 +119,6 @@ fault_of (Ok done) = None
 fault_of (Err fault) = Some fault
 
 -- ## brought to where it lasts
-
--- what the device at a place tells lasts
-abbrev pub LastsAt : {D : Type 0} → Ghosts D → ℕ → List D → Type 0
-LastsAt {D = D} device place devices = (d : D) → slice_get devices place ≡ Some d → device.lasting d ≡ device.told d
 
 -- only the area's device of group g may have changed: the groups stand for what they stood for
 pub record IsSynced {D : Type 0} (device : Ghosts D) (old new : List (GroupValue D)) (g : ℕ) : Type 0 where

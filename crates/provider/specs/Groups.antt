@@ -2,11 +2,20 @@
 -- together. (This project's own.)
 use Rattle.std.specs.Prelude.{ℕ, ◌≡◌, ◌<◌, List, length, map, Option, Some, None, slice_get}
 use Rattle.vss_model.specs.Words.{History, Plan, VolumeRow, blocks_in_group, fresh, history_in, of_group, point_in}
+use Rattle.diff_area.specs.Places.{blocks_for}
 use Rattle.provider.specs.Words.{GroupValue, StandsFor}
 
 -- each group has a device for each of its volumes
 abbrev pub AreWhole : {D : Type 0} → List (GroupValue D) → Type 0
 AreWhole {D = D} groups = (g : ℕ) (x : GroupValue D) → slice_get groups g ≡ Some x → length x.devices ≡ length x.area.volumes
+
+-- each device of a group has as many blocks as its volume, and that of its area what its slots need
+pub record IsFit {D : Type 0} (size : D → ℕ) (x : GroupValue D) : Type 0 where
+  pub devices : map size x.devices ≡ x.area.volumes
+  pub area : size x.area.device ≡ blocks_for (length x.area.records)
+
+abbrev pub AreFit : {D : Type 0} → (D → ℕ) → List (GroupValue D) → Type 0
+AreFit {D = D} size groups = (g : ℕ) (x : GroupValue D) → slice_get groups g ≡ Some x → IsFit size x
 
 -- each volume's group is there, and each group has the blocks of its volumes and a device for each of them
 pub record HasGroups {D : Type 0} (s : Plan) (groups : List (GroupValue D)) : Type 0 where

@@ -1,7 +1,7 @@
 //! What a provider is made of.
 
 ghost use Rattle.std.specs.Prelude.{◌≡◌, ◌<◌, length};
-ghost use Rattle.provider.specs.Groups.{AreWhole};
+ghost use Rattle.provider.specs.Groups.{AreFit, AreWhole};
 ghost use Rattle.provider.specs.Devices.{devices_of};
 
 use cow_volume::CowGroup;
@@ -12,6 +12,7 @@ pub(crate) fn device_count<D: Device>(groups: &[CowGroup<D>]) -> usize
     requires { length groups.now < 4294967296 }
     ensures count { result ≡ length (devices_of groups.now) }
     ensures whole { AreWhole groups.now }
+    ensures fit { AreFit D.size groups.now }
 {
     let mut count = 0;
     for group in groups {

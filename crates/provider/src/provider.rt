@@ -10,10 +10,10 @@ ghost use Rattle.scenario.specs.Plan.{Plan, blocks_of};
 ghost use Rattle.scenario.specs.Places.{IsPlaceOf};
 ghost use Rattle.cow_volume.specs.GroupValue.{GroupValue};
 ghost use Rattle.cow_volume.specs.Parts.{IsLentBy};
-ghost use Rattle.provider.specs.Groups.{AreFresh, AreGroups, AreWhole, HasGroups, IfStandFor, history_at};
-ghost use Rattle.provider.specs.Devices.{AreKept, AreLasting, HasCause, HasSyncCause, IsSynced, LastsAt, devices_of, fault_of, volume_place};
+ghost use Rattle.provider.specs.Groups.{AreFit, AreFresh, AreGroups, AreWhole, HasGroups, IfStandFor, history_at};
+ghost use Rattle.provider.specs.Devices.{AreKept, AreLasting, HasCause, HasSyncCause, IsSynced, devices_of, fault_of, volume_place};
 ghost use Rattle.provider.specs.Calls.{AreWithout, HasImage, HasImageCause, HasRoom, IsDigestedAt, IsDigestShown, IsDropped, IsPut, IsQuiet, IsRevert, IsRoomMade, IsShown, StopsAfter};
-ghost use Rattle.provider.specs.Words.{counted_as, NeverFails};
+ghost use Rattle.provider.specs.Words.{counted_as, LastsAt, NeverFails};
 ghost use Rattle.provider.specs.Preparing.{CanCutOn, HasJoined, HasStepCause, IsCutOn, refusal, step_taken};
 
 use crate::digested::Digested;
@@ -476,6 +476,15 @@ impl<D: Device> Provider<D> {
         ensures set { self.new ≡ record self.old { groups = self.new.groups } }
     {
         self.groups[group as usize].sync()
+    }
+
+    /// How many devices there are: one for each volume and one for each area. Each has the size that was declared.
+    pub fn devices(&self) -> usize
+        requires { length self.now.groups < 4294967296 }
+        ensures count { result ≡ length (devices_of self.now.groups) }
+        ensures fit { AreFit D.size self.now.groups }
+    {
+        device_count(&self.groups)
     }
 
     /// The groups, as they are.

@@ -3,7 +3,7 @@
 use Rattle.std.specs.Prelude.{ℕ, ◌≡◌, ◌+◌, ◌++◌, ◌∷◌, [], map, List, Option, Result, Ok, Err, true, false, replicate}
 use Rattle.vss_names.specs.Faults.{counted}
 use Rattle.block_data.specs.Runs.{zeros}
-use Rattle.volume_device.specs.InMemory.{blocks_of, reads_of, writes_of, flushes_of, faults_of}
+use Rattle.volume_device.specs.InMemory.{blocks_of, reads_of, writes_of, flushes_of, faults_of, is_dirty}
 use Rattle.volume_device.specs.Plans.{row_for, used_up, is_refused, planned_reads, planned_writes, planned_flushes}
 use Rattle.volume_device.specs.declared.planned.Planned.{Planned}
 use Rattle.volume_device.specs.declared.mem_device.MemDevice.{MemDevice}
@@ -38,6 +38,7 @@ pub record IsPlanned (row : Option Planned) (size : ℕ) (device : MemDevice) : 
   pub writes : writes_of device ≡ planned_writes row
   pub flushes : flushes_of device ≡ planned_flushes row
   pub faults : faults_of device ≡ 0
+  pub clean : is_dirty device ≡ false
 
 -- The device of a name was made as the name's first row says. That row is used up, and a place was added.
 pub record IsMade (old new : MemMaker) (name : List ℕ) (size : ℕ) (device : MemDevice) : Type 0 where

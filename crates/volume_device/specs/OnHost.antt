@@ -1,7 +1,7 @@
 -- What a contract sees of a device of the host: that of the memory or of the file it stands for. A file tells
 -- nothing and lends nothing. And what it sees of the host's maker, which keeps no devices. (This project's own.)
 use Rattle.std.specs.Prelude.{ℕ, Bool, false, List, length, Option, Some, None}
-use Rattle.volume_device.specs.InMemory.{blocks_of, faults_of, lends_of}
+use Rattle.volume_device.specs.InMemory.{blocks_of, faults_of, lasting_of, lends_of}
 use Rattle.volume_device.specs.declared.host_device.HostDevice.{HostDevice}
 use Rattle.volume_device.specs.declared.host_maker.HostMaker.{HostMaker}
 use Rattle.volume_device.specs.declared.host_device.HostDevice.TheVariants.{Memory, File}
@@ -9,6 +9,10 @@ use Rattle.volume_device.specs.declared.host_device.HostDevice.TheVariants.{Memo
 abbrev pub host_told : HostDevice → Option (List (List ℕ))
 host_told (Memory device) = Some (blocks_of device)
 host_told (File device) = None
+
+abbrev pub host_lasting : HostDevice → Option (List (List ℕ))
+host_lasting (Memory device) = lasting_of device
+host_lasting (File device) = None
 
 abbrev pub host_size : HostDevice → ℕ
 host_size (Memory device) = length (blocks_of device)

@@ -8,7 +8,7 @@ use block_data::BLOCK;
 use vss_names::Failed;
 
 /// A row of blocks of `BLOCK` bytes, whose calls may fail. Each failed call raises the device's count of faults
-/// and leaves the contents as they were; a call that is answered Ok leaves the count as it was.
+/// and leaves the contents, and what lasts of them, as they were; a call that is answered Ok leaves the count as it was.
 pub trait Device: Drop {
     /// Its blocks, where it tells them. Whether it tells never changes.
     ghost told: { Self → Option (List (List ℕ)) };
@@ -22,7 +22,7 @@ pub trait Device: Drop {
     /// Whether it lends its blocks, which never changes.
     ghost lending: { Self → Bool };
 
-    /// The blocks that last as they are, where it tells them. They are known after an accepted flush alone.
+    /// The blocks that last as they are, where it tells them. An accepted flush alone makes all its blocks last.
     ghost lasting: { Self → Option (List (List ℕ)) };
 
     /// How many blocks it has. Those that it tells are as many, each of `BLOCK` bytes.
@@ -38,6 +38,7 @@ pub trait Device: Drop {
         ensures told { told self.new ≡ told self.old }
         ensures size { size self.new ≡ size self.old }
         ensures lending { lending self.new ≡ lending self.old }
+        ensures lasting { lasting self.new ≡ lasting self.old }
         ensures cause { HasCause (count self.old) (count self.new) result };
 
     /// Fills `out` with a block, while other threads may read the device too. False if it cannot be read so, or the read
@@ -57,6 +58,7 @@ pub trait Device: Drop {
         requires whole { length block.now ≡ BLOCK }
         ensures written { OnOk result (told self.new ≡ option_map (λ blocks. slice_set blocks index block.now) (told self.old)) }
         ensures kept { OnErr result (told self.new ≡ told self.old) }
+        ensures lasting { OnErr result (lasting self.new ≡ lasting self.old) }
         ensures size { size self.new ≡ size self.old }
         ensures lending { lending self.new ≡ lending self.old }
         ensures cause { HasCause (count self.old) (count self.new) result };
@@ -64,6 +66,7 @@ pub trait Device: Drop {
     /// Brings all accepted writes to where they last.
     fn flush(&mut self) -> Result<(), Failed>
         ensures lasts { OnOk result (lasting self.new ≡ told self.new) }
+        ensures lasting { OnErr result (lasting self.new ≡ lasting self.old) }
         ensures told { told self.new ≡ told self.old }
         ensures size { size self.new ≡ size self.old }
         ensures lending { lending self.new ≡ lending self.old }

@@ -11,7 +11,7 @@ pub enum HostDevice {
 }
 
 impl Device for HostDevice {
-    ghost use Rattle.volume_device.specs.OnHost.{host_told, host_size, host_faults, host_lends};
+    ghost use Rattle.volume_device.specs.OnHost.{host_told, host_lasting, host_size, host_faults, host_lends};
 
     ghost told = { host_told };
 
@@ -21,7 +21,7 @@ impl Device for HostDevice {
 
     ghost lending = { host_lends };
 
-    ghost lasting = { host_told };
+    ghost lasting = { host_lasting };
 
     fn blocks(&self) -> u32 {
         match self {

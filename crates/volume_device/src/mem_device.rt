@@ -16,6 +16,8 @@ pub struct MemDevice {
     writes: FailingCalls,
     flushes: FailingCalls,
     count: u64,
+    /// Whether a block was written since the last accepted flush.
+    dirty: bool,
     ghost whole: { All (λ block. length block ≡ BLOCK) blocks.items },
     ghost in_range: { length blocks.items < 2 ^ 32 },
 }
@@ -35,7 +37,7 @@ fn zero_blocks(alloc: Global, count: u32) -> Result<Vec<BlockBuf>, OutOfMemory>
 }
 
 impl MemDevice {
-    ghost use Rattle.volume_device.specs.InMemory.{IsNew, blocks_of, reads_of, writes_of, flushes_of, faults_of};
+    ghost use Rattle.volume_device.specs.InMemory.{IsNew, blocks_of, reads_of, writes_of, flushes_of, faults_of, is_dirty};
     ghost use Rattle.vss_names.specs.Schedules.{failing_at};
 
     /// A device of so many zero blocks, none of whose calls fails.
@@ -49,6 +51,7 @@ impl MemDevice {
             writes: FailingCalls::of(Numbers::new(alloc)),
             flushes: FailingCalls::of(Numbers::new(alloc)),
             count: 0,
+            dirty: false,
         })
     }
 
@@ -59,6 +62,7 @@ impl MemDevice {
         ensures writes { writes_of result ≡ failing_at writes }
         ensures flushes { flushes_of result ≡ failing_at flushes }
         ensures faults { faults_of result ≡ faults_of self }
+        ensures dirty { is_dirty result ≡ is_dirty self }
     {
         MemDevice {
             blocks: self.blocks,
@@ -66,12 +70,13 @@ impl MemDevice {
             writes: FailingCalls::of(writes),
             flushes: FailingCalls::of(flushes),
             count: self.count,
+            dirty: self.dirty,
         }
     }
 }
 
 impl Device for MemDevice {
-    ghost use Rattle.volume_device.specs.InMemory.{blocks_of, faults_of, lends_of, IsRead, IsWrite, IsFlush};
+    ghost use Rattle.volume_device.specs.InMemory.{blocks_of, faults_of, lasting_of, lends_of, IsRead, IsWrite, IsFlush};
 
     ghost told = { λ d. Some (blocks_of d) };
 
@@ -81,7 +86,7 @@ impl Device for MemDevice {
 
     ghost lending = { lends_of };
 
-    ghost lasting = { λ d. Some (blocks_of d) };
+    ghost lasting = { lasting_of };
 
     fn blocks(&self) -> u32 {
         self.blocks.len() as u32
@@ -108,6 +113,7 @@ impl Device for MemDevice {
         self.writes.make(&mut self.count)?;
         let place = &mut self.blocks[index as usize];
         place.bytes_mut().copy_from_slice(block);
+        self.dirty = true;
         Ok(())
     }
 
@@ -115,7 +121,9 @@ impl Device for MemDevice {
         ensures exact { IsFlush self.old self.new result }
         ensures cause { HasCause (faults_of self.old) (faults_of self.new) result }
     {
-        self.flushes.make(&mut self.count)
+        self.flushes.make(&mut self.count)?;
+        self.dirty = false;
+        Ok(())
     }
 
     fn lends(&self) -> bool {

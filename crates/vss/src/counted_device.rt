@@ -1,5 +1,5 @@
 ghost use Rattle.std.specs.Prelude.{◌≡◌};
-ghost use Rattle.volume_device.specs.OnHost.{host_told, host_size, host_faults, host_lends};
+ghost use Rattle.volume_device.specs.OnHost.{host_told, host_lasting, host_size, host_faults, host_lends};
 
 use crate::progress::Progress;
 use std::alloc::Global;
@@ -23,7 +23,7 @@ impl Device for CountedDevice {
 
     ghost lending = { λ d. host_lends d.device };
 
-    ghost lasting = { λ d. host_told d.device };
+    ghost lasting = { λ d. host_lasting d.device };
 
     fn blocks(&self) -> u32 {
         self.device.blocks()

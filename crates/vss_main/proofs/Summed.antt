@@ -194,7 +194,7 @@ module _ {D : Type 0} {ghosts : Ghosts D} {tells : Bool} {a : AroundMaker D} {ke
         only = λ t. is ∙ ap (summary_with n) (digests_final n r.plan r.trail digests generated legal complete unmarked
             (subst (λ (ts : List Bool). AreDigests ts r.plan r.trail digests) (all_told h t) are) eight);
         areas = ends.1;
-        lasted = ends.5;
+        left = ends.5;
       })
 
   -- no fault was counted

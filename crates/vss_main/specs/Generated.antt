@@ -16,7 +16,7 @@ use Rattle.generated.specs.Scenario.{IsGenerated}
 use Rattle.generated.specs.EndsWell.{EndsWell}
 use Rattle.vss_play.specs.declared.play_fault.PlayFault.{PlayFault}
 use Rattle.vss_play.specs.Digested.{AreDigests}
-use Rattle.vss_play.specs.Lasting.{HaveLasted}
+use Rattle.vss_play.specs.Lasting.{AreLeft}
 use Rattle.vss_play.specs.Played.{Played, AnyRose, AreasHold, IsKept, IsQuietPlay, tells_in}
 use Rattle.vss_main.specs.Command.{IsStoreOf}
 use Rattle.vss_main.specs.Outside.{AroundMaker, SinkAndMaker, IsUnwritten}
@@ -50,8 +50,8 @@ pub record IsSummed {D : Type 0} (ghosts : Ghosts D) (tells : Bool) (a : AroundM
   pub is_text : text ≡ summary_with n digests
   pub only : IsTrue tells → text ≡ summary n
   pub areas : AreasHold ghosts.told s made.trail made.devices
-  -- the device of each volume and of each area was flushed when it told what it tells
-  pub lasted : HaveLasted ghosts s made.devices
+  -- the device of each volume and of each area has the size that was declared, and what it tells lasts
+  pub left : AreLeft ghosts s made.devices
 
 -- a summary of a run of the generated scenario of n over devices in the folder of this name, or in memory where there is none
 pub record IsSummedIn {D : Type 0} (ghosts : Ghosts D) (tells : Store → Bool) (folder : Option (List ℕ)) (a : AroundMaker D) (n : ℕ) (text : List ℕ) : Type 0 where
@@ -74,7 +74,7 @@ abbrev pub IsDigestedTo : {D : Type 0} → Ghosts D → Played D → Played D �
 IsDigestedTo ghosts old new (Ok digests) =
     AreDigests (tells_in ghosts.told new) new.plan new.trail digests × AreasHold ghosts.told new.plan new.trail new.devices × (faults new.trail ≡ 0)
     × (map ghosts.count new.devices ≡ map ghosts.count old.devices) × (length digests ≡ 8)
-    × HaveLasted ghosts new.plan new.devices
+    × AreLeft ghosts new.plan new.devices
 IsDigestedTo ghosts old new (Err why) = AnyRose (map ghosts.count old.devices) (map ghosts.count new.devices) ⊎ (1 ≤ faults new.trail)
 
 -- a run was digested, and its devices were given back

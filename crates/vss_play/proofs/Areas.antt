@@ -94,7 +94,7 @@ one_holds {D = D} ghosts old new s trail k stands synced held first g l = by_pla
     by_place : (g < k) ⊎ (g ≡ k) → AreaHolds ghosts.told s (state s (acts s trail)).volumes new.devices g
     by_place (inl h) =
         area_as ghosts.told s (state s (acts s trail)).volumes old.devices new.devices g
-        (λ u m. synced.elsewhere (first_place g s.volumes + u) (before_area g k u s.volumes h m)) (first g h)
+        (λ u m. ap (told_of ghosts.told) (synced.elsewhere (first_place g s.volumes + u) (before_area g k u s.volumes h m))) (first g h)
     by_place (inr h) =
         subst (λ n. AreaHolds ghosts.told s (state s (acts s trail)).volumes new.devices n) (sym h)
         (held (acts s trail) (synced.stands_for (acts s trail) stands.stands))

@@ -14,7 +14,7 @@ use Rattle.vss_play.specs.declared.play_fault.PlayFault.TheVariants.{Failed, Out
 use Rattle.vss_play.specs.Played.{Played, IsEnd, IsEnded, AreasHold, AnyRose}
 use Rattle.vss_play.specs.Running.{IsPlay}
 use Rattle.vss_play.specs.Closing.{IsEnding, HasClosing}
-use Rattle.vss_play.specs.Lasting.{HaveLasted}
+use Rattle.vss_play.specs.Lasting.{AreLeft}
 use Rattle.vss_play.proofs.ClosingLines.{closed_as, play_ending}
 use Rattle.vss_play.proofs.Finishing.{play_kept}
 
@@ -40,10 +40,10 @@ ended_as {D} ghosts s old new cursors trail text p ds places kept_first kept_las
 pub reported : {D : Type 0} (ghosts : Ghosts D) (s : Plan) (old new : WorldValue D) (cursors : List ℕ) (trail : List Move) (text : List ℕ) (report : TextValue)
     → IsPlay ghosts.told s old cursors trail text → IsEnding ghosts old new s
     → HasClosing (tells_of ghosts.told s old.devices) s trail text report.bytes → AreasHold ghosts.told s trail new.devices
-    → map ghosts.count new.devices ≡ map ghosts.count old.devices → HaveLasted ghosts s new.devices
+    → map ghosts.count new.devices ≡ map ghosts.count old.devices → AreLeft ghosts s new.devices
     → IsEnd ghosts (record { plan = s; trail = trail; devices = old.devices; lines = text })
     (record { plan = s; trail = trail; devices = new.devices; lines = text }) (Ok report)
-reported {D} ghosts s old new cursors trail text report kept ending closing areas same lasted =
+reported {D} ghosts s old new cursors trail text report kept ending closing areas same left =
     let closed = closed_as ghosts.told s trail new.devices text (tells_of ghosts.told s old.devices) text report.bytes ending.tells areas closing in (
       record {
         so_far = text;
@@ -55,7 +55,7 @@ reported {D} ghosts s old new cursors trail text report kept ending closing area
       areas,
       same,
       record { text = closed.closing; is = closed.is },
-      lasted,
+      left,
     )
 
 -- it has none, by which fault

@@ -1,27 +1,23 @@
--- What lasts of a run's devices once it has ended: each was flushed, and tells still what it told then. (This project's own.)
-use Rattle.std.specs.Prelude.{ℕ, ◌≡◌, ◌<◌, List, length, Some, slice_get}
+-- What a run leaves of its devices: all that each of them tells lasts, and none has another size than was declared. (This project's own.)
+use Rattle.std.specs.Prelude.{ℕ, ◌<◌, List, length}
 use Rattle.volume_device.specs.declared.device.Device.{Ghosts}
 use Rattle.scenario.specs.Plan.{Plan}
-use Rattle.provider.specs.Devices.{area_place, volume_place}
+use Rattle.cow_volume.specs.Calls.{LastsAt}
+use Rattle.provider.specs.Devices.{AreSized, area_place, volume_place}
 
--- the device is another state of one that was flushed, what that told lasted, and it tells the same
-pub record HasLasted {D : Type 0} (ghosts : Ghosts D) (d : D) : Type 0 where
-  pub flushed : D
-  pub lasts : ghosts.lasting flushed ≡ ghosts.told flushed
-  pub still : ghosts.told d ≡ ghosts.told flushed
-
--- the device at a place
-abbrev pub HasLastedAt : {D : Type 0} → Ghosts D → ℕ → List D → Type 0
-HasLastedAt {D = D} ghosts place devices = (d : D) → slice_get devices place ≡ Some d → HasLasted ghosts d
-
--- those of the first k volumes, and those of the areas of the first k groups
+-- what the devices of the first k volumes tell lasts, and what those of the areas of the first k groups do
 abbrev pub FirstVolumesLasted : {D : Type 0} → Ghosts D → Plan → List D → ℕ → Type 0
-FirstVolumesLasted ghosts s devices k = (v : ℕ) → v < k → HasLastedAt ghosts (volume_place s v) devices
+FirstVolumesLasted ghosts s devices k = (v : ℕ) → v < k → LastsAt ghosts (volume_place s v) devices
 
 abbrev pub FirstAreasLasted : {D : Type 0} → Ghosts D → Plan → List D → ℕ → Type 0
-FirstAreasLasted ghosts s devices k = (g : ℕ) → g < k → HasLastedAt ghosts (area_place g s.volumes) devices
+FirstAreasLasted ghosts s devices k = (g : ℕ) → g < k → LastsAt ghosts (area_place g s.volumes) devices
 
--- those of all volumes and of all areas
+-- what the devices of all volumes and of all areas tell
 pub record HaveLasted {D : Type 0} (ghosts : Ghosts D) (s : Plan) (devices : List D) : Type 0 where
   pub volumes : FirstVolumesLasted ghosts s devices (length s.volumes)
   pub areas : FirstAreasLasted ghosts s devices (length s.groups)
+
+-- the devices of a run that has ended: each has the size that was declared, and all that it tells lasts
+pub record AreLeft {D : Type 0} (ghosts : Ghosts D) (s : Plan) (devices : List D) : Type 0 where
+  pub sizes : AreSized ghosts.size s devices
+  pub lasted : HaveLasted ghosts s devices

@@ -6,7 +6,7 @@ ghost use Rattle.vss_world.specs.Quiet.{IsQuiet};
 ghost use Rattle.vss_play.specs.Played.{AnyRose, AreasHold};
 ghost use Rattle.vss_play.specs.Closing.{AreReady, StandsAfter, IsEnding};
 ghost use Rattle.vss_play.specs.Digested.{AreDigests};
-ghost use Rattle.vss_play.specs.Lasting.{HaveLasted};
+ghost use Rattle.vss_play.specs.Lasting.{AreLeft};
 
 use crate::closing::sync_all;
 use crate::end_digests::digest_volume;
@@ -56,12 +56,13 @@ pub fn digest_all<D: Device>(
     requires ready { AreReady (tells_of D.told scenario.now world.old.devices) scenario.now trail.now.moves ready.old.rows.items }
     ensures digests { OnOk result (AreDigests (tells_of D.told scenario.now world.old.devices) scenario.now trail.now.moves out.new) }
     ensures areas { OnOk result (AreasHold D.told scenario.now trail.now.moves world.new.devices) }
-    ensures lasted { OnOk result (HaveLasted D.Device scenario.now world.new.devices) }
+    ensures left { OnOk result (AreLeft D.Device scenario.now world.new.devices) }
     ensures ending { IsEnding D.Device world.old world.new scenario.now }
     ensures same { OnOk result (map D.count world.new.devices ≡ map D.count world.old.devices) }
     ensures rose { IsErr result → AnyRose (map D.count world.old.devices) (map D.count world.new.devices) }
 {
     sync_all(scenario, trail, world)?;
     digest_volumes(scenario, trail, world, ready, out)?;
+    let _facts = world.devices(scenario);
     Ok(())
 }

@@ -3,7 +3,7 @@ ghost use Rattle.vss_names.specs.Faults.{Rose, all_counted};
 ghost use Rattle.vss_model.specs.Trail.{event_of};
 ghost use Rattle.vss_report.specs.ToldLines.{IsLineOf};
 ghost use Rattle.vss_play.specs.Digested.{AreDigests};
-ghost use Rattle.vss_play.specs.Lasting.{HaveLasted};
+ghost use Rattle.vss_play.specs.Lasting.{AreLeft};
 ghost use Rattle.vss_play.specs.Running.{MayIfCan};
 ghost use Rattle.write_history.specs.declared.mark.Mark.{Mark};
 ghost use Rattle.cow_volume.specs.Calls.{NeverFails, counted_as};
@@ -264,7 +264,7 @@ impl<D: Device> Play<D> {
     where
         D: Sync,
         ensures closed { OnOk result (IsClosed D.told self.new out.old.bytes out.new.bytes) }
-        ensures lasted { OnOk result (HaveLasted D.Device self.new.plan self.new.devices) }
+        ensures left { OnOk result (AreLeft D.Device self.new.plan self.new.devices) }
         ensures same { OnErr result (out.new.bytes ≡ out.old.bytes) }
         ensures quiet { IsQuietPlay D.Device self.old self.new }
         ensures kept { IsKept D.told self.new }
@@ -306,7 +306,7 @@ impl<D: Device> Play<D> {
         requires many { length out.old ≡ length self.old.plan.volumes }
         ensures digests { OnOk result (AreDigests (tells_in D.told self.new) self.new.plan self.new.trail out.new) }
         ensures areas { OnOk result (AreasHold D.told self.new.plan self.new.trail self.new.devices) }
-        ensures lasted { OnOk result (HaveLasted D.Device self.new.plan self.new.devices) }
+        ensures left { OnOk result (AreLeft D.Device self.new.plan self.new.devices) }
         ensures quiet { IsQuietPlay D.Device self.old self.new }
         ensures kept { IsKept D.told self.new }
         ensures unfailed { OnOk result (map D.count self.new.devices ≡ map D.count self.old.devices) }

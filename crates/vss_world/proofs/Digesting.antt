@@ -27,6 +27,7 @@ module _ {D : Type 0} (device : Ghosts D) {s : Plan} {p q : ProviderValue D} {x 
     stands_for = stands_still quiet.stands;
     is_of = of_kept device s p q x x l l e e of quiet.call.kept of.writers;
     blocks = quiet.blocks;
+    lasts = quiet.lasts;
     tells = quiet.call.kept.tells s;
     later = quiet.call.kept.later;
     rest = devices_alone;

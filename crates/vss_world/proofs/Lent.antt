@@ -5,7 +5,7 @@ use Rattle.vss_model.specs.declared.told.Told.TheVariants as told
 
 pub reading_itself : {D : Type 0} (device : Ghosts D) (s : Plan) (p : ProviderValue D) (v : ℕ) → IsReading device s p p v None
 reading_itself device s p v = record {
-  quiet = record { call = record { kept = kept_same device p.groups; elsewhere = λ r g e n. refl }; blocks = refl; stands = λ hs are. are };
+  quiet = record { call = record { kept = kept_same device p.groups; elsewhere = λ r g e n. refl }; blocks = refl; lasts = λ place h. h; stands = λ hs are. are };
   cause = refl;
   rest = refl;
 }

@@ -3,8 +3,9 @@ use Rattle.std.proofs.Common.{◌≡◌, ℕ, suc, ◌<◌, ◌==◌, List, [], 
 use Rattle.std.proofs.Common.{Result, Ok, Err, OnOk, IfErr, IsErr}
 use Rattle.vss_world.proofs.Words.{Act, AllTell as AllDevicesTell, AreLasting, AreStored, Area, Cause, Evicted, Ghosts, GroupValue, HasGroups, HasSyncCause, IsAreaHeld, IsOf, IsSynced, LastsAt, Plan}
 use Rattle.vss_world.proofs.Words.{ProviderValue, RoseAlone, SessionsValue, WorldValue, area_device_at, area_is_set, area_place, blocks_in_group, copies, copies_in_group, device_at, devices_of}
-use Rattle.vss_world.proofs.Words.{eqb-false, eqb-true, of_group, placed, provided, slice_get-map, slice_get-set_other, slice_get-set_same, slice_get_inside, slice_get_within}
-use Rattle.vss_world.proofs.Words.{state, told_by, told_of}
+use Rattle.vss_world.proofs.Words.{eqb-false, eqb-true, of_group, placed, provided, slice_get-set_other, slice_get-set_same, slice_get_inside, slice_get_within}
+use Rattle.vss_world.proofs.Words.{state, told_of}
+use Rattle.std.proofs.lemmas.List.{map-id}
 use Rattle.provider.specs.Words.{placed as all_placed}
 use Rattle.provider.proofs.Words.{IsSynced as AreSynced}
 use Rattle.vss_world.proofs.Moved.{world_of, of_kept}
@@ -32,8 +33,13 @@ one_set old new g x y was is same = all_alike new (slice_set old g y) (λ k. by_
     by_test k true e = let k_is = eqb-true g k e in ap (slice_get new) (sym k_is) ∙ is ∙ sym (slice_get-set_same old g x y was) ∙ ap (slice_get (slice_set old g y)) k_is
     by_test k false e = let apart = eqb-false g k e in same k (λ i. apart (sym i)) ∙ sym (slice_get-set_other old g k y apart)
 
-told_as : {D : Type 0} (told : D → Option (List (List ℕ))) (ds es : List D) (place : ℕ) → slice_get (map told ds) place ≡ slice_get (map told es) place → told_by told ds place ≡ told_by told es place
-told_as told ds es place e = grind (arith, slice_get-map)
+-- the area's device of a group is another, and every other device is as it was
+area_set : {D : Type 0} (s : Plan) (groups : List (GroupValue D)) (g : ℕ) (x y : GroupValue D) → HasGroups s groups → slice_get groups g ≡ Some x → y.devices ≡ x.devices
+    → devices_of (slice_set groups g y) ≡ slice_set (devices_of groups) (area_place g s.volumes) y.area.device
+area_set {D = D} s groups g x y has at same =
+    sym (map-id (devices_of (slice_set groups g y)))
+    ∙ area_is_set (λ (d : D). d) s groups g x y has at (ap (map (λ (d : D). d)) same)
+    ∙ ap (λ (ds : List D). slice_set ds (area_place g s.volumes) y.area.device) (map-id (devices_of groups))
 
 -- ## the call
 
@@ -48,10 +54,10 @@ synced_is device {s = s} {group = group} {p = p} {q = q} {x = x} {l = l} {e = e}
     record {
       stands_for = stands_still device of same (synced.stands s);
       is_of = of_kept device s p q x x l l e e of synced.kept of.writers;
-      elsewhere = λ place apart. told_as device.told (devices_of q.groups) (devices_of p.groups) place
-          (ap (λ (gs : List (GroupValue _)). slice_get (map device.told (devices_of gs)) place) (one_set p.groups q.groups group was.0 is.0 was.1 is.1 synced.elsewhere)
-          ∙ ap (λ ts. slice_get ts place) (area_is_set device.told s p.groups group was.0 is.0 of.groups was.1 (ap (map device.told) (synced.devices was.0 is.0 was.1 is.1)))
-          ∙ slice_get-set_other (map device.told (devices_of p.groups)) (area_place group s.volumes) place (device.told is.0.area.device) (λ h. apart (sym h)));
+      elsewhere = λ place apart.
+          ap (λ (gs : List (GroupValue _)). slice_get (devices_of gs) place) (one_set p.groups q.groups group was.0 is.0 was.1 is.1 synced.elsewhere)
+          ∙ ap (λ ds. slice_get ds place) (area_set s p.groups group was.0 is.0 of.groups was.1 (synced.devices was.0 is.0 was.1 is.1))
+          ∙ slice_get-set_other (devices_of p.groups) (area_place group s.volumes) place is.0.area.device (λ h. apart (sym h));
       tells = synced.kept.tells s;
       later = synced.kept.later;
       rest = devices_alone device of same;

@@ -4,11 +4,11 @@ use Rattle.std.specs.Prelude.{ℕ, ◌≡◌, List, [], length, map, take, Optio
 use Rattle.volume_device.specs.declared.device.Device.{Ghosts}
 use Rattle.vss_model.specs.Words.{Act, GroupPlan, History, Plan, VolumeRow, WriterPlan, blocks_in_group, contents, course_start, fresh, history_of, kept, row_of_writer, sets_of, start, state, token}
 use Rattle.vss_model.specs.Words.{used}
-use Rattle.provider.specs.Words.{GroupValue, StandsFor}
+use Rattle.provider.specs.Words.{GroupValue, LastsAt, StandsFor}
 use Rattle.vss_world.specs.Words.{AreGroups, AreLater, CoordinatorState, IsOf as IsSessionsOf, IsOnTime, Keeps, ProviderValue, Registered, SessionsValue, Stands as CoordinatorStands, area_place}
 use Rattle.vss_world.specs.Words.{writer_count}
 use Rattle.vss_world.specs.Provided.{provided}
-use Rattle.vss_world.specs.Devices.{tells_of, told_by, AreaHolds}
+use Rattle.vss_world.specs.Devices.{tells_of, AreaHolds}
 use Rattle.vss_world.specs.Stands.{WorldValue, IsOf, Stands}
 
 -- ## the beginning
@@ -45,20 +45,21 @@ pub record AreFirst (s : Plan) (x : SessionsValue) : Type 0 where
 abbrev pub AreDevicesAlone : {D : Type 0} → WorldValue D → WorldValue D → Type 0
 AreDevicesAlone old new = new ≡ record old { devices = new.devices; provider = record old.provider { groups = new.provider.groups } }
 
--- what it stands for, which devices tell, and what they tell are as they were
+-- what it stands for, which devices tell, and what they tell are as they were, and what lasted lasts
 pub record IsQuiet {D : Type 0} (device : Ghosts D) (old new : WorldValue D) (s : Plan) : Type 0 where
   pub stands_for : (acts : List Act) → Stands device.told old s acts → Stands device.told new s acts
   pub is_of : IsOf new s
   pub blocks : map device.told new.devices ≡ map device.told old.devices
+  pub lasts : (place : ℕ) → LastsAt device place old.devices → LastsAt device place new.devices
   pub tells : tells_of device.told s new.devices ≡ tells_of device.told s old.devices
   pub later : AreLater (map device.count old.devices) (map device.count new.devices)
   pub rest : AreDevicesAlone old new
 
--- the area of group g was written to its device: what it stands for is as it was, and so is what every other device tells
+-- the area of group g was written to its device: what it stands for is as it was, and so is every other device
 pub record IsSynced {D : Type 0} (device : Ghosts D) (old new : WorldValue D) (s : Plan) (g : ℕ) : Type 0 where
   pub stands_for : (acts : List Act) → Stands device.told old s acts → Stands device.told new s acts
   pub is_of : IsOf new s
-  pub elsewhere : (place : ℕ) → (place ≡ area_place g s.volumes → ⊥) → told_by device.told new.devices place ≡ told_by device.told old.devices place
+  pub elsewhere : (place : ℕ) → (place ≡ area_place g s.volumes → ⊥) → slice_get new.devices place ≡ slice_get old.devices place
   pub tells : tells_of device.told s new.devices ≡ tells_of device.told s old.devices
   pub later : AreLater (map device.count old.devices) (map device.count new.devices)
   pub rest : AreDevicesAlone old new

@@ -10,7 +10,8 @@ ghost use Rattle.vss_model.specs.Acts.{Act, state, enabled};
 ghost use Rattle.vss_model.specs.State.{history_of, kept};
 ghost use Rattle.vss_model.specs.Told.{IsDigestIf};
 ghost use Rattle.vss_model.specs.declared.event.Event.TheVariants.{Line, Provider as ProviderEvent, Idle, Answer as AnswerEvent};
-ghost use Rattle.provider.specs.Devices.{devices_of, area_place, volume_place, LastsAt, RoseAlone};
+ghost use Rattle.cow_volume.specs.Calls.{LastsAt};
+ghost use Rattle.provider.specs.Devices.{AreSized, devices_of, area_place, volume_place, RoseAlone};
 ghost use Rattle.vss_world.specs.Devices.{tells_of, HasFailed};
 ghost use Rattle.vss_world.specs.Reading.{IsDigestedIf};
 ghost use Rattle.vss_world.specs.Stands.{IsOf, Stands, IsStanding, IfStands};
@@ -321,6 +322,16 @@ impl<D: Device> World<D> {
     {
         let _volumes = scenario.volumes();
         self.provider.sync(group)
+    }
+
+    /// How many devices there are: one for each volume and one for each area. Each has the size that was declared.
+    pub fn devices(&self, scenario: &Scenario) -> usize
+        requires { IsOf self.now scenario.now }
+        ensures count { result ≡ length self.now.devices }
+        ensures sized { IfStands D.told self.now scenario.now (λ st. AreSized D.size scenario.now self.now.devices) }
+    {
+        let _groups = scenario.groups();
+        self.provider.devices()
     }
 
     /// The groups, as they are.

@@ -5,12 +5,12 @@ use Rattle.cow_volume.proofs.ending.flush_one.Goals as goal
 pub returns-in-Ok-clause-quiet : goal.returns-in-Ok-clause-quiet
 returns-in-Ok-clause-quiet g c = λ copies.
     quiet_called g.D.Device c.args.v c.args.devices.now.items c.flush_device.new.devices.items false copies c.in-Ok.ensures.call
-    c.in-Ok.ensures.told_is
+    c.in-Ok.ensures.told_is c.in-Ok.ensures.still
 
 pub returns-in-Err-clause-quiet : goal.returns-in-Err-clause-quiet
 returns-in-Err-clause-quiet g c = λ copies.
     quiet_called g.D.Device c.args.v c.args.devices.now.items c.flush_device.new.devices.items true copies c.in-Err.ensures.call
-    c.in-Err.ensures.told_is
+    c.in-Err.ensures.told_is c.in-Err.ensures.still
 
 pub returns-in-Err-clause-rose : goal.returns-in-Err-clause-rose
 returns-in-Err-clause-rose g c = λ copies.

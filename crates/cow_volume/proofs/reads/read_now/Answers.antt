@@ -16,7 +16,7 @@ returns-in-Ok-clause-now g c =
 pub returns-in-Ok-clause-quiet : goal.returns-in-Ok-clause-quiet
 returns-in-Ok-clause-quiet g c =
     quiet_called g.D.Device c.args.v c.args.devices.now.items c.read_device.new.devices.items false c.args.copies.now c.in-Ok.ensures.call
-    c.in-Ok.ensures.told_is
+    c.in-Ok.ensures.told_is c.in-Ok.ensures.still
 
 pub returns-in-Err-clause-cause : goal.returns-in-Err-clause-cause
 returns-in-Err-clause-cause g c = (
@@ -28,7 +28,7 @@ returns-in-Err-clause-cause g c = (
 pub returns-in-Err-clause-quiet : goal.returns-in-Err-clause-quiet
 returns-in-Err-clause-quiet g c =
     quiet_called g.D.Device c.args.v c.args.devices.now.items c.read_device.new.devices.items true c.args.copies.now c.in-Err.ensures.call
-    c.in-Err.ensures.told_is
+    c.in-Err.ensures.told_is c.in-Err.ensures.still
 
 pub returns-in-Ok-clause-same : goal.returns-in-Ok-clause-same
 returns-in-Ok-clause-same g c =

@@ -19,7 +19,7 @@ returns-in-Ok-read_device-clause-shown g c =
 pub returns-in-Ok-read_device-clause-quiet : goal.returns-in-Ok-read_device-clause-quiet
 returns-in-Ok-read_device-clause-quiet g c =
     quiet_called g.D.Device c.args.v c.args.devices.now.items c.read_device.new.devices.items false c.args.copies.now
-    c.in-Ok-read_device.ensures.call c.in-Ok-read_device.ensures.told_is
+    c.in-Ok-read_device.ensures.call c.in-Ok-read_device.ensures.told_is c.in-Ok-read_device.ensures.still
 
 pub returns-in-Err-read_device-clause-cause : goal.returns-in-Err-read_device-clause-cause
 returns-in-Err-read_device-clause-cause g c = (
@@ -32,7 +32,7 @@ returns-in-Err-read_device-clause-cause g c = (
 pub returns-in-Err-read_device-clause-quiet : goal.returns-in-Err-read_device-clause-quiet
 returns-in-Err-read_device-clause-quiet g c =
     quiet_called g.D.Device c.args.v c.args.devices.now.items c.read_device.new.devices.items true c.args.copies.now
-    c.in-Err-read_device.ensures.call c.in-Err-read_device.ensures.told_is
+    c.in-Err-read_device.ensures.call c.in-Err-read_device.ensures.told_is c.in-Err-read_device.ensures.still
 
 pub returns-in-Ok-clause-same : goal.returns-in-Ok-clause-same
 returns-in-Ok-clause-same g c = record { devices = refl; area = c.in-Ok.ensures.cause.same }

@@ -12,7 +12,7 @@ returns-then-is_err-2 g c =
     not_put_back g.D.Device c.args.devices.now.items c.write_device-2.new.devices.items c.args.copies.now c.read_slot.new.self c.args.v
     c.args.set c.args.block c.in-Some.slot c.bytes.result.now (is_err c.write_device-2.result)
     c.in-Some.ensures.found c.read_slot.ensures.table c.read_slot.ensures.images c.read_slot.ensures.told c.read_slot.ensures.cause.later
-    (on_ok c.read_slot.result _ c.read_slot.ensures.cause.same read) c.write_device-2.ensures failed
+    (on_ok c.read_slot.result _ c.read_slot.ensures.cause.same read) c.read_slot.ensures.lasting c.write_device-2.ensures failed
 
 pub returns : goal.returns
 returns g c =
@@ -40,4 +40,4 @@ pub returns-in-Err : goal.returns-in-Err
 returns-in-Err g c =
     not_put_back g.D.Device c.args.devices.now.items c.write_device.new.devices.items c.args.copies.now c.args.copies.now c.args.v c.args.set
     c.args.block c.in-Some.slot c.in-Some-lend_slot.bytes.now true c.in-Some.ensures.found
-    (record { volumes = refl; records = refl; size_is = refl; lends = refl }) refl refl (omega arith) refl c.in-Err.ensures refl
+    (record { volumes = refl; records = refl; size_is = refl; lends = refl }) refl refl (omega arith) refl refl c.in-Err.ensures refl

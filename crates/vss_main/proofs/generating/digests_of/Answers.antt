@@ -39,7 +39,7 @@ returns-clause-digested g
             c.if-marked.false,
         c.in-Ok.ensures.unfailed,
         c.digests.auto.out,
-        c.in-Ok.ensures.lasted,
+        c.in-Ok.ensures.left,
       );
       kept = c.give_back-2.ensures.kept;
       count_is = c.give_back-2.ensures.count;

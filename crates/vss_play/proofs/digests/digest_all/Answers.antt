@@ -1,7 +1,7 @@
 use Rattle.std.proofs.Common.{refl}
-use Rattle.vss_play.proofs.Areas.{areas_quiet}
-use Rattle.vss_play.proofs.ClosingLines.{still_ready}
-use Rattle.vss_play.proofs.Lasting.{still_lasted}
+use Rattle.vss_play.proofs.Areas.{areas_quiet, still_ending}
+use Rattle.vss_play.proofs.ClosingLines.{still_ready, still_stands}
+use Rattle.vss_play.proofs.Lasting.{left_quiet}
 use Rattle.vss_play.proofs.digests.digest_all.Goals as goal
 
 pub returns-clause-areas : goal.returns-clause-areas
@@ -13,6 +13,8 @@ pub digest_volumes-requires-clause-ready : goal.digest_volumes-requires-clause-r
 digest_volumes-requires-clause-ready g c = still_ready _ _ c.args.scenario.now c.args.trail.now.moves c.args.ready.now.rows c.args.ready.now.rows
     c.in_ok-sync_all.ensures.ending.tells refl c.requires.ready
 
-pub returns-clause-lasted : goal.returns-clause-lasted
-returns-clause-lasted g c = still_lasted g.D.Device c.args.scenario.now c.sync_all.new.world c.digest_volumes.new.world
-    c.digest_volumes.ensures.quiet c.in_ok-sync_all.ensures.lasted
+pub returns-clause-left : goal.returns-clause-left
+returns-clause-left g c = left_quiet g.D.Device c.args.scenario.now c.sync_all.new.world c.digest_volumes.new.world c.digest_volumes.ensures.quiet c.in_ok-sync_all.ensures.lasted
+    c.devices-facts.ensures.sized c.args.trail.now.moves
+    (still_stands g.D.Device c.sync_all.new.world c.digest_volumes.new.world c.args.scenario.now c.args.trail.now.moves
+    (still_ending g.D.Device c.args.world.now c.sync_all.new.world c.args.scenario.now c.args.trail.now.moves c.requires.stands c.in_ok-sync_all.ensures.ending) c.digest_volumes.ensures.quiet)

@@ -21,7 +21,7 @@ returns-clause-ended g c =
     c.into_devices-2.ensures c.give_all-2.ensures.kept c.give_all-2.ensures.count
     (reported g.D.Device c.self.inside.scenario c.self.inside.world c.close_all.new.world c.self.inside.cursors.items c.self.inside.trail.moves
     c.self.inside.lines.bytes c.close_all.new.out c.self.invariant.play c.in-Ok.ensures.ending c.in-Ok.ensures.closed c.in-Ok.ensures.areas c.in-Ok.ensures.same
-    c.in-Ok.ensures.lasted)
+    c.in-Ok.ensures.left)
 
 pub returns-in-Err-clause-ended : goal.returns-in-Err-clause-ended
 returns-in-Err-clause-ended g c =
