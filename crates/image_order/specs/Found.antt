@@ -6,6 +6,18 @@ use Rattle.image_order.specs.declared.name.Name.{Name}
 abbrev pub Is : Option (List ℕ) → Option (List ℕ) → Type 0
 Is wanted file = file ≡ wanted
 
+-- there is this file and no other
+abbrev pub AreOnly : Option (List ℕ) → (Option (List ℕ) → Type 0) → Type 0
+AreOnly wanted these = (file : Option (List ℕ)) → these file → file ≡ wanted
+
+-- each of these is one of those
+abbrev pub AreAmong : (Option (List ℕ) → Type 0) → (Option (List ℕ) → Type 0) → Type 0
+AreAmong those these = (file : Option (List ℕ)) → these file → those file
+
+-- each of these is one of those or one of more
+abbrev pub AreEither : (Option (List ℕ) → Type 0) → (Option (List ℕ) → Type 0) → (Option (List ℕ) → Type 0) → Type 0
+AreEither those more these = (file : Option (List ℕ)) → these file → those file ⊎ more file
+
 -- under each name there is nothing new
 abbrev pub AreWithin : (Name → Option (List ℕ) → Type 0) → (Name → Option (List ℕ) → Type 0) → Type 0
 AreWithin old new = (name : Name) (file : Option (List ℕ)) → new name file → old name file

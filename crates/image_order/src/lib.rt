@@ -5,12 +5,20 @@
 #![tactic(auto)]
 
 mod copied;
+mod held;
+mod laws;
+mod mem_file;
+mod mem_folder;
 mod name;
 mod ordering;
 mod passes;
 mod state_folder;
 
 pub use copied::Copied;
+pub use held::Held;
+pub use laws::an_update_is_whole;
+pub use mem_file::MemFile;
+pub use mem_folder::MemFolder;
 pub use name::Name;
 pub use ordering::{commit, commit_in_order, end_in_order, mark, overwrite_in_order, unmark};
 pub use passes::Passes;

@@ -1,8 +1,10 @@
 //! The order of the calls that replace what is committed.
 
-ghost use Rattle.std.specs.Prelude.{ℕ, ◌≡◌, ◌⊎◌, true, false, List, Option, Some, None, IfOk, OnOk};
-ghost use Rattle.image_order.specs.Found.{AreAll, AreWithinBut, Is};
-ghost use Rattle.image_order.specs.Order.{IsSettled};
+ghost use Rattle.std.specs.Prelude.{ℕ, ◌≡◌, ◌⊎◌, true, List, Option, Some, None, IfOk, OnOk};
+ghost use Rattle.image_order.specs.Found.{AreAll, AreAmong, AreOnly, AreWithinBut, Is};
+ghost use Rattle.image_order.specs.Order.{IsNamed, IsReplaced, IsCovered, IsGone, KeepsImages};
+ghost use Rattle.image_order.specs.Order.{CoversAsNow, HoldsAsNow, OpensAsNow};
+ghost use Rattle.image_order.specs.Order.{StaysSettled, StillStands, WritesNone};
 ghost use Rattle.image_order.specs.declared.name.Name.{Name as NameOf};
 
 use crate::copied::Copied;
@@ -13,8 +15,9 @@ use vss_names::Failed;
 
 /// Gives the file that was made for a name its name, and sees that this lasts.
 fn put<E: Drop, F: StateFolder<E>>(folder: &mut F, name: Name) -> Result<(), E>
-    ensures found { AreWithinBut name (F.aside folder.old name) (F.found folder.old) (F.found folder.new) }
-    ensures lasts { OnOk result ((file : Option (List ℕ)) → F.found folder.new name file → F.aside folder.old name file) }
+    ensures found { AreWithinBut name (F.aside folder.old name)
+        (F.found folder.old) (F.found folder.new) }
+    ensures lasts { OnOk result (AreAmong (F.aside folder.old name) (F.found folder.new name)) }
 {
     folder.rename(name)?;
     folder.sync_names()
@@ -22,8 +25,9 @@ fn put<E: Drop, F: StateFolder<E>>(folder: &mut F, name: Name) -> Result<(), E>
 
 /// Makes a marker of these lines, and sees that it lasts.
 pub fn mark<E: Drop, F: StateFolder<E>>(folder: &mut F, lines: &str) -> Result<(), E>
-    ensures found { AreWithinBut NameOf.Marker (Is (Some lines.now)) (F.found folder.old) (F.found folder.new) }
-    ensures lasts { OnOk result ((file : Option (List ℕ)) → F.found folder.new NameOf.Marker file → file ≡ Some lines.now) }
+    ensures found { AreWithinBut NameOf.Marker (Is (Some lines.now))
+        (F.found folder.old) (F.found folder.new) }
+    ensures lasts { OnOk result (AreOnly (Some lines.now) (F.found folder.new NameOf.Marker)) }
 {
     folder.make_marker(lines)?;
     put(folder, Name::Marker)
@@ -32,7 +36,7 @@ pub fn mark<E: Drop, F: StateFolder<E>>(folder: &mut F, lines: &str) -> Result<(
 /// Takes the marker away, and sees that this lasts.
 pub fn unmark<E: Drop, F: StateFolder<E>>(folder: &mut F) -> Result<(), E>
     ensures found { AreWithinBut NameOf.Marker (Is None) (F.found folder.old) (F.found folder.new) }
-    ensures gone { OnOk result ((file : Option (List ℕ)) → F.found folder.new NameOf.Marker file → file ≡ None) }
+    ensures gone { OnOk result (AreOnly None (F.found folder.new NameOf.Marker)) }
 {
     folder.remove_marker()?;
     folder.sync_names()
@@ -45,14 +49,16 @@ pub fn commit<E: Drop, F: StateFolder<E>, J: Drop, P: Passes<E, J>>(
     passes: &mut P,
     jobs: &J,
 ) -> Result<(), E>
-    ensures states { (before first : P) → AreAll (P.opens before passes.old) (F.found folder.old NameOf.State) → P.stands jobs.now first passes.old
-        → AreAll (λ h. P.opens before passes.new h ⊎ P.opens first passes.new h) (F.found folder.new NameOf.State) }
-    ensures committed { OnOk result ((first : P) → P.stands jobs.now first passes.old → AreAll (P.holds first passes.new) (F.found folder.new NameOf.State)) }
-    ensures covered { OnOk result ((first : P) → P.stands jobs.now first passes.old → P.is_copied jobs.now passes.old
-        → AreAll (P.covers jobs.now first passes.new) (F.found folder.new NameOf.State)) }
-    ensures marker { (file : Option (List ℕ)) → F.found folder.new NameOf.Marker file → F.found folder.old NameOf.Marker file }
-    ensures stands { (first : P) → P.stands jobs.now first passes.old → P.stands jobs.now first passes.new }
-    ensures before { (first : P) → P.is_before first passes.old → P.is_before first passes.new }
+    ensures states { IsReplaced F.StateFolder P.Passes
+        jobs.now folder.old passes.old folder.new passes.new }
+    ensures committed { OnOk result (HoldsAsNow F.StateFolder P.Passes
+        jobs.now passes.old folder.new passes.new) }
+    ensures covered { OnOk result (CoversAsNow F.StateFolder P.Passes
+        jobs.now passes.old folder.new passes.new) }
+    ensures marker { AreAmong (F.found folder.old NameOf.Marker)
+        (F.found folder.new NameOf.Marker) }
+    ensures stands { StillStands P.Passes jobs.now passes.old passes.new }
+    ensures before { WritesNone P.Passes passes.old passes.new }
 {
     passes.sync(jobs)?;
     let head = passes.head(jobs)?;
@@ -66,15 +72,15 @@ fn copy_once<E: Drop, F: StateFolder<E>, J: Drop, P: Passes<E, J>>(
     passes: &mut P,
     jobs: &mut J,
 ) -> Result<bool, E>
-    ensures states { (first : P) → IsSettled (F.found folder.old NameOf.State) (P.holds first passes.old) (P.stands jobs.old first passes.old)
-        → AreAll (P.opens first passes.new) (F.found folder.new NameOf.State) }
-    ensures settled { OnOk result ((first : P) → IsSettled (F.found folder.old NameOf.State) (P.holds first passes.old) (P.stands jobs.old first passes.old)
-        → IsSettled (F.found folder.new NameOf.State) (P.holds first passes.new) (P.stands jobs.new first passes.new)) }
-    ensures covered { IfOk result (λ is_done. is_done ≡ true → (first : P)
-        → IsSettled (F.found folder.old NameOf.State) (P.holds first passes.old) (P.stands jobs.old first passes.old)
-        → AreAll (P.covers jobs.new first passes.new) (F.found folder.new NameOf.State)) }
-    ensures before { (first : P) → P.is_before first passes.old → P.is_before first passes.new }
-    ensures marker { (file : Option (List ℕ)) → F.found folder.new NameOf.Marker file → F.found folder.old NameOf.Marker file }
+    ensures states { KeepsImages F.StateFolder P.Passes
+        jobs.old folder.old passes.old folder.new passes.new }
+    ensures settled { OnOk result (StaysSettled F.StateFolder P.Passes
+        jobs.old folder.old passes.old jobs.new folder.new passes.new) }
+    ensures covered { IfOk result (λ is_done. is_done ≡ true → IsCovered F.StateFolder P.Passes
+        jobs.old folder.old passes.old jobs.new folder.new passes.new) }
+    ensures before { WritesNone P.Passes passes.old passes.new }
+    ensures marker { AreAmong (F.found folder.old NameOf.Marker)
+        (F.found folder.new NameOf.Marker) }
 {
     let copied = passes.copy(jobs)?;
     commit(folder, passes, jobs)?;
@@ -93,12 +99,13 @@ fn copy_all<E: From<Failed> + Drop, F: StateFolder<E>, J: Drop, P: Passes<E, J>>
     passes: &mut P,
     jobs: &mut J,
 ) -> Result<(), E>
-    ensures states { (first : P) → IsSettled (F.found folder.old NameOf.State) (P.holds first passes.old) (P.stands jobs.old first passes.old)
-        → AreAll (P.opens first passes.new) (F.found folder.new NameOf.State) }
-    ensures covered { OnOk result ((first : P) → IsSettled (F.found folder.old NameOf.State) (P.holds first passes.old) (P.stands jobs.old first passes.old)
-        → AreAll (P.covers jobs.new first passes.new) (F.found folder.new NameOf.State)) }
-    ensures before { (first : P) → P.is_before first passes.old → P.is_before first passes.new }
-    ensures marker { (file : Option (List ℕ)) → F.found folder.new NameOf.Marker file → F.found folder.old NameOf.Marker file }
+    ensures states { KeepsImages F.StateFolder P.Passes
+        jobs.old folder.old passes.old folder.new passes.new }
+    ensures covered { OnOk result (IsCovered F.StateFolder P.Passes
+        jobs.old folder.old passes.old jobs.new folder.new passes.new) }
+    ensures before { WritesNone P.Passes passes.old passes.new }
+    ensures marker { AreAmong (F.found folder.old NameOf.Marker)
+        (F.found folder.new NameOf.Marker) }
 {
     'rounds: for _round in 0..u32::MAX {
         if copy_once(folder, passes, jobs)? {
@@ -120,11 +127,11 @@ pub fn overwrite_in_order<E: From<Failed> + Drop, F: StateFolder<E>, J: Drop, P:
     lines: &str,
     was_torn: bool,
 ) -> Result<(), E>
-    ensures images { (first : P) → IsSettled (F.found folder.old NameOf.State) (P.holds first passes.old) (P.stands jobs.old first passes.old)
-        → AreAll (P.opens first passes.new) (F.found folder.new NameOf.State) }
-    ensures transit { (first : P) → P.is_before first passes.old → (file : Option (List ℕ)) → F.found folder.new NameOf.Marker file
-        → (file ≡ Some lines.now) ⊎ (P.is_before first passes.new × (F.found folder.old NameOf.Marker file ⊎ ((file ≡ None) × (was_torn ≡ false)))) }
-    ensures marked { OnOk result ((file : Option (List ℕ)) → F.found folder.new NameOf.Marker file → file ≡ Some lines.now) }
+    ensures images { KeepsImages F.StateFolder P.Passes
+        jobs.old folder.old passes.old folder.new passes.new }
+    ensures transit { IsNamed F.StateFolder P.Passes
+        lines.now was_torn folder.old passes.old folder.new passes.new }
+    ensures marked { OnOk result (AreOnly (Some lines.now) (F.found folder.new NameOf.Marker)) }
 {
     mark(folder, lines)?;
     if let Err(fault) = copy_all(folder, passes, jobs) {
@@ -144,10 +151,17 @@ pub fn commit_in_order<E: Drop, F: StateFolder<E>, J: Drop, P: Passes<E, J>>(
     lines: &str,
     was_torn: bool,
 ) -> Result<(), E>
-    ensures states { (before first : P) → AreAll (P.opens before passes.old) (F.found folder.old NameOf.State) → P.stands jobs.now first passes.old
-        → AreAll (λ h. P.opens before passes.new h ⊎ P.opens first passes.new h) (F.found folder.new NameOf.State) }
-    ensures lasts { OnOk result ((first : P) → P.stands jobs.now first passes.old → AreAll (P.opens first passes.new) (F.found folder.new NameOf.State)) }
-    ensures before { (first : P) → P.is_before first passes.old → P.is_before first passes.new }
+    ensures states { IsReplaced F.StateFolder P.Passes
+        jobs.now folder.old passes.old folder.new passes.new }
+    ensures lasts { OnOk result (OpensAsNow F.StateFolder P.Passes
+        jobs.now passes.old folder.new passes.new) }
+    ensures covered { OnOk result (CoversAsNow F.StateFolder P.Passes
+        jobs.now passes.old folder.new passes.new) }
+    ensures transit { IsNamed F.StateFolder P.Passes
+        lines.now was_torn folder.old passes.old folder.new passes.new }
+    ensures marked { OnOk result (AreOnly (Some lines.now) (F.found folder.new NameOf.Marker)) }
+    ensures stands { StillStands P.Passes jobs.now passes.old passes.new }
+    ensures before { WritesNone P.Passes passes.old passes.new }
 {
     mark(folder, lines)?;
     let done = commit(folder, passes, jobs);
@@ -165,9 +179,13 @@ pub fn end_in_order<E: Drop, F: StateFolder<E>, J: Drop, P: Passes<E, J>>(
     passes: &mut P,
     jobs: &J,
 ) -> Result<(), E>
-    ensures images { (first : P) → AreAll (P.opens first passes.old) (F.found folder.old NameOf.State) → AreAll (P.opens first passes.new) (F.found folder.new NameOf.State) }
-    ensures transit { (file : Option (List ℕ)) → F.found folder.new NameOf.Marker file → F.found folder.old NameOf.Marker file ⊎ ((file ≡ None) × P.lasts jobs.now passes.new) }
-    ensures gone { OnOk result ((file : Option (List ℕ)) → F.found folder.new NameOf.Marker file → (file ≡ None) × P.lasts jobs.now passes.new) }
+    ensures images { (first : P) → AreAll (P.opens first passes.old)
+        (F.found folder.old NameOf.State)
+        → AreAll (P.opens first passes.new) (F.found folder.new NameOf.State) }
+    ensures transit { (file : Option (List ℕ)) → F.found folder.new NameOf.Marker file
+        → F.found folder.old NameOf.Marker file ⊎ IsGone P.Passes jobs.now passes.new file }
+    ensures gone { OnOk result (AreAmong (IsGone P.Passes
+        jobs.now passes.new) (F.found folder.new NameOf.Marker)) }
 {
     passes.finish(jobs)?;
     unmark(folder)
