@@ -16,7 +16,7 @@ FORMS = {
     "list": "list [--json] F",
     "sets": "sets F",
     "show": "show F [SET] NAME",
-    "restore": "restore [--over] F [SET] NAME FILE",
+    "restore": "restore [--over] F [SET] NAME FILE, restore [--over] F SET FOLDER",
     "digest": "digest F [SET] NAME",
     "delete": "delete F SET [NAME]",
     "prune": "prune --keep N F",

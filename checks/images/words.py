@@ -10,6 +10,7 @@ import sys
 import threading
 import time
 
+import plain
 from common import limited, ran, read, write
 
 B = 16384
@@ -84,6 +85,22 @@ def main(program, room):
     if read("left.restored") != b"of somebody else" or os.path.exists("left"):
         sys.exit("left.restored was touched")
 
+    os.mkdir("all")
+    call(0, "", "restore", "F", "2", "all")
+    has("all/db", second, 0o600)
+    call(3, "all/db: is there already; --over takes its place", "restore", "F", "1", "all")
+    os.mkdir("all/log")
+    call(3, "all/log: is no file", "restore", "--over", "F", "1", "all")
+    os.rmdir("all/log")
+    call(5, "all/db.restored: could not be written", "restore", "--over", "F", "1", "all", preexec_fn=small_files)
+    has("all/db", second, 0o600)
+    got = ran([program, "restore", "--over", "F", "1", "all/"])
+    if got.returncode or got.stderr != b"images: F: set 1 of log: its file was not there\n" or os.listdir("all") != ["db"]:
+        sys.exit(f"restore of a set: {got.returncode} {got.stderr} {os.listdir('all')}")
+    has("all/db", first, 0o600)
+    call(3, "set 9: there is no image of it", "restore", "F", "9", "all")
+    call(5, "nowhere/db.restored: could not be made: No such file", "restore", "F", "2", "nowhere")
+
     write("db", third)
     call(0, "db written 3 copied 3\n", "update", "--keep", "2", "F", "db=db")
     call(0, "set 3\n", "cut", "F", "db")
@@ -101,6 +118,15 @@ def main(program, room):
                   ["create", "--wait", "1", "G", "1", "db=db"], ["list", "--wait", "1", "--wait", "1", "F"]):
         call(2, "usage: ", *words)
 
+    for word, form in plain.FORMS.items():
+        said = ran([program, word, "-h"]).stdout.decode()
+        example = said.splitlines()[-1].split() if said else []
+        if not said.startswith(f"images {form}") or said != ran([program, word, "--help"]).stdout.decode() or example[:2] != ["./images", word] \
+                or ran([program, *example[1:]], cwd="/").returncode == 2:
+            sys.exit(f"{word} --help: {said}")
+        tried += 3
+    call(2, "usage: ", "nothing", "--help")
+
     held = os.open("F", os.O_RDONLY)
     fcntl.flock(held, fcntl.LOCK_EX)
     call(10, "in use by another process", "list", "F")
@@ -110,4 +136,4 @@ def main(program, room):
     if [line.split()[0] for line in read("F/images.dates").splitlines()] != [b"3", b"4"]:
         sys.exit("a set that went kept its line")
     os.chdir("/")
-    return f"{tried} calls of restore, sets, prune, --keep and --wait"
+    return f"{tried} calls of restore, sets, prune, --keep, --wait and --help"

@@ -6,11 +6,13 @@
 //!     images list F                                 prints the volumes, their images, and the slots in use
 //!     images show F [SET] NAME                      writes the file that the image, or the volume, has
 //!     images restore [--over] F [SET] NAME FILE     makes FILE of it, whole or not at all
+//!     images restore [--over] F SET FOLDER          makes each file of the set in FOLDER, by the name of its volume
 //!     images digest F [SET] NAME                    prints its SHA-256
 //!     images delete F SET [NAME]                    deletes the images of a set, or that of one volume
 //!     images prune --keep N F                       deletes the images of all sets but the N newest
 //!     images revert F SET NAME                      brings a volume back to its image of a set
 //!     images check F                                reads everything, and prints what is wrong
+//!     images WORD --help                            prints the form of a word, and an example
 //!
 //! `--wait SECONDS` before F waits for a folder that another process has. For a status other than 0 it prints one line to the standard error: the file, the field and what was found.
 #![tactic(auto)]
@@ -18,6 +20,7 @@
 mod as_json;
 mod check;
 mod dated;
+mod help;
 mod list;
 mod mistake;
 mod options;
@@ -61,6 +64,7 @@ fn call_on(opened: &mut Opened, task: Task<'_>) -> Result<(), Status> {
         Task::Show(of) => show::show(opened, of),
         Task::Digest(of) => show::digest(opened, of),
         Task::Restore { of, target } => restoring::restore(opened, of, target),
+        Task::RestoreSet { set, target } => restoring::restore_set(opened, set, target),
         Task::Prune { keep } => sets::prune(opened, keep),
         Task::Delete { set, name } => sets::delete(opened, set, name),
         Task::Revert { set, name } => sets::revert(opened, set, name),
@@ -104,6 +108,9 @@ fn answer(program: &Program, words: io::Result<Vec<String>>) -> Result<(), Statu
         Err(error) if error.kind() == io::ErrorKind::InvalidData => Vec::new(program.alloc()),
         Err(_) => return Err(Status::OutOfMemory),
     };
+    if help::help(program, &words)? {
+        return Ok(());
+    }
     match Request::of(&words) {
         Ok(request) => run(program, request),
         Err(mistake) => Err(usage(program, &words, mistake)),

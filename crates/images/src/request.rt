@@ -12,7 +12,7 @@ pub struct Request<'a> {
 }
 
 const ALL: &str =
-    "create [--tries N] F SLOTS NAME[:BLOCKS]=FILE .. | cut [--note TEXT] F NAME .. | update [--tries N] [--keep N] F NAME=FILE .. | list [--json] F | sets F | show F [SET] NAME | restore [--over] F [SET] NAME FILE | digest F [SET] NAME | delete F SET [NAME] | prune --keep N F | revert F SET NAME | check F; --wait SECONDS may stand before F";
+    "create [--tries N] F SLOTS NAME[:BLOCKS]=FILE .. | cut [--note TEXT] F NAME .. | update [--tries N] [--keep N] F NAME=FILE .. | list [--json] F | sets F | show F [SET] NAME | restore [--over] F [SET] NAME FILE, restore [--over] F SET FOLDER | digest F [SET] NAME | delete F SET [NAME] | prune --keep N F | revert F SET NAME | check F; --wait SECONDS may stand before F";
 
 /// The form that words should have, by the first of them.
 pub fn form_of(words: &[String]) -> &'static str {
@@ -27,7 +27,7 @@ pub fn form_of(words: &[String]) -> &'static str {
         "list" => "list [--json] F",
         "sets" => "sets F",
         "show" => "show F [SET] NAME",
-        "restore" => "restore [--over] F [SET] NAME FILE",
+        "restore" => "restore [--over] F [SET] NAME FILE, restore [--over] F SET FOLDER",
         "digest" => "digest F [SET] NAME",
         "delete" => "delete F SET [NAME]",
         "prune" => "prune --keep N F",

@@ -2,7 +2,8 @@
 
 use crate::show::show_into;
 use crate::task::Shown;
-use image_folder::{Opened, Program, Status, ended};
+use image_folder::{Opened, Program, Status, ended, name_in};
+use std::alloc::AllocError;
 use std::fs::{File, Metadata};
 use std::io::ErrorKind;
 use std::os::unix::fs::OpenOptionsExt;
@@ -67,12 +68,17 @@ fn sync_name(program: &Program, path: &str) -> io::Result<()> {
     File::open(&program.rt, folder)?.sync_all()
 }
 
-/// Puts the file that was made aside in its place.
-fn place(program: &Program, aside: &str, target: Target<'_>) -> Result<(), Status> {
+/// Gives a file its name.
+fn put(program: &Program, aside: &str, target: Target<'_>) -> Result<(), Status> {
     let path = target.path;
-    if let Err(error) = rename(program, aside, target) {
-        return Err(ended!(*program, WriteFault; "{path}: could not be made: {error}"));
+    match rename(program, aside, target) {
+        Ok(()) => Ok(()),
+        Err(error) => Err(ended!(*program, WriteFault; "{path}: could not be made: {error}")),
     }
+}
+
+/// Sees that the names of the files of a folder last, of which this is one.
+fn settle(program: &Program, path: &str) -> Result<(), Status> {
     match sync_name(program, path) {
         Ok(()) => Ok(()),
         Err(error) => Err(
@@ -81,13 +87,12 @@ fn place(program: &Program, aside: &str, target: Target<'_>) -> Result<(), Statu
     }
 }
 
-/// Writes the file aside, with the mode of the one whose place it takes, and puts it there.
-fn fill_and_place(
+/// Writes the file aside, with the mode of the one whose place it takes, and sees that it lasts.
+fn fill(
     opened: &mut Opened,
     of: Shown<'_>,
     file: File,
     aside: &str,
-    target: Target<'_>,
     old: Option<Metadata>,
 ) -> Result<(), Status> {
     let program = opened.folder.program;
@@ -96,19 +101,116 @@ fn fill_and_place(
             return Err(ended!(program, WriteFault; "{aside}: could not get its mode: {error}"));
         }
     }
-    show_into(opened, of, file, aside)?;
-    place(&program, aside, target)
+    show_into(opened, of, file, aside)
+}
+
+/// The path that a file has until it is whole.
+fn path_aside(program: &Program, path: &str) -> Result<String, AllocError> {
+    format!(in program.alloc(); "{path}.restored")
 }
 
 /// `restore F [SET] NAME FILE`: FILE has what the image, or the volume, has. If that fails, what was there stays.
 pub fn restore(opened: &mut Opened, of: Shown<'_>, target: Target<'_>) -> Result<(), Status> {
     let program = opened.folder.program;
     let old = replaced(&program, target)?;
-    let aside = format!(in program.alloc(); "{}.restored", target.path)?;
+    let aside = path_aside(&program, target.path)?;
     let file = made_aside(&program, aside.as_str())?;
-    let done = fill_and_place(opened, of, file, aside.as_str(), target, old);
+    let mut done = fill(opened, of, file, aside.as_str(), old);
+    if done.is_ok() {
+        done = put(&program, aside.as_str(), target);
+    }
     if done.is_err() {
         let _ = fs::remove_file(&program.rt, aside.as_str());
+        return done;
+    }
+    settle(&program, target.path)
+}
+
+/// A file of a set: the name of its volume, and its path.
+#[derive(Drop)]
+struct Part {
+    name: String,
+    path: String,
+}
+
+/// The files of a set in a folder.
+fn parts_of(opened: &Opened, set: u32, folder: &str) -> Result<Vec<Part>, Status> {
+    let (program, folder) = (opened.folder.program, folder.trim_end_matches('/'));
+    let mut parts = Vec::new(program.alloc());
+    for volume in 0..opened.store.volumes() {
+        if opened.store.images(volume).contains(&set) {
+            let name = String::from_str(program.alloc(), name_in(&opened.store, volume))?;
+            let path = format!(in program.alloc(); "{folder}/{name}")?;
+            parts.push(Part { name, path })?;
+        }
+    }
+    if parts.is_empty() {
+        let store = opened.folder.path.as_str();
+        return Err(
+            ended!(program, Refused; "{store}: set {set}: there is no image of it; ./images sets shows all"),
+        );
+    }
+    Ok(parts)
+}
+
+/// Makes the files of a set aside. Those that are made are added, which there is room for; of a file that was not there a line is printed.
+fn fill_parts<'p>(
+    opened: &mut Opened,
+    set: u32,
+    parts: &'p [Part],
+    is_over: bool,
+    made: &mut Vec<&'p str>,
+) -> Result<(), Status> {
+    let program = opened.folder.program;
+    for Part { name, path } in parts {
+        let (name, path) = (name.as_str(), path.as_str());
+        let old = replaced(&program, Target { path, is_over })?;
+        let aside = path_aside(&program, path)?;
+        let file = made_aside(&program, aside.as_str())?;
+        let set = Some(set);
+        match fill(opened, Shown { set, name }, file, aside.as_str(), old) {
+            Ok(()) => made.push(path)?,
+            Err(status) => {
+                let _ = fs::remove_file(&program.rt, aside.as_str());
+                if !matches!(status, Status::Absent) {
+                    return Err(status);
+                }
+            }
+        }
+    }
+    Ok(())
+}
+
+/// Gives all files that were made their names.
+fn put_parts(program: &Program, made: &[&str], is_over: bool) -> Result<(), Status> {
+    for path in made {
+        let aside = path_aside(program, path)?;
+        put(program, aside.as_str(), Target { path, is_over })?;
+    }
+    match made {
+        [path, ..] => settle(program, path),
+        [] => Ok(()),
+    }
+}
+
+/// `restore F SET FOLDER`: each file of the set gets the name of its volume there, once all are made. Before the first is made each name is
+/// looked at. If it fails, what has no name yet goes.
+pub fn restore_set(opened: &mut Opened, set: u32, target: Target<'_>) -> Result<(), Status> {
+    let (program, is_over) = (opened.folder.program, target.is_over);
+    let parts = parts_of(opened, set, target.path)?;
+    for Part { path, .. } in &parts {
+        let path = path.as_str();
+        let _ = replaced(&program, Target { path, is_over })?;
+    }
+    let mut made = Vec::with_capacity(program.alloc(), parts.len())?;
+    let mut done = fill_parts(opened, set, &parts, is_over, &mut made);
+    if done.is_ok() {
+        done = put_parts(&program, &made, is_over);
+    }
+    if done.is_err() {
+        for path in &made {
+            let _ = fs::remove_file(&program.rt, path_aside(&program, path)?.as_str());
+        }
     }
     done
 }

@@ -34,6 +34,11 @@ pub enum Task<'a> {
         of: Shown<'a>,
         target: Target<'a>,
     },
+    /// Each file of a set, into a folder.
+    RestoreSet {
+        set: u32,
+        target: Target<'a>,
+    },
     /// The images of all sets but so many newest ones go.
     Prune {
         keep: u32,
@@ -122,10 +127,17 @@ fn restore_of<'a>(is_over: bool, words: &'a [String]) -> Result<Task<'a>, Mistak
     if shown.is_empty() || path.is_empty() {
         return Err(Mistake::Missing("FILE"));
     }
-    Ok(Task::Restore {
-        of: words_shown(shown)?,
-        target: Target { path, is_over },
-    })
+    let target = Target { path, is_over };
+    match shown {
+        [word] if set_of(word.as_str()).is_some() => Ok(Task::RestoreSet {
+            set: set_in(word.as_str())?,
+            target,
+        }),
+        _ => Ok(Task::Restore {
+            of: words_shown(shown)?,
+            target,
+        }),
+    }
 }
 
 /// What `update` makes of these words.
@@ -212,7 +224,8 @@ impl<'a> Task<'a> {
     pub fn way(self) -> Way {
         match self {
             Task::Check => Way::Checking,
-            Task::Show(_) | Task::Digest(_) | Task::Restore { .. } => Way::Showing,
+            Task::Show(_) | Task::Digest(_) => Way::Showing,
+            Task::Restore { .. } | Task::RestoreSet { .. } => Way::Showing,
             Task::List { .. } | Task::Sets => Way::Showing,
             _ => Way::Writing,
         }
