@@ -147,6 +147,7 @@ pub fn commit_in_order<E: Drop, F: StateFolder<E>, J: Drop, P: Passes<E, J>>(
     ensures states { (before first : P) → AreAll (P.opens before passes.old) (F.found folder.old NameOf.State) → P.stands jobs.now first passes.old
         → AreAll (λ h. P.opens before passes.new h ⊎ P.opens first passes.new h) (F.found folder.new NameOf.State) }
     ensures lasts { OnOk result ((first : P) → P.stands jobs.now first passes.old → AreAll (P.opens first passes.new) (F.found folder.new NameOf.State)) }
+    ensures stands { (first : P) → P.stands jobs.now first passes.old → P.stands jobs.now first passes.new }
     ensures before { (first : P) → P.is_before first passes.old → P.is_before first passes.new }
 {
     mark(folder, lines)?;
