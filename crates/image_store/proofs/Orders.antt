@@ -1,5 +1,5 @@
 -- The calls of an update, as relations to the store that it began with.
-use Rattle.std.proofs.Common.{◌≡◌, ◌≢◌, ℕ, zero, suc, ◌+◌, ◌<◌, ◌≤◌, List, [], ◌∷◌, ◌++◌, length, map, take, drop, refl, sym, subst, ap, ◌∙◌, arith, Bool, true, false, Option, Some, None, inl, inr}
+use Rattle.std.proofs.Common.{◌≡◌, ◌≢◌, ℕ, ◌+◌, ◌<◌, ◌≤◌, List, [], ◌∷◌, ◌++◌, length, take, drop, refl, sym, subst, ap, ◌∙◌, arith, Bool, true, false, Option, Some, None, inl, inr}
 use Rattle.std.specs.Prelude.{◌⊎◌, ◌&&◌, ◌==◌, nat_lt, slice_get, slice_set, Result, Ok, Err, IfOk, OnOk}
 use Rattle.std.proofs.lemmas.Bool.{cases_lt}
 use Rattle.std.proofs.Math.Seq.{take-append_seam}
@@ -14,7 +14,6 @@ use Rattle.cow_volume.specs.Calls.{blocks_at, is_among, sets_at, sets_in}
 use Rattle.cow_volume.specs.Room.{after as sets_after_of}
 use Rattle.cow_volume.proofs.Group.{same_number, slice_get_inside, slice_get_map, slice_get-set_other, slice_get-set_same}
 use Rattle.cow_volume.proofs.MakingRoom.{sets_after}
-use Rattle.diff_area.specs.declared.table_record.Record.{Record}
 use Rattle.image_store.specs.Aims.{aim_of, aims_of, AreCopiedSoFar, AreAtTheirEnd}
 use Rattle.image_store.specs.declared.job.Job.{Job}
 use Rattle.image_store.specs.Capturing.{Gives}
@@ -168,11 +167,6 @@ more_itself told s = record {
   copies = copies_all s.group;
   still = λ p stands. stands;
 }
-
-pub pass_then : {D E : Type 0} (told : D → Option (List (List ℕ))) (a b c : StoreValue D) (r : Result Copied E) → HasMore told a b → IsCopyPass told b c r → IsCopyPass told a c r
-pass_then told a b c (Ok Whole) one two = more_then told a b c one two
-pass_then told a b c (Ok UntilEvicted) one two = further_then told a b c one two
-pass_then told a b c (Err failed) one two = more_then told a b c one two
 
 -- ## the calls of the passes
 
@@ -406,20 +400,6 @@ pub record AreFlushed {D : Type 0} (ghosts : Ghosts D) (k : ℕ) (old now : Stor
   pub images : now.group.images ≡ old.group.images
   pub under_way : (committed : GroupValue D) → IsUnderWay ghosts.told committed old.group → IsUnderWay ghosts.told committed now.group
   pub last : (v : ℕ) (d : D) → v < k → slice_get now.group.devices v ≡ Some d → ghosts.lasting d ≡ ghosts.told d
-
-pub flushed_next : {D : Type 0} (ghosts : Ghosts D) (k : ℕ) (old now next : StoreValue D) → next.group.area.volumes ≡ now.group.area.volumes → next.group.images ≡ now.group.images
-    → ((committed : GroupValue D) → IsUnderWay ghosts.told committed now.group → IsUnderWay ghosts.told committed next.group)
-    → ((u : ℕ) → u ≢ k → slice_get next.group.devices u ≡ slice_get now.group.devices u)
-    → ((d : D) → slice_get next.group.devices k ≡ Some d → ghosts.lasting d ≡ ghosts.told d) → AreFlushed ghosts k old now → AreFlushed ghosts (k + 1) old next
-flushed_next ghosts k old now next volumes images under others own before = record {
-  volumes = volumes ∙ before.volumes;
-  images = images ∙ before.images;
-  under_way = λ committed is. under committed (before.under_way committed is);
-  last = λ v d l at. elim (at_or_below v k l) [
-    | inl here ↦ own d (subst (λ u. slice_get next.group.devices u ≡ Some d) here at)
-    | inr below ↦ before.last v d below (sym (others v (λ e. absurd (omega (arith, e)))) ∙ at)
-  ];
-}
 
 -- ## the jobs, one after another
 

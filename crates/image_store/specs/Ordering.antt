@@ -44,6 +44,14 @@ IsCopied g aim = AreCopied g aim.volume aim.differs 0 (length aim.differs)
 
 -- ## in memory
 
+-- this holds of all copies that a store stands for
+abbrev pub OfAll : {D : Type 0} → (D → Option (List (List ℕ))) → StoreValue D → (PlainStore → Type 0) → Type 0
+OfAll told s P = (p : PlainStore) → StandsAs told s p → P p
+
+-- what the devices of all volumes tell lasts
+abbrev pub AllLast : {D : Type 0} → (D → Option (List (List ℕ))) → (D → Option (List (List ℕ))) → GroupValue D → Type 0
+AllLast {D = D} told lasting g = (v : ℕ) (d : D) → slice_get g.devices v ≡ Some d → lasting d ≡ told d
+
 -- the images of the sets up to each of these numbers went, that of the last one first
 abbrev pub without : List ℕ → PlainStore → PlainStore
 without [] p = p
@@ -136,7 +144,7 @@ pub record CoversBut {D : Type 0} (told : D → Option (List (List ℕ))) (aims 
 
 -- each of these is the head of the store, which was committed
 abbrev pub IsHeadOf : {D : Type 0} → (D → Option (List (List ℕ))) → StoreValue D → List ℕ → Type 0
-IsHeadOf told s h = (h ≡ head_of s) × ((p : PlainStore) → StandsAs told s p → IsCommitted told s p)
+IsHeadOf told s h = (h ≡ head_of s) × OfAll told s (IsCommitted told s)
 
 -- Whatever has lasted of the blocks that were written, this head opens, to these images: one that memory has is as it was, and each other one
 -- is as it was or went.

@@ -2,10 +2,9 @@ ghost use Rattle.std.specs.Prelude.{◌≡◌, ◌≢◌, ◌<◌, ◌≤◌, �
 ghost use Rattle.cow_volume.specs.GroupValue.{GroupValue};
 ghost use Rattle.image_order.specs.declared.copied.Copied.{Copied as CopiedOf};
 ghost use Rattle.image_store.specs.Aims.{AreAtTheirEnd, AreCopiedSoFar, aims_of};
-ghost use Rattle.image_store.specs.Ordering.{AreApart, AreWritten, IsCopied, IsCopyPass, IsHeld, IsReady, OfEach};
+ghost use Rattle.image_store.specs.Ordering.{AllLast, AreApart, AreWritten, IsCopied, IsCopyPass, IsHeld, IsReady, OfEach};
 ghost use Rattle.image_store.specs.Plain.{PlainStore};
 ghost use Rattle.image_store.specs.PowerLoss.{IsUnderWay};
-ghost use Rattle.image_store.specs.StoreValue.{StandsStill};
 
 use crate::job::Job;
 use crate::report::Report;
@@ -123,7 +122,7 @@ pub fn overwrite_jobs<
 
 /// Brings the area and then each volume to where they last.
 pub fn flush_all<D: Device>(store: &mut Store<D>) -> Result<(), Failed>
-    ensures last { OnOk result ((v : ℕ) (d : D) → slice_get store.new.group.devices v ≡ Some d → D.lasting d ≡ D.told d) }
+    ensures last { OnOk result (AllLast D.told D.lasting store.new.group) }
     ensures under_way { (committed : GroupValue D) → IsUnderWay D.told committed store.old.group → IsUnderWay D.told committed store.new.group }
     ensures images { store.new.group.images ≡ store.old.group.images }
 {

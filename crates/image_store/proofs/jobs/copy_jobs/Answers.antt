@@ -1,4 +1,4 @@
-use Rattle.std.proofs.Common.{List, Bool, ◌<◌, ◌≤◌, length, arith, ap, sym, subst, refl}
+use Rattle.std.proofs.Common.{List, Bool, ◌<◌, ◌≤◌, length, arith, ap, sym, subst}
 use Rattle.std.specs.Prelude.{slice_set}
 use Rattle.std.proofs.lemmas.Option.{slice_get-get_or, slice_get_within}
 use Rattle.image_store.specs.Aims.{aim_of, aims_of, AreCopiedSoFar}

@@ -1,4 +1,4 @@
-use Rattle.std.proofs.Common.{List, ◌<◌, ◌+◌, length, arith, ap, sym, ◌∙◌, refl}
+use Rattle.std.proofs.Common.{List, ◌<◌, ◌+◌, length, arith, ap, sym, ◌∙◌}
 use Rattle.std.specs.Prelude.{slice_get}
 use Rattle.std.proofs.lemmas.Option.{slice_get-get_or}
 use Rattle.cow_volume.proofs.Group.{slice_get_map}
