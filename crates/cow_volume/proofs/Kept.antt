@@ -1,5 +1,5 @@
 -- What each call keeps of a group, and what it stands for where only counts of devices changed.
-use Rattle.std.proofs.Common.{◌≡◌, ◌≤◌, ℕ, zero, suc, Bool, true, false, List, [], ◌∷◌, length, map, refl, ap, sym, subst, ◌∙◌, arith, Option, Some, None}
+use Rattle.std.proofs.Common.{◌≡◌, ◌≢◌, ◌≤◌, ℕ, zero, suc, Bool, true, false, List, [], ◌∷◌, length, map, refl, ap, sym, subst, ◌∙◌, arith, Option, Some, None}
 use Rattle.std.specs.Prelude.{is_some, slice_get, slice_set, option_map}
 use Rattle.std.proofs.lemmas.List.{map-set}
 use Rattle.std.proofs.lemmas.Option.{same_Some, slice_get_within, slice_get-map}
@@ -124,6 +124,10 @@ kept_records ghosts devices old new volumes slots device = grind arith
 pub called_is : {D : Type 0} (ghosts : Ghosts D) (v : ℕ) (old new : List D) (failed : Bool) (d : D)
     (call : IsCalled ghosts v old new failed) → slice_get new v ≡ Some d → call.after ≡ d
 called_is ghosts v old new failed d call is = grind (arith, same_Some, slice_get-set_same)
+
+-- and the others
+pub not_called : {D : Type 0} (ghosts : Ghosts D) (v u : ℕ) (old new : List D) (failed : Bool) → IsCalled ghosts v old new failed → u ≢ v → slice_get new u ≡ slice_get old u
+not_called {D = D} ghosts v u old new failed call other = ap (λ (ds : List D). slice_get ds u) call.devices ∙ slice_get-set_other old v u call.after (λ e. other (sym e))
 
 -- ## no device failed
 

@@ -1,4 +1,4 @@
-ghost use Rattle.std.specs.Prelude.{ℕ, ◌≡◌, ◌<◌, ◌≤◌, ◌*◌, ◌++◌, ◌∷◌, List, [], true, false, Some, length, replicate, map, slice_get, slice_set, is_some, vec_capacity, All, IfOk, IfErr, IfSome, OnOk};
+ghost use Rattle.std.specs.Prelude.{ℕ, ◌≡◌, ◌≢◌, ◌<◌, ◌≤◌, ◌*◌, ◌++◌, ◌∷◌, List, [], true, false, Some, length, replicate, map, slice_get, slice_set, is_some, vec_capacity, All, IfOk, IfErr, IfSome, OnOk};
 ghost use Rattle.block_data.specs.Runs.{zeros};
 ghost use Rattle.block_data.specs.PayloadBytes.{payload_bytes};
 ghost use Rattle.write_history.specs.History.{History, fresh, cut};
@@ -375,6 +375,7 @@ impl<D: Device> CowGroup<D> {
         ensures quiet { IsQuiet D.Device self.old self.new }
         ensures same { OnOk result (IsUnfailed D.count self.old self.new) }
         ensures lasts { OnOk result ((d : D) → slice_get self.new.devices v ≡ Some d → D.lasting d ≡ D.told d) }
+        ensures others { (u : ℕ) → u ≢ v → slice_get self.new.devices u ≡ slice_get self.old.devices u }
         ensures cause { IfErr result (λ cause. cause ≡ Cause.Volume) }
         ensures rose { IfErr result (λ cause. VolumeRose D.count v self.old self.new) }
     {

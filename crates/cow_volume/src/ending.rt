@@ -1,6 +1,6 @@
 //! What was written is brought to where it lasts.
 
-ghost use Rattle.std.specs.Prelude.{◌≡◌, ◌<◌, List, Some, length, slice_get, IfErr, OnOk};
+ghost use Rattle.std.specs.Prelude.{ℕ, ◌≡◌, ◌≢◌, ◌<◌, List, Some, length, slice_get, IfErr, OnOk};
 ghost use Rattle.cow_volume.specs.Tied.{CopiesValue};
 ghost use Rattle.cow_volume.specs.Calls.{IsQuiet, IsUnfailed, VolumeRose};
 ghost use Rattle.cow_volume.specs.Parts.{group_of};
@@ -35,6 +35,7 @@ pub(crate) fn flush_one<D: Device>(devices: &mut Vec<D>, v: u32) -> Result<(), C
     ensures quiet { (copies : CopiesValue D) → IsQuiet D.Device (group_of devices.old.items copies) (group_of devices.new.items copies) }
     ensures same { OnOk result ((copies : CopiesValue D) → IsUnfailed D.count (group_of devices.old.items copies) (group_of devices.new.items copies)) }
     ensures lasts { OnOk result ((d : D) → slice_get devices.new.items v ≡ Some d → D.lasting d ≡ D.told d) }
+    ensures others { (u : ℕ) → u ≢ v → slice_get devices.new.items u ≡ slice_get devices.old.items u }
     ensures cause { IfErr result (λ cause. cause ≡ Volume) }
     ensures rose { IfErr result (λ cause. (copies : CopiesValue D) → VolumeRose D.count v (group_of devices.old.items copies) (group_of devices.new.items copies)) }
 {

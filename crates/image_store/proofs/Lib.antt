@@ -20,3 +20,4 @@ pub mod Found
 pub mod Files
 pub mod Origins
 pub mod Failing
+pub mod Orders

@@ -123,7 +123,7 @@ still s x u set v f test gone blocks are is goes_is has =
     let r = back-on u v set f (test set) s.volumes blocks (λ p e. back-filter test set p.images blocks (sym (ap (image_in set) (are p)) ∙ e)) has in
     (r.0, goes_is ∙ goes_not gone u v (λ e. sym is ∙ r.1 e))
 
-back-step : (s : PlainStore) (x : Step) (set v : ℕ) (blocks : List (List ℕ)) → IsAllowed s x → image_of (after s x) set v ≡ Some blocks → IsStill s x set v blocks ⊎ IsCutHere s x set v blocks
+pub back-step : (s : PlainStore) (x : Step) (set v : ℕ) (blocks : List (List ℕ)) → IsAllowed s x → image_of (after s x) set v ≡ Some blocks → IsStill s x set v blocks ⊎ IsCutHere s x set v blocks
 back-step s (Cut other vs) set v blocks allowed has = back-cut s other set v vs blocks allowed.1 has (other == set) refl
 back-step s (Gone up_to) set v blocks allowed has =
     let r = back-all v set (gone_on up_to) (nat_lt up_to set) s.volumes blocks (λ p e. back-filter (λ n. nat_lt up_to n) set p.images blocks e) has in

@@ -30,8 +30,8 @@ use Rattle.image_store.specs.declared.pass.Pass.TheVariants.{Done, Evicted as St
 use Rattle.image_store.proofs.Copied.{copied_kept}
 use Rattle.image_store.proofs.Stores.{still, store_of}
 use Rattle.cow_volume.specs.GroupValue.{GroupValue}
-use Rattle.cow_volume.specs.Calls.{blocks_at, sets_at}
-use Rattle.cow_volume.proofs.Group.{slice_get_inside}
+use Rattle.cow_volume.specs.Calls.{blocks_at, sets_at, IsQuiet}
+use Rattle.cow_volume.proofs.Group.{slice_get_inside, slice_get_map}
 use Rattle.image_store.specs.Copying.{AreCopied, AreSameAt, HasCopiesOf, IsAreaSame, IsCopiedAhead, IsAreaLeft, IsInUse, KeepsSlots}
 use Rattle.image_store.specs.Plain.{Plain, volume_in, gone_on, with_blocks, on_volume}
 use Rattle.image_store.specs.PowerLoss.{IsCommitted, IsCopyPlace, IsShared, IsUnderWay, KeepsBlocks}
@@ -140,10 +140,10 @@ shared_still committed v from differs wanted blocks now copied ready mixed = rec
   by_mixed k shared (inl old) = old
   by_mixed k shared (inr new) = new ∙ by_place k shared (cases_lt k (length blocks))
 
-same_or_other : (u v : ℕ) → (u ≡ v) ⊎ (u ≢ v)
+pub same_or_other : (u v : ℕ) → (u ≡ v) ⊎ (u ≢ v)
 same_or_other u v = elim (cases_eq u v) [ inl same ↦ inl same | inr other ↦ inr other ]
 
-other_volume : (ps : List Plain) (v u : ℕ) (f : Plain → Plain) → u ≢ v → volume_in (on_volume v f ps) u ≡ volume_in ps u
+pub other_volume : (ps : List Plain) (v u : ℕ) (f : Plain → Plain) → u ≢ v → volume_in (on_volume v f ps) u ≡ volume_in ps u
 other_volume [] v u f e = refl
 other_volume (p ∷ ps) zero zero f e = absurd (e refl)
 other_volume (p ∷ ps) zero (suc u) f e = refl
@@ -213,6 +213,27 @@ synced_on {D = D} told committed old new size r table devices records whole fits
       devices = ap length devices ∙ before.devices;
       each = λ v d e at is. before.each v d e at (ap (λ (ds : List D). slice_get ds v) (sym devices) ∙ is);
     }
+
+-- the devices tell what they told
+pub quiet_on : {D : Type 0} (ghosts : Ghosts D) (committed old new : GroupValue D) → IsQuiet ghosts old new → IsUnderWay ghosts.told committed old → IsUnderWay ghosts.told committed new
+quiet_on {D = D} ghosts committed old new quiet before = record {
+  number = ap length quiet.records ∙ before.number;
+  slots = record { blocks = λ blocks is. let one = before.slots.blocks blocks is in (one.0, quiet.slots ∙ one.1, one.2) };
+  devices = many ∙ before.devices;
+  each = λ v d e at is. record { blocks = λ blocks told_is. by_device v d e at is blocks told_is };
+} where
+  many : length new.devices ≡ length old.devices
+  many = sym (length-map new.devices ghosts.told) ∙ ap length quiet.blocks ∙ length-map old.devices ghosts.told
+
+  by_device : (v : ℕ) (d e : D) → slice_get committed.devices v ≡ Some d → slice_get new.devices v ≡ Some e → (blocks : List (List ℕ)) → ghosts.told d ≡ Some blocks
+      → (now : List (List ℕ)) × (ghosts.told e ≡ Some now) × AreSameAt (IsShared committed v) blocks now
+  by_device v d e at is blocks told_is =
+      let there = slice_get_within new.devices v e is in
+      let o = slice_get_inside old.devices v (omega (arith, many)) in
+      let one = (before.each v d o.0 at o.1).blocks blocks told_is in
+      let tells : Some (ghosts.told e) ≡ Some (ghosts.told o.0) = sym (slice_get_map ghosts.told new.devices v e is) ∙ ap (λ (ts : List (Option (List (List ℕ)))). slice_get ts v) quiet.blocks
+      ∙ slice_get_map ghosts.told old.devices v o.0 o.1 in
+      (one.0, same_Some (ghosts.told e) (ghosts.told o.0) tells ∙ one.1, one.2)
 
 -- ## the calls of a store
 

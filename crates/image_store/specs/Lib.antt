@@ -20,3 +20,5 @@ pub mod Showing
 pub mod Reverting
 pub mod Lists
 pub mod Messages
+pub mod Ordering
+pub mod Aims

@@ -16,16 +16,20 @@ mod cut_fault;
 mod cutting;
 mod flushing;
 mod head;
+mod job;
+mod jobs;
 mod laws;
 mod messages;
 mod naming;
 mod new_fault;
 mod open_fault;
 mod opening;
+mod ordering;
 mod pass;
 mod pass_fault;
 mod piece;
 mod refused;
+mod report;
 mod show_fault;
 mod showing;
 mod store;
@@ -36,6 +40,8 @@ pub use capture_fault::CaptureFault;
 pub use closed::Closed;
 pub use cut_fault::CutFault;
 pub use head::Head;
+pub use job::{Job, make_empty};
+pub use jobs::Jobs;
 pub use laws::{
     a_show_is_a_step, calls_follow_one_another, files_come_back, images_are_of_their_cut,
     images_come_of_cuts, sets_are_cut_once, shown_is_of_its_cut, what_is_closed_is_opened,
@@ -43,9 +49,11 @@ pub use laws::{
 };
 pub use new_fault::NewFault;
 pub use open_fault::OpenFault;
+pub use ordering::{keep_in_order, settle_in_order, update_in_order};
 pub use pass::Pass;
 pub use pass_fault::PassFault;
 pub use refused::Refused;
+pub use report::Report;
 pub use show_fault::ShowFault;
 pub use store::Store;
 pub use which::Which;

@@ -21,6 +21,7 @@ ghost use Rattle.image_store.specs.StoreValue.{StandsAs, IsStep, StandsStill};
 ghost use Rattle.image_store.specs.Updating.{AreMarked, AreReady, IsAhead, IsOverwriting};
 ghost use Rattle.image_store.specs.Capturing.{AreCaptured, Gives, HasCaptured};
 ghost use Rattle.image_store.specs.Copying.{AreCopied, HasCopiesOf, IsAreaLeft, IsCopiedAhead};
+ghost use Rattle.image_store.specs.Ordering.{AllImages};
 ghost use Rattle.image_store.specs.PowerLoss.{IsCommitted, IsUnderWay};
 ghost use Rattle.cow_volume.specs.GroupValue.{GroupValue, placed};
 ghost use Rattle.volume_device.specs.Blocks.{AreBlocks};
@@ -161,6 +162,14 @@ impl<D: Device> Store<D> {
         ensures catalog { catalog_in (bytes_of (entries_of self.now.group self.now.names)) ≡ Ok (entries_of self.now.group self.now.names) }
     {
         the_catalog_of_a_group_is_read_back(&self.names, &self.group);
+    }
+
+    /// It has a device for each volume, and the sets of each volume's images rise.
+    pub(crate) fn has_volumes(&self)
+        ensures devices { length self.now.group.devices ≡ length self.now.group.area.volumes }
+        ensures images { AllImages self.now.group }
+    {
+        let _facts = self.group.volumes();
     }
 
     /// How many volumes it has.
@@ -476,6 +485,9 @@ impl<D: Device> Store<D> {
         ensures lasts { OnOk result ((d : D) → slice_get self.new.group.devices v ≡ Some d → D.lasting d ≡ D.told d) }
         ensures same { OnOk result (IsUnfailed D.count self.old.group self.new.group) }
         ensures failed { IfErr result (λ cause. (cause ≡ Cause.Volume) × VolumeRose D.count v self.old.group self.new.group) }
+        ensures others { (u : ℕ) → u ≢ v → slice_get self.new.group.devices u ≡ slice_get self.old.group.devices u }
+        ensures images { self.new.group.images ≡ self.old.group.images }
+        ensures under_way { (committed : GroupValue D) → IsUnderWay D.told committed self.old.group → IsUnderWay D.told committed self.new.group }
         ensures still { StandsStill D.told self.old self.new }
         ensures head { head_of self.new ≡ head_of self.old }
         ensures volumes { self.new.group.area.volumes ≡ self.old.group.area.volumes }
