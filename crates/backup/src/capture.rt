@@ -1,4 +1,4 @@
-use image_folder::{Files, Job as Passes, Opened, Program, Status, ended};
+use image_folder::{Files, Job as Passes, Opened, Program, Status, capture, ended, take_spool};
 use volume_device::FileDevice;
 use write_history::Evicted;
 
@@ -30,7 +30,7 @@ impl<'a> Capture<'a> {
     /// Reads the next part. Whether it was the last is answered.
     fn read_part(&mut self, program: &Program, store: &mut Files) -> Result<bool, Status> {
         let to = self.at.saturating_add(PART);
-        self.passes.capture(store, &mut self.spool, self.at, to)?;
+        capture(&mut self.passes, store, &mut self.spool, self.at, to)?;
         self.at = to;
         if to < self.passes.input.blocks {
             return Ok(false);
@@ -41,14 +41,14 @@ impl<'a> Capture<'a> {
 
     /// The volume takes the spool.
     fn take_spool(&mut self, store: &mut Files, gone: &mut Vec<Evicted>) -> Result<(), Status> {
-        self.passes.take_spool(store, &mut self.spool, gone)
+        take_spool(&mut self.passes, store, &mut self.spool, gone)
     }
 
     /// That the file has not changed.
     fn check(&mut self, program: &Program) -> Result<(), Status> {
         match self.passes.input.check() {
             Err(Status::InputChanged) => Err(
-                ended!(*program, InputChanged; "the file of {} changed while it was read", self.passes.name),
+                ended!(*program, InputChanged; "the file of {} changed while it was read", self.passes.input.name),
             ),
             done => done,
         }

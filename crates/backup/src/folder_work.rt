@@ -4,7 +4,8 @@ ghost use Rattle.std.specs.List.{AllPairs};
 use crate::capture::{Capture, check_all, copy_all, read_part, take_all};
 use crate::chosen::Chosen;
 use image_folder::{
-    FileInput, Job as Passes, Opened, Program, Status, Way, ended, is_own, open, say,
+    FileInput, Job as Passes, Opened, Program, Status, Way, compare, ended, is_own, open,
+    overwrite, say,
 };
 use live_backup::JobVolume;
 use std::time::Instant;
@@ -116,7 +117,7 @@ impl<'a> FolderWork<'a> {
             return Err(ended!(self.program, Refused; "{}: is a file of {folder}", of.file));
         }
         input.fit(of.name, self.opened.store.blocks(place))?;
-        Ok(Passes::new(self.program.alloc(), of.name, place, input)?)
+        Ok(Passes::new(self.program.alloc(), place, input)?)
     }
 
     /// Makes the marker of an update of the volumes of the set, unless it is there.
@@ -135,14 +136,14 @@ impl<'a> FolderWork<'a> {
     fn bring_one(&mut self, volume: u32) -> Result<(), Status> {
         let mut passes = self.passes(volume)?;
         let then = Instant::now(&self.program.rt).ok();
-        passes.compare(&mut self.opened.store)?;
+        compare(&mut passes, &mut self.opened.store)?;
         if passes.written > 0 {
             self.opened.copy_ahead(&mut passes, &mut self.gone)?;
             self.opened.commit()?;
             self.opened.is_torn = true;
-            passes.overwrite(&mut self.opened.store, &mut self.gone, "")?;
+            overwrite(&mut passes, &mut self.opened.store, &mut self.gone)?;
         }
-        let (name, blocks) = (passes.name, passes.written);
+        let (name, blocks) = (passes.input.name, passes.written);
         let (all, ms) = (passes.input.blocks, since(&self.program, then));
         say(
             &self.program,
@@ -172,7 +173,10 @@ impl<'a> FolderWork<'a> {
             return Ok(());
         }
         let passes = self.passes(volume)?;
-        let spool = self.opened.folder.spool(passes.name, passes.input.blocks)?;
+        let spool = self
+            .opened
+            .folder
+            .spool(passes.input.name, passes.input.blocks)?;
         if self.since.is_none() {
             self.since = Instant::now(&self.program.rt).ok();
         }

@@ -5,7 +5,9 @@ ghost use Rattle.std.specs.Prelude.{◌≤◌, OnOk};
 use crate::ended::of_folder;
 use crate::file_input::FileInput;
 use crate::folder::Folder;
-use crate::job::{Job, before_try, check_all, names_of, say_changed, wait_out_all};
+use crate::job::{
+    Job, before_try, check_all, compare, names_of, overwrite, say_changed, wait_out_all,
+};
 use crate::naming::{check_once, may_name};
 use crate::new_store::{blocks_of, new_store};
 use crate::opened::{Files, close, take_apart};
@@ -80,7 +82,7 @@ fn add_job<'a>(
     let mut input = FileInput::open(program, pair.file)?;
     let blocks = blocks_for(program, pair, input.length())?;
     input.fit(pair.name, blocks)?;
-    Ok(jobs.push(Job::new(program.alloc(), pair.name, volume, input)?)?)
+    Ok(jobs.push(Job::new(program.alloc(), volume, input)?)?)
 }
 
 /// Brings all new volumes to their files. No block of zeros is written. The head of the store is answered.
@@ -91,8 +93,8 @@ fn put_all(
     gone: &mut Vec<Evicted>,
 ) -> Result<Text, Status> {
     for job in jobs.iter_mut() {
-        job.compare(store)?;
-        job.overwrite(store, gone, "")?;
+        compare(job, store)?;
+        overwrite(job, store, gone)?;
     }
     check_all(jobs)?;
     Ok(store.head(program.alloc())?)

@@ -37,6 +37,8 @@ const TICK: u64 = 12;
 #[derive(Drop)]
 pub struct FileInput<'a> {
     pub program: Program,
+    /// The name of the volume that is brought to it.
+    pub name: &'a str,
     path: &'a str,
     /// The file and what was found of it, if it is there.
     source: Option<(File, Metadata)>,
@@ -144,6 +146,7 @@ impl<'a> FileInput<'a> {
         };
         Ok(FileInput {
             program: *program,
+            name: NONE,
             path,
             source,
             blocks: 0,
@@ -181,7 +184,7 @@ impl<'a> FileInput<'a> {
     }
 
     /// Gives it so many blocks, those of the volume of this name, in which it has to have room with its length.
-    pub fn fit(&mut self, name: &str, blocks: u32) -> Result<(), Status> {
+    pub fn fit(&mut self, name: &'a str, blocks: u32) -> Result<(), Status> {
         let room = (u64::from(blocks) * BLOCK as u64).saturating_sub(LENGTH as u64);
         let (path, length) = (self.path, self.length());
         if length > room {
@@ -189,7 +192,7 @@ impl<'a> FileInput<'a> {
                 ended!(self.program, Refused; "{path}: length: {length} bytes, and {name} has room for {room}"),
             );
         }
-        self.blocks = blocks;
+        (self.name, self.blocks) = (name, blocks);
         self.progress = Progress::new(&self.program, "compared", blocks);
         Ok(())
     }

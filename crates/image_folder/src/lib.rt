@@ -42,7 +42,7 @@ pub use dates::{Dated, dated_in, is_note};
 pub use ended::{note, said, say};
 pub use file_input::{ABSENT, FileInput};
 pub use folder::{AREA, Folder, STATE};
-pub use job::{Job, sets_of};
+pub use job::{Job, capture, compare, overwrite, sets_of, take_spool};
 pub use marker::Marker;
 pub use naming::{check_once, may_name, name_in, which_at};
 pub use opened::{Files, Opened, open};

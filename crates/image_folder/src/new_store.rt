@@ -103,7 +103,7 @@ fn new_devices(folder: &Folder, jobs: &[Job<'_>]) -> Result<Vec<StoreDevice>, St
 {
     let mut devices = Vec::new(folder.program.alloc());
     for job in jobs {
-        let path = folder.path_of_volume(job.name)?;
+        let path = folder.path_of_volume(job.input.name)?;
         devices.push(new_device(&folder.program, path, job.input.blocks)?)?;
     }
     Ok(devices)
@@ -113,7 +113,7 @@ fn new_devices(folder: &Folder, jobs: &[Job<'_>]) -> Result<Vec<StoreDevice>, St
 fn names_of(program: &Program, jobs: &[Job<'_>]) -> Result<Vec<Text>, Status> {
     let mut names = Vec::new(program.alloc());
     for job in jobs {
-        names.push(Text::copy(program.alloc(), job.name.as_bytes())?)?;
+        names.push(Text::copy(program.alloc(), job.input.name.as_bytes())?)?;
     }
     Ok(names)
 }

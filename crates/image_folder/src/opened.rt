@@ -6,7 +6,7 @@ use crate::device_file::{add_devices, open_device};
 use crate::ended::{by_device, say};
 use crate::folder::{AREA, Folder, MARKER, STATE};
 use crate::job::{Job, sets_of};
-use crate::jobs::{Jobs, check_least, say_gone};
+use crate::jobs::{FileReport, no_jobs};
 use crate::marker::Marker;
 use crate::naming::name_in;
 use crate::program::Program;
@@ -15,10 +15,11 @@ use crate::status::Status;
 use crate::store_device::StoreDevice;
 use crate::way::Way;
 use diff_area::AreaFault;
-use image_order::{
-    Copied, StateFolder, commit, commit_in_order, end_in_order, mark, overwrite_in_order,
+use image_order::{Copied, StateFolder, commit, mark};
+use image_store::{
+    Head, Jobs, OpenFault, Refused, Report, Store, keep_in_order, settle_in_order, update_in_order,
 };
-use image_store::{Head, OpenFault, Refused, Store};
+use std::mem;
 use write_history::Evicted;
 
 /// The volumes and images of a folder, over its files.
@@ -117,8 +118,8 @@ pub fn close(program: &Program, store: Files) -> Result<(), Status> {
 
 /// Ends a call that was done and has a marker.
 fn end_marked(folder: &mut Folder, store: &mut Files) -> Result<(), Status> {
-    let none = Jobs::none(folder.program);
-    end_in_order(folder, store, &none)
+    let none = no_jobs(folder.program);
+    settle_in_order(folder, store, &none)
 }
 
 /// Opens a folder. For one that another process has it waits so many seconds.
@@ -190,36 +191,33 @@ impl Opened {
 
     /// Makes what the store is what the next opening finds: its copies are synced, and then its state takes the place of the one before.
     pub fn commit(&mut self) -> Result<(), Status> {
-        let none = Jobs::none(self.folder.program);
+        let none = no_jobs(self.folder.program);
         commit(&mut self.folder, &mut self.store, &none)
     }
 
     /// Brings volumes to the files of jobs, under a marker of these lines.
-    pub fn overwrite(&mut self, lines: &str, jobs: &mut [Job<'_>]) -> Result<(), Status> {
-        let was_torn = self.is_torn;
-        let mut jobs = Jobs::new(&self.folder, &self.store, jobs, self.least)?;
+    pub fn overwrite<'a>(&mut self, lines: &str, jobs: &mut Vec<Job<'a>>) -> Result<(), Status> {
+        let (was_torn, alloc) = (self.is_torn, self.folder.program.alloc());
+        let report = FileReport::new(&self.folder, self.least)?;
+        let mut all = Jobs::new(alloc, mem::replace(jobs, Vec::new(alloc)), report);
         self.is_marked = true;
-        let done = overwrite_in_order(
-            &mut self.folder,
-            &mut self.store,
-            &mut jobs,
-            lines,
-            was_torn,
-        );
-        self.is_torn = was_torn || jobs.is_torn;
+        let done = update_in_order(&mut self.folder, &mut self.store, &mut all, lines, was_torn);
+        self.is_torn = was_torn || all.is_torn;
+        *jobs = all.jobs;
         done
     }
 
     /// The second pass of one job, without the commit at its end.
     pub fn copy_ahead(&mut self, job: &mut Job<'_>, gone: &mut Vec<Evicted>) -> Result<(), Status> {
+        let report = FileReport::new(&self.folder, self.least)?;
         for _round in 0..u32::MAX {
-            if let Copied::All = job.copy_ahead(&mut self.store, gone)? {
+            let copied: Result<Copied, Status> = job.copy_ahead(&mut self.store, gone, &report);
+            if let Copied::All = copied? {
                 break;
             }
-            let (program, path) = (&self.folder.program, self.folder.path.as_str());
-            check_least(program, path, &self.store, self.least)?;
+            report.check_left(&self.store)?;
             self.commit()?;
-            say_gone(&self.folder.program, &self.store, gone)?;
+            report.say_gone(&self.store, gone)?;
         }
         Ok(())
     }
@@ -237,9 +235,9 @@ impl Opened {
 
     /// Commits, under a marker of this text, what leaves the volumes with what they had.
     pub fn commit_marked(&mut self, text: &str) -> Result<(), Status> {
-        let (none, was_torn) = (Jobs::none(self.folder.program), self.is_torn);
+        let (none, was_torn) = (no_jobs(self.folder.program), self.is_torn);
         self.is_marked = true;
-        commit_in_order(&mut self.folder, &mut self.store, &none, text, was_torn)
+        keep_in_order(&mut self.folder, &mut self.store, &none, text, was_torn)
     }
 
     /// Notes when a set was cut and what for, before it is committed.

@@ -4,7 +4,7 @@ ghost use Rattle.std.specs.Prelude.{◌<◌, length};
 
 use crate::file_input::FileInput;
 use crate::folder::{AREA, DATES, STATE, TOGETHER};
-use crate::job::{Job, before_try, check_all, names_of, say_changed, wait_out_all};
+use crate::job::{Job, before_try, check_all, compare, names_of, say_changed, wait_out_all};
 use crate::naming::{check_once, name_in};
 use crate::opened::Opened;
 use crate::pair::Pair;
@@ -27,11 +27,11 @@ pub fn is_own(opened: &Opened, input: &FileInput<'_>) -> Result<bool, Status> {
 }
 
 /// That the file of a pair is none of the folder, and has room in the volume.
-fn fit(
+fn fit<'a>(
     opened: &Opened,
-    pair: Pair<'_>,
+    pair: Pair<'a>,
     volume: u32,
-    input: &mut FileInput<'_>,
+    input: &mut FileInput<'a>,
 ) -> Result<(), Status>
     requires { volume < length opened.now.store.group.area.volumes }
 {
@@ -48,14 +48,14 @@ fn add_job<'a>(opened: &Opened, pair: Pair<'a>, jobs: &mut Vec<Job<'a>>) -> Resu
     let volume = opened.place_of(pair.name)?;
     let mut input = FileInput::open(&opened.folder.program, pair.file)?;
     fit(opened, pair, volume, &mut input)?;
-    Ok(jobs.push(Job::new(opened.folder.program.alloc(), pair.name, volume, input)?)?)
+    Ok(jobs.push(Job::new(opened.folder.program.alloc(), volume, input)?)?)
 }
 
 /// The lines of the marker, with the names of the volumes.
 fn lines_of(opened: &Opened, jobs: &[Job<'_>]) -> Result<String, Status> {
     let mut text = String::from_str(opened.folder.program.alloc(), "update\n")?;
     for job in jobs {
-        write!(text, "{}\n", job.name)?;
+        write!(text, "{}\n", job.input.name)?;
     }
     Ok(text)
 }
@@ -67,7 +67,7 @@ fn note(opened: &Opened, jobs: &[Job<'_>]) -> Result<(), Status> {
 }
 
 /// The second and the third pass, under a marker.
-fn write_all(opened: &mut Opened, jobs: &mut [Job<'_>]) -> Result<(), Status> {
+fn write_all(opened: &mut Opened, jobs: &mut Vec<Job<'_>>) -> Result<(), Status> {
     let lines = lines_of(opened, jobs)?;
     opened.overwrite(lines.as_str(), jobs)?;
     note(opened, jobs)?;
@@ -89,10 +89,10 @@ fn flush_all(opened: &mut Opened, jobs: &[Job<'_>]) -> Result<(), Status> {
 }
 
 /// All passes over the volumes of jobs, and the lines of what was written and copied.
-pub fn update_by(opened: &mut Opened, jobs: &mut [Job<'_>]) -> Result<(), Status> {
+pub fn update_by(opened: &mut Opened, jobs: &mut Vec<Job<'_>>) -> Result<(), Status> {
     let mut is_changed = opened.marker.is_some() || opened.is_marked;
     for job in jobs.iter_mut() {
-        job.compare(&mut opened.store)?;
+        compare(job, &mut opened.store)?;
         is_changed |= job.written > 0;
     }
     check_all(jobs)?;
@@ -102,7 +102,7 @@ pub fn update_by(opened: &mut Opened, jobs: &mut [Job<'_>]) -> Result<(), Status
         flush_all(opened, jobs)?;
     }
     for job in jobs.iter() {
-        let (name, written, copied) = (job.name, job.written, job.copied);
+        let (name, written, copied) = (job.input.name, job.written, job.copied);
         write!(opened.text, "{name} written {written} copied {copied}\n")?;
     }
     Ok(())
@@ -118,7 +118,7 @@ fn update_pairs<'a>(
         add_job(opened, *pair, jobs)?;
     }
     wait_out_all(jobs);
-    update_by(opened, jobs.as_mut_slice())
+    update_by(opened, jobs)
 }
 
 /// That each pair has a volume, and a volume of its own, and that none is in transit that none of them has.
