@@ -46,6 +46,8 @@ on_each-more (u ∷ vs) v f ps = on_each-more vs v f (on_volume u f ps)
 -- the set is cut over the first k of these volumes
 pub record IsCutTo {D : Type 0} (told : D → Option (List (List ℕ))) (old now : GroupValue D) (vs : List ℕ) (set k : ℕ) : Type 0 where
   pub volumes : now.area.volumes ≡ old.area.volumes
+  pub area : now.area ≡ old.area
+  pub devices : now.devices ≡ old.devices
   pub plains : (ps : List Plain) → HasPlains told old ps → HasPlains told now (on_each (take k vs) (cut_on set) ps)
   pub rest : (j u : ℕ) → k ≤ j → slice_get vs j ≡ Some u → sets_at now u ≡ sets_at old u
 
@@ -59,6 +61,8 @@ cut_more told old now new vs set k v so at apart l devices area images stands =
     let within : v < length now.area.volumes = omega (arith, ap length volumes) in
     record {
       volumes = ap (λ (a : AreaValue _). a.volumes) area ∙ so.volumes;
+      area = area ∙ so.area;
+      devices = devices ∙ so.devices;
       plains = λ ps has. subst (λ (qs : List Plain). HasPlains told new qs) (sym (on_each-more (take k vs) v (cut_on set) ps) ∙ ap (λ us. on_each us (cut_on set) ps) (sym (take_next vs k v at)))
           (cut_plains told now new (on_each (take k vs) (cut_on set) ps) v set devices area stands within (so.plains ps has));
       rest = λ j u m is. ap (λ (xs : List (List ℕ)). sets_in (slice_get xs u)) images ∙ ap sets_in (slice_get-set_other now.images v u (sets_at now v ++ set ∷ []) (apart j u (omega arith) is))

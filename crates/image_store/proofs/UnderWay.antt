@@ -30,11 +30,12 @@ use Rattle.image_store.specs.declared.pass.Pass.TheVariants.{Done, Evicted as St
 use Rattle.image_store.proofs.Copied.{copied_kept}
 use Rattle.image_store.proofs.Stores.{still, store_of}
 use Rattle.cow_volume.specs.GroupValue.{GroupValue}
-use Rattle.cow_volume.specs.Calls.{blocks_at, sets_at, IsQuiet}
+use Rattle.cow_volume.specs.declared.image_fault.ImageFault.{ImageFault}
+use Rattle.cow_volume.specs.Calls.{blocks_at, sets_at, IsDropped, IsQuiet}
 use Rattle.cow_volume.proofs.Group.{slice_get_inside, slice_get_map}
 use Rattle.image_store.specs.Copying.{AreCopied, AreSameAt, HasCopiesOf, IsAreaSame, IsCopiedAhead, IsAreaLeft, IsInUse, KeepsSlots}
 use Rattle.image_store.specs.Plain.{Plain, volume_in, gone_on, with_blocks, on_volume}
-use Rattle.image_store.specs.PowerLoss.{IsCommitted, IsCopyPlace, IsShared, IsUnderWay, KeepsBlocks}
+use Rattle.image_store.specs.PowerLoss.{IsCommitted, IsCopyPlace, IsShared, IsStillUnderWay, IsUnderWay, KeepsBlocks}
 use Rattle.image_store.specs.Steps.{AreMixed}
 use Rattle.image_store.specs.StoreValue.{HasPlains}
 use Rattle.image_store.specs.Updating.{AreReady}
@@ -234,6 +235,21 @@ quiet_on {D = D} ghosts committed old new quiet before = record {
       let tells : Some (ghosts.told e) ≡ Some (ghosts.told o.0) = sym (slice_get_map ghosts.told new.devices v e is) ∙ ap (λ (ts : List (Option (List (List ℕ)))). slice_get ts v) quiet.blocks
       ∙ slice_get_map ghosts.told old.devices v o.0 o.1 in
       (one.0, same_Some (ghosts.told e) (ghosts.told o.0) tells ∙ one.1, one.2)
+
+-- no device was written
+pub same_disk : {D : Type 0} (told : D → Option (List (List ℕ))) (old new : GroupValue D) → length new.area.records ≡ length old.area.records → new.area.device ≡ old.area.device
+    → new.devices ≡ old.devices → IsStillUnderWay told old new
+same_disk {D = D} told old new number area devices committed before = record {
+  number = number ∙ before.number;
+  slots = subst (λ (d : D). KeepsBlocks told (IsCopyPlace committed.area.records) committed.area.device d) (sym area) before.slots;
+  devices = ap length devices ∙ before.devices;
+  each = λ v d e at is. before.each v d e at (subst (λ (ds : List D). slice_get ds v ≡ Some e) devices is);
+}
+
+pub dropped_under_way : {D : Type 0} (ghosts : Ghosts D) (old new : GroupValue D) (v set : ℕ) (r : Result Unit ImageFault) → IsDropped ghosts old new v set r
+    → OnOk r (IsStillUnderWay ghosts.told old new)
+dropped_under_way ghosts old new v set (Ok done) is = same_disk ghosts.told old new is.1.kept.slots is.1.area is.1.devices
+dropped_under_way ghosts old new v set (Err fault) is = tt
 
 -- ## the calls of a store
 

@@ -54,6 +54,10 @@ pub record IsUnderWay {D : Type 0} (told : D → Option (List (List ℕ))) (comm
   pub devices : length now.devices ≡ length committed.devices
   pub each : (v : ℕ) (d e : D) → slice_get committed.devices v ≡ Some d → slice_get now.devices v ≡ Some e → KeepsBlocks told (IsShared committed v) d e
 
+-- what was committed and under way before is so still
+abbrev pub IsStillUnderWay : {D : Type 0} → (D → Option (List (List ℕ))) → GroupValue D → GroupValue D → Type 0
+IsStillUnderWay {D = D} told old new = (committed : GroupValue D) → IsUnderWay told committed old → IsUnderWay told committed new
+
 -- ## what is found
 
 -- whole blocks, as many as these and the same at these places; of the others nothing is known

@@ -69,6 +69,8 @@ pub fn cut_all<D: Device>(group: &mut CowGroup<D>, volumes: &[u32], set: u32)
     requires room { All (λ v. length (sets_at group.old v) < 512) volumes.now }
     requires newest { (v : ℕ) → All (λ s. s < set) (sets_at group.old v) }
     ensures volumes { group.new.area.volumes ≡ group.old.area.volumes }
+    ensures area { group.new.area ≡ group.old.area }
+    ensures devices { group.new.devices ≡ group.old.devices }
     ensures cut { (ps : List Plain) → HasPlains D.told group.old ps → HasPlains D.told group.new (on_each volumes.now (cut_on set) ps) }
 {
     for volume in volumes {

@@ -22,7 +22,7 @@ ghost use Rattle.image_store.specs.Updating.{AreMarked, AreReady, IsAhead, IsOve
 ghost use Rattle.image_store.specs.Capturing.{AreCaptured, Gives, HasCaptured};
 ghost use Rattle.image_store.specs.Copying.{AreCopied, HasCopiesOf, IsAreaLeft, IsCopiedAhead};
 ghost use Rattle.image_store.specs.Ordering.{AllImages};
-ghost use Rattle.image_store.specs.PowerLoss.{IsCommitted, IsUnderWay};
+ghost use Rattle.image_store.specs.PowerLoss.{IsCommitted, IsStillUnderWay, IsUnderWay};
 ghost use Rattle.cow_volume.specs.GroupValue.{GroupValue, placed};
 ghost use Rattle.volume_device.specs.Blocks.{AreBlocks};
 ghost use Rattle.image_store.specs.Showing.{HasLength, HasShowCause, IfBad, IsSeen, IsShow, shown_in};
@@ -255,6 +255,7 @@ impl<D: Device> Store<D> {
         ensures refused { IfErr result (IsCutRefused self.old volumes.now) }
         ensures unchanged { OnErr result (self.new ≡ self.old) }
         ensures volumes { self.new.group.area.volumes ≡ self.old.group.area.volumes }
+        ensures under_way { OnOk result (IsStillUnderWay D.told self.old.group self.new.group) }
     {
         let greatest = greatest_set(&self.group, self.last);
         if greatest == u32::MAX {
@@ -278,6 +279,7 @@ impl<D: Device> Store<D> {
         ensures refused { IfErr result (λ fault. (fault ≡ ImageFault.NoSuchImage) × (is_among set (sets_at self.old.group v) ≡ false)) }
         ensures unchanged { OnErr result (self.new ≡ self.old) }
         ensures volumes { self.new.group.area.volumes ≡ self.old.group.area.volumes }
+        ensures under_way { OnOk result (IsStillUnderWay D.told self.old.group self.new.group) }
     {
         self.group.drop_image(v, set)
     }

@@ -1,6 +1,7 @@
 use Rattle.std.proofs.Common.{refl}
 use Rattle.image_store.proofs.Stores.{store_of, named_still, dropped_step, dropped_volumes}
 use Rattle.image_store.proofs.Lists.{dropped_lists, dropped_stood}
+use Rattle.image_store.proofs.UnderWay.{dropped_under_way}
 use Rattle.image_store.proofs.store.Store.drop_image.Goals as goal
 
 pub invariant_of-self : goal.invariant_of-self
@@ -21,3 +22,6 @@ pub returns-clause-lists : goal.returns-clause-lists
 returns-clause-lists g c =
     let is = dropped_lists g.D.Device c.self.inside.group c.drop_image.new.self c.args.v c.args.set c.drop_image.result (rw (← c.self.view_is) at c.requires) c.drop_image.ensures in
     rw (← c.self.view_is) is
+
+pub returns-clause-under_way : goal.returns-clause-under_way
+returns-clause-under_way g c = (let is = dropped_under_way g.D.Device c.self.inside.group c.drop_image.new.self c.args.v c.args.set c.drop_image.result c.drop_image.ensures in rw (← c.self.view_is) is)
