@@ -1,5 +1,6 @@
 -- The calls of an update, as relations to the store that it began with.
-use Rattle.std.proofs.Common.{◌≡◌, ◌≢◌, ℕ, ◌+◌, ◌<◌, ◌≤◌, List, [], ◌∷◌, ◌++◌, length, take, drop, refl, sym, subst, ap, ◌∙◌, arith, Bool, true, false, Option, Some, None, inl, inr}
+use Rattle.std.proofs.Common.{◌≡◌, ◌≢◌, ℕ, ◌+◌, ◌<◌, ◌≤◌, List, [], ◌∷◌, ◌++◌, length, take, drop, refl, sym, subst, ap, ◌∙◌, arith, Bool, true, false, Option}
+use Rattle.std.proofs.Common.{Some, None, inl, inr}
 use Rattle.std.specs.Prelude.{◌⊎◌, ◌&&◌, ◌==◌, nat_lt, slice_get, slice_set, Result, Ok, Err, IfOk, OnOk}
 use Rattle.std.proofs.lemmas.Bool.{cases_lt}
 use Rattle.std.proofs.Math.Seq.{take-append_seam}
@@ -19,7 +20,8 @@ use Rattle.image_store.specs.declared.job.Job.{Job}
 use Rattle.image_store.specs.Capturing.{Gives}
 use Rattle.image_store.specs.Copying.{AreCopied, HasCopiesOf, IsAreaLeft, IsAreaSame, IsStoppedAt}
 use Rattle.image_store.specs.Head.{head_of}
-use Rattle.image_store.specs.Ordering.{Aim, OfEach, AreApart, IsReady, IsCopied, without, HasBut, MayOverwrite, AllImages, IsFurther, HasMore, IsCopyPass, IsHeld, IsWritten, AreWritten, OpensBut, HoldsBut, CoversBut, IsHeadOf, FoundBut}
+use Rattle.image_store.specs.Ordering.{Aim, OfEach, AreApart, IsReady, IsCopied, without, HasBut, MayOverwrite, AllImages, IsFurther, HasMore, IsCopyPass}
+use Rattle.image_store.specs.Ordering.{IsHeld, IsWritten, AreWritten, OpensBut, HoldsBut, CoversBut, IsHeadOf, FoundBut}
 use Rattle.image_store.specs.Plain.{Plain, PlainStore, plain_at, image_of, changed, with_blocks}
 use Rattle.image_store.specs.PowerLoss.{IsCommitted, IsUnderWay, IsShared, KeepsBlocks}
 use Rattle.image_store.specs.Steps.{after}
@@ -67,7 +69,8 @@ without_then [] gone p = refl
 without_then (up_to ∷ later) gone p = ap (λ q. after q (Gone up_to)) (without_then later gone p)
 
 -- an image is as it was, or went
-image_then : (p q : PlainStore) (set v : ℕ) → ((blocks : List (List ℕ)) → image_of q set v ≡ Some blocks → image_of p set v ≡ Some blocks) → (image_of q set v ≡ image_of p set v) ⊎ (image_of q set v ≡ None)
+image_then : (p q : PlainStore) (set v : ℕ) → ((blocks : List (List ℕ)) → image_of q set v ≡ Some blocks → image_of p set v ≡ Some blocks)
+    → (image_of q set v ≡ image_of p set v) ⊎ (image_of q set v ≡ None)
 image_then p q set v back = by_image (image_of q set v) refl where
   by_image : (o : Option (List (List ℕ))) → image_of q set v ≡ o → (image_of q set v ≡ image_of p set v) ⊎ (image_of q set v ≡ None)
   by_image None is = inr is
@@ -76,11 +79,13 @@ image_then p q set v back = by_image (image_of q set v) refl where
 gone_back : (p : PlainStore) (up_to set v : ℕ) (blocks : List (List ℕ)) → image_of (after p (Gone up_to)) set v ≡ Some blocks → image_of p set v ≡ Some blocks
 gone_back p up_to set v blocks is = elim (back-step p (Gone up_to) set v blocks tt is) [ inl still ↦ still.0 | inr here ↦ (let cut = here.1 in cc) ]
 
-without_back : (gone : List ℕ) (p : PlainStore) (set v : ℕ) (blocks : List (List ℕ)) → image_of (without gone p) set v ≡ Some blocks → image_of p set v ≡ Some blocks
+without_back : (gone : List ℕ) (p : PlainStore) (set v : ℕ) (blocks : List (List ℕ)) → image_of (without gone p) set v ≡ Some blocks
+    → image_of p set v ≡ Some blocks
 without_back [] p set v blocks is = is
 without_back (up_to ∷ gone) p set v blocks is = without_back gone p set v blocks (gone_back (without gone p) up_to set v blocks is)
 
-pub without_image : (gone : List ℕ) (p : PlainStore) (set v : ℕ) → (image_of (without gone p) set v ≡ image_of p set v) ⊎ (image_of (without gone p) set v ≡ None)
+pub without_image : (gone : List ℕ) (p : PlainStore) (set v : ℕ)
+    → (image_of (without gone p) set v ≡ image_of p set v) ⊎ (image_of (without gone p) set v ≡ None)
 without_image gone p set v = image_then p (without gone p) set v (λ blocks. without_back gone p set v blocks)
 
 pub without_blocks : (gone : List ℕ) (p : PlainStore) (v : ℕ) → (plain_at (without gone p) v).blocks ≡ (plain_at p v).blocks
@@ -97,15 +102,18 @@ ready_on p q aim same is = record {
 
 -- a set that is left was there
 pub among_after : (up_to set : ℕ) (sets : List ℕ) → is_among set (sets_after_of up_to sets) ≡ true → is_among set sets ≡ true
-among_after up_to set sets is = both (nat_lt up_to set) (is_among set sets) (sym (any-filter_same (λ s. s == set) (λ s. nat_lt up_to s) (nat_lt up_to set) (λ s e. ap (nat_lt up_to) (same_number s set e)) sets) ∙ is) where
-  both : (a b : Bool) → (a && b) ≡ true → b ≡ true
-  both true b e = e
-  both false b e = absurd (cc)
+among_after up_to set sets is = both (nat_lt up_to set) (is_among set sets)
+    (sym (any-filter_same (λ s. s == set) (λ s. nat_lt up_to s) (nat_lt up_to set) (λ s e. ap (nat_lt up_to) (same_number s set e)) sets) ∙ is) where
+      both : (a b : Bool) → (a && b) ≡ true → b ≡ true
+      both true b e = e
+      both false b e = absurd (cc)
 
 -- ## the second pass
 
-pub more_of : {D : Type 0} (told : D → Option (List (List ℕ))) (old new : StoreValue D) → AllImages old.group → HasCopiesOf old.group new.group → StandsStill told old new
-    → ((committed : GroupValue D) (p : PlainStore) → StandsAs told old p → HasCopiesOf committed old.group → IsUnderWay told committed old.group → IsUnderWay told committed new.group)
+pub more_of : {D : Type 0} (told : D → Option (List (List ℕ))) (old new : StoreValue D) → AllImages old.group → HasCopiesOf old.group new.group
+    → StandsStill told old new
+    → ((committed : GroupValue D) (p : PlainStore) → StandsAs told old p → HasCopiesOf committed old.group → IsUnderWay told committed old.group
+    → IsUnderWay told committed new.group)
     → HasMore told old new
 more_of told old new are copies still under = record {
   further = record {
@@ -119,9 +127,12 @@ more_of told old new are copies still under = record {
 }
 
 -- one pass of the store, for which images went
-pub pass_stopped : {D : Type 0} (told : D → Option (List (List ℕ))) (old new : StoreValue D) (v from to before counted at up_to : ℕ) (differs : List Bool) (list : List Evicted) → AllImages old.group
-    → IsStoppedAt told old.group new.group v differs from to before counted at up_to → ((p : PlainStore) → StandsAs told old p → IsStopped told new p up_to list)
-    → ((committed : GroupValue D) (p : PlainStore) → StandsAs told old p → HasCopiesOf committed old.group → IsUnderWay told committed old.group → IsUnderWay told committed new.group)
+pub pass_stopped : {D : Type 0} (told : D → Option (List (List ℕ))) (old new : StoreValue D) (v from to before counted at up_to : ℕ) (differs : List Bool)
+    (list : List Evicted) → AllImages old.group
+    → IsStoppedAt told old.group new.group v differs from to before counted at up_to
+    → ((p : PlainStore) → StandsAs told old p → IsStopped told new p up_to list)
+    → ((committed : GroupValue D) (p : PlainStore) → StandsAs told old p → HasCopiesOf committed old.group → IsUnderWay told committed old.group
+    → IsUnderWay told committed new.group)
     → IsFurther told old new
 pass_stopped {D = D} told old new v from to before counted at up_to differs list are copied ahead under = record {
   under_way = under;
@@ -137,13 +148,16 @@ pass_stopped {D = D} told old new v from to before counted at up_to differs list
   copies = copied.copies.kept.copies
 
 -- copied up to one block, and from there
-pub copied_join : {D : Type 0} (g : GroupValue D) (v from to : ℕ) (differs : List Bool) → AreCopied g v differs 0 from → AreCopied g v differs from to → AreCopied g v differs 0 to
-copied_join g v from to differs first rest = λ b low high marked. elim (cases_lt b from) [ inl below ↦ first b low below marked | inr above ↦ rest b above high marked ]
+pub copied_join : {D : Type 0} (g : GroupValue D) (v from to : ℕ) (differs : List Bool) → AreCopied g v differs 0 from → AreCopied g v differs from to
+    → AreCopied g v differs 0 to
+copied_join g v from to differs first rest = λ b low high marked. elim
+    (cases_lt b from) [ inl below ↦ first b low below marked | inr above ↦ rest b above high marked ]
 
 pub further_then : {D : Type 0} (told : D → Option (List (List ℕ))) (a b c : StoreValue D) → HasMore told a b → IsFurther told b c → IsFurther told a c
 further_then told a b c one two = record {
   under_way = λ committed p stands copies under.
-      two.under_way committed p (one.still p stands) (copies_then committed a.group b.group copies one.copies) (one.further.under_way committed p stands copies under);
+      two.under_way committed p (one.still p stands) (copies_then committed a.group b.group copies one.copies)
+      (one.further.under_way committed p stands copies under);
   stands = λ p stands. two.stands p (one.still p stands);
   left = λ set v is. one.further.left set v (two.left set v is);
   copied = λ v to differs had. two.copied v to differs (one.further.copied v to differs had);
@@ -170,7 +184,8 @@ more_itself told s = record {
 
 -- ## the calls of the passes
 
-pub opens_on : {D : Type 0} (told : D → Option (List (List ℕ))) (old new : StoreValue D) (h : List ℕ) (p : PlainStore) → IsFurther told old new → HoldsBut told old h p → OpensBut told new h p
+pub opens_on : {D : Type 0} (told : D → Option (List (List ℕ))) (old new : StoreValue D) (h : List ℕ) (p : PlainStore) → IsFurther told old new
+    → HoldsBut told old h p → OpensBut told new h p
 opens_on told old new h p further holds = record {
   gone = holds.opens.gone;
   store = holds.opens.store;
@@ -180,7 +195,8 @@ opens_on told old new h p further holds = record {
   left = λ set v is. holds.opens.left set v (further.left set v is);
 }
 
-pub holds_on : {D : Type 0} (told : D → Option (List (List ℕ))) (old new : StoreValue D) (h : List ℕ) (p : PlainStore) → HasMore told old new → HoldsBut told old h p → HoldsBut told new h p
+pub holds_on : {D : Type 0} (told : D → Option (List (List ℕ))) (old new : StoreValue D) (h : List ℕ) (p : PlainStore) → HasMore told old new
+    → HoldsBut told old h p → HoldsBut told new h p
 unfolding opens_on
 holds_on told old new h p more holds = record {
   opens = opens_on told old new h p more.further holds;
@@ -188,15 +204,18 @@ holds_on told old new h p more holds = record {
   here = record { gone = holds.here.gone; stands = more.still (without holds.here.gone p) holds.here.stands };
 }
 
-pub has_on : {D : Type 0} (told : D → Option (List (List ℕ))) (old new : StoreValue D) (p : PlainStore) → IsFurther told old new → HasBut told old p → HasBut told new p
+pub has_on : {D : Type 0} (told : D → Option (List (List ℕ))) (old new : StoreValue D) (p : PlainStore) → IsFurther told old new → HasBut told old p
+    → HasBut told new p
 has_on told old new p further has =
     let one = further.stands (without has.gone p) has.stands in
     record { gone = one.gone ++ has.gone; stands = subst (λ q. StandsAs told new q) (sym (without_then one.gone has.gone p)) one.stands }
 
-pub may_more : {D : Type 0} (told : D → Option (List (List ℕ))) (aims : List Aim) (old new : StoreValue D) (p : PlainStore) → StandsStill told old new → MayOverwrite told aims old p → MayOverwrite told aims new p
+pub may_more : {D : Type 0} (told : D → Option (List (List ℕ))) (aims : List Aim) (old new : StoreValue D) (p : PlainStore) → StandsStill told old new
+    → MayOverwrite told aims old p → MayOverwrite told aims new p
 may_more told aims old new p still may = record { gone = may.gone; none = may.none; stands = still (without may.gone p) may.stands; ready = may.ready }
 
-pub may_on : {D : Type 0} (told : D → Option (List (List ℕ))) (aims : List Aim) (old new : StoreValue D) (p : PlainStore) → IsFurther told old new → aims ≢ [] → MayOverwrite told aims old p
+pub may_on : {D : Type 0} (told : D → Option (List (List ℕ))) (aims : List Aim) (old new : StoreValue D) (p : PlainStore) → IsFurther told old new → aims ≢ []
+    → MayOverwrite told aims old p
     → MayOverwrite told aims new p
 may_on told aims old new p further some may =
     let one = further.stands (without may.gone p) may.stands in
@@ -220,7 +239,8 @@ job_there told jobs k aim at =
     (one.0, one.1, same_Some (aim_of told one.0) aim (sym (slice_get_map (aim_of told) jobs k one.0 one.1) ∙ at))
 
 -- what holds of each job's aim
-pub of_each_job : {I : Type 0} (told : I → Option (List (List ℕ))) (jobs : List (Job I)) (P : Aim → Type 0) → ((k : ℕ) (job : Job I) → slice_get jobs k ≡ Some job → P (aim_of told job))
+pub of_each_job : {I : Type 0} (told : I → Option (List (List ℕ))) (jobs : List (Job I)) (P : Aim → Type 0)
+    → ((k : ℕ) (job : Job I) → slice_get jobs k ≡ Some job → P (aim_of told job))
     → OfEach P (aims_of told jobs)
 of_each_job told jobs P each k aim at = (let one = job_there told jobs k aim at in subst P one.2 (each k one.0 one.1))
 
@@ -233,14 +253,16 @@ apart_of told jobs n all each i k a b low at there =
     λ same. each i k x.0 y.0 low (omega arith) x.1 y.1 (ap (λ (q : Aim). q.volume) x.2 ∙ same ∙ sym (ap (λ (q : Aim). q.volume) y.2))
 
 -- all of them are copied, and still are where only the devices changed
-pub all_copied : {D I : Type 0} (told : I → Option (List (List ℕ))) (old new : GroupValue D) (jobs : List (Job I)) → new.area.records ≡ old.area.records → new.images ≡ old.images
+pub all_copied : {D I : Type 0} (told : I → Option (List (List ℕ))) (old new : GroupValue D) (jobs : List (Job I)) → new.area.records ≡ old.area.records
+    → new.images ≡ old.images
     → AreCopiedSoFar old jobs → AreAtTheirEnd jobs → OfEach (IsCopied new) (aims_of told jobs)
 all_copied told old new jobs records images so_far ends = of_each_job told jobs (IsCopied new) (λ k job at b low high marked.
     let end = ends k job at in
     rw (records, images) (so_far k job at b low (omega arith) marked))
 
 -- where only the devices changed
-pub so_far_still : {D I : Type 0} (old new : GroupValue D) (jobs : List (Job I)) → new.area.records ≡ old.area.records → new.images ≡ old.images → AreCopiedSoFar old jobs → AreCopiedSoFar new jobs
+pub so_far_still : {D I : Type 0} (old new : GroupValue D) (jobs : List (Job I)) → new.area.records ≡ old.area.records → new.images ≡ old.images
+    → AreCopiedSoFar old jobs → AreCopiedSoFar new jobs
 so_far_still old new jobs records images had = λ k job at. rw (records, images) (had k job at)
 
 -- ## a commit
@@ -254,7 +276,8 @@ has_left told now gone p stands set v is = elim (without_image gone p set v) [
       let both : None ≡ Some there.0 = sym none ∙ there.1 in cc)
 ] where
   within : (o : Option (List ℕ)) → slice_get now.group.images v ≡ o → v < length now.group.area.volumes
-  within None at = (let none : is_among set (sets_at now.group v) ≡ false = ap (λ (x : Option (List ℕ)). is_among set (sets_in x)) at in let both : true ≡ false = sym is ∙ none in cc)
+  within None at = (let none : is_among set (sets_at now.group v) ≡ false = ap
+      (λ (x : Option (List ℕ)). is_among set (sets_in x)) at in let both : true ≡ false = sym is ∙ none in cc)
   within (Some sets) at = (let place = slice_get_within now.group.images v sets at in let many = stands.group.stands.images in omega arith)
 
 pub synced_holds : {D : Type 0} (told : D → Option (List (List ℕ))) (aims : List Aim) (old new : StoreValue D) (p : PlainStore) → StandsStill told old new
@@ -272,9 +295,11 @@ synced_holds told aims old new p still committed may = record {
   here = record { gone = may.gone; stands = still (without may.gone p) may.stands };
 }
 
-pub synced_covers : {D I : Type 0} (told : D → Option (List (List ℕ))) (told_in : I → Option (List (List ℕ))) (jobs : List (Job I)) (old new : StoreValue D) (p : PlainStore) → StandsStill told old new
+pub synced_covers : {D I : Type 0} (told : D → Option (List (List ℕ))) (told_in : I → Option (List (List ℕ))) (jobs : List (Job I)) (old new : StoreValue D)
+    (p : PlainStore) → StandsStill told old new
     → ((q : PlainStore) → StandsAs told old q → IsCommitted told new q) → new.group.area.records ≡ old.group.area.records → new.group.images ≡ old.group.images
-    → AreApart (aims_of told_in jobs) → AreCopiedSoFar old.group jobs → AreAtTheirEnd jobs → MayOverwrite told (aims_of told_in jobs) old p → CoversBut told (aims_of told_in jobs) new (head_of new) p
+    → AreApart (aims_of told_in jobs) → AreCopiedSoFar old.group jobs → AreAtTheirEnd jobs → MayOverwrite told (aims_of told_in jobs) old p
+    → CoversBut told (aims_of told_in jobs) new (head_of new) p
 unfolding synced_holds
 synced_covers told told_in jobs old new p still committed records images apart so_far ends may = record {
   holds = synced_holds told (aims_of told_in jobs) old new p still committed may;
@@ -298,14 +323,19 @@ opens_still told old new h p images under opens = record {
 -- ## the third pass
 
 -- one volume
-pub job_written : {D E : Type 0} (told : D → Option (List (List ℕ))) (old new : StoreValue D) (t : Option (List (List ℕ))) (aim : Aim) (list : List Evicted) (r : Result Pass E) → AllImages old.group
+pub job_written : {D E : Type 0} (told : D → Option (List (List ℕ))) (old new : StoreValue D) (t : Option (List (List ℕ))) (aim : Aim) (list : List Evicted)
+    (r : Result Pass E) → AllImages old.group
     → t ≡ aim.told → length aim.differs ≡ blocks_at old.group aim.volume
-    → ((wanted : List (List ℕ)) (p : PlainStore) → Gives t aim.differs wanted → StandsAs told old p → AreReady aim.differs wanted (plain_at p aim.volume).blocks 0
+    → ((wanted : List (List ℕ)) (p : PlainStore) → Gives t aim.differs wanted → StandsAs told old p
+    → AreReady aim.differs wanted (plain_at p aim.volume).blocks 0
     → IsOverwriting told new p aim.volume aim.differs wanted list r)
     → (AreCopied old.group aim.volume aim.differs 0 (blocks_at old.group aim.volume) → IsAreaLeft told old.group new.group r)
-    → ((c : GroupValue D) (wanted : List (List ℕ)) (p : PlainStore) → Gives t aim.differs wanted → StandsAs told old p → AreReady aim.differs wanted (plain_at p aim.volume).blocks 0
-    → HasCopiesOf c old.group → AreCopied c aim.volume aim.differs 0 (blocks_at old.group aim.volume) → IsUnderWay told c old.group → IsUnderWay told c new.group)
-    → (committed : GroupValue D) (p : PlainStore) → IsReady p aim → IsCopied committed aim → IsHeld told committed old p → IsWritten told committed new p aim.volume
+    → ((c : GroupValue D) (wanted : List (List ℕ)) (p : PlainStore) → Gives t aim.differs wanted → StandsAs told old p
+    → AreReady aim.differs wanted (plain_at p aim.volume).blocks 0
+    → HasCopiesOf c old.group → AreCopied c aim.volume aim.differs 0 (blocks_at old.group aim.volume) → IsUnderWay told c old.group
+    → IsUnderWay told c new.group)
+    → (committed : GroupValue D) (p : PlainStore) → IsReady p aim → IsCopied committed aim → IsHeld told committed old p
+    → IsWritten told committed new p aim.volume
 job_written {D = D} {E = E} told old new t aim list r are tells marks written area under committed p ready copied held =
     by_result r (written ready.wanted p gives held.stands ready.ready) (area here)
   where
@@ -322,20 +352,28 @@ job_written {D = D} {E = E} told old new t aim list r are tells marks written ar
     on : IsUnderWay told committed new.group
     on = under committed ready.wanted p gives held.stands ready.ready held.copies there held.under_way
 
-    made : (blocks : List (List ℕ)) → IsAreaSame told old.group new.group → StandsAs told new (changed (aim.volume ∷ []) (with_blocks blocks) p) → IsWritten told committed new p aim.volume
+    made : (blocks : List (List ℕ)) → IsAreaSame told old.group new.group → StandsAs told new (changed (aim.volume ∷ []) (with_blocks blocks) p)
+        → IsWritten told committed new p aim.volume
     made blocks same stands = record {
       later = changed (aim.volume ∷ []) (with_blocks blocks) p;
-      held = record { stands = stands; copies = copies_then committed old.group new.group held.copies (area_kept told old.group new.group same).copies; under_way = on };
+      held = record {
+        stands = stands;
+        copies = copies_then committed old.group new.group held.copies
+            (area_kept told old.group new.group same).copies;
+        under_way = on;
+      };
       others = λ u other. ap (λ (q : Plain). q.blocks) (other_volume p.volumes aim.volume u (with_blocks blocks) other);
     }
 
-    by_result : (r : Result Pass E) → IsOverwriting told new p aim.volume aim.differs ready.wanted list r → IsAreaLeft told old.group new.group r → IsWritten told committed new p aim.volume
+    by_result : (r : Result Pass E) → IsOverwriting told new p aim.volume aim.differs ready.wanted list r → IsAreaLeft told old.group new.group r
+        → IsWritten told committed new p aim.volume
     by_result (Ok Done) is left = made ready.wanted left is.1
     by_result (Ok (Stopped at up_to)) is left = absurd left
     by_result (Err failed) is left = made is.0 left is.2
 
 -- one more volume is written
-pub written_next : {D : Type 0} (told : D → Option (List (List ℕ))) (aims : List Aim) (committed : GroupValue D) (now next : StoreValue D) (k : ℕ) (aim : Aim) → AreApart aims → OfEach (IsCopied committed) aims
+pub written_next : {D : Type 0} (told : D → Option (List (List ℕ))) (aims : List Aim) (committed : GroupValue D) (now next : StoreValue D) (k : ℕ) (aim : Aim)
+    → AreApart aims → OfEach (IsCopied committed) aims
     → slice_get aims k ≡ Some aim
     → ((c : GroupValue D) (p : PlainStore) → IsReady p aim → IsCopied c aim → IsHeld told c now p → IsWritten told c next p aim.volume)
     → AreWritten told aims committed now k → AreWritten told aims committed next (k + 1)
@@ -349,7 +387,8 @@ written_next told aims committed now next k aim apart copied at call written =
     }
 
 pub overwrite_opens : {D : Type 0} (told : D → Option (List (List ℕ))) (aims : List Aim) (old new : StoreValue D) (h : List ℕ) (p : PlainStore)
-    → ((c : GroupValue D) (q : PlainStore) → AreApart aims → OfEach (IsReady q) aims → OfEach (IsCopied c) aims → IsHeld told c old q → (from : ℕ) × AreWritten told aims c new from)
+    → ((c : GroupValue D) (q : PlainStore) → AreApart aims → OfEach (IsReady q) aims → OfEach (IsCopied c) aims → IsHeld told c old q
+    → (from : ℕ) × AreWritten told aims c new from)
     → CoversBut told aims old h p → OpensBut told new h p
 overwrite_opens told aims old new h p call covers =
     let opens = covers.holds.opens in
@@ -361,34 +400,41 @@ overwrite_opens told aims old new h p call covers =
       head = opens.head;
       committed = opens.committed;
       under_way = one.held.under_way;
-      left = λ set v is. opens.left set v (subst (λ (i : List (List ℕ)). is_among set (sets_in (slice_get i v)) ≡ true) (one.held.copies.images ∙ sym covers.holds.copies.images) is);
+      left = λ set v is. opens.left set v
+          (subst (λ (i : List (List ℕ)). is_among set (sets_in (slice_get i v)) ≡ true) (one.held.copies.images ∙ sym covers.holds.copies.images) is);
     }
 
 -- ## as a call begins
 
-pub starts : {D : Type 0} (told : D → Option (List (List ℕ))) (s : StoreValue D) (h : List ℕ) (p : PlainStore) → IsHeadOf told s h → StandsAs told s p → HoldsBut told s h p
+pub starts : {D : Type 0} (told : D → Option (List (List ℕ))) (s : StoreValue D) (h : List ℕ) (p : PlainStore) → IsHeadOf told s h → StandsAs told s p
+    → HoldsBut told s h p
 starts told s h p is stands = record {
   opens = record { gone = []; store = s; head = is.0; committed = is.1 p stands; under_way = begun told s.group; left = λ set v among. refl };
   copies = copies_all s.group;
   here = record { gone = []; stands = stands };
 }
 
-pub may_begin : {D : Type 0} (told : D → Option (List (List ℕ))) (aims : List Aim) (s : StoreValue D) (p : PlainStore) → StandsAs told s p → OfEach (IsReady p) aims → MayOverwrite told aims s p
+pub may_begin : {D : Type 0} (told : D → Option (List (List ℕ))) (aims : List Aim) (s : StoreValue D) (p : PlainStore) → StandsAs told s p
+    → OfEach (IsReady p) aims → MayOverwrite told aims s p
 may_begin told aims s p stands ready = record { gone = []; none = λ e. refl; stands = stands; ready = ready }
 
 -- a head from before a call that left the disk as it was
-pub before_opens : {D : Type 0} (told : D → Option (List (List ℕ))) (before now : StoreValue D) (h : List ℕ) (p : PlainStore) → IsHeadOf told before h → IsUnderWay told before.group now.group
+pub before_opens : {D : Type 0} (told : D → Option (List (List ℕ))) (before now : StoreValue D) (h : List ℕ) (p : PlainStore) → IsHeadOf told before h
+    → IsUnderWay told before.group now.group
     → StandsAs told before p → OpensBut told now h p
-before_opens told before now h p is under stands = record { gone = []; store = before; head = is.0; committed = is.1 p stands; under_way = under; left = λ set v among. refl }
+before_opens told before now h p is under
+    stands = record { gone = []; store = before; head = is.0; committed = is.1 p stands; under_way = under; left = λ set v among. refl }
 
 -- ## what is found
 
-pub found_but : {D : Type 0} (told : D → Option (List (List ℕ))) (now : StoreValue D) (p : PlainStore) (h : List ℕ) → OpensBut told now h p → FoundBut told now p h
+pub found_but : {D : Type 0} (told : D → Option (List (List ℕ))) (now : StoreValue D) (p : PlainStore) (h : List ℕ) → OpensBut told now h p
+    → FoundBut told now p h
 found_but told now p h opens = record {
   kept = without opens.gone p;
   store = opens.store;
   head = opens.head;
-  opens = λ found area are. opens_found told opens.store.group now.group opens.store.names opens.store.last (without opens.gone p) found area opens.committed opens.under_way are;
+  opens = λ found area are. opens_found told opens.store.group now.group opens.store.names opens.store.last
+      (without opens.gone p) found area opens.committed opens.under_way are;
   images = opens.left;
   others = without_image opens.gone p;
 }
@@ -403,19 +449,22 @@ pub record AreFlushed {D : Type 0} (ghosts : Ghosts D) (k : ℕ) (old now : Stor
 
 -- ## the jobs, one after another
 
-pub further_of : {D E : Type 0} (told : D → Option (List (List ℕ))) (old new : StoreValue D) (r : Result Copied E) → IsCopyPass told old new r → IsFurther told old new
+pub further_of : {D E : Type 0} (told : D → Option (List (List ℕ))) (old new : StoreValue D) (r : Result Copied E) → IsCopyPass told old new r
+    → IsFurther told old new
 further_of told old new (Ok Whole) pass = pass.further
 further_of told old new (Ok UntilEvicted) pass = pass
 further_of told old new (Err failed) pass = pass.further
 
 -- the next job is gone on with: what is copied of all jobs is still
-pub so_far_next : {D I : Type 0} (told : D → Option (List (List ℕ))) (told_in : I → Option (List (List ℕ))) (now next : StoreValue D) (k : ℕ) (jobs : List (Job I)) (before later : Job I)
+pub so_far_next : {D I : Type 0} (told : D → Option (List (List ℕ))) (told_in : I → Option (List (List ℕ))) (now next : StoreValue D) (k : ℕ)
+    (jobs : List (Job I)) (before later : Job I)
     → slice_get jobs k ≡ Some before → aim_of told_in later ≡ aim_of told_in before → IsFurther told now next
     → (AreCopied now.group before.volume before.differs.items 0 before.at → AreCopied next.group before.volume before.differs.items 0 later.at)
     → AreCopiedSoFar now.group jobs → AreCopiedSoFar next.group (slice_set jobs k later)
 so_far_next {I = I} told told_in now next k jobs before later at same further own had = λ j job there. elim (same_or_other j k) [
   | inl here ↦ (
-      let is : later ≡ job = same_Some later job (sym (slice_get-set_same jobs k before later at) ∙ ap (λ i. slice_get (slice_set jobs k later) i) (sym here) ∙ there) in
+      let is : later ≡ job = same_Some later job
+      (sym (slice_get-set_same jobs k before later at) ∙ ap (λ i. slice_get (slice_set jobs k later) i) (sym here) ∙ there) in
       let copied : AreCopied next.group before.volume before.differs.items 0 later.at = own (had k before at) in
       let of_later : AreCopied next.group later.volume later.differs.items 0 later.at =
       subst (λ (a : Aim). AreCopied next.group a.volume a.differs 0 later.at) (sym same) copied in
@@ -430,19 +479,22 @@ pub ends_next : {I : Type 0} (k : ℕ) (jobs : List (Job I)) (before later : Job
     → (j : ℕ) (job : Job I) → j < k + 1 → slice_get (slice_set jobs k later) j ≡ Some job → length job.differs.items ≤ job.at
 ends_next {I = I} k jobs before later at own had j job low there = elim (at_or_below j k low) [
   | inl here ↦ (
-      let is : later ≡ job = same_Some later job (sym (slice_get-set_same jobs k before later at) ∙ ap (λ i. slice_get (slice_set jobs k later) i) (sym here) ∙ there) in
+      let is : later ≡ job = same_Some later job
+      (sym (slice_get-set_same jobs k before later at) ∙ ap (λ i. slice_get (slice_set jobs k later) i) (sym here) ∙ there) in
       subst (λ (x : Job I). length x.differs.items ≤ x.at) is own
       )
   | inr below ↦ had j job below (sym (slice_get-set_other jobs k j later (λ e. absurd (omega (arith, e)))) ∙ there)
 ]
 
 -- a part of a job, and the rest
-pub part_next : {D : Type 0} (told : D → Option (List (List ℕ))) (old new : StoreValue D) (v from to : ℕ) (differs : List Bool) → IsFurther told old new → AreCopied new.group v differs from to
+pub part_next : {D : Type 0} (told : D → Option (List (List ℕ))) (old new : StoreValue D) (v from to : ℕ) (differs : List Bool) → IsFurther told old new
+    → AreCopied new.group v differs from to
     → AreCopied old.group v differs 0 from → AreCopied new.group v differs 0 to
 part_next told old new v from to differs further copied had = copied_join new.group v from to differs (further.copied v from differs had) copied
 
 -- from the begin of a job, over a part
-pub part_then : {D I : Type 0} (told_in : I → Option (List (List ℕ))) (old now next : GroupValue D) (first before : Job I) (at : ℕ) → aim_of told_in before ≡ aim_of told_in first
+pub part_then : {D I : Type 0} (told_in : I → Option (List (List ℕ))) (old now next : GroupValue D) (first before : Job I) (at : ℕ)
+    → aim_of told_in before ≡ aim_of told_in first
     → (AreCopied now before.volume before.differs.items 0 before.at → AreCopied next before.volume before.differs.items 0 at)
     → (AreCopied old first.volume first.differs.items 0 first.at → AreCopied now first.volume first.differs.items 0 before.at)
     → AreCopied old first.volume first.differs.items 0 first.at → AreCopied next first.volume first.differs.items 0 at
@@ -451,18 +503,21 @@ part_then told_in old now next first before at same step until had = subst (λ (
 
 -- ## the pass of copying over all jobs
 
-pub copy_stands : {D I E : Type 0} (told : D → Option (List (List ℕ))) (told_in : I → Option (List (List ℕ))) (old new : StoreValue D) (old_jobs jobs : List (Job I)) (r : Result Copied E)
+pub copy_stands : {D I E : Type 0} (told : D → Option (List (List ℕ))) (told_in : I → Option (List (List ℕ))) (old new : StoreValue D)
+    (old_jobs jobs : List (Job I)) (r : Result Copied E)
     → aims_of told_in jobs ≡ aims_of told_in old_jobs → IsCopyPass told old new r → IfOk r (λ copied. copied ≡ UntilEvicted → old_jobs ≢ []) → (p : PlainStore)
     → MayOverwrite told (aims_of told_in old_jobs) old p → MayOverwrite told (aims_of told_in jobs) new p
-copy_stands {I = I} {E = E} told told_in old new old_jobs jobs r aims pass some p may = subst (λ (list : List Aim). MayOverwrite told list new p) (sym aims) (by_result r pass some) where
-  no_aims : (xs : List (Job I)) → xs ≢ [] → aims_of told_in xs ≢ []
-  no_aims [] h = λ e. h refl
-  no_aims (x ∷ xs) h = λ e. cc
+copy_stands {I = I} {E = E} told told_in old new old_jobs jobs r aims pass some p may = subst (λ (list : List Aim). MayOverwrite told list new p) (sym aims)
+    (by_result r pass some) where
+      no_aims : (xs : List (Job I)) → xs ≢ [] → aims_of told_in xs ≢ []
+      no_aims [] h = λ e. h refl
+      no_aims (x ∷ xs) h = λ e. cc
 
-  by_result : (r : Result Copied E) → IsCopyPass told old new r → IfOk r (λ copied. copied ≡ UntilEvicted → old_jobs ≢ []) → MayOverwrite told (aims_of told_in old_jobs) new p
-  by_result (Ok Whole) more there = may_more told (aims_of told_in old_jobs) old new p more.still may
-  by_result (Ok UntilEvicted) further there = may_on told (aims_of told_in old_jobs) old new p further (no_aims old_jobs (there refl)) may
-  by_result (Err failed) more there = may_more told (aims_of told_in old_jobs) old new p more.still may
+      by_result : (r : Result Copied E) → IsCopyPass told old new r → IfOk r (λ copied. copied ≡ UntilEvicted → old_jobs ≢ [])
+          → MayOverwrite told (aims_of told_in old_jobs) new p
+      by_result (Ok Whole) more there = may_more told (aims_of told_in old_jobs) old new p more.still may
+      by_result (Ok UntilEvicted) further there = may_on told (aims_of told_in old_jobs) old new p further (no_aims old_jobs (there refl)) may
+      by_result (Err failed) more there = may_more told (aims_of told_in old_jobs) old new p more.still may
 
 -- ## a call that brings no volume to anything
 
@@ -471,7 +526,8 @@ pub none_stands : {D I : Type 0} (told : D → Option (List (List ℕ))) (told_i
 none_stands told told_in s [] none = (λ k job at. cc, λ p stands. may_begin told [] s p stands (λ k aim at. cc))
 none_stands told told_in s (job ∷ jobs) none = absurd (cc)
 
-pub none_gone : {D : Type 0} (told : D → Option (List (List ℕ))) (aims : List Aim) (s : StoreValue D) (p : PlainStore) → aims ≡ [] → MayOverwrite told aims s p → StandsAs told s p
+pub none_gone : {D : Type 0} (told : D → Option (List (List ℕ))) (aims : List Aim) (s : StoreValue D) (p : PlainStore) → aims ≡ [] → MayOverwrite told aims s p
+    → StandsAs told s p
 none_gone told aims s p none may = subst (λ (gone : List ℕ). StandsAs told s (without gone p)) (may.none none) may.stands
 
 pub ok_then : {A E : Type 0} {P Q : Type 0} (r : Result A E) → OnOk r P → (P → Q) → OnOk r Q

@@ -9,5 +9,6 @@ abbrev pub invariant-parts : goal.invariant-parts
 invariant-parts g l = record {
   aim : aim_of g.I.Device.told l.self ≡ aim_of g.I.Device.told l.fn.self;
   more : HasMore g.D.Device.told l.fn.store l.store;
-  copied : AreCopied l.fn.store.group l.fn.self.volume l.fn.self.differs.items 0 l.fn.self.at → AreCopied l.store.group l.fn.self.volume l.fn.self.differs.items 0 l.self.at;
+  copied : AreCopied l.fn.store.group l.fn.self.volume l.fn.self.differs.items 0 l.fn.self.at
+      → AreCopied l.store.group l.fn.self.volume l.fn.self.differs.items 0 l.self.at;
 }
